@@ -1,14 +1,10 @@
 -- What a question is shown, by what was found of it.
-use Rattle.std.proofs.Common.{◌≡◌, inl, inr, ℕ, List, Option, Some, None, Result, Ok, Err, true, subst, sym, ◌∙◌}
+use Rattle.std.proofs.Common.{◌≡◌, inr, ℕ, List, Option, Some, None, true, subst, sym, ◌∙◌}
 use Rattle.std.specs.Prelude.{string_bytes}
 use Rattle.record_writer.specs.Pieces.{AppendsSome}
 use Rattle.club_requests.specs.declared.refusals.Refusal.{Refusal}
 use Rattle.club_rows.specs.Club.{ClubState}
-use Rattle.sqlite.specs.State.{State}
-use Rattle.store_sql.specs.Read.{KeepsContent}
-use Rattle.club_views.specs.Exported.{IsExported, IsWrittenSome, KeepsUnlessCalled}
-use Rattle.club_views.specs.declared.exported.Stopped.{Stopped}
-use Rattle.club_views.specs.declared.exported.Stopped.TheVariants as stopped
+use Rattle.club_views.specs.Exported.{IsExported, IsWrittenSome}
 use Rattle.club_questions.specs.declared.questions.Question.{Question}
 use Rattle.club_questions.specs.declared.questions.Question.TheVariants.{LegalMoves, CrossTable, Record, Members}
 use Rattle.club_questions.specs.declared.questions.Question.TheVariants.{Events, Games, Mine, Inviting, EventGames}
@@ -82,25 +78,3 @@ module _ (s : ClubState) (moment : ℕ) (asked : Question) (kind : GameKind) (id
         subst (λ k. BeginsRecords s k (ids_in s (string_bytes asks.name)) before now) asks.kind_is ours,
       ) in
       subst (λ q. HasShownSome s moment q before now) (sym asks.asked_is) some
-
--- what is kept is kept whatever a call came to
-pub keeps_all : {A : Type 0} (r : Result A Stopped) (old new : State) → KeepsContent old new
-    → KeepsUnlessCalled r old new
-keeps_all (Ok a) old new kept = kept
-keeps_all (Err stopped.Output) old new kept = kept
-keeps_all (Err (stopped.Call fault)) old new kept = tt
-
--- what was kept up to a call that failed
-pub keeps_failed : (A B : Type 0) (fault : Stopped) (old mid new : State) → KeepsContent old mid
-    → KeepsUnlessCalled {A = A} (Err fault) mid new → KeepsUnlessCalled {A = B} (Err fault) old new
-keeps_failed A B stopped.Output old mid new first then =
-    λ schema content k. then schema content (first schema content k)
-keeps_failed A B (stopped.Call fault) old mid new first then = tt
-
--- what was kept up to a call, and then unless the call failed
-pub keeps_then : {A : Type 0} (r : Result A Stopped) (old mid new : State) → KeepsContent old mid
-    → KeepsUnlessCalled r mid new → KeepsUnlessCalled r old new
-keeps_then (Ok a) old mid new first then = λ schema content k. then schema content (first schema content k)
-keeps_then (Err stopped.Output) old mid new first then =
-    λ schema content k. then schema content (first schema content k)
-keeps_then (Err (stopped.Call fault)) old mid new first then = tt

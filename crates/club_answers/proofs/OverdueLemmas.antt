@@ -1,5 +1,5 @@
 -- Games that are overdue, and what a sweep does to them.
-use Rattle.std.proofs.Common.{◌≡◌, ◌≢◌, ℕ, ◌-◌, ◌&&◌, Option, Some, None, Bool, true, false, not, refl, ap, sym, ◌∙◌}
+use Rattle.std.proofs.Common.{◌≡◌, ◌≢◌, ℕ, ◌&&◌, Option, Some, None, Bool, true, false, not, refl, ap, sym, ◌∙◌}
 use Rattle.std.proofs.Common.{true≢false}
 use Rattle.std.specs.Prelude.{◌↔◌, is_some, if◌then◌else◌}
 use Rattle.std.proofs.lemmas.Bool.{and_parts, not-true}

@@ -28,7 +28,7 @@ use Rattle.club_rows.proofs.Proved.{draughts_laws, shogi_laws}
 use Rattle.club_changes.specs.Steps.{game_in}
 use Rattle.store_tables.specs.Cells.{game_cells}
 use Rattle.store_tables.specs.declared.rows.GameRecord.{GameRecord}
-use Rattle.sweep_rows.proofs.Proved.{numbered_at, numbered_length, pos_same}
+use Rattle.club_changes.proofs.Proved.{numbered_at, numbered_length, pos_same}
 use Rattle.club_lists.specs.SummaryViews.{all_by, over_by, told_by}
 use Rattle.club_lists.specs.declared.told.ToldGame.{ToldGame}
 use Rattle.club_answers.specs.Games.{over_of, told_by_rules, told_from, told_games, told_of}

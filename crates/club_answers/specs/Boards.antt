@@ -1,6 +1,5 @@
 -- A game of the club as a person looks at it.
 use Rattle.std.specs.Prelude.{◌≡◌, ℕ, List, Bool, true, false, Some}
-use Rattle.squares.specs.DraughtsBoard.{Position}
 use Rattle.squares.specs.ShogiSets.{ShogiPosition}
 use Rattle.club_core.specs.Game.{last_position, moves_of}
 use Rattle.club_core.specs.Seats.{Pairing}

@@ -4,10 +4,10 @@ ghost use Rattle.std.specs.Prelude.{ℕ, IfOk};
 ghost use Rattle.record_writer.specs.Pieces.{AppendsSome};
 ghost use Rattle.sqlite.specs.State.{HasCleanDisk};
 ghost use Rattle.sqlite.specs.Held.{state};
-ghost use Rattle.store_tables.specs.Club.{IsExactly};
-ghost use Rattle.store_tables.specs.Reading.{OnlyReads};
+ghost use Rattle.store_tables.specs.Beside.{HasRows};
+ghost use Rattle.store_tables.specs.Reading.{Reads};
 ghost use Rattle.club_rows.specs.Club.{ClubState, IsClub, tables};
-ghost use Rattle.club_views.specs.Exported.{KeepsUnlessCalled};
+ghost use Rattle.club_views.specs.Exported.{no_call_failed};
 ghost use Rattle.club_questions.specs.declared.questions.Question.TheVariants as question;
 ghost use Rattle.club_answers.specs.AnswerTexts.{HasShown, HasShownSome};
 ghost use Rattle.club_answers.specs.Writing.{IsWritten};
@@ -41,14 +41,12 @@ fn write_record<S: Alter, W: Write>(
     game: u64,
     writer: &mut W,
 ) -> Result<Option<Refusal>, Stopped>
-    ensures reads { OnlyReads (state S.Store conn.old) (state S.Store conn.new) }
-    ensures kept { HasCleanDisk (state S.Store conn.new) →
-        KeepsUnlessCalled result (state S.Store conn.old) (state S.Store conn.new) }
+    ensures reads { Reads (no_call_failed result) (state S.Store conn.old) (state S.Store conn.new) }
     ensures shown { HasCleanDisk (state S.Store conn.new) → IfOk result (λ refusal. (s : ClubState) (moment : ℕ) →
-        IsClub s → IsExactly (tables s) (state S.Store conn.old) →
+        IsClub s → HasRows (tables s) (state S.Store conn.old) →
         HasShown s moment (question.Record game) refusal (W.contents writer.old) (W.contents writer.new)) }
     ensures begun { HasCleanDisk (state S.Store conn.new) → (s : ClubState) (moment : ℕ) → IsClub s →
-        IsExactly (tables s) (state S.Store conn.old) →
+        HasRows (tables s) (state S.Store conn.old) →
         HasShownSome s moment (question.Record game) (W.contents writer.old) (W.contents writer.new) }
 {
     match export_of(alloc, conn, game, writer) {
@@ -68,14 +66,12 @@ pub fn answer<S: Alter, W: Write>(
     moment: Moment,
     writer: &mut W,
 ) -> Result<Option<Refusal>, Stopped>
-    ensures reads { OnlyReads (state S.Store conn.old) (state S.Store conn.new) }
-    ensures kept { HasCleanDisk (state S.Store conn.new) →
-        KeepsUnlessCalled result (state S.Store conn.old) (state S.Store conn.new) }
+    ensures reads { Reads (no_call_failed result) (state S.Store conn.old) (state S.Store conn.new) }
     ensures shown { HasCleanDisk (state S.Store conn.new) → IfOk result (λ refusal. (s : ClubState) → IsClub s →
-        IsExactly (tables s) (state S.Store conn.old) →
+        HasRows (tables s) (state S.Store conn.old) →
         HasShown s moment question.now refusal (W.contents writer.old) (W.contents writer.new)) }
     ensures begun { HasCleanDisk (state S.Store conn.new) → (s : ClubState) → IsClub s →
-        IsExactly (tables s) (state S.Store conn.old) →
+        HasRows (tables s) (state S.Store conn.old) →
         HasShownSome s moment question.now (W.contents writer.old) (W.contents writer.new) }
 {
     let found = find_shown(alloc, conn, question, moment)?;

@@ -1,11 +1,10 @@
 //! A game of the club as a person looks at it.
 
-ghost use Rattle.std.specs.Prelude.{◌≡◌, ℕ, Some, IfOk, OnOk, string_bytes};
+ghost use Rattle.std.specs.Prelude.{◌≡◌, ℕ, Some, IfOk, is_ok, string_bytes};
 ghost use Rattle.sqlite.specs.State.{HasCleanDisk};
 ghost use Rattle.sqlite.specs.Held.{state};
-ghost use Rattle.store_tables.specs.Club.{IsExactly};
-ghost use Rattle.store_tables.specs.Reading.{OnlyReads};
-ghost use Rattle.store_sql.specs.Read.{KeepsContent};
+ghost use Rattle.store_tables.specs.Beside.{HasRows};
+ghost use Rattle.store_tables.specs.Reading.{Reads};
 ghost use Rattle.club_rules.specs.declared.names.GameKind.TheVariants as kinds;
 ghost use Rattle.club_core.specs.State.{place};
 ghost use Rattle.club_rows.specs.Club.{ClubGame, ClubState, IsClub, tables};
@@ -37,12 +36,10 @@ fn draughts_diagram<S: Alter>(
     stored: &StoredGame,
     letters: bool,
 ) -> Result<String, CallFault>
-    ensures reads { OnlyReads (state S.Store conn.old) (state S.Store conn.new) }
-    ensures kept { HasCleanDisk (state S.Store conn.new) → OnOk result (KeepsContent (state S.Store conn.old)
-        (state S.Store conn.new)) }
+    ensures reads { Reads (is_ok result) (state S.Store conn.old) (state S.Store conn.new) }
     ensures shown { HasCleanDisk (state S.Store conn.new) → IfOk result (λ text. (s : ClubState) (id : ℕ)
         (game : ClubGame) → IsClub s → place s.games id ≡ Some game → IsStoredGame s id game stored.now →
-        stored.now.kind ≡ kinds.Draughts → IsExactly (tables s) (state S.Store conn.old) →
+        stored.now.kind ≡ kinds.Draughts → HasRows (tables s) (state S.Store conn.old) →
         string_bytes text ≡ diagram_of letters game) }
 {
     let view = view::<Draughts, S>(alloc, conn, stored)?;
@@ -67,12 +64,10 @@ fn shogi_diagram<S: Alter>(
     stored: &StoredGame,
     letters: bool,
 ) -> Result<String, CallFault>
-    ensures reads { OnlyReads (state S.Store conn.old) (state S.Store conn.new) }
-    ensures kept { HasCleanDisk (state S.Store conn.new) → OnOk result (KeepsContent (state S.Store conn.old)
-        (state S.Store conn.new)) }
+    ensures reads { Reads (is_ok result) (state S.Store conn.old) (state S.Store conn.new) }
     ensures shown { HasCleanDisk (state S.Store conn.new) → IfOk result (λ text. (s : ClubState) (id : ℕ)
         (game : ClubGame) → IsClub s → place s.games id ≡ Some game → IsStoredGame s id game stored.now →
-        stored.now.kind ≡ kinds.Shogi → IsExactly (tables s) (state S.Store conn.old) →
+        stored.now.kind ≡ kinds.Shogi → HasRows (tables s) (state S.Store conn.old) →
         string_bytes text ≡ diagram_of letters game) }
 {
     let view = view::<Shogi, S>(alloc, conn, stored)?;
@@ -87,12 +82,10 @@ fn diagram_in<S: Alter>(
     stored: &StoredGame,
     letters: bool,
 ) -> Result<String, CallFault>
-    ensures reads { OnlyReads (state S.Store conn.old) (state S.Store conn.new) }
-    ensures kept { HasCleanDisk (state S.Store conn.new) → OnOk result (KeepsContent (state S.Store conn.old)
-        (state S.Store conn.new)) }
+    ensures reads { Reads (is_ok result) (state S.Store conn.old) (state S.Store conn.new) }
     ensures shown { HasCleanDisk (state S.Store conn.new) → IfOk result (λ text. (s : ClubState) (id : ℕ)
         (game : ClubGame) → IsClub s → place s.games id ≡ Some game → IsStoredGame s id game stored.now →
-        IsExactly (tables s) (state S.Store conn.old) → string_bytes text ≡ diagram_of letters game) }
+        HasRows (tables s) (state S.Store conn.old) → string_bytes text ≡ diagram_of letters game) }
 {
     match stored.kind {
         GameKind::Draughts => draughts_diagram(alloc, conn, stored, letters),
@@ -107,12 +100,10 @@ fn board_in<S: Alter>(
     stored: &StoredGame,
     letters: bool,
 ) -> Result<BoardView, CallFault>
-    ensures reads { OnlyReads (state S.Store conn.old) (state S.Store conn.new) }
-    ensures kept { HasCleanDisk (state S.Store conn.new) → OnOk result (KeepsContent (state S.Store conn.old)
-        (state S.Store conn.new)) }
+    ensures reads { Reads (is_ok result) (state S.Store conn.old) (state S.Store conn.new) }
     ensures shown { HasCleanDisk (state S.Store conn.new) → IfOk result (λ board. (s : ClubState) (id : ℕ)
         (game : ClubGame) → IsClub s → place s.games id ≡ Some game → IsStoredGame s id game stored.now →
-        IsExactly (tables s) (state S.Store conn.old) → board_by board ≡ board_of s letters game) }
+        HasRows (tables s) (state S.Store conn.old) → board_by board ≡ board_of s letters game) }
 {
     let diagram = diagram_in(alloc, conn, stored, letters)?;
     let viewed = view_of(alloc, conn, u64::from(stored.id))?;
@@ -137,11 +128,9 @@ pub(crate) fn board<S: Alter>(
     letters: bool,
     moment: Moment,
 ) -> Result<Found, CallFault>
-    ensures reads { OnlyReads (state S.Store conn.old) (state S.Store conn.new) }
-    ensures kept { HasCleanDisk (state S.Store conn.new) → OnOk result (KeepsContent (state S.Store conn.old)
-        (state S.Store conn.new)) }
+    ensures reads { Reads (is_ok result) (state S.Store conn.old) (state S.Store conn.new) }
     ensures found { HasCleanDisk (state S.Store conn.new) → IfOk result (λ found. (s : ClubState) → IsClub s →
-        IsExactly (tables s) (state S.Store conn.old) →
+        HasRows (tables s) (state S.Store conn.old) →
         IsFoundAs (IsBoardText s moment game letters) (IsNoGame s game) found) }
 {
     let last = last_moment(alloc, conn)?;

@@ -1,13 +1,12 @@
 //! The challenges of a club, by the rows of their table.
 
-ghost use Rattle.std.specs.Prelude.{◌≡◌, true, map, IfOk, OnOk};
+ghost use Rattle.std.specs.Prelude.{◌≡◌, true, map, IfOk, is_ok};
 ghost use Rattle.std.specs.List.{AllByRecursion};
 ghost use Rattle.sqlite_trees.specs.Tree.{IsAscending};
 ghost use Rattle.sqlite.specs.State.{HasCleanDisk};
 ghost use Rattle.sqlite.specs.Held.{state};
-ghost use Rattle.store_tables.specs.Club.{IsExactly};
-ghost use Rattle.store_tables.specs.Reading.{OnlyReads};
-ghost use Rattle.store_sql.specs.Read.{KeepsContent};
+ghost use Rattle.store_tables.specs.Beside.{HasRows};
+ghost use Rattle.store_tables.specs.Reading.{Reads};
 ghost use Rattle.club_rows.specs.Club.{ClubState, tables};
 ghost use Rattle.club_rows.specs.Tables.{challenge_row};
 ghost use Rattle.store_tables.specs.Cells.{challenge_cells};
@@ -73,11 +72,9 @@ pub(crate) fn all_challenges<S: Alter>(
     alloc: Global,
     conn: &mut Connection<S>,
 ) -> Result<Vec<Challenge>, CallFault>
-    ensures reads { OnlyReads (state S.Store conn.old) (state S.Store conn.new) }
-    ensures kept { HasCleanDisk (state S.Store conn.new) → OnOk result (KeepsContent (state S.Store conn.old)
-        (state S.Store conn.new)) }
+    ensures reads { Reads (is_ok result) (state S.Store conn.old) (state S.Store conn.new) }
     ensures found { HasCleanDisk (state S.Store conn.new) → IfOk result (λ found. (s : ClubState) →
-        IsExactly (tables s) (state S.Store conn.old) → AreChallengesOf s found.items) }
+        HasRows (tables s) (state S.Store conn.old) → AreChallengesOf s found.items) }
 {
     let rows = list::<ChallengeRow, S>(alloc, conn)?;
     challenges_in(alloc, &rows)

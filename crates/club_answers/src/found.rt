@@ -1,11 +1,10 @@
 //! What is to be shown to a question.
 
-ghost use Rattle.std.specs.Prelude.{◌≡◌, IfOk, OnOk, map, string_bytes};
+ghost use Rattle.std.specs.Prelude.{◌≡◌, IfOk, is_ok, map, string_bytes};
 ghost use Rattle.sqlite.specs.State.{HasCleanDisk};
 ghost use Rattle.sqlite.specs.Held.{state};
-ghost use Rattle.store_tables.specs.Club.{IsExactly};
-ghost use Rattle.store_tables.specs.Reading.{OnlyReads};
-ghost use Rattle.store_sql.specs.Read.{KeepsContent};
+ghost use Rattle.store_tables.specs.Beside.{HasRows};
+ghost use Rattle.store_tables.specs.Reading.{Reads};
 ghost use Rattle.club_rows.specs.Club.{ClubState, IsClub, tables};
 ghost use Rattle.club_questions.specs.declared.questions.Question.TheVariants as question;
 ghost use Rattle.club_answers.specs.Found.{IsFound, IsFoundAs};
@@ -55,11 +54,9 @@ fn legal_moves<S: Alter>(
     conn: &mut Connection<S>,
     game: u64,
 ) -> Result<Found, CallFault>
-    ensures reads { OnlyReads (state S.Store conn.old) (state S.Store conn.new) }
-    ensures kept { HasCleanDisk (state S.Store conn.new) → OnOk result (KeepsContent (state S.Store conn.old)
-        (state S.Store conn.new)) }
+    ensures reads { Reads (is_ok result) (state S.Store conn.old) (state S.Store conn.new) }
     ensures found { HasCleanDisk (state S.Store conn.new) → IfOk result (λ found. (s : ClubState) → IsClub s →
-        IsExactly (tables s) (state S.Store conn.old) → IsFoundAs (IsLegalText s game) (IsNoGame s game) found) }
+        HasRows (tables s) (state S.Store conn.old) → IsFoundAs (IsLegalText s game) (IsNoGame s game) found) }
 {
     match legal_of(alloc, conn, game)? {
         Some(texts) => Ok(Found::Text(lined(alloc, &texts)?)),
@@ -73,11 +70,9 @@ fn cross_table<S: Alter>(
     conn: &mut Connection<S>,
     name: &str,
 ) -> Result<Found, CallFault>
-    ensures reads { OnlyReads (state S.Store conn.old) (state S.Store conn.new) }
-    ensures kept { HasCleanDisk (state S.Store conn.new) → OnOk result (KeepsContent (state S.Store conn.old)
-        (state S.Store conn.new)) }
+    ensures reads { Reads (is_ok result) (state S.Store conn.old) (state S.Store conn.new) }
     ensures found { HasCleanDisk (state S.Store conn.new) → IfOk result (λ found. (s : ClubState) → IsClub s →
-        IsExactly (tables s) (state S.Store conn.old) →
+        HasRows (tables s) (state S.Store conn.old) →
         IsFoundAs (IsTableText s name.now) (IsNoEvent s name.now) found) }
 {
     match table_of(alloc, conn, name)? {
@@ -88,11 +83,9 @@ fn cross_table<S: Alter>(
 
 // The members of the club.
 fn members<S: Alter>(alloc: Global, conn: &mut Connection<S>) -> Result<Found, CallFault>
-    ensures reads { OnlyReads (state S.Store conn.old) (state S.Store conn.new) }
-    ensures kept { HasCleanDisk (state S.Store conn.new) → OnOk result (KeepsContent (state S.Store conn.old)
-        (state S.Store conn.new)) }
+    ensures reads { Reads (is_ok result) (state S.Store conn.old) (state S.Store conn.new) }
     ensures found { HasCleanDisk (state S.Store conn.new) → IfOk result (λ found. (s : ClubState) → IsClub s →
-        IsExactly (tables s) (state S.Store conn.old) → IsFoundAs (IsMembersText s) (λ refusal. ⊥) found) }
+        HasRows (tables s) (state S.Store conn.old) → IsFoundAs (IsMembersText s) (λ refusal. ⊥) found) }
 {
     let members = all_members(alloc, conn)?;
     let text = members_text(alloc, &members)?;
@@ -106,11 +99,9 @@ pub(crate) fn find_shown<S: Alter>(
     question: &Question,
     moment: Moment,
 ) -> Result<Found, CallFault>
-    ensures reads { OnlyReads (state S.Store conn.old) (state S.Store conn.new) }
-    ensures kept { HasCleanDisk (state S.Store conn.new) → OnOk result (KeepsContent (state S.Store conn.old)
-        (state S.Store conn.new)) }
+    ensures reads { Reads (is_ok result) (state S.Store conn.old) (state S.Store conn.new) }
     ensures found { HasCleanDisk (state S.Store conn.new) → IfOk result (λ found. (s : ClubState) → IsClub s →
-        IsExactly (tables s) (state S.Store conn.old) → IsFound s moment question.now found) }
+        HasRows (tables s) (state S.Store conn.old) → IsFound s moment question.now found) }
 {
     match question {
         Question::LegalMoves(game) => legal_moves(alloc, conn, *game),

@@ -1,11 +1,10 @@
 //! What is shown of the members, the events and the games of a club, which are read alike for each of these questions.
 
-ghost use Rattle.std.specs.Prelude.{ℕ, IfOk, OnOk};
+ghost use Rattle.std.specs.Prelude.{ℕ, IfOk, is_ok};
 ghost use Rattle.sqlite.specs.State.{HasCleanDisk};
 ghost use Rattle.sqlite.specs.Held.{state};
-ghost use Rattle.store_tables.specs.Club.{IsExactly};
-ghost use Rattle.store_tables.specs.Reading.{OnlyReads};
-ghost use Rattle.store_sql.specs.Read.{KeepsContent};
+ghost use Rattle.store_tables.specs.Beside.{HasRows};
+ghost use Rattle.store_tables.specs.Reading.{Reads};
 ghost use Rattle.club_rows.specs.Club.{ClubState, IsClub, tables};
 ghost use Rattle.club_questions.specs.declared.questions.Question.TheVariants as question;
 ghost use Rattle.club_answers.specs.Found.{IsFound, IsFoundAs, IsReadOf};
@@ -116,11 +115,9 @@ pub(crate) fn of_lists<S: Alter>(
     question: &Question,
     moment: Moment,
 ) -> Result<Found, CallFault>
-    ensures reads { OnlyReads (state S.Store conn.old) (state S.Store conn.new) }
-    ensures kept { HasCleanDisk (state S.Store conn.new) → OnOk result (KeepsContent (state S.Store conn.old)
-        (state S.Store conn.new)) }
+    ensures reads { Reads (is_ok result) (state S.Store conn.old) (state S.Store conn.new) }
     ensures found { HasCleanDisk (state S.Store conn.new) → IfOk result (λ found. (s : ClubState) → IsClub s →
-        IsExactly (tables s) (state S.Store conn.old) → IsFound s moment question.now found) }
+        HasRows (tables s) (state S.Store conn.old) → IsFound s moment question.now found) }
 {
     let club = read_club(alloc, conn, moment)?;
     let found = shown_of(alloc, &club, question)?;

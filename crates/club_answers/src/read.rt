@@ -1,11 +1,10 @@
 //! What lists are made of: the moment that counts, the members, the events and the games of a club.
 
-ghost use Rattle.std.specs.Prelude.{◌≡◌, IfOk, OnOk};
+ghost use Rattle.std.specs.Prelude.{◌≡◌, IfOk, is_ok};
 ghost use Rattle.sqlite.specs.State.{HasCleanDisk};
 ghost use Rattle.sqlite.specs.Held.{state};
-ghost use Rattle.store_tables.specs.Club.{IsExactly};
-ghost use Rattle.store_tables.specs.Reading.{OnlyReads};
-ghost use Rattle.store_sql.specs.Read.{KeepsContent};
+ghost use Rattle.store_tables.specs.Beside.{HasRows};
+ghost use Rattle.store_tables.specs.Reading.{Reads};
 ghost use Rattle.club_rows.specs.Club.{ClubState, IsClub, tables};
 ghost use Rattle.club_lists.specs.SummaryViews.{all_by};
 ghost use Rattle.club_answers.specs.Found.{IsReadOf};
@@ -33,11 +32,9 @@ pub(crate) struct ClubRead {
 
 // What the rows of the games tell.
 fn games_of<S: Alter>(alloc: Global, conn: &mut Connection<S>) -> Result<Vec<ToldGame>, CallFault>
-    ensures reads { OnlyReads (state S.Store conn.old) (state S.Store conn.new) }
-    ensures kept { HasCleanDisk (state S.Store conn.new) → OnOk result (KeepsContent (state S.Store conn.old)
-        (state S.Store conn.new)) }
+    ensures reads { Reads (is_ok result) (state S.Store conn.old) (state S.Store conn.new) }
     ensures told { HasCleanDisk (state S.Store conn.new) → IfOk result (λ games. (s : ClubState) → IsClub s →
-        IsExactly (tables s) (state S.Store conn.old) → all_by games.items ≡ told_games s) }
+        HasRows (tables s) (state S.Store conn.old) → all_by games.items ≡ told_games s) }
 {
     let rows = list::<GameRecord, S>(alloc, conn)?;
     all_told(alloc, &rows)
@@ -49,11 +46,9 @@ pub(crate) fn read_club<S: Alter>(
     conn: &mut Connection<S>,
     moment: Moment,
 ) -> Result<ClubRead, CallFault>
-    ensures reads { OnlyReads (state S.Store conn.old) (state S.Store conn.new) }
-    ensures kept { HasCleanDisk (state S.Store conn.new) → OnOk result (KeepsContent (state S.Store conn.old)
-        (state S.Store conn.new)) }
+    ensures reads { Reads (is_ok result) (state S.Store conn.old) (state S.Store conn.new) }
     ensures read { HasCleanDisk (state S.Store conn.new) → IfOk result (λ club. (s : ClubState) → IsClub s →
-        IsExactly (tables s) (state S.Store conn.old) → IsReadOf s moment club) }
+        HasRows (tables s) (state S.Store conn.old) → IsReadOf s moment club) }
 {
     let last = last_moment(alloc, conn)?;
     let members = all_members(alloc, conn)?;

@@ -5,10 +5,10 @@ ghost use Rattle.std.specs.Io.KnownBytes.{Appends};
 ghost use Rattle.record_writer.specs.Pieces.{AppendsSome};
 ghost use Rattle.sqlite.specs.State.{HasCleanDisk};
 ghost use Rattle.sqlite.specs.Held.{state};
-ghost use Rattle.store_tables.specs.Club.{IsExactly};
-ghost use Rattle.store_tables.specs.Reading.{OnlyReads};
+ghost use Rattle.store_tables.specs.Beside.{HasRows};
+ghost use Rattle.store_tables.specs.Reading.{Reads};
 ghost use Rattle.club_rows.specs.Club.{ClubState, IsClub, tables};
-ghost use Rattle.club_views.specs.Exported.{KeepsUnlessCalled};
+ghost use Rattle.club_views.specs.Exported.{no_call_failed};
 ghost use Rattle.club_answers.specs.EventRecords.{opening, BeginsRecords};
 ghost use Rattle.club_answers.specs.Writing.{AddsRecord, BeginsRecord, HasRecords};
 
@@ -53,14 +53,12 @@ fn write_behind<S: Alter, W: Write>(
     id: u32,
     writer: &mut W,
 ) -> Result<(), Stopped>
-    ensures reads { OnlyReads (state S.Store conn.old) (state S.Store conn.new) }
-    ensures kept { HasCleanDisk (state S.Store conn.new) →
-        KeepsUnlessCalled result (state S.Store conn.old) (state S.Store conn.new) }
+    ensures reads { Reads (no_call_failed result) (state S.Store conn.old) (state S.Store conn.new) }
     ensures written { HasCleanDisk (state S.Store conn.new) → OnOk result ((s : ClubState) → IsClub s →
-        IsExactly (tables s) (state S.Store conn.old) →
+        HasRows (tables s) (state S.Store conn.old) →
         AddsRecord s id front.now (W.contents writer.old) (W.contents writer.new)) }
     ensures begun { HasCleanDisk (state S.Store conn.new) → (s : ClubState) → IsClub s →
-        IsExactly (tables s) (state S.Store conn.old) →
+        HasRows (tables s) (state S.Store conn.old) →
         BeginsRecord s id front.now (W.contents writer.old) (W.contents writer.new) }
 {
     write_front(front, writer)?;
@@ -80,14 +78,12 @@ pub(crate) fn write_records<S: Alter, W: Write>(
     ids: &[u32],
     writer: &mut W,
 ) -> Result<Option<Refusal>, Stopped>
-    ensures reads { OnlyReads (state S.Store conn.old) (state S.Store conn.new) }
-    ensures kept { HasCleanDisk (state S.Store conn.new) →
-        KeepsUnlessCalled result (state S.Store conn.old) (state S.Store conn.new) }
+    ensures reads { Reads (no_call_failed result) (state S.Store conn.old) (state S.Store conn.new) }
     ensures written { HasCleanDisk (state S.Store conn.new) → IfOk result (λ refusal. (s : ClubState) → IsClub s →
-        IsExactly (tables s) (state S.Store conn.old) →
+        HasRows (tables s) (state S.Store conn.old) →
         HasRecords s kind ids.now refusal (W.contents writer.old) (W.contents writer.new)) }
     ensures begun { HasCleanDisk (state S.Store conn.new) → (s : ClubState) → IsClub s →
-        IsExactly (tables s) (state S.Store conn.old) →
+        HasRows (tables s) (state S.Store conn.old) →
         BeginsRecords s kind ids.now (W.contents writer.old) (W.contents writer.new) }
 {
     let mut is_first = true;

@@ -42,9 +42,9 @@ use Rattle.club_rows.specs.Scores.{meetings, meetings_in}
 use Rattle.club_rows.specs.Seen.{seen_rows}
 use Rattle.club_rows.specs.Tables.{number, game_row, move_rows, rows_of_moves, rows_of_seen}
 use Rattle.club_rows.proofs.Proved.{Kind, event_in, in_draughts, in_shogi, met_ended}
-use Rattle.import_rows.proofs.Proved.{drop-mapped, drop-all}
-use Rattle.import_rows.specs.NewGames.{AreNewRows}
-use Rattle.import_rows.specs.declared.added.NewRows.{NewRows}
+use Rattle.club_changes.proofs.SeenTexts.{drop-mapped, drop-all}
+use Rattle.club_changes.specs.NewGames.{AreNewRows}
+use Rattle.club_changes.specs.declared.imported.added.NewRows.{NewRows}
 use Rattle.store_tables.specs.Cells.{game_cells, move_cells, seen_cells}
 use Rattle.store_tables.specs.Changed.{changed}
 use Rattle.store_tables.specs.declared.rows.Changes.{Changes}

@@ -17,7 +17,7 @@ use Rattle.club_core.specs.State.{AnyGame, draughts, shogi, State, place, kind_a
 use Rattle.club_core.specs.State.{with_events, with_new_game}
 use Rattle.club_laws.proofs.Proved.{place-append}
 use Rattle.club_rows.proofs.Proved.{plies_in, scores_seated, seen-table-added}
-pub use Rattle.import_rows.proofs.Proved.{entry_rows_at}
+pub use Rattle.club_changes.proofs.PlacedRows.{entry_rows_at}
 use Rattle.club_rows.specs.Scores.{meetings_in, scores_in}
 use Rattle.club_rows.specs.Tables.{number, game_row, entry_rows, move_rows, at_start, with_entry}
 use Rattle.club_rows.specs.Tables.{gathered_from, member_row, event_row, row_of_game, rows_of_moves, rows_of_seen}

@@ -1,5 +1,5 @@
 -- What is decided of a command on a game, by the decision on that game.
-pub use Rattle.import_rows.proofs.Proved.{budget_most, increment_most, room_for}
+pub use Rattle.club_changes.proofs.RoomLemmas.{budget_most, increment_most, room_for}
 use Rattle.std.proofs.Common.{◌≡◌, ◌⊎◌, inl, inr, Bool, false, ℕ, suc, ◌+◌, ◌<◌, ◌≤◌, ◌^◌, List, []}
 use Rattle.std.proofs.Common.{◌∷◌, ◌++◌, length, map, Option, Some, None, Result, Ok, Err, true, refl, ap, sym, subst}
 use Rattle.std.proofs.Common.{subst₂, ◌∙◌, arith, length-append}

@@ -21,3 +21,4 @@ pub use Rattle.club_changes.proofs.ReadRows.{all_read, first_is, first_mapped, m
 pub use Rattle.club_changes.proofs.ReadRows.{one_more_read}
 pub use Rattle.club_changes.proofs.ReadRows.{placed, row_at_place, score_first}
 pub use Rattle.club_changes.proofs.SweptTables.{member_refused}
+pub use Rattle.club_changes.proofs.PlacedIds.{numbered_at, pos_same}

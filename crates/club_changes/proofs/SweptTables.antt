@@ -14,9 +14,9 @@ use Rattle.club_requests.specs.declared.requests.Caller.TheVariants.{Officer, Me
 use Rattle.club_core.specs.Answer.{outcome_of}
 use Rattle.club_core.specs.State.{sweep, with_swept}
 use Rattle.club_rows.specs.Club.{both_games, ClubState, tables}
-use Rattle.sweep_rows.specs.Swept.{IsSwept, LeavesOthers}
-use Rattle.sweep_rows.specs.declared.swept.SweptRows.{SweptRows}
-use Rattle.sweep_rows.proofs.Proved.{leaves_others}
+use Rattle.club_changes.specs.Swept.{IsSwept, LeavesOthers}
+use Rattle.club_changes.specs.declared.swept.rows.SweptRows.{SweptRows}
+use Rattle.club_changes.proofs.LateGames.{leaves_others}
 use Rattle.club_changes.specs.declared.decided.Decided.{Decided}
 use Rattle.club_changes.specs.Steps.{AreSame, HaveSame, Puts, caller_step, IsDecided, no_rows}
 use Rattle.club_rows.specs.Tables.{meta_row}

@@ -2,8 +2,8 @@
 use Rattle.std.specs.Prelude.{ℕ, List, codes}
 use Rattle.club_changes.specs.declared.fault.ChangeFault.{ChangeFault}
 use Rattle.club_changes.specs.declared.fault.ChangeFault.TheVariants as fault
-use Rattle.sweep_rows.specs.declared.fault.SweepFault.{SweepFault}
-use Rattle.sweep_rows.specs.declared.fault.SweepFault.TheVariants as sweep
+use Rattle.club_changes.specs.declared.swept.fault.SweepFault.{SweepFault}
+use Rattle.club_changes.specs.declared.swept.fault.SweepFault.TheVariants as sweep
 
 abbrev pub fault_text : ChangeFault → List ℕ
 fault_text fault.Memory = codes "out of memory"

@@ -1,10 +1,10 @@
 //! What may go wrong where the rows of a command are made.
 
+use crate::swept::SweepFault;
 use club_rules::Memory;
 use std::alloc::AllocFailed;
 use std::error::Error;
 use std::fmt;
-use sweep_rows::SweepFault;
 
 /// Why the rows of a command were not made.
 #[derive(Clone, Copy, Debug, PartialEq, Eq, Drop)]

@@ -8,12 +8,12 @@ ghost use Rattle.club_changes.specs.Steps.{Puts, score_list, no_rows};
 
 use crate::decided::at;
 use crate::game::listed_scores;
+use crate::imported::NewRows;
 use crate::stored::StoredGame;
 use clocks::Moment;
 use club_core::{Event, KeyedGame, Member};
 use club_rows::ScorePair;
 use club_rules::{GameKind, Memory};
-use import_rows::NewRows;
 use std::alloc::Global;
 use store_tables::Changes;
 

@@ -7,15 +7,15 @@ ghost use Rattle.club_rows.specs.Club.{ClubState, IsClub, tables};
 ghost use Rattle.store_tables.specs.Cells.{game_cells, score_cells};
 ghost use Rattle.club_changes.specs.Steps.{caller_step, HaveSame, IsDecided};
 ghost use Rattle.club_changes.specs.Whole.{IsWhole};
-ghost use Rattle.sweep_rows.specs.Swept.{IsSwept};
+ghost use Rattle.club_changes.specs.Swept.{IsSwept};
 
 use crate::decided::{Decided, at};
 use crate::fault::ChangeFault;
+use crate::swept::{SweptRows, swept_rows};
 use clocks::Moment;
 use club_requests::{Answer, Outcome};
 use std::alloc::Global;
 use store_tables::{GameRecord, ScoreRow};
-use sweep_rows::{SweptRows, swept_rows};
 
 // These rows are put, and the moment.
 fn put_swept(alloc: Global, rows: SweptRows, moment: Moment) -> Decided

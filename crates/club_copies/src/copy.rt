@@ -1,14 +1,13 @@
 //! The tables of a club made anew in another database.
 
-ghost use Rattle.std.specs.Prelude.{◌≡◌, ◌≢◌, ◌≤◌, ◌⊎◌, false, IfOk, IfErr, OnOk, OnErr, Err};
+ghost use Rattle.std.specs.Prelude.{◌≡◌, ◌≢◌, ◌≤◌, ◌⊎◌, false, IfOk, IfErr, OnOk, OnErr, is_ok, Err};
 ghost use Rattle.sqlite.specs.State.{HasCleanDisk};
 ghost use Rattle.sqlite.specs.Held.{state};
 ghost use Rattle.sqlite_trees.specs.View.{doubt};
 ghost use Rattle.store_tables.specs.Club.{IsExactly, Leaves};
 ghost use Rattle.store_tables.specs.Contents.{IsExactlyEmpty, IsEmpty};
-ghost use Rattle.store_tables.specs.Reading.{KeepsMay, OnlyReads};
+ghost use Rattle.store_tables.specs.Reading.{KeepsContent, KeepsMay, Reads};
 ghost use Rattle.store_tables.specs.Tables.{IsClubSchema};
-ghost use Rattle.store_sql.specs.Read.{KeepsContent};
 
 use crate::fault::CopyFault;
 use crate::rows::read_rows;
@@ -35,9 +34,7 @@ pub fn copy_tables<S: Alter, T: Alter>(
     copy: &mut Connection<T>,
 ) -> Result<(), CopyFault>
     requires { copy.old.in_transaction ≡ false }
-    ensures reads { OnlyReads (state S.Store club.old) (state S.Store club.new) }
-    ensures kept { HasCleanDisk (state S.Store club.new) → OnOk result (KeepsContent (state S.Store club.old)
-        (state S.Store club.new)) }
+    ensures reads { Reads (is_ok result) (state S.Store club.old) (state S.Store club.new) }
     ensures goes_on { HasCleanDisk (state S.Store club.new) → result ≡ Err CopyFault.Copy →
         KeepsContent (state S.Store club.old) (state S.Store club.new) }
     ensures idle { copy.new.in_transaction ≡ false }

@@ -1,13 +1,12 @@
 //! The rows of all tables of a club.
 
-ghost use Rattle.std.specs.Prelude.{◌≡◌, ◌∷◌, [], None, Some, pos, IfOk, IfSome, OnOk, map};
+ghost use Rattle.std.specs.Prelude.{◌≡◌, ◌∷◌, [], None, Some, pos, IfOk, IfSome, is_ok, map};
 ghost use Rattle.sqlite.specs.State.{HasCleanDisk};
 ghost use Rattle.sqlite.specs.Held.{state};
 ghost use Rattle.store_tables.specs.Cells.{meta_cells};
 ghost use Rattle.store_tables.specs.Changes.{HaveSame};
 ghost use Rattle.store_tables.specs.Club.{IsExactly};
-ghost use Rattle.store_tables.specs.Reading.{OnlyReads};
-ghost use Rattle.store_sql.specs.Read.{KeepsContent};
+ghost use Rattle.store_tables.specs.Reading.{Reads};
 ghost use Rattle.club_copies.specs.Copies.{AreAll, ArePeople, ArePlay};
 
 use sqlite::{Alter, Connection};
@@ -57,9 +56,7 @@ fn only_row(rows: Vec<MetaRow>) -> Option<MetaRow>
 /// The row of `meta`. Where it has not the one row of a club, that is a fault, as a value of another type than its
 /// column.
 fn read_meta<S: Alter>(alloc: Global, conn: &mut Connection<S>) -> Result<MetaRow, CallFault>
-    ensures reads { OnlyReads (state S.Store conn.old) (state S.Store conn.new) }
-    ensures kept { HasCleanDisk (state S.Store conn.new) → OnOk result (KeepsContent (state S.Store conn.old)
-        (state S.Store conn.new)) }
+    ensures reads { Reads (is_ok result) (state S.Store conn.old) (state S.Store conn.new) }
     ensures first { IfOk result (λ first. first.id ≡ pos 1) }
     ensures rows { HasCleanDisk (state S.Store conn.new) → IfOk result (λ first. (content : _) → IsExactly content
         (state S.Store conn.old) → HaveSame (meta_cells first ∷ []) (content 0)) }
@@ -76,9 +73,7 @@ fn read_meta<S: Alter>(alloc: Global, conn: &mut Connection<S>) -> Result<MetaRo
 
 /// All rows of members, events, rules of events and challenges.
 fn read_people<S: Alter>(alloc: Global, conn: &mut Connection<S>) -> Result<People, CallFault>
-    ensures reads { OnlyReads (state S.Store conn.old) (state S.Store conn.new) }
-    ensures kept { HasCleanDisk (state S.Store conn.new) → OnOk result (KeepsContent (state S.Store conn.old)
-        (state S.Store conn.new)) }
+    ensures reads { Reads (is_ok result) (state S.Store conn.old) (state S.Store conn.new) }
     ensures rows { HasCleanDisk (state S.Store conn.new) → IfOk result (λ found. (content : _) → IsExactly content
         (state S.Store conn.old) → ArePeople found content) }
 {
@@ -108,9 +103,7 @@ fn read_people<S: Alter>(alloc: Global, conn: &mut Connection<S>) -> Result<Peop
 
 /// All rows of games, moves, positions and scores.
 fn read_play<S: Alter>(alloc: Global, conn: &mut Connection<S>) -> Result<Play, CallFault>
-    ensures reads { OnlyReads (state S.Store conn.old) (state S.Store conn.new) }
-    ensures kept { HasCleanDisk (state S.Store conn.new) → OnOk result (KeepsContent (state S.Store conn.old)
-        (state S.Store conn.new)) }
+    ensures reads { Reads (is_ok result) (state S.Store conn.old) (state S.Store conn.new) }
     ensures rows { HasCleanDisk (state S.Store conn.new) → IfOk result (λ found. (content : _) → IsExactly content
         (state S.Store conn.old) → ArePlay found content) }
 {
@@ -171,9 +164,7 @@ fn joined(meta: MetaRow, people: People, play: Play) -> Changes
 /// All rows of each table, as rows to be put into the tables of another database. A `meta` that has not the one row of
 /// a club is a fault, as a value of another type than its column.
 pub fn read_rows<S: Alter>(alloc: Global, conn: &mut Connection<S>) -> Result<Changes, CallFault>
-    ensures reads { OnlyReads (state S.Store conn.old) (state S.Store conn.new) }
-    ensures kept { HasCleanDisk (state S.Store conn.new) → OnOk result (KeepsContent (state S.Store conn.old)
-        (state S.Store conn.new)) }
+    ensures reads { Reads (is_ok result) (state S.Store conn.old) (state S.Store conn.new) }
     ensures rows { HasCleanDisk (state S.Store conn.new) → IfOk result (λ found. (content : _) → IsExactly content
         (state S.Store conn.old) → AreAll found content) }
 {

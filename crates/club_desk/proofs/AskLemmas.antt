@@ -4,12 +4,12 @@ use Rattle.std.proofs.Common.{sym, subst, ap, inl, inr}
 use Rattle.std.specs.declared.alloc.Global.{Global}
 use Rattle.std.specs.declared.vec.Vec.{Vec}
 use Rattle.sqlite.specs.State.{State, HasCleanDisk}
-use Rattle.store_tables.specs.Reading.{OnlyReads}
+use Rattle.store_tables.specs.Reading.{Reads}
 use Rattle.club_requests.specs.declared.refusals.Refusal.{Refusal}
 use Rattle.club_questions.specs.declared.questions.Question.{Question}
 use Rattle.club_rows.specs.Club.{ClubState}
 use Rattle.club_answers.specs.AnswerTexts.{IsShown, HasShown}
-use Rattle.store.specs.Asking.{KeepsUnlessFault}
+use Rattle.store.specs.Asking.{stays_open}
 use Rattle.store.specs.declared.fault.AskFault.{AskFault}
 use Rattle.store.specs.declared.fault.AskFault.TheVariants as asking
 use Rattle.store.specs.declared.fault.StoreFault.TheVariants as club
@@ -41,13 +41,14 @@ pub asking_left : (old_shut new_shut : Bool) (old new : State) (s : ClubState) (
     → answer ≡ told_asking fault → (fault ≡ asking.Output → new_shut ≡ false)
     → (fault ≡ asking.Output) ⊎ (new_shut ≡ true)
     → (fault ≡ asking.Output) ⊎ ((fault ≡ asking.Club club.Store) ⊎ (fault ≡ asking.Club club.Memory))
-    → (old_shut ≡ false → OnlyReads old new) → KeepsUnlessFault {A = Option Refusal} (Err fault) old new
+    → Reads (stays_open {A = Option Refusal} (Err fault)) old new
     → HasCleanDisk new → IsServed old_shut old s → IsOfCall answer × IsLeft new_shut new s s
-asking_left old_shut new_shut old new s asking.Output answer is output ends named reads keeps clean served = (
+asking_left old_shut new_shut old new s asking.Output answer is output ends named reads clean served = (
   inr is,
-  served_stays new_shut new s s (read_stands old_shut new_shut old new s (output refl) keeps served),
+  served_stays new_shut new s s
+      (read_stands old_shut new_shut old new s (output refl) (reads.kept refl clean) served),
 )
-asking_left old_shut new_shut old new s (asking.Club fault) answer is output ends named reads keeps clean served = (
+asking_left old_shut new_shut old new s (asking.Club fault) answer is output ends named reads clean served = (
   elim named [
     | inl other ↦ absurd (let h = other in cc)
     | inr (inl store) ↦ inl (is ∙ ap told_asking store)
@@ -55,6 +56,6 @@ asking_left old_shut new_shut old new s (asking.Club fault) answer is output end
   ],
   elim ends [
     | inl other ↦ absurd (let h = other in cc)
-    | inr shut ↦ read_left old_shut new_shut old new s shut reads clean served
+    | inr shut ↦ read_left false old_shut new_shut old new s shut reads clean served
   ],
 )

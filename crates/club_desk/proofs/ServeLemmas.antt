@@ -1,12 +1,11 @@
 -- What the calls of a club tell, as the desk asks it.
-use Rattle.std.proofs.Common.{◌≡◌, ◌≤◌, ℕ, List, Bool, true, false, Result, Ok, Err, refl, ap, sym, subst, ◌∙◌, arith}
+use Rattle.std.proofs.Common.{◌≡◌, ◌≤◌, Bool, true, false, Result, Ok, Err, refl, ap, sym, subst, ◌∙◌}
 use Rattle.std.proofs.Common.{◌⊎◌, inl, inr, true≢false}
-use Rattle.std.specs.Prelude.{IfOk, IfErr, OnOk, OnErr}
+use Rattle.std.specs.Prelude.{IfOk, IfErr, OnOk, OnErr, is_ok}
 use Rattle.sqlite.specs.State.{State, HasCleanDisk}
 use Rattle.store_tables.specs.Club.{IsExactly}
 use Rattle.store_tables.specs.Tables.{club_schema}
-use Rattle.store_tables.specs.Reading.{OnlyReads}
-use Rattle.store_sql.specs.Read.{KeepsContent}
+use Rattle.store_tables.specs.Reading.{KeepsContent, Reads}
 use Rattle.club_requests.specs.Limits.{last_moment}
 use Rattle.club_core.specs.State.{Request}
 use Rattle.club_rows.specs.Club.{ClubState, tables}
@@ -18,12 +17,6 @@ use Rattle.http_desk.specs.declared.faults.ClubFault.TheVariants.{Memory, Reopen
 use Rattle.http_desk.specs.Served.{IsOfCall, Serves}
 use Rattle.club_desk.specs.Faults.{told, told_all}
 use Rattle.club_desk.specs.ServedStates.{IsServed, IsLeft, MayLeave, served_stays}
-
--- a club is shut or only read: then its disk was clean before
-pub clean_before : (shut : Bool) (old new : State) → (shut ≡ true → new ≡ old) → (shut ≡ false → OnlyReads old new)
-    → HasCleanDisk new → HasCleanDisk old
-clean_before true old new same reads clean = subst HasCleanDisk (same refl) clean
-clean_before false old new same reads clean = let was = (reads refl).clean in omega arith
 
 true_false : (b : Bool) → b ≡ true → b ≡ false → ⊥
 true_false b is isnt = true≢false (sym is ∙ isnt)
@@ -37,11 +30,10 @@ if_ok P Q (Ok a) is goes = goes a is
 if_ok P Q (Err fault) is goes = tt
 
 -- what a reading call leaves at a fault
-pub read_left : (old_shut new_shut : Bool) (old new : State) (s : ClubState) → new_shut ≡ true
-    → (old_shut ≡ false → OnlyReads old new) → HasCleanDisk new → IsServed old_shut old s → IsLeft new_shut new s s
-read_left old_shut new_shut old new s ends reads clean served =
-    shut_left new_shut new s s ends (λ db left.
-    inl (served.exactly.may_leave db ((reads served.ready).may clean db left)))
+pub read_left : (answered old_shut new_shut : Bool) (old new : State) (s : ClubState) → new_shut ≡ true
+    → Reads answered old new → HasCleanDisk new → IsServed old_shut old s → IsLeft new_shut new s s
+read_left answered old_shut new_shut old new s ends reads clean served =
+    shut_left new_shut new s s ends (λ db left. inl (served.exactly.may_leave db (reads.may clean db left)))
 
 -- where a reading call leaves the club
 pub read_stands : (old_shut new_shut : Bool) (old new : State) (s : ClubState) → new_shut ≡ false → KeepsContent old new
@@ -69,26 +61,26 @@ module _ {A : Type 0} where
 
   read_answers : (old_shut new_shut : Bool) (old new : State) (s : ClubState) (IsRight : A → Type 0)
       (found : Result A StoreFault) → OnOk found (new_shut ≡ false) → OnErr found (new_shut ≡ true)
-      → IfErr found (λ fault. old_shut ≡ false → IsNamed fault) → (old_shut ≡ false → OnlyReads old new)
-      → OnOk found (KeepsContent old new) → IfOk found IsRight → HasCleanDisk new → IsServed old_shut old s
+      → IfErr found (λ fault. old_shut ≡ false → IsNamed fault) → Reads (is_ok found) old new → IfOk found IsRight
+      → HasCleanDisk new → IsServed old_shut old s
       → Serves (IsServed new_shut new) (IsLeft new_shut new) s s IsRight IsOfCall (told_all found)
-  read_answers old_shut new_shut old new s IsRight (Ok a) ready ends named reads keeps right clean served =
-      (right, read_stands old_shut new_shut old new s ready keeps served)
-  read_answers old_shut new_shut old new s IsRight (Err fault) ready ends named reads keeps right clean served =
-      (told_of_call fault (named served.ready), read_left old_shut new_shut old new s ends reads clean served)
+  read_answers old_shut new_shut old new s IsRight (Ok a) ready ends named reads right clean served =
+      (right, read_stands old_shut new_shut old new s ready (reads.kept refl clean) served)
+  read_answers old_shut new_shut old new s IsRight (Err fault) ready ends named reads right clean served =
+      (told_of_call fault (named served.ready), read_left false old_shut new_shut old new s ends reads clean served)
 
   -- a call that only reads, at whatever it answers
   pub read_serves : (old_shut new_shut : Bool) (old new : State) (s : ClubState) (IsRight : A → Type 0)
       (found : Result A StoreFault) (answer : Result A ClubFault) → answer ≡ told_all found
       → OnOk found (new_shut ≡ false) → OnErr found (new_shut ≡ true)
-      → IfErr found (λ fault. old_shut ≡ false → IsNamed fault) → (old_shut ≡ false → OnlyReads old new)
-      → OnOk found (KeepsContent old new) → IfOk found IsRight → HasCleanDisk new → IsServed old_shut old s
+      → IfErr found (λ fault. old_shut ≡ false → IsNamed fault) → Reads (is_ok found) old new → IfOk found IsRight
+      → HasCleanDisk new → IsServed old_shut old s
       → Serves (IsServed new_shut new) (IsLeft new_shut new) s s IsRight IsOfCall answer
-  read_serves old_shut new_shut old new s IsRight found answer is ready ends named reads keeps right clean served =
+  read_serves old_shut new_shut old new s IsRight found answer is ready ends named reads right clean served =
       let P : Result A ClubFault → Type 0 = λ r.
       Serves (IsServed new_shut new) (IsLeft new_shut new) s s IsRight IsOfCall r in
       subst P (sym is)
-      (read_answers old_shut new_shut old new s IsRight found ready ends named reads keeps right clean served)
+      (read_answers old_shut new_shut old new s IsRight found ready ends named reads right clean served)
 
   -- an answer that is made of what was read
   pub made_serves : (old_shut new_shut : Bool) (old new : State) (s : ClubState) (IsRight : A → Type 0)

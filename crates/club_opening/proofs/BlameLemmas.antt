@@ -51,6 +51,7 @@ use Rattle.store_tables.proofs.Proved.{one_shown, ids_of, apart_of}
 use Rattle.store_tables.specs.declared.names.Table.{Table}
 use Rattle.club_opening.specs.declared.fault.OpenFault.{OpenFault}
 use Rattle.store_sql.specs.declared.fault.ReadFault.{ReadFault}
+use Rattle.store_sql.specs.declared.fault.ReadFault.TheVariants as read_fault
 use Rattle.store_sql.specs.Read.{Blames as BlamesRead}
 use Rattle.club_opening.specs.Faults.{told}
 use Rattle.club_opening.specs.declared.fault.OpenFault.TheVariants.{Foreign, Memory, Store}
@@ -66,6 +67,13 @@ pub blames_told : (t : Table) (definition : Definition) (IsTyped : Row → Type 
 blames_told t definition IsTyped old e fault is (inl store) = inl (is ∙ ap (told t) store)
 blames_told t definition IsTyped old e fault is (inr (inl memory)) = inr (inl (is ∙ ap (told t) memory))
 blames_told t definition IsTyped old e fault is (inr (inr (named, wrong))) = inr (inr (is ∙ ap (told t) named, wrong))
+
+-- what is told as damage is a value of another type
+pub told_mistyped : (table t : Table) (e : ReadFault) → told table e ≡ open_fault.Damaged t → e ≡ read_fault.Mistyped
+told_mistyped table t read_fault.Missing is = cc
+told_mistyped table t read_fault.Mistyped is = refl
+told_mistyped table t read_fault.Store is = cc
+told_mistyped table t read_fault.Memory is = cc
 
 -- ---- the row of meta
 

@@ -62,6 +62,9 @@ seen_precedes (Some t) played = subst (λ (u : Table). order Seen < order u) (sy
 pub played_after : (wrong : Option Table) → IsPlayed wrong → IsAfter Games wrong
 played_after wrong played t is = subst (λ (u : Table). order Games < order u) (sym (played t is)) (omega arith)
 
+pub seen_after : (wrong : Option Table) → IsPlayed wrong → IsAfter Seen wrong
+seen_after wrong played t is = subst (λ (u : Table). order Seen < order u) (sym (played t is)) (omega arith)
+
 pub some_after : (table : Table) (wrong : Option Table) (named : Table) → wrong ≡ Some named → order table < order named
     → IsAfter table wrong
 some_after table wrong named is low t other =
@@ -130,6 +133,16 @@ next n = omega arith
 next_suc : (n : ℕ) → suc n ≡ n + 1
 next_suc n = omega arith
 
+-- rows of moves that were judged to be all those of a legal game
+pub game_of : (place : ℕ) (game : GameRecord) (ms : List MoveRow) (old mid : State)
+    → AreReadOf (moves 8) 2 game.id (map move_cells ms) old mid → (s : ClubState) (g : ClubGame)
+    → IsGameAt s (place + 1) game ms g → IsGameOf s (place + 1) game old.now.trees g
+game_of place game ms old mid one s g at = record {
+  legal = at.legal;
+  row_is = at.row_is;
+  moves_are = same_on _ (map move_cells ms) _ (turned_same _ _ one.once) (same_by _ _ at.moves_are);
+}
+
 module _ (rows : Rows) (place : ℕ) (game : GameRecord) (ms : List MoveRow) (ss : List SeenRow) (old mid new : State)
     (one : AreReadOf (moves 8) 2 game.id (map move_cells ms) old mid)
     (two : AreReadOf (seen 12) 2 game.id (map seen_cells ss) mid new) where
@@ -140,18 +153,10 @@ module _ (rows : Rows) (place : ℕ) (game : GameRecord) (ms : List MoveRow) (ss
   seen_once = subst (λ (t : Trees). IsPermutation (beginning_with game.id (seen_in t)) (map seen_cells ss)) trees_are
       two.once
 
-  -- rows that were judged to be all those of a legal game
-  game_of : (s : ClubState) (g : ClubGame) → IsGameAt s (place + 1) game ms g → IsGameOf s (place + 1) game old.now.trees g
-  game_of s g at = record {
-    legal = at.legal;
-    row_is = at.row_is;
-    moves_are = same_on _ (map move_cells ms) _ (turned_same _ _ one.once) (same_by _ _ at.moves_are);
-  }
-
   found_as : (s : ClubState) (g : ClubGame) → AreAllOf s (place + 1) game ms ss g
       → IsFoundAs s (place + 1) game old.now.trees g
   found_as s g all = record {
-    game_is = game_of s g all.at;
+    game_is = game_of place game ms old mid one s g all.at;
     seen_are = same_on _ (map seen_cells ss) _ (turned_same _ _ seen_once) all.seen_are.same;
   }
 
@@ -200,7 +205,7 @@ module _ (rows : Rows) (place : ℕ) (game : GameRecord) (ms : List MoveRow) (ss
         × IsGameOf (until last_moment s) (place + 1) game old.now.trees g
     game_seated after s people =
         let (low, g, at) = (first s people).before Games (after_precedes Games wrong after) in
-        (g, game_of (until last_moment s) g at)
+        (g, game_of place game ms old mid one (until last_moment s) g at)
 
     -- a table that is named is damaged
     game_blamed : slice_get rows.games.items place ≡ Some game → (t : Table) → wrong ≡ Some t
@@ -236,7 +241,7 @@ module _ (rows : Rows) (place : ℕ) (game : GameRecord) (ms : List MoveRow) (ss
     game_found at moves_wrong games_wrong seen_wrong moves_right = record {
       same = unchanged_then old mid new one.same two.same;
       moves_number = sym (length-map ms move_cells) ∙ length_permutation _ (map move_cells ms) one.once;
-      seen_number = sym (length-map ss seen_cells) ∙ length_permutation _ (map seen_cells ss) seen_once;
+      seen_number = λ after. sym (length-map ss seen_cells) ∙ length_permutation _ (map seen_cells ss) seen_once;
       found = game_found_as;
       played = game_played;
       seated = game_seated;
@@ -296,7 +301,7 @@ left_start rows last ms ss known old none other apart unseen same one two = reco
   seen_wrong = λ named. absurd (unseen named);
   moves_right = λ after s people n game low. absurd (omega (arith, low));
   moves_beyond = λ ids. one;
-  seen_beyond = λ ids. two;
+  seen_beyond = λ after ids. two;
 }
 
 -- one game more
@@ -389,6 +394,19 @@ both_after table w v u one after = (
       (λ x named. one.first x t named (inr is)),
 )
 
+-- a table after the games is that of positions, or after it
+seen_or_after : (o : Option Table) → IsAfter Games o → (o ≡ Some Seen) ⊎ IsAfter Seen o
+seen_or_after None after = inr (λ t is. cc)
+seen_or_after (Some Members) after = let low = after Members refl in absurd (omega (arith, low))
+seen_or_after (Some Events) after = let low = after Events refl in absurd (omega (arith, low))
+seen_or_after (Some EventRules) after = let low = after EventRules refl in absurd (omega (arith, low))
+seen_or_after (Some Challenges) after = let low = after Challenges refl in absurd (omega (arith, low))
+seen_or_after (Some Moves) after = let low = after Moves refl in absurd (omega (arith, low))
+seen_or_after (Some Games) after = let low = after Games refl in absurd (omega (arith, low))
+seen_or_after (Some Seen) after = inl refl
+seen_or_after (Some Scores) after = inr (some_after Seen (Some Scores) Scores refl (omega arith))
+seen_or_after (Some Meta) after = inr (some_after Seen (Some Meta) Meta refl (omega arith))
+
 -- where what is left would name a table that is not after, nothing is left
 none_after : (table named : Table) (o : Option Table) → IsAfter table o → ((t : Table) → o ≡ Some t → t ≡ named)
     → order named ≤ order table → o ≡ None
@@ -458,7 +476,7 @@ module _ (rows : Rows) (last : Option ℕ) (k : ℕ) (game : GameRecord) (ms ss 
         ∙ ap (λ n. length (past n (moves_in old.now.trees))) (next_suc k));
     seen_left = λ none s of.
         let id = game_id none s of in
-        let own : b ≡ length (beginning_with (pos (suc k)) (seen_in old.now.trees)) = is.seen_number
+        let own : b ≡ length (beginning_with (pos (suc k)) (seen_in old.now.trees)) = is.seen_number (λ t named. absurd (none_some v t named (one_of.none none).1))
         ∙ (λ i. length (beginning_with (id i) (seen_in (trees_same_after i)))) in
         ap (λ n. ss - n) own
         ∙ (taken ss _ _ _ (was.seen_left (one_of.none none).0 s of) (past_step k (seen_in old.now.trees))
@@ -480,7 +498,7 @@ module _ (rows : Rows) (last : Option ℕ) (k : ℕ) (game : GameRecord) (ms ss 
         ∙ ap (λ n. length (past n (moves_in old.now.trees))) (next_suc k));
     seen_rest = λ free s people.
         let id = id_in (played_after u free) s people in
-        let own : b ≡ length (beginning_with (pos (suc k)) (seen_in old.now.trees)) = is.seen_number
+        let own : b ≡ length (beginning_with (pos (suc k)) (seen_in old.now.trees)) = is.seen_number (seen_after v (both_played w v u one_of free).1)
         ∙ (λ i. length (beginning_with (id i) (seen_in (trees_same_after i)))) in
         ap (λ n. ss - n) own
         ∙ (taken ss _ _ _ (was.seen_rest (both_played w v u one_of free).0 s people)
@@ -516,13 +534,14 @@ module _ (rows : Rows) (last : Option ℕ) (k : ℕ) (game : GameRecord) (ms ss 
         ∙ (taken ms _ _ _ (was.moves_beyond ids)
         (beyond_step rows (ids_apart rows ids) k (moves_in old.now.trees) within)
         ∙ ap (λ n. length (beyond rows n (moves_in old.now.trees))) (next_suc k));
-    seen_beyond = λ ids.
+    seen_beyond = λ after ids.
+        let (before, here) = both_after Seen w v u one_of after in
         let within = slice_get_within rows.games.items k game at in
         let id : game.id ≡ id_at rows k = sym (id_of_game rows k game at) in
-        let own : b ≡ length (beginning_with (id_at rows k) (seen_in old.now.trees)) = is.seen_number
+        let own : b ≡ length (beginning_with (id_at rows k) (seen_in old.now.trees)) = is.seen_number here
         ∙ (λ i. length (beginning_with (id i) (seen_in (trees_same_after i)))) in
         ap (λ n. ss - n) own
-        ∙ (taken ss _ _ _ (was.seen_beyond ids)
+        ∙ (taken ss _ _ _ (was.seen_beyond before ids)
         (beyond_step rows (ids_apart rows ids) k (seen_in old.now.trees) within)
         ∙ ap (λ n. length (beyond rows n (seen_in old.now.trees))) (next_suc k));
   }
@@ -650,11 +669,17 @@ module _ (rows : Rows) (last : Option ℕ) (told : IsMomentOf rows.meta.last las
         | inl before ↦ was.seen_wrong before
         | inr from_moves ↦ let both : Seen ≡ Moves = of_moves Seen from_moves in absurd cc
       ]
-      | inr from_seen ↦ λ version content holds have.
-          let some : 0 < ss = seen_left.some Seen from_seen in
-          let none = none_beyond rows (seen_in old.now.trees) (seen_owned rows _ _ have) in
-          let left = was.seen_beyond ids ∙ ap (λ n. length (beyond rows n (seen_in old.now.trees))) all in
-          absurd (omega (arith, some, left, none))
+      | inr from_seen ↦
+          let early = (both_after Games u b v then_of (some_after Games v Seen named (omega arith))).0 in
+          elim (seen_or_after w (both_after Games w a u one_of early).0) [
+            | inl before ↦ was.seen_wrong before
+            | inr after ↦ λ version content holds have.
+                let some : 0 < ss = seen_left.some Seen from_seen in
+                let none = none_beyond rows (seen_in old.now.trees) (seen_owned rows _ _ have) in
+                let left = was.seen_beyond after ids
+                ∙ ap (λ n. length (beyond rows n (seen_in old.now.trees))) all in
+                absurd (omega (arith, some, left, none))
+          ]
     ];
   }
 

@@ -14,7 +14,7 @@ use Rattle.sqlite_rules.proofs.ListLemmas.{all_has, has_got}
 use Rattle.store_tables.specs.Cells.{IsChallenge, IsEvent, IsEventRule, IsGame, IsMember, IsMove, IsSeen, challenge_cells}
 use Rattle.store_tables.specs.Cells.{event_cells, event_rule_cells, game_cells, member_cells}
 use Rattle.store_tables.specs.Changes.{HaveSame}
-use Rattle.store_tables.specs.Content.{Keeps}
+use Rattle.store_tables.specs.Content.{AreApart, Keeps}
 use Rattle.store_tables.specs.Contents.{Content, Stores}
 use Rattle.store_tables.specs.Contents as of_schema
 use Rattle.store_tables.specs.Tables.{club_schema, first_schema, schema_of, members, events, event_rules}
@@ -49,7 +49,8 @@ use Rattle.club_changes.proofs.Proved.{challenges_typed, moved}
 use Rattle.club_opening.specs.Blames.{AreRead, AreRulesRead, Blames, HasTypes, HoldsNone, NamesSchema}
 use Rattle.club_opening.specs.Blames.{undeclared_row}
 use Rattle.club_opening.specs.RightTables.{AreOfClub, ArePlayed, AreScored, AreSeated, HasScores, HasTable}
-use Rattle.club_opening.specs.RightTables.{HaveChallenges, IsFirstIn, IsLater, IsOfPlay, IsRight, IsWrongOfPlay}
+use Rattle.club_opening.specs.RightTables.{HaveChallenges, IsFirstIn, IsLater, IsOfPlay, IsRight, IsUnheld}
+use Rattle.club_opening.specs.RightTables.{IsUntyped, IsWrongOfPlay}
 use Rattle.club_opening.specs.RightTables.{NamesExamined, NamesFirst, NamesPlayed, NamesWrong, TellsEvents, rows_in}
 use Rattle.club_opening.specs.declared.fault.OpenFault.{OpenFault}
 use Rattle.club_opening.specs.declared.fault.OpenFault.TheVariants.{Damaged, Foreign, Memory, Schema, Store}
@@ -58,7 +59,7 @@ use Rattle.club_opening.proofs.ChallengedLemmas.{challenges_once, challenges_rig
 use Rattle.club_opening.proofs.ClubLemmas.{events_kept, events_of, members_kept, members_of, rules_kept, typed_at}
 use Rattle.club_opening.proofs.ClubLemmas.{undeclared_are}
 use Rattle.club_opening.specs.Examined.{moves_in, seen_in}
-use Rattle.club_opening.specs.RightMoves.{HaveGamesOf, HaveMoves, HaveMovesOf, HaveSeenOf}
+use Rattle.club_opening.specs.RightMoves.{HaveGamesOf, HaveMoves, HaveMovesOf, HaveSeenOf, SeenWrong}
 use Rattle.club_opening.proofs.RegisterLemmas.{keeps_same, keeps_shown, none_declared}
 use Rattle.club_opening.proofs.StoredLemmas.{club_of_version, one_version, schemas_differ}
 
@@ -530,7 +531,7 @@ module _ (db : Database) (rows : Rows) (e : OpenFault)
     before = λ u low reached. right_upto version content (right version content holds) u (omega (arith, low))
         (λ later. have version content holds cs are)
         (λ later. elim wrong.before [
-          | inl untyped ↦ absurd (untyped version content holds (reached (omega (arith, later))))
+          | inl unheld ↦ absurd (unheld version content holds tt)
           | inr (before, seated) ↦ moves_of version content holds (before (omega arith))
         ])
         (λ later. absurd (omega (arith, low, later)));
@@ -540,11 +541,11 @@ module _ (db : Database) (rows : Rows) (e : OpenFault)
     before = λ u low reached. right_upto version content (right version content holds) u (omega (arith, low))
         (λ later. have version content holds cs are)
         (λ later. elim wrong.before [
-          | inl untyped ↦ absurd (untyped version content holds (reached later))
+          | inl unheld ↦ absurd (unheld version content holds tt)
           | inr (before, seated) ↦ moves_of version content holds (before (omega arith))
         ])
         (λ later. elim wrong.before [
-          | inl untyped ↦ absurd (untyped version content holds (reached (omega (arith, later))))
+          | inl unheld ↦ absurd (unheld version content holds tt)
           | inr (before, seated) ↦ games_of version content holds cs are (seated (omega arith))
         ]);
     named = λ club. wrong.seen refl version content holds (read_seen version content holds club);
@@ -609,26 +610,32 @@ moves_types_wrong rows old e blames t is =
       before = inr (λ low. absurd (omega (arith, low)), λ low. absurd (omega (arith, low)));
     })
 
--- and so are positions
-pub seen_types_wrong : (rows : Rows) (old : State) (e : OpenFault) → Blames Seen (seen 12) IsSeen old e
-    → NamesPlayed rows old.now e
-seen_types_wrong rows old e blames t is =
+-- positions whose rowids are not apart are no club's
+pub seen_torn_wrong : (rows : Rows) (old : State) (e : OpenFault) → Blames Seen (seen 12) IsSeen old e
+    → ((t : Table) → e ≡ Damaged t → ¬ AreApart (old.now.trees 12)) → NamesPlayed rows old.now e
+seen_torn_wrong rows old e blames torn t is =
     let (named, untyped) = types_none Seen (seen 12) IsSeen (λ version content. HasTypes Seen content) old e
     (λ version content holds typed. (stores_of (seen 12) 6 refl refl version old.now content holds, typed)) blames t is
     in
+    let unheld : IsUnheld old.now =
+    λ version content holds any. torn t is (stores_of (seen 12) 6 refl refl version old.now content holds).apart in
     subst (IsWrongOfPlay rows old.now) (sym named) (record {
       play = (omega arith, omega arith);
       moves = λ here. absurd cc;
       games = λ here. absurd cc;
-      seen = λ here version content holds have.
-          let same = kept_same (seen 12) old.now (content 12) (seen_in old.now.trees)
-          (stores_of (seen 12) 6 refl refl version old.now content holds).rows (keeps_shown (seen 12) old.now.trees) in
-          untyped version content holds
-          (types_same IsSeen (content 12) (seen_in old.now.trees) same.there
-          (types_same IsSeen (seen_in old.now.trees) (tables_of both_games have.games.state 12) have.same.there
-          (seen-typed have.games.state have.games.legal)));
-      before = inl untyped;
+      seen = λ here version content holds have. unheld version content holds tt;
+      before = inl unheld;
     })
+
+-- positions whose values have other types are those of no legal club
+pub untyped_wrong : (rows : Rows) (old : State) → IsUntyped Seen old.now → SeenWrong rows old.now
+untyped_wrong rows old untyped version content holds have =
+    let same = kept_same (seen 12) old.now (content 12) (seen_in old.now.trees)
+    (stores_of (seen 12) 6 refl refl version old.now content holds).rows (keeps_shown (seen 12) old.now.trees) in
+    untyped version content holds
+    (types_same IsSeen (content 12) (seen_in old.now.trees) same.there
+    (types_same IsSeen (seen_in old.now.trees) (tables_of both_games have.games.state 12) have.same.there
+    (seen-typed have.games.state have.games.legal)))
 
 -- of the tables that the rows of a game may show to be wrong none is one up to the challenges
 game_later : (s : ClubState) (rows : Rows) (place : ℕ) (game : GameRecord) (ms : List MoveRow) (ss : List SeenRow)

@@ -15,3 +15,4 @@ pub mod PlayedLemmas
 pub mod Proved
 pub mod RegisterLemmas
 pub mod StoredLemmas
+pub mod UntypedLemmas

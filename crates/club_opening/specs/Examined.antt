@@ -119,7 +119,7 @@ pub record IsGameFound (rows : Rows) (last : Option ℕ) (place : ℕ) (game : G
     (wrong : Option Table) (old new : State) : Type 0 where
   pub same : IsUnchanged old new
   pub moves_number : moves ≡ length (beginning_with game.id (moves_in old.now.trees))
-  pub seen_number : seen ≡ length (beginning_with game.id (seen_in old.now.trees))
+  pub seen_number : IsAfter Seen wrong → seen ≡ length (beginning_with game.id (seen_in old.now.trees))
   pub found : wrong ≡ None → (s : ClubState) → IsOf s rows last → (g : ClubGame)
       × IsFoundAs s (place + 1) game old.now.trees g
   pub played : IsPlayed wrong → (s : ClubState) → HasPeople s rows → (g : ClubGame)
@@ -184,7 +184,7 @@ pub record AreLeftAfter (rows : Rows) (last : Option ℕ) (place moves seen : �
   pub moves_right : IsAfter Moves wrong → (s : ClubState) → HasPeople s rows → (n : ℕ) (game : GameRecord)
       → n < place → slice_get rows.games.items n ≡ Some game → HasMovesOf rows (moves_in old.now.trees) game
   pub moves_beyond : HaveIds rows → moves ≡ length (beyond rows place (moves_in old.now.trees))
-  pub seen_beyond : HaveIds rows → seen ≡ length (beyond rows place (seen_in old.now.trees))
+  pub seen_beyond : IsAfter Seen wrong → HaveIds rows → seen ≡ length (beyond rows place (seen_in old.now.trees))
 
 -- what was read of all games tells, with the rowids of both tables
 pub record IsPlayExamined (rows : Rows) (last : Option ℕ) (wrong : Option Table) (old new : State) : Type 0 where

@@ -1,4 +1,5 @@
--- When the rows of a table are those of a legal club, where those of the tables before it are, and what a fault says then.
+-- When the rows of a table are those of a legal club, where those of the tables before it are, and what a fault says
+-- then.
 use Rattle.std.specs.Prelude.{◌≡◌, ◌≢◌, ◌⊎◌, ◌<◌, ◌≤◌, ◌^◌, ℕ, List, length, map, Option, Some, IsTrue}
 use Rattle.sqlite.specs.Effect.{Database}
 use Rattle.sqlite.specs.Order.{Row, column}
@@ -106,12 +107,10 @@ IsRight t version content = AreOfClub version t content
 abbrev pub IsOfPlay : Table → Type 0
 IsOfPlay t = (order Challenges < order t) × (order t < order Scores)
 
--- The other table was looked at before this one is named. Rows of games that have values of other types are found as soon
--- as the rules of events were looked at, and such rows of positions while the moves are. Else the tables are looked at in
--- their order.
+-- The other table was looked at before this one is named. Rows of games that have values of other types are found as
+-- soon as the rules of events were looked at. Else the tables are looked at in their order.
 abbrev pub IsReached : Table → Table → Content → Type 0
 IsReached Games u content = order EventRules < order u → HasTypes Games content
-IsReached Seen u content = order Challenges < order u → HasTypes Seen content
 IsReached t u content = Unit {0}
 
 -- The named table is not right, and each before it is that was looked at.
@@ -129,6 +128,10 @@ NamesFirst db fault = (t : Table) → fault ≡ Damaged t → (version : Version
 -- no other table than this one is called damaged, and its rows are those of no legal club
 abbrev pub NamesWrong : Table → Database → OpenFault → Type 0
 NamesWrong table db fault = (t : Table) → fault ≡ Damaged t → (t ≡ table) × HoldsNone db (IsRight table)
+
+-- the database holds no content of a club's tables
+abbrev pub IsUnheld : Database → Type 0
+IsUnheld db = HoldsNone db (λ version content. Unit {0})
 
 -- in no content that the database may hold the rows of the table have the types of its columns
 abbrev pub IsUntyped : Table → Database → Type 0
@@ -148,14 +151,14 @@ abbrev pub AreRightBefore : Rows → Database → Table → Type 0
 AreRightBefore rows db t =
     (order Moves < order t → HaveMovesOf rows (moves_in db.trees)) × (order Games < order t → AreSeated rows db)
 
--- A table of play that is wrong for what was read. Those of play before it are right, or its rows have values of other
--- types than its columns.
+-- A table of play that is wrong for what was read, where those of play before it are right, if the database holds any
+-- content.
 pub record IsWrongOfPlay (rows : Rows) (db : Database) (t : Table) : Type 0 where
   pub play : IsOfPlay t
   pub moves : t ≡ Moves → MovesWrong rows db
   pub games : t ≡ Games → GamesWrong rows db
   pub seen : t ≡ Seen → SeenWrong rows db
-  pub before : IsUntyped t db ⊎ AreRightBefore rows db t
+  pub before : IsUnheld db ⊎ AreRightBefore rows db t
 
 -- no other table than a wrong one of play is called damaged
 abbrev pub NamesPlayed : Rows → Database → OpenFault → Type 0

@@ -1,17 +1,22 @@
 //! Examining the games of a club, one after another: each by its row, and by those of its moves and of its positions.
 
-ghost use Rattle.std.specs.Prelude.{◌≡◌, ◌≢◌, ◌⊎◌, ◌<◌, ◌≤◌, None, Some, IsTrue, IfOk, IfErr, map};
+ghost use Rattle.std.specs.Prelude.{◌≡◌, ◌≢◌, ◌⊎◌, ◌<◌, ◌≤◌, None, Some, IsTrue, IfOk, IfErr, IfSome, is_ok, map};
 ghost use Rattle.std.specs.Prelude.{length, slice_get};
-ghost use Rattle.sqlite.specs.State.{HasCleanDisk};
+ghost use Rattle.sqlite.specs.State.{HasCleanDisk, IsUnchanged};
 ghost use Rattle.sqlite.specs.Held.{state};
-ghost use Rattle.store_tables.specs.Reading.{OnlyReads};
+ghost use Rattle.store_tables.specs.Beside.{IsBeside};
+ghost use Rattle.store_tables.specs.Reading.{Reads};
+ghost use Rattle.store_tables.specs.Cells.{seen_cells};
+ghost use Rattle.store_tables.specs.Content.{AreApart};
+ghost use Rattle.store_tables.specs.Tables as tables;
 ghost use Rattle.store_tables.specs.Tables.{IsClubSchema};
 ghost use Rattle.store_sql.specs.Read.{AreCounted, AreReadOf};
 ghost use Rattle.club_opening.specs.Blames.{Blames, NamesTable};
-ghost use Rattle.club_audit.specs.FirstWrong.{order};
+ghost use Rattle.club_audit.specs.FirstWrong.{IsFirstWrong, order};
+ghost use Rattle.club_audit.specs.GameAudit.{IsRightAt};
 ghost use Rattle.club_audit.specs.Audit.{AreApartGames, HasPeople};
 ghost use Rattle.club_opening.specs.Places.{IsMomentOf, IsNoRegister};
-ghost use Rattle.club_opening.specs.RightTables.{IsLater, NamesPlayed};
+ghost use Rattle.club_opening.specs.RightTables.{IsLater, IsUntyped, NamesPlayed};
 ghost use Rattle.club_rows.specs.Club.{ClubState};
 ghost use Rattle.club_opening.specs.Examined.{AreGamesFound, IsAfter, IsGameFound, NamesPlay, moves_in, seen_in};
 
@@ -21,7 +26,7 @@ use clocks::Moment;
 use club_audit::wrong_game;
 use sqlite::{Alter, Connection};
 use std::alloc::Global;
-use store_sql::{Select, check_rowids, read_by_first};
+use store_sql::{ReadFault, Select, check_rowids, read_by_first};
 use store_tables::{GameRecord, MoveRow, Rows, SeenRow, Table};
 
 /// How many rows of moves and of positions there are.
@@ -90,13 +95,16 @@ pub(crate) fn count_of<T: Select, S: Alter>(
     conn: &mut Connection<S>,
     table: Table,
 ) -> Result<usize, OpenFault>
-    ensures reads { OnlyReads (state S.Store conn.old) (state S.Store conn.new) }
+    ensures reads { Reads (is_ok result) (state S.Store conn.old) (state S.Store conn.new) }
     ensures counted { HasCleanDisk (state S.Store conn.new) → IfOk result (λ count.
-        T.stands (state S.Store conn.old).now.schema → AreCounted T.table.tree count
+        IsBeside T.club (state S.Store conn.old).now.schema → AreCounted T.table.tree count
         (state S.Store conn.old) (state S.Store conn.new)) }
     ensures blames { HasCleanDisk (state S.Store conn.new) → IfErr result (λ e.
-        T.stands (state S.Store conn.old).now.schema → Blames table T.table T.IsTyped
+        IsBeside T.club (state S.Store conn.old).now.schema → Blames table T.table T.IsTyped
         (state S.Store conn.old) e) }
+    ensures apart { HasCleanDisk (state S.Store conn.new) → IfErr result (λ e. (t : _) → e ≡ OpenFault.Damaged t →
+        IsBeside T.club (state S.Store conn.old).now.schema →
+        ¬ AreApart ((state S.Store conn.old).now.trees T.table.tree)) }
 {
     match check_rowids::<T, S>(alloc, conn) {
         Ok(count) => Ok(count),
@@ -111,17 +119,45 @@ fn read_of<T: Select, S: Alter>(
     table: Table,
     game: &GameRecord,
 ) -> Result<Vec<T>, OpenFault>
-    ensures reads { OnlyReads (state S.Store conn.old) (state S.Store conn.new) }
+    ensures reads { Reads (is_ok result) (state S.Store conn.old) (state S.Store conn.new) }
     ensures rows { HasCleanDisk (state S.Store conn.new) → IfOk result (λ found.
-        T.stands (state S.Store conn.old).now.schema → AreReadOf T.table T.width game.now.id
+        IsBeside T.club (state S.Store conn.old).now.schema → AreReadOf T.table T.width game.now.id
         (map T.cells found.items) (state S.Store conn.old) (state S.Store conn.new)) }
     ensures blames { HasCleanDisk (state S.Store conn.new) → IfErr result (λ e.
-        T.stands (state S.Store conn.old).now.schema → Blames table T.table T.IsTyped
+        IsBeside T.club (state S.Store conn.old).now.schema → Blames table T.table T.IsTyped
         (state S.Store conn.old) e) }
 {
     match read_by_first(alloc, conn, &game.id) {
         Ok(found) => Ok(found),
         Err(fault) => Err(fault_in(table, fault)),
+    }
+}
+
+/// The rows of positions that begin with the id of a game, or None where a value of theirs is of another type than its
+/// column.
+fn read_seen<S: Alter>(
+    alloc: Global,
+    conn: &mut Connection<S>,
+    game: &GameRecord,
+) -> Result<Option<Vec<SeenRow>>, OpenFault>
+    ensures reads { Reads (is_ok result) (state S.Store conn.old) (state S.Store conn.new) }
+    ensures rows { HasCleanDisk (state S.Store conn.new) → IfOk result (λ o. IfSome o (λ found.
+        IsClubSchema (state S.Store conn.old).now.schema → AreReadOf (tables.seen 12) 2 game.now.id
+        (map seen_cells found.items) (state S.Store conn.old) (state S.Store conn.new))) }
+    ensures untyped { HasCleanDisk (state S.Store conn.new) → IfOk result (λ o. o ≡ None →
+        IsClubSchema (state S.Store conn.old).now.schema →
+        IsUnchanged (state S.Store conn.old) (state S.Store conn.new) ×
+        IsUntyped Table.Seen (state S.Store conn.old).now) }
+    ensures blames { HasCleanDisk (state S.Store conn.new) → IfErr result (λ e.
+        IsClubSchema (state S.Store conn.old).now.schema → (e ≡ OpenFault.Store) ⊎ (e ≡ OpenFault.Memory)) }
+{
+    let fault = match read_by_first::<SeenRow, S>(alloc, conn, &game.id) {
+        Ok(found) => return Ok(Some(found)),
+        Err(fault) => fault,
+    };
+    match fault {
+        ReadFault::Mistyped => Ok(None),
+        other => Err(fault_in(Table::Seen, other)),
     }
 }
 
@@ -135,8 +171,37 @@ fn given(last: &Option<Moment>) -> Option<Moment>
     }
 }
 
+/// What these rows of the game at this place, from 0, show, up to the last moment, if there is one.
+fn found_of(
+    alloc: Global,
+    rows: &Rows,
+    place: usize,
+    game: &GameRecord,
+    moves: &[MoveRow],
+    seen: &[SeenRow],
+    last: &Option<Moment>,
+) -> Result<Found, OpenFault>
+    ensures moves { IfOk result (λ found. found.own.moves ≡ length moves.now) }
+    ensures seen { IfOk result (λ found. found.own.seen ≡ length seen.now) }
+    ensures first { IfOk result (λ found. (s : ClubState) → HasPeople s rows.now →
+        IsFirstWrong (IsRightAt s rows.now place game.now moves.now seen.now last.now) found.wrong) }
+    ensures memory { IfErr result (λ e. e ≡ OpenFault.Memory) }
+{
+    match wrong_game(alloc, rows, place, game, moves, seen, given(last)) {
+        Ok(wrong) => Ok(Found {
+            own: RowCounts {
+                moves: moves.len(),
+                seen: seen.len(),
+            },
+            wrong,
+        }),
+        Err(_) => Err(OpenFault::Memory),
+    }
+}
+
 /// Reads all rows of the game at this place, from 0, and tests whether they are those of a legal game, up to the last
-/// moment, if there is one.
+/// moment, if there is one. Where its rows of positions have values of other types, the moves and the game are judged
+/// before these are named.
 fn examine_game<S: Alter>(
     alloc: Global,
     conn: &mut Connection<S>,
@@ -147,7 +212,7 @@ fn examine_game<S: Alter>(
 ) -> Result<Found, OpenFault>
     requires last { IsMomentOf rows.now.meta.last last.now }
     requires at { slice_get rows.now.games.items place ≡ Some game.now }
-    ensures reads { OnlyReads (state S.Store conn.old) (state S.Store conn.new) }
+    ensures reads { Reads (is_ok result) (state S.Store conn.old) (state S.Store conn.new) }
     ensures found { HasCleanDisk (state S.Store conn.new) → IfOk result (λ found.
         IsClubSchema (state S.Store conn.old).now.schema → IsGameFound rows.now last.now place game.now found.own.moves
         found.own.seen found.wrong (state S.Store conn.old) (state S.Store conn.new)) }
@@ -163,19 +228,25 @@ fn examine_game<S: Alter>(
         Ok(moves) => moves,
         Err(fault) => return Err(fault),
     };
-    let seen = match read_of::<SeenRow, S>(alloc, conn, Table::Seen, game) {
+    let seen = match read_seen(alloc, conn, game) {
         Ok(seen) => seen,
         Err(fault) => return Err(fault),
     };
-    match wrong_game(alloc, rows, place, game, &moves, &seen, given(last)) {
-        Ok(wrong) => Ok(Found {
-            own: RowCounts {
-                moves: moves.len(),
-                seen: seen.len(),
-            },
-            wrong,
-        }),
-        Err(_) => Err(OpenFault::Memory),
+    match seen {
+        Some(seen) => match found_of(alloc, rows, place, game, &moves, &seen, last) {
+            Ok(found) => Ok(found),
+            Err(fault) => Err(fault),
+        },
+        None => {
+            let none: Vec<SeenRow> = Vec::new(alloc);
+            match found_of(alloc, rows, place, game, &moves, &none, last) {
+                Ok(found) => Ok(Found {
+                    own: found.own,
+                    wrong: first_of(found.wrong, Some(Table::Seen)),
+                }),
+                Err(fault) => Err(fault),
+            }
+        }
     }
 }
 
@@ -195,7 +266,7 @@ pub(crate) fn examine_games<S: Alter>(
     requires known_moves { known ≢ Some Table.Moves }
     requires known_games { known ≡ Some Table.Games → ¬ AreApartGames rows.now.games.items }
     requires known_seen { known ≢ Some Table.Seen }
-    ensures reads { OnlyReads (state S.Store conn.old) (state S.Store conn.new) }
+    ensures reads { Reads (is_ok result) (state S.Store conn.old) (state S.Store conn.new) }
     ensures found { HasCleanDisk (state S.Store conn.new) → IfOk result (λ wrong.
         IsClubSchema (state S.Store conn.old).now.schema → IsTrue (state S.Store conn.old).is_open →
         all.moves ≡ length (moves_in (state S.Store conn.old).now.trees) →

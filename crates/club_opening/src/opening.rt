@@ -1,10 +1,10 @@
 //! Examining the tables of a database that was opened.
 
-ghost use Rattle.std.specs.Prelude.{◌≡◌, ◌≢◌, ◌⊎◌, true, None, Some, IfErr, IfOk, OnOk};
+ghost use Rattle.std.specs.Prelude.{◌≡◌, ◌≢◌, ◌⊎◌, true, None, Some, IfErr, IfOk, OnOk, is_ok};
 ghost use Rattle.sqlite.specs.State.{HasCleanDisk, IsUnchanged};
 ghost use Rattle.sqlite.specs.Held.{state};
 ghost use Rattle.store_tables.specs.Club.{IsExactly, IsOpened};
-ghost use Rattle.store_tables.specs.Reading.{OnlyReads};
+ghost use Rattle.store_tables.specs.Reading.{OnlyReads, Reads};
 ghost use Rattle.store_tables.specs.Rows.{HaveIds};
 ghost use Rattle.store_tables.specs.Tables.{club_schema, IsClubSchema, schema_of};
 ghost use Rattle.store_tables.specs.declared.names.Version.TheVariants.{Current};
@@ -43,7 +43,7 @@ fn examine_play<S: Alter>(
     requires known_moves { known ≢ Some Table.Moves }
     requires known_games { known ≡ Some Table.Games → ¬ AreApartGames rows.now.games.items }
     requires known_seen { known ≢ Some Table.Seen }
-    ensures reads { OnlyReads (state S.Store conn.old) (state S.Store conn.new) }
+    ensures reads { Reads (is_ok result) (state S.Store conn.old) (state S.Store conn.new) }
     ensures found { HasCleanDisk (state S.Store conn.new) → IfOk result (λ wrong.
         IsClubSchema (state S.Store conn.old).now.schema →
         IsPlayExamined rows.now last wrong (state S.Store conn.old) (state S.Store conn.new)) }
@@ -77,7 +77,7 @@ fn examine_scores<S: Alter>(
     conn: &mut Connection<S>,
     rows: &Rows,
 ) -> Result<(), OpenFault>
-    ensures reads { OnlyReads (state S.Store conn.old) (state S.Store conn.new) }
+    ensures reads { Reads (is_ok result) (state S.Store conn.old) (state S.Store conn.new) }
     ensures found { HasCleanDisk (state S.Store conn.new) → OnOk result (
         IsClubSchema (state S.Store conn.old).now.schema →
         AreScoresExamined rows.now (state S.Store conn.old) (state S.Store conn.new)) }
@@ -112,10 +112,10 @@ fn before_scores(wrong: Option<Table>) -> Option<Table>
     }
 }
 
-/// Tests that the tables are those of a club of schema 2, or answer as they do, and changes nothing. Of wrong tables the
-/// first is named, in the order members, events, rules of events, challenges, moves, games, positions, scores, `meta`.
-/// But rows of games that have values of other types are found before the challenges are looked at, and such rows of
-/// positions while the moves are. Schema 1 is refused by its number.
+/// Tests that the tables are those of a club of schema 2, or answer as they do, and changes nothing. Of wrong tables
+/// the first is named, in the order members, events, rules of events, challenges, moves, games, positions, scores,
+/// `meta`. But rows of games that have values of other types are found before the challenges are looked at. Schema 1 is
+/// refused by its number.
 pub fn examine<S: Alter>(alloc: Global, conn: &mut Connection<S>) -> Result<(), OpenFault>
     ensures reads { OnlyReads (state S.Store conn.old) (state S.Store conn.new) }
     ensures found { HasCleanDisk (state S.Store conn.new) → OnOk result (IsOpened (state S.Store conn.old) → (s : _) ×
@@ -178,7 +178,7 @@ fn examine_rows<S: Alter>(
     conn: &mut Connection<S>,
     rows: &Rows,
 ) -> Result<(), OpenFault>
-    ensures reads { OnlyReads (state S.Store conn.old) (state S.Store conn.new) }
+    ensures reads { Reads (is_ok result) (state S.Store conn.old) (state S.Store conn.new) }
     ensures found { HasCleanDisk (state S.Store conn.new) → OnOk result (
         IsClubSchema (state S.Store conn.old).now.schema →
         AreExamined rows.now (state S.Store conn.old) (state S.Store conn.new)) }

@@ -1,15 +1,17 @@
 //! All rows of each table, as rows of its type.
 
 ghost use Rattle.std.specs.Prelude.{◌≡◌, ◌≢◌, ◌⊎◌, ℕ, pos, true, None, Some, IfSome, IfOk, IfErr, OnOk, IsTrue, List};
-ghost use Rattle.std.specs.Prelude.{[], ◌∷◌, length, map};
+ghost use Rattle.std.specs.Prelude.{[], ◌∷◌, is_ok, length, map};
 ghost use Rattle.sqlite.specs.State.{HasCleanDisk, IsUnchanged};
 ghost use Rattle.sqlite.specs.Held.{state};
 ghost use Rattle.club_audit.specs.Audit.{AreEvents, AreMembers, AreRules};
 ghost use Rattle.club_core.specs.Events.{Event};
 ghost use Rattle.club_core.specs.Members.{Member};
 ghost use Rattle.store_tables.specs.Cells.{meta_cells, member_cells, event_cells, event_rule_cells};
-ghost use Rattle.store_tables.specs.Reading.{IsNoInput, OnlyReads};
+ghost use Rattle.store_tables.specs.Beside.{IsBeside};
+ghost use Rattle.store_tables.specs.Reading.{IsNoInput, Reads};
 ghost use Rattle.store_tables.specs.Tables.{IsClubSchema, schema_of, schema_number, meta, members, events};
+ghost use Rattle.store_tables.specs.Tables.{first_schema};
 ghost use Rattle.store_tables.specs.declared.names.Version.TheVariants.{First, Current};
 ghost use Rattle.club_opening.specs.Blames.{IsMetaRead, IsOneMeta, HasTypes, HoldsNone, Blames, Names, NamesTable};
 ghost use Rattle.club_opening.specs.Blames.{AreRead, AreRulesRead, IsNumberFrom, NamesSchema, undeclared_row};
@@ -64,12 +66,12 @@ pub(crate) fn read<T: Select, S: Alter>(
     conn: &mut Connection<S>,
     table: Table,
 ) -> Result<Vec<T>, OpenFault>
-    ensures reads { OnlyReads (state S.Store conn.old) (state S.Store conn.new) }
+    ensures reads { Reads (is_ok result) (state S.Store conn.old) (state S.Store conn.new) }
     ensures rows { HasCleanDisk (state S.Store conn.new) → IfOk result (λ found.
-        T.stands (state S.Store conn.old).now.schema → IsReadAs T.table T.width (map T.cells found.items)
+        IsBeside T.club (state S.Store conn.old).now.schema → IsReadAs T.table T.width (map T.cells found.items)
         (state S.Store conn.old) (state S.Store conn.new)) }
     ensures blames { HasCleanDisk (state S.Store conn.new) → IfErr result (λ e.
-        T.stands (state S.Store conn.old).now.schema → Blames table T.table T.IsTyped
+        IsBeside T.club (state S.Store conn.old).now.schema → Blames table T.table T.IsTyped
         (state S.Store conn.old) e) }
 {
     match read_all(alloc, conn) {
@@ -102,7 +104,7 @@ fn one_meta(shown: &[Row]) -> Result<Option<MetaRow>, OpenFault>
 
 /// The row of `meta`, or None where there is not one row, with the id 1.
 fn read_meta<S: Alter>(conn: &mut Connection<S>) -> Result<Option<MetaRow>, OpenFault>
-    ensures reads { OnlyReads (state S.Store conn.old) (state S.Store conn.new) }
+    ensures reads { Reads (is_ok result) (state S.Store conn.old) (state S.Store conn.new) }
     ensures some { HasCleanDisk (state S.Store conn.new) → IfOk result (λ o. IfSome o (λ found.
         IsClubSchema (state S.Store conn.old).now.schema → IsReadAs (meta 0) 1 (meta_cells found ∷ [])
         (state S.Store conn.old) (state S.Store conn.new) × (found.id ≡ pos 1))) }
@@ -126,7 +128,7 @@ fn read_members<S: Alter>(
     alloc: Global,
     conn: &mut Connection<S>,
 ) -> Result<Vec<MemberRow>, OpenFault>
-    ensures reads { OnlyReads (state S.Store conn.old) (state S.Store conn.new) }
+    ensures reads { Reads (is_ok result) (state S.Store conn.old) (state S.Store conn.new) }
     ensures rows { HasCleanDisk (state S.Store conn.new) → IfOk result (λ found.
         IsClubSchema (state S.Store conn.old).now.schema → IsReadAs (members 1) 1 (map member_cells found.items)
         (state S.Store conn.old) (state S.Store conn.new)) }
@@ -152,7 +154,7 @@ fn read_events<S: Alter>(
     alloc: Global,
     conn: &mut Connection<S>,
 ) -> Result<Vec<EventRow>, OpenFault>
-    ensures reads { OnlyReads (state S.Store conn.old) (state S.Store conn.new) }
+    ensures reads { Reads (is_ok result) (state S.Store conn.old) (state S.Store conn.new) }
     ensures rows { HasCleanDisk (state S.Store conn.new) → IfOk result (λ found.
         IsClubSchema (state S.Store conn.old).now.schema → IsReadAs (events 4) 1 (map event_cells found.items)
         (state S.Store conn.old) (state S.Store conn.new)) }
@@ -188,7 +190,7 @@ pub(crate) struct FileHead {
 
 /// What the row of `meta` tells of the version of the tables and of the last moment.
 fn read_version<S: Alter>(conn: &mut Connection<S>) -> Result<FileHead, OpenFault>
-    ensures reads { OnlyReads (state S.Store conn.old) (state S.Store conn.new) }
+    ensures reads { Reads (is_ok result) (state S.Store conn.old) (state S.Store conn.new) }
     ensures found { HasCleanDisk (state S.Store conn.new) → IfOk result (λ told.
         IsClubSchema (state S.Store conn.old).now.schema →
         IsMetaRead told.version told.meta (state S.Store conn.old) (state S.Store conn.new)) }
@@ -244,12 +246,12 @@ fn refused(oldest: Version, version: Version) -> Option<OpenFault>
 
 /// Tests that a table stands, of which no row is read yet.
 fn check_table<T: Select, S: Alter>(conn: &mut Connection<S>, table: Table) -> Result<(), OpenFault>
-    ensures reads { OnlyReads (state S.Store conn.old) (state S.Store conn.new) }
+    ensures reads { Reads (is_ok result) (state S.Store conn.old) (state S.Store conn.new) }
     ensures same { HasCleanDisk (state S.Store conn.new) →
-        OnOk result (T.stands (state S.Store conn.old).now.schema → IsUnchanged (state S.Store conn.old)
+        OnOk result (IsBeside T.club (state S.Store conn.old).now.schema → IsUnchanged (state S.Store conn.old)
         (state S.Store conn.new)) }
     ensures blames { HasCleanDisk (state S.Store conn.new) → IfErr result (λ e.
-        T.stands (state S.Store conn.old).now.schema → e ≡ OpenFault.Store) }
+        IsBeside T.club (state S.Store conn.old).now.schema → e ≡ OpenFault.Store) }
 {
     match check_columns::<T, S>(conn) {
         Ok(()) => Ok(()),
@@ -259,12 +261,12 @@ fn check_table<T: Select, S: Alter>(conn: &mut Connection<S>, table: Table) -> R
 
 /// Tests that the tables stand that each version has but `meta`, before any row of them is read.
 fn check_tables<S: Alter>(conn: &mut Connection<S>) -> Result<(), OpenFault>
-    ensures reads { OnlyReads (state S.Store conn.old) (state S.Store conn.new) }
+    ensures reads { Reads (is_ok result) (state S.Store conn.old) (state S.Store conn.new) }
     ensures same { HasCleanDisk (state S.Store conn.new) →
-        OnOk result (IsClubSchema (state S.Store conn.old).now.schema → IsUnchanged (state S.Store conn.old)
+        OnOk result (IsBeside first_schema (state S.Store conn.old).now.schema → IsUnchanged (state S.Store conn.old)
         (state S.Store conn.new)) }
     ensures blames { HasCleanDisk (state S.Store conn.new) → IfErr result (λ e.
-        IsClubSchema (state S.Store conn.old).now.schema → e ≡ OpenFault.Store) }
+        IsBeside first_schema (state S.Store conn.old).now.schema → e ≡ OpenFault.Store) }
 {
     match check_people::<S>(conn) {
         Ok(()) => {}
@@ -278,7 +280,7 @@ fn check_tables<S: Alter>(conn: &mut Connection<S>) -> Result<(), OpenFault>
 
 /// Tests that the table of the rules of events stands exactly where the version has it.
 fn check_rules<S: Alter>(conn: &mut Connection<S>, version: Version) -> Result<(), OpenFault>
-    ensures reads { OnlyReads (state S.Store conn.old) (state S.Store conn.new) }
+    ensures reads { Reads (is_ok result) (state S.Store conn.old) (state S.Store conn.new) }
     ensures same { HasCleanDisk (state S.Store conn.new) → OnOk result (
         IsClubSchema (state S.Store conn.old).now.schema →
         IsUnchanged (state S.Store conn.old) (state S.Store conn.new)) }
@@ -304,12 +306,12 @@ fn check_rules<S: Alter>(conn: &mut Connection<S>, version: Version) -> Result<(
 
 /// Tests that the tables of members, events, challenges and games stand.
 fn check_people<S: Alter>(conn: &mut Connection<S>) -> Result<(), OpenFault>
-    ensures reads { OnlyReads (state S.Store conn.old) (state S.Store conn.new) }
+    ensures reads { Reads (is_ok result) (state S.Store conn.old) (state S.Store conn.new) }
     ensures same { HasCleanDisk (state S.Store conn.new) →
-        OnOk result (IsClubSchema (state S.Store conn.old).now.schema → IsUnchanged (state S.Store conn.old)
+        OnOk result (IsBeside first_schema (state S.Store conn.old).now.schema → IsUnchanged (state S.Store conn.old)
         (state S.Store conn.new)) }
     ensures blames { HasCleanDisk (state S.Store conn.new) → IfErr result (λ e.
-        IsClubSchema (state S.Store conn.old).now.schema → e ≡ OpenFault.Store) }
+        IsBeside first_schema (state S.Store conn.old).now.schema → e ≡ OpenFault.Store) }
 {
     match check_table::<MemberRow, S>(conn, Table::Members) {
         Ok(()) => {}
@@ -331,12 +333,12 @@ fn check_people<S: Alter>(conn: &mut Connection<S>) -> Result<(), OpenFault>
 
 /// Tests that the tables of moves, positions and scores stand.
 fn check_play<S: Alter>(conn: &mut Connection<S>) -> Result<(), OpenFault>
-    ensures reads { OnlyReads (state S.Store conn.old) (state S.Store conn.new) }
+    ensures reads { Reads (is_ok result) (state S.Store conn.old) (state S.Store conn.new) }
     ensures same { HasCleanDisk (state S.Store conn.new) →
-        OnOk result (IsClubSchema (state S.Store conn.old).now.schema → IsUnchanged (state S.Store conn.old)
+        OnOk result (IsBeside first_schema (state S.Store conn.old).now.schema → IsUnchanged (state S.Store conn.old)
         (state S.Store conn.new)) }
     ensures blames { HasCleanDisk (state S.Store conn.new) → IfErr result (λ e.
-        IsClubSchema (state S.Store conn.old).now.schema → e ≡ OpenFault.Store) }
+        IsBeside first_schema (state S.Store conn.old).now.schema → e ≡ OpenFault.Store) }
 {
     match check_table::<MoveRow, S>(conn, Table::Moves) {
         Ok(()) => {}
@@ -388,7 +390,7 @@ fn read_rules<S: Alter>(
     version: Version,
     events: &[EventRow],
 ) -> Result<Vec<EventRuleRow>, OpenFault>
-    ensures reads { OnlyReads (state S.Store conn.old) (state S.Store conn.new) }
+    ensures reads { Reads (is_ok result) (state S.Store conn.old) (state S.Store conn.new) }
     ensures rules { HasCleanDisk (state S.Store conn.new) → IfOk result (λ rules.
         (state S.Store conn.old).now.schema ≡ schema_of version → IsTrue (state S.Store conn.old).is_open →
         AreRulesRead version events.now rules.items (state S.Store conn.old) (state S.Store conn.new)) }
@@ -428,7 +430,7 @@ pub struct Register {
 
 /// What the row of `meta` tells, where the version is taken, from the oldest on, and all its tables stand.
 fn read_head<S: Alter>(conn: &mut Connection<S>, oldest: Version) -> Result<FileHead, OpenFault>
-    ensures reads { OnlyReads (state S.Store conn.old) (state S.Store conn.new) }
+    ensures reads { Reads (is_ok result) (state S.Store conn.old) (state S.Store conn.new) }
     ensures found { HasCleanDisk (state S.Store conn.new) → IfOk result (λ told.
         IsClubSchema (state S.Store conn.old).now.schema →
         ((state S.Store conn.old).now.schema ≡ schema_of told.version) ×
@@ -467,7 +469,7 @@ fn read_shaped<S: Alter>(
     conn: &mut Connection<S>,
     oldest: Version,
 ) -> Result<FileHead, OpenFault>
-    ensures reads { OnlyReads (state S.Store conn.old) (state S.Store conn.new) }
+    ensures reads { Reads (is_ok result) (state S.Store conn.old) (state S.Store conn.new) }
     ensures shape { IfOk result (λ told. is_of_club told.version (state S.Store conn.old).now.schema ≡ true) }
     ensures found { HasCleanDisk (state S.Store conn.new) → IfOk result (λ told.
         IsClubSchema (state S.Store conn.old).now.schema →
@@ -506,7 +508,7 @@ pub(crate) fn read_rows<S: Alter>(
     conn: &mut Connection<S>,
     oldest: Version,
 ) -> Result<Register, OpenFault>
-    ensures reads { OnlyReads (state S.Store conn.old) (state S.Store conn.new) }
+    ensures reads { Reads (is_ok result) (state S.Store conn.old) (state S.Store conn.new) }
     ensures rows { HasCleanDisk (state S.Store conn.new) → IfOk result (λ found.
         IsClubSchema (state S.Store conn.old).now.schema →
         ((state S.Store conn.old).now.schema ≡ schema_of found.version) ×

@@ -1,16 +1,11 @@
 -- Questions that are asked of a club in turn, before orders are given to it.
 use Rattle.std.proofs.Common.{◌≡◌, ◌⊎◌, inl, inr, ℕ, ◌≤◌, List, ◌∷◌, length, map, take, Option, Some, None, refl, sym}
-use Rattle.std.proofs.Common.{ap, subst, ◌∙◌, Result, Ok}
+use Rattle.std.proofs.Common.{ap, subst, ◌∙◌}
 use Rattle.std.specs.Prelude.{IfSome}
-use Rattle.sqlite.specs.State.{State}
 use Rattle.club_requests.specs.declared.refusals.Refusal.{Refusal}
 use Rattle.club_questions.specs.declared.questions.Question.{Question}
 use Rattle.club_answers.specs.AnswerTexts.{HasShown}
 use Rattle.club_rows.specs.Club.{ClubState}
-use Rattle.store.specs.Asking.{KeepsUnlessFault}
-use Rattle.store_tables.specs.Contents.{Content}
-use Rattle.store_tables.specs.Club.{IsExactly}
-use Rattle.store.specs.declared.fault.AskFault.{AskFault}
 use Rattle.store.specs.declared.fault.AskFault.TheVariants as ask_fault
 use Rattle.store.specs.declared.fault.StoreFault.{StoreFault}
 use Rattle.store.specs.declared.fault.StoreFault.TheVariants as store_fault
@@ -25,13 +20,6 @@ pub asked_of : (s : ClubState) (moment : ℕ) (question : Question) (before now 
     (refusal : Option Refusal) → HasShown s moment question refusal before now → IsAsked s moment question refusal
 asked_of s moment question before now None shown = (shown.0, shown.1)
 asked_of s moment question before now (Some why) shown = shown.0
-
--- a question that was answered changes nothing
-pub kept_of : (answered : Result (Option Refusal) AskFault) (refusal : Option Refusal) (old new : State)
-    → answered ≡ Ok refusal → KeepsUnlessFault answered old new → (content : Content) → IsExactly content old
-    → IsExactly content new
-kept_of answered refusal old new is kept content here =
-    (subst (λ r. KeepsUnlessFault {A = Option Refusal} r old new) is kept) _ content here
 
 -- the fault of a club that was open
 pub of_club : (fault : StoreFault) → (ask_fault.Club fault ≡ ask_fault.Output)

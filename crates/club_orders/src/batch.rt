@@ -1,11 +1,12 @@
 //! Orders that are given to a club in turn.
 
-ghost use Rattle.std.specs.Prelude.{◌≡◌, ◌≤◌, ◌⊎◌, ◌++◌, false, IfOk, IfErr, OnOk};
+ghost use Rattle.std.specs.Prelude.{◌≡◌, ◌≤◌, ◌⊎◌, ◌++◌, false, IfOk, IfErr, OnOk, is_ok};
 ghost use Rattle.sqlite.specs.State.{HasCleanDisk, Opens, IsLive};
 ghost use Rattle.sqlite.specs.Held.{state};
 ghost use Rattle.sqlite_trees.specs.View.{doubt};
+ghost use Rattle.store_tables.specs.Beside.{HasRows};
 ghost use Rattle.store_tables.specs.Club.{IsExactly, Leaves};
-ghost use Rattle.store_tables.specs.Reading.{OnlyReads};
+ghost use Rattle.store_tables.specs.Reading.{Reads};
 ghost use Rattle.club_rows.specs.Club.{ClubState, IsClub, tables};
 ghost use Rattle.store.specs.Histories.{IsHistory, IsReachable};
 ghost use Rattle.club_opening.specs.Refused.{IsRefusal};
@@ -37,12 +38,9 @@ fn refusal_of<S: Alter>(
     requires { club.old.needs_reopening ≡ false }
     ensures ready { OnOk result (club.new.needs_reopening ≡ false) }
     ensures named { IfErr result (λ fault. (fault ≡ StoreFault.Store) ⊎ (fault ≡ StoreFault.Memory)) }
-    ensures reads { OnlyReads (state S.Store club.old.connection) (state S.Store club.new.connection) }
-    ensures kept { HasCleanDisk (state S.Store club.new.connection) → OnOk result ((content : _) →
-        IsExactly content (state S.Store club.old.connection) →
-        IsExactly content (state S.Store club.new.connection)) }
+    ensures reads { Reads (is_ok result) (state S.Store club.old.connection) (state S.Store club.new.connection) }
     ensures asked { HasCleanDisk (state S.Store club.new.connection) → IfOk result (λ refusal. (s : ClubState) →
-        IsClub s → IsExactly (tables s) (state S.Store club.old.connection) → IsAsked s moment question.now refusal) }
+        IsClub s → HasRows (tables s) (state S.Store club.old.connection) → IsAsked s moment question.now refusal) }
 {
     match club.ask(alloc, question, moment, &mut sink()) {
         Ok(refusal) => Ok(refusal),
@@ -62,12 +60,9 @@ fn refusal_among<S: Alter>(
     requires { club.old.needs_reopening ≡ false }
     ensures ready { OnOk result (club.new.needs_reopening ≡ false) }
     ensures named { IfErr result (λ fault. (fault ≡ StoreFault.Store) ⊎ (fault ≡ StoreFault.Memory)) }
-    ensures reads { OnlyReads (state S.Store club.old.connection) (state S.Store club.new.connection) }
-    ensures kept { HasCleanDisk (state S.Store club.new.connection) → OnOk result ((content : _) →
-        IsExactly content (state S.Store club.old.connection) →
-        IsExactly content (state S.Store club.new.connection)) }
+    ensures reads { Reads (is_ok result) (state S.Store club.old.connection) (state S.Store club.new.connection) }
     ensures asked { HasCleanDisk (state S.Store club.new.connection) → IfOk result (λ refusal. (s : ClubState) →
-        IsClub s → IsExactly (tables s) (state S.Store club.old.connection) →
+        IsClub s → HasRows (tables s) (state S.Store club.old.connection) →
         AreAsked s moment questions.now refusal) }
 {
     for question in questions {

@@ -7,7 +7,7 @@ ghost use Rattle.sqlite_trees.specs.View.{doubt};
 ghost use Rattle.store_tables.specs.Club.{IsExactly, Leaves};
 ghost use Rattle.store_tables.specs.Contents.{IsEmpty, IsExactlyEmpty};
 ghost use Rattle.store_tables.specs.Reading.{OnlyReads};
-ghost use Rattle.store_sql.specs.Read.{KeepsContent};
+ghost use Rattle.store_tables.specs.Reading.{KeepsContent};
 ghost use Rattle.club_orders.specs.Report.{IsOfCopy};
 
 use crate::report::Report;

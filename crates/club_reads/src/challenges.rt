@@ -1,6 +1,6 @@
 //! The challenges of the club.
 
-ghost use Rattle.std.specs.Prelude.{◌≡◌, ◌<◌, pos, Some, IfOk, OnOk, IfSome};
+ghost use Rattle.std.specs.Prelude.{◌≡◌, ◌<◌, pos, Some, IfOk, is_ok, IfSome};
 ghost use Rattle.std.specs.Prelude.{IfNone};
 ghost use Rattle.sqlite.specs.State.{HasCleanDisk};
 ghost use Rattle.sqlite.specs.Held.{state};
@@ -8,9 +8,8 @@ ghost use Rattle.club_core.specs.Challenges.{challenge_by};
 ghost use Rattle.club_rows.specs.Club.{ClubState, IsClub, tables};
 ghost use Rattle.club_rows.specs.Tables.{challenge_row};
 ghost use Rattle.store_tables.specs.Cells.{challenge_cells};
-ghost use Rattle.store_tables.specs.Club.{IsExactly};
-ghost use Rattle.store_tables.specs.Reading.{OnlyReads};
-ghost use Rattle.store_sql.specs.Read.{KeepsContent};
+ghost use Rattle.store_tables.specs.Beside.{HasRows};
+ghost use Rattle.store_tables.specs.Reading.{Reads};
 
 use crate::fault::CallFault;
 use crate::found::first;
@@ -53,11 +52,9 @@ pub fn challenge_by<S: Alter>(
     member: Option<u32>,
     number: u64,
 ) -> Result<Option<Challenge>, CallFault>
-    ensures reads { OnlyReads (state S.Store conn.old) (state S.Store conn.new) }
-    ensures kept { HasCleanDisk (state S.Store conn.new) → OnOk result (KeepsContent (state S.Store conn.old)
-        (state S.Store conn.new)) }
+    ensures reads { Reads (is_ok result) (state S.Store conn.old) (state S.Store conn.new) }
     ensures found { HasCleanDisk (state S.Store conn.new) → IfOk result (λ c. (s : ClubState) → IsClub s →
-        IsExactly (tables s) (state S.Store conn.old) → c ≡ challenge_by s.challenges member number) }
+        HasRows (tables s) (state S.Store conn.old) → c ≡ challenge_by s.challenges member number) }
 {
     let Some(member) = member else {
         return Ok(None);

@@ -1,6 +1,6 @@
 //! What a decision in a game makes of the positions that stood in it, and of the scores.
 
-ghost use Rattle.std.specs.Prelude.{◌≡◌, ◌≢◌, ◌≤◌, ◌+◌, ℕ, pos, length, Some, None, IfOk, OnOk};
+ghost use Rattle.std.specs.Prelude.{◌≡◌, ◌≢◌, ◌≤◌, ◌+◌, ℕ, pos, length, Some, None, IfOk, is_ok};
 ghost use Rattle.sqlite.specs.State.{HasCleanDisk};
 ghost use Rattle.sqlite.specs.Held.{state};
 ghost use Rattle.club_rules.specs.Line.{IsLegalLine, times_stood, FirstStands};
@@ -15,10 +15,9 @@ ghost use Rattle.club_rows.specs.Seen.{IsSeenRow};
 ghost use Rattle.club_rows.specs.Tables.{with_entry};
 ghost use Rattle.store_tables.specs.Cells.{seen_cells};
 ghost use Rattle.store_tables.specs.declared.rows.SeenRow.{SeenRow};
-ghost use Rattle.store_tables.specs.Club.{IsExactly};
+ghost use Rattle.store_tables.specs.Beside.{HasRows};
 ghost use Rattle.store_tables.specs.Contents.{Content};
-ghost use Rattle.store_tables.specs.Reading.{OnlyReads};
-ghost use Rattle.store_sql.specs.Read.{KeepsContent};
+ghost use Rattle.store_tables.specs.Reading.{Reads};
 ghost use Rattle.club_changes.specs.Steps.{TellsSeen, IsSeenAfter, HasTwoPlayers, AreScoresAfter, PutsScores};
 ghost use Rattle.club_changes.specs.Steps.{score_list};
 
@@ -41,11 +40,9 @@ fn seen_at<R: Rules, S: Alter>(
     position: &R::Position,
     ply: u32,
 ) -> Result<SeenRow, CallFault>
-    ensures reads { OnlyReads (state S.Store conn.old) (state S.Store conn.new) }
-    ensures kept { HasCleanDisk (state S.Store conn.new) → OnOk result (KeepsContent (state S.Store conn.old)
-        (state S.Store conn.new)) }
+    ensures reads { Reads (is_ok result) (state S.Store conn.old) (state S.Store conn.new) }
     ensures seen { HasCleanDisk (state S.Store conn.new) → IfOk result (λ row. (content : Content) (old : Game R.Move)
-        (e : Entry R.Move) → IsExactly content (state S.Store conn.old) → TellsSeen R.rules game old content →
+        (e : Entry R.Move) → HasRows content (state S.Store conn.old) → TellsSeen R.rules game old content →
         position.now ≡ last_position R.rules (with_entry old e) → length old.entries ≤ 600 →
         ply ≡ length old.entries + 1 →
         IsSeenRow R.rules game (with_entry old e) (R.rules.write_position position.now) (seen_cells row)) }
@@ -69,12 +66,10 @@ pub fn seen_by<R: Rules, S: Alter>(
     plies: u32,
 ) -> Result<Option<SeenRow>, CallFault>
     requires { plies ≤ 600 }
-    ensures reads { OnlyReads (state S.Store conn.old) (state S.Store conn.new) }
-    ensures kept { HasCleanDisk (state S.Store conn.new) → OnOk result (KeepsContent (state S.Store conn.old)
-        (state S.Store conn.new)) }
+    ensures reads { Reads (is_ok result) (state S.Store conn.old) (state S.Store conn.new) }
     ensures seen { HasCleanDisk (state S.Store conn.new) → IfOk result (λ seen. (content : Content) (terms : core.Terms)
         (old : Game R.Move) (moment : ℕ) (who : _) (command : machine.GameCommand) →
-        IsExactly content (state S.Store conn.old) → TellsSeen R.rules game old content →
+        HasRows content (state S.Store conn.old) → TellsSeen R.rules game old content →
         IsLegalGame R.rules terms old → plies ≡ length old.entries →
         HasMade R.rules old (game_step R.rules terms old moment who command) decision.now →
         IsSeenAfter R.rules game (game_step R.rules terms old moment who command) decision.now seen) }
@@ -133,11 +128,9 @@ fn score_of<S: Alter>(
     member: u32,
     opponent: u32,
 ) -> Result<Option<ScoreRow>, CallFault>
-    ensures reads { OnlyReads (state S.Store conn.old) (state S.Store conn.new) }
-    ensures kept { HasCleanDisk (state S.Store conn.new) → OnOk result (KeepsContent (state S.Store conn.old)
-        (state S.Store conn.new)) }
+    ensures reads { Reads (is_ok result) (state S.Store conn.old) (state S.Store conn.new) }
     ensures found { HasCleanDisk (state S.Store conn.new) → IfOk result (λ row. (content : Content) →
-        IsExactly content (state S.Store conn.old) → score_found (content 14) (pair event member opponent) row) }
+        HasRows content (state S.Store conn.old) → score_found (content 14) (pair event member opponent) row) }
 {
     let question = pair_of(event, member, opponent);
     let row = first(find(alloc, conn, &question)?);
@@ -153,11 +146,9 @@ pub fn scores_with<S: Alter>(
     other: u32,
     score: Score,
 ) -> Result<ScorePair, CallFault>
-    ensures reads { OnlyReads (state S.Store conn.old) (state S.Store conn.new) }
-    ensures kept { HasCleanDisk (state S.Store conn.new) → OnOk result (KeepsContent (state S.Store conn.old)
-        (state S.Store conn.new)) }
+    ensures reads { Reads (is_ok result) (state S.Store conn.old) (state S.Store conn.new) }
     ensures puts { HasCleanDisk (state S.Store conn.new) → IfOk result (λ pair. (content : Content) →
-        IsExactly content (state S.Store conn.old) → one ≢ other →
+        HasRows content (state S.Store conn.old) → one ≢ other →
         PutsScores (content 14) event one other score (score_list (Some pair))) }
 {
     let firsts = score_of(alloc, conn, event, one, other)?;
@@ -174,11 +165,9 @@ pub fn scores_by<R: Rules, S: Alter>(
     conn: &mut Connection<S>,
     decision: &Decision<R>,
 ) -> Result<Option<ScorePair>, CallFault>
-    ensures reads { OnlyReads (state S.Store conn.old) (state S.Store conn.new) }
-    ensures kept { HasCleanDisk (state S.Store conn.new) → OnOk result (KeepsContent (state S.Store conn.old)
-        (state S.Store conn.new)) }
+    ensures reads { Reads (is_ok result) (state S.Store conn.old) (state S.Store conn.new) }
     ensures scores { HasCleanDisk (state S.Store conn.new) → IfOk result (λ scores. (content : Content) →
-        IsExactly content (state S.Store conn.old) → HasTwoPlayers decision.now →
+        HasRows content (state S.Store conn.old) → HasTwoPlayers decision.now →
         AreScoresAfter (content 14) decision.now scores) }
 {
     let row = match decision {

@@ -1,6 +1,6 @@
 //! The events of the club.
 
-ghost use Rattle.std.specs.Prelude.{◌≡◌, ◌≤◌, ◌<◌, ℕ, List, map, Some, None, IfOk, OnOk};
+ghost use Rattle.std.specs.Prelude.{◌≡◌, ◌≤◌, ◌<◌, ℕ, List, map, Some, None, IfOk, is_ok};
 ghost use Rattle.std.specs.Prelude.{length};
 ghost use Rattle.sqlite.specs.State.{HasCleanDisk};
 ghost use Rattle.sqlite.specs.Held.{state};
@@ -10,9 +10,8 @@ ghost use Rattle.club_core.specs.State as club;
 ghost use Rattle.club_core.specs.State.{place};
 ghost use Rattle.club_rows.specs.Tables.{number, numbered_from, event_row, rule_row};
 ghost use Rattle.store_tables.specs.Cells.{event_cells, event_rule_cells};
-ghost use Rattle.store_tables.specs.Club.{IsExactly};
-ghost use Rattle.store_tables.specs.Reading.{OnlyReads};
-ghost use Rattle.store_sql.specs.Read.{KeepsContent};
+ghost use Rattle.store_tables.specs.Beside.{HasRows};
+ghost use Rattle.store_tables.specs.Reading.{Reads};
 ghost use Rattle.club_rows.specs.Club.{ClubState, IsClub, tables};
 
 use crate::fault::CallFault;
@@ -80,12 +79,10 @@ pub fn all_events<S: Alter>(
     alloc: Global,
     conn: &mut Connection<S>,
 ) -> Result<Vec<Event>, CallFault>
-    ensures reads { OnlyReads (state S.Store conn.old) (state S.Store conn.new) }
-    ensures kept { HasCleanDisk (state S.Store conn.new) → OnOk result (KeepsContent (state S.Store conn.old)
-        (state S.Store conn.new)) }
+    ensures reads { Reads (is_ok result) (state S.Store conn.old) (state S.Store conn.new) }
     ensures room { IfOk result (λ events. length events.items ≤ 50) }
     ensures values { HasCleanDisk (state S.Store conn.new) → IfOk result (λ events. (s : ClubState) → IsClub s →
-        IsExactly (tables s) (state S.Store conn.old) → events_of events.items ≡ s.events) }
+        HasRows (tables s) (state S.Store conn.old) → events_of events.items ≡ s.events) }
 {
     let rows = list::<EventRow, S>(alloc, conn)?;
     let rules = list::<EventRuleRow, S>(alloc, conn)?;
@@ -99,11 +96,9 @@ pub fn event_with<S: Alter>(
     conn: &mut Connection<S>,
     event: u32,
 ) -> Result<Event, CallFault>
-    ensures reads { OnlyReads (state S.Store conn.old) (state S.Store conn.new) }
-    ensures kept { HasCleanDisk (state S.Store conn.new) → OnOk result (KeepsContent (state S.Store conn.old)
-        (state S.Store conn.new)) }
+    ensures reads { Reads (is_ok result) (state S.Store conn.old) (state S.Store conn.new) }
     ensures found { HasCleanDisk (state S.Store conn.new) → IfOk result (λ e. (s : ClubState) → IsClub s →
-        IsExactly (tables s) (state S.Store conn.old) → (known : core.Event) → place s.events event ≡ Some known →
+        HasRows (tables s) (state S.Store conn.old) → (known : core.Event) → place s.events event ≡ Some known →
         event_of e ≡ known) }
 {
     let number = i64::from(event);

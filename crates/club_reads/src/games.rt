@@ -1,6 +1,6 @@
 //! The games of the club as they are stored.
 
-ghost use Rattle.std.specs.Prelude.{◌≡◌, ◌<◌, ℕ, Some, None, IfOk, OnOk};
+ghost use Rattle.std.specs.Prelude.{◌≡◌, ◌<◌, ℕ, Some, None, IfOk, is_ok};
 ghost use Rattle.std.specs.Prelude.{length};
 ghost use Rattle.std.specs.Option.{option_map};
 ghost use Rattle.sqlite.specs.State.{HasCleanDisk};
@@ -9,9 +9,8 @@ ghost use Rattle.club_core.specs.Answer.{keyed_of};
 ghost use Rattle.club_core.specs.State.{place, game_under, keyed_game};
 ghost use Rattle.club_rows.specs.Tables.{number};
 ghost use Rattle.store_tables.specs.Cells.{game_cells};
-ghost use Rattle.store_tables.specs.Club.{IsExactly};
-ghost use Rattle.store_tables.specs.Reading.{OnlyReads};
-ghost use Rattle.store_sql.specs.Read.{KeepsContent};
+ghost use Rattle.store_tables.specs.Beside.{HasRows};
+ghost use Rattle.store_tables.specs.Reading.{Reads};
 ghost use Rattle.club_rows.specs.Club.{ClubGame, ClubState, IsClub, tables};
 ghost use Rattle.club_changes.specs.Steps.{game_in};
 ghost use Rattle.club_changes.specs.Stored.{IsStoredGame, IsFoundGame};
@@ -58,11 +57,9 @@ pub fn game_under<S: Alter>(
     conn: &mut Connection<S>,
     key: &str,
 ) -> Result<Option<KeyedGame>, CallFault>
-    ensures reads { OnlyReads (state S.Store conn.old) (state S.Store conn.new) }
-    ensures kept { HasCleanDisk (state S.Store conn.new) → OnOk result (KeepsContent (state S.Store conn.old)
-        (state S.Store conn.new)) }
+    ensures reads { Reads (is_ok result) (state S.Store conn.old) (state S.Store conn.new) }
     ensures found { HasCleanDisk (state S.Store conn.new) → IfOk result (λ k. (s : ClubState) → IsClub s →
-        IsExactly (tables s) (state S.Store conn.old) →
+        HasRows (tables s) (state S.Store conn.old) →
         option_map keyed_of k ≡ game_under s.games key.now) }
 {
     match first(find(alloc, conn, &GameKey { key })?) {
@@ -77,12 +74,10 @@ pub(crate) fn read_game<S: Alter>(
     conn: &mut Connection<S>,
     row: GameRecord,
 ) -> Result<StoredGame, CallFault>
-    ensures reads { OnlyReads (state S.Store conn.old) (state S.Store conn.new) }
-    ensures kept { HasCleanDisk (state S.Store conn.new) → OnOk result (KeepsContent (state S.Store conn.old)
-        (state S.Store conn.new)) }
+    ensures reads { Reads (is_ok result) (state S.Store conn.old) (state S.Store conn.new) }
     ensures found { HasCleanDisk (state S.Store conn.new) → IfOk result (λ stored. (s : ClubState) (id : ℕ)
         (game : ClubGame) → IsClub s → place s.games id ≡ Some game → game_cells row ≡ game_in s id game →
-        IsExactly (tables s) (state S.Store conn.old) → IsStoredGame s id game stored) }
+        HasRows (tables s) (state S.Store conn.old) → IsStoredGame s id game stored) }
 {
     let ids = ids_in(&row)?;
     let event = event_with(alloc, conn, ids.pairing.event)?;
@@ -100,11 +95,9 @@ pub fn stored_game<S: Alter>(
     conn: &mut Connection<S>,
     game: u64,
 ) -> Result<Option<StoredGame>, CallFault>
-    ensures reads { OnlyReads (state S.Store conn.old) (state S.Store conn.new) }
-    ensures kept { HasCleanDisk (state S.Store conn.new) → OnOk result (KeepsContent (state S.Store conn.old)
-        (state S.Store conn.new)) }
+    ensures reads { Reads (is_ok result) (state S.Store conn.old) (state S.Store conn.new) }
     ensures found { HasCleanDisk (state S.Store conn.new) → IfOk result (λ found. (s : ClubState) → IsClub s →
-        IsExactly (tables s) (state S.Store conn.old) → IsFoundGame s game found) }
+        HasRows (tables s) (state S.Store conn.old) → IsFoundGame s game found) }
 {
     let Ok(id) = i64::try_from(game) else {
         return Ok(None);
@@ -120,11 +113,9 @@ pub fn stored_game<S: Alter>(
 
 /// How many games there are.
 pub fn games_in<S: Alter>(conn: &mut Connection<S>) -> Result<u32, CallFault>
-    ensures reads { OnlyReads (state S.Store conn.old) (state S.Store conn.new) }
-    ensures kept { HasCleanDisk (state S.Store conn.new) → OnOk result (KeepsContent (state S.Store conn.old)
-        (state S.Store conn.new)) }
+    ensures reads { Reads (is_ok result) (state S.Store conn.old) (state S.Store conn.new) }
     ensures count { HasCleanDisk (state S.Store conn.new) → IfOk result (λ games. (s : ClubState) →
-        IsExactly (tables s) (state S.Store conn.old) → games ≡ length s.games) }
+        HasRows (tables s) (state S.Store conn.old) → games ≡ length s.games) }
 {
     match u32::try_from(count::<GameRecord, S>(conn)?) {
         Ok(games) => Ok(games),

@@ -1,15 +1,14 @@
 //! What an import may ask of the club.
 
-ghost use Rattle.std.specs.Prelude.{◌≡◌, ◌≤◌, ℕ, List, length, Option, Some, IfOk, OnOk};
+ghost use Rattle.std.specs.Prelude.{◌≡◌, ◌≤◌, ℕ, List, length, Option, Some, IfOk, is_ok};
 ghost use Rattle.std.specs.Option.{option_map};
 ghost use Rattle.sqlite.specs.State.{HasCleanDisk};
 ghost use Rattle.sqlite.specs.Held.{state};
 ghost use Rattle.club_core.specs.Answer.{keyed_of};
 ghost use Rattle.club_core.specs.State.{game_under};
 ghost use Rattle.club_rows.specs.Club.{ClubState, IsClub, tables};
-ghost use Rattle.store_tables.specs.Club.{IsExactly};
-ghost use Rattle.store_tables.specs.Reading.{OnlyReads};
-ghost use Rattle.store_sql.specs.Read.{KeepsContent};
+ghost use Rattle.store_tables.specs.Beside.{HasRows};
+ghost use Rattle.store_tables.specs.Reading.{Reads};
 ghost use Rattle.club_changes.specs.Importing.{IsUnder, IsKnown};
 
 use crate::events::all_events;
@@ -29,11 +28,9 @@ pub(crate) fn stored_under<S: Alter>(
     conn: &mut Connection<S>,
     key: &str,
 ) -> Result<Option<StoredGame>, CallFault>
-    ensures reads { OnlyReads (state S.Store conn.old) (state S.Store conn.new) }
-    ensures kept { HasCleanDisk (state S.Store conn.new) → OnOk result (KeepsContent (state S.Store conn.old)
-        (state S.Store conn.new)) }
+    ensures reads { Reads (is_ok result) (state S.Store conn.old) (state S.Store conn.new) }
     ensures found { HasCleanDisk (state S.Store conn.new) → IfOk result (λ found. (s : ClubState) → IsClub s →
-        IsExactly (tables s) (state S.Store conn.old) → IsUnder s key.now found) }
+        HasRows (tables s) (state S.Store conn.old) → IsUnder s key.now found) }
 {
     match first(find(alloc, conn, &GameKey { key })?) {
         Some(row) => {
@@ -61,13 +58,11 @@ pub fn read_known<S: Alter>(
     conn: &mut Connection<S>,
     key: &str,
 ) -> Result<Known, CallFault>
-    ensures reads { OnlyReads (state S.Store conn.old) (state S.Store conn.new) }
-    ensures kept { HasCleanDisk (state S.Store conn.new) → OnOk result (KeepsContent (state S.Store conn.old)
-        (state S.Store conn.new)) }
+    ensures reads { Reads (is_ok result) (state S.Store conn.old) (state S.Store conn.new) }
     ensures members { IfOk result (λ known. length known.members.items ≤ 200) }
     ensures events { IfOk result (λ known. length known.events.items ≤ 50) }
     ensures known { HasCleanDisk (state S.Store conn.new) → IfOk result (λ known. (s : ClubState) → IsClub s →
-        IsExactly (tables s) (state S.Store conn.old) → IsKnown s key.now known) }
+        HasRows (tables s) (state S.Store conn.old) → IsKnown s key.now known) }
 {
     let under = stored_under(alloc, conn, key)?;
     let keyed = keyed(&under)?;

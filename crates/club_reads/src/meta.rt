@@ -1,13 +1,12 @@
 //! The moment of the last accepted command.
 
-ghost use Rattle.std.specs.Prelude.{◌≡◌, ◌<◌, ℕ, [], ◌∷◌, Some, None, IfOk, OnOk};
+ghost use Rattle.std.specs.Prelude.{◌≡◌, ◌<◌, ℕ, [], ◌∷◌, Some, None, IfOk, is_ok};
 ghost use Rattle.sqlite.specs.State.{HasCleanDisk};
 ghost use Rattle.sqlite.specs.Held.{state};
 ghost use Rattle.club_rows.specs.Tables.{meta_row};
 ghost use Rattle.store_tables.specs.Cells.{meta_cells};
-ghost use Rattle.store_tables.specs.Club.{IsExactly};
-ghost use Rattle.store_tables.specs.Reading.{OnlyReads};
-ghost use Rattle.store_sql.specs.Read.{KeepsContent};
+ghost use Rattle.store_tables.specs.Beside.{HasRows};
+ghost use Rattle.store_tables.specs.Reading.{Reads};
 ghost use Rattle.club_rows.specs.Club.{ClubState, tables};
 
 use crate::fault::CallFault;
@@ -31,11 +30,9 @@ fn last_in(row: &MetaRow) -> Result<Moment, CallFault>
 
 /// The moment of the last accepted command.
 pub fn last_moment<S: Alter>(alloc: Global, conn: &mut Connection<S>) -> Result<Moment, CallFault>
-    ensures reads { OnlyReads (state S.Store conn.old) (state S.Store conn.new) }
-    ensures kept { HasCleanDisk (state S.Store conn.new) → OnOk result (KeepsContent (state S.Store conn.old)
-        (state S.Store conn.new)) }
-    ensures last { HasCleanDisk (state S.Store conn.new) → IfOk result (λ last. (s : ClubState) → IsExactly (tables s)
-        (state S.Store conn.old) → last ≡ s.last) }
+    ensures reads { Reads (is_ok result) (state S.Store conn.old) (state S.Store conn.new) }
+    ensures last { HasCleanDisk (state S.Store conn.new) → IfOk result (λ last. (s : ClubState) →
+        HasRows (tables s) (state S.Store conn.old) → last ≡ s.last) }
 {
     match first(list::<MetaRow, S>(alloc, conn)?) {
         Some(row) => Ok(last_in(&row)?),

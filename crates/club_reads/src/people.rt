@@ -1,6 +1,6 @@
 //! The members of the club, and who gives a command.
 
-ghost use Rattle.std.specs.Prelude.{◌≡◌, ◌≤◌, ◌<◌, ℕ, List, map, Some, None, IfOk, OnOk};
+ghost use Rattle.std.specs.Prelude.{◌≡◌, ◌≤◌, ◌<◌, ℕ, List, map, Some, None, IfOk, is_ok};
 ghost use Rattle.std.specs.Prelude.{length, string_bytes};
 ghost use Rattle.sqlite.specs.State.{HasCleanDisk};
 ghost use Rattle.sqlite.specs.Held.{state};
@@ -10,9 +10,8 @@ ghost use Rattle.club_core.specs.State as club;
 ghost use Rattle.club_core.specs.State.{place};
 ghost use Rattle.club_rows.specs.Tables.{number, numbered_from, member_row};
 ghost use Rattle.store_tables.specs.Cells.{member_cells};
-ghost use Rattle.store_tables.specs.Club.{IsExactly};
-ghost use Rattle.store_tables.specs.Reading.{OnlyReads};
-ghost use Rattle.store_sql.specs.Read.{KeepsContent};
+ghost use Rattle.store_tables.specs.Beside.{HasRows};
+ghost use Rattle.store_tables.specs.Reading.{Reads};
 ghost use Rattle.club_rows.specs.Club.{ClubState, IsClub, tables};
 ghost use Rattle.club_core.specs.Answer.{who_of};
 ghost use Rattle.club_core.specs.Members.{find_id};
@@ -55,12 +54,10 @@ pub fn all_members<S: Alter>(
     alloc: Global,
     conn: &mut Connection<S>,
 ) -> Result<Vec<Member>, CallFault>
-    ensures reads { OnlyReads (state S.Store conn.old) (state S.Store conn.new) }
-    ensures kept { HasCleanDisk (state S.Store conn.new) → OnOk result (KeepsContent (state S.Store conn.old)
-        (state S.Store conn.new)) }
+    ensures reads { Reads (is_ok result) (state S.Store conn.old) (state S.Store conn.new) }
     ensures room { IfOk result (λ members. length members.items ≤ 200) }
     ensures values { HasCleanDisk (state S.Store conn.new) → IfOk result (λ members. (s : ClubState) →
-        IsExactly (tables s) (state S.Store conn.old) → members_of members.items ≡ s.members) }
+        HasRows (tables s) (state S.Store conn.old) → members_of members.items ≡ s.members) }
 {
     let members = members_of(alloc, &list::<MemberRow, S>(alloc, conn)?)?;
     Ok(members)
@@ -83,11 +80,9 @@ pub(crate) fn member_with<S: Alter>(
     conn: &mut Connection<S>,
     key: &str,
 ) -> Result<Option<Caller>, CallFault>
-    ensures reads { OnlyReads (state S.Store conn.old) (state S.Store conn.new) }
-    ensures kept { HasCleanDisk (state S.Store conn.new) → OnOk result (KeepsContent (state S.Store conn.old)
-        (state S.Store conn.new)) }
+    ensures reads { Reads (is_ok result) (state S.Store conn.old) (state S.Store conn.new) }
     ensures found { HasCleanDisk (state S.Store conn.new) → IfOk result (λ caller. (s : ClubState) → IsClub s →
-        IsExactly (tables s) (state S.Store conn.old) →
+        HasRows (tables s) (state S.Store conn.old) →
         caller ≡ caller_found (find_id (has_member_key key.now) s.members)) }
 {
     match first(find(alloc, conn, &MemberKey { key })?) {
@@ -102,11 +97,9 @@ pub fn caller_by<S: Alter>(
     conn: &mut Connection<S>,
     who: &Who,
 ) -> Result<Option<Caller>, CallFault>
-    ensures reads { OnlyReads (state S.Store conn.old) (state S.Store conn.new) }
-    ensures kept { HasCleanDisk (state S.Store conn.new) → OnOk result (KeepsContent (state S.Store conn.old)
-        (state S.Store conn.new)) }
+    ensures reads { Reads (is_ok result) (state S.Store conn.old) (state S.Store conn.new) }
     ensures found { HasCleanDisk (state S.Store conn.new) → IfOk result (λ caller. (s : ClubState) → IsClub s →
-        IsExactly (tables s) (state S.Store conn.old) → caller ≡ caller_of s.members (who_of who.now)) }
+        HasRows (tables s) (state S.Store conn.old) → caller ≡ caller_of s.members (who_of who.now)) }
 {
     match who {
         Who::Officer => Ok(Some(Caller::Officer)),
@@ -123,11 +116,9 @@ pub fn name_of<S: Alter>(
     conn: &mut Connection<S>,
     member: u32,
 ) -> Result<String, CallFault>
-    ensures reads { OnlyReads (state S.Store conn.old) (state S.Store conn.new) }
-    ensures kept { HasCleanDisk (state S.Store conn.new) → OnOk result (KeepsContent (state S.Store conn.old)
-        (state S.Store conn.new)) }
+    ensures reads { Reads (is_ok result) (state S.Store conn.old) (state S.Store conn.new) }
     ensures found { HasCleanDisk (state S.Store conn.new) → IfOk result (λ name. (s : ClubState) →
-        IsExactly (tables s) (state S.Store conn.old) → (known : core_members.Member) →
+        HasRows (tables s) (state S.Store conn.old) → (known : core_members.Member) →
         place s.members member ≡ Some known → string_bytes name ≡ known.name) }
 {
     let number = i64::from(member);
@@ -143,11 +134,9 @@ pub fn holder_of<S: Alter>(
     conn: &mut Connection<S>,
     key: &str,
 ) -> Result<Option<String>, CallFault>
-    ensures reads { OnlyReads (state S.Store conn.old) (state S.Store conn.new) }
-    ensures kept { HasCleanDisk (state S.Store conn.new) → OnOk result (KeepsContent (state S.Store conn.old)
-        (state S.Store conn.new)) }
+    ensures reads { Reads (is_ok result) (state S.Store conn.old) (state S.Store conn.new) }
     ensures held { HasCleanDisk (state S.Store conn.new) → IfOk result (λ name. (s : ClubState) → IsClub s →
-        IsExactly (tables s) (state S.Store conn.old) → option_map string_bytes name ≡ holder_of s key.now) }
+        HasRows (tables s) (state S.Store conn.old) → option_map string_bytes name ≡ holder_of s key.now) }
 {
     match first(find(alloc, conn, &MemberKey { key })?) {
         Some(row) => Ok(Some(row.name)),

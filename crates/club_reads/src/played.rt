@@ -1,23 +1,21 @@
 //! What was played in the game that stands under a key.
 
-ghost use Rattle.std.specs.Prelude.{Option, Some, IfOk, OnOk};
+ghost use Rattle.std.specs.Prelude.{Option, Some, IfOk, is_ok};
 ghost use Rattle.sqlite.specs.State.{HasCleanDisk};
 ghost use Rattle.sqlite.specs.Held.{state};
 ghost use Rattle.club_core.specs.Game.{Game};
 ghost use Rattle.club_imports.specs.Importing.{IsPlayedOf, ShowsPlayed};
 ghost use Rattle.club_rows.specs.Replay.{terms_given};
-ghost use Rattle.store_tables.specs.Club.{IsExactly};
+ghost use Rattle.store_tables.specs.Beside.{HasRows};
 ghost use Rattle.store_tables.specs.Contents.{Content};
-ghost use Rattle.store_tables.specs.Reading.{OnlyReads};
-ghost use Rattle.store_sql.specs.Read.{KeepsContent};
+ghost use Rattle.store_tables.specs.Reading.{Reads};
 ghost use Rattle.club_changes.specs.Importing.{IsOfKind, TellsLine};
 ghost use Rattle.club_changes.specs.Steps.{IsRecordOf};
 
 use crate::fault::CallFault;
-use club_changes::StoredGame;
+use club_changes::{StoredGame, played_of};
 use club_imports::PlayedGame;
 use club_rules::{GameKind, Rules};
-use import_rows::played_of;
 use sqlite::{Alter, Connection};
 use std::alloc::Global;
 use store_sql::find_by_first;
@@ -29,11 +27,9 @@ pub(crate) fn played_in<R: Rules, S: Alter>(
     conn: &mut Connection<S>,
     stored: &StoredGame,
 ) -> Result<PlayedGame<R::Move>, CallFault>
-    ensures reads { OnlyReads (state S.Store conn.old) (state S.Store conn.new) }
-    ensures kept { HasCleanDisk (state S.Store conn.new) → OnOk result (KeepsContent (state S.Store conn.old)
-        (state S.Store conn.new)) }
+    ensures reads { Reads (is_ok result) (state S.Store conn.old) (state S.Store conn.new) }
     ensures played { HasCleanDisk (state S.Store conn.new) → IfOk result (λ played. (content : Content)
-        (game : Game R.Move) → IsExactly content (state S.Store conn.old) →
+        (game : Game R.Move) → HasRows content (state S.Store conn.old) →
         TellsLine R.rules (terms_given stored.now.terms) stored.now.id game content →
         IsRecordOf R.rules (terms_given stored.now.terms) stored.now.id stored.now.row game →
         IsPlayedOf R.rules game played) }
@@ -53,11 +49,9 @@ pub fn played_under<R: Rules, S: Alter>(
     kind: GameKind,
     under: &Option<StoredGame>,
 ) -> Result<Option<PlayedGame<R::Move>>, CallFault>
-    ensures reads { OnlyReads (state S.Store conn.old) (state S.Store conn.new) }
-    ensures kept { HasCleanDisk (state S.Store conn.new) → OnOk result (KeepsContent (state S.Store conn.old)
-        (state S.Store conn.new)) }
+    ensures reads { Reads (is_ok result) (state S.Store conn.old) (state S.Store conn.new) }
     ensures played { HasCleanDisk (state S.Store conn.new) → IfOk result (λ played. (content : Content)
-        (old : Option (Game R.Move)) → IsExactly content (state S.Store conn.old) →
+        (old : Option (Game R.Move)) → HasRows content (state S.Store conn.old) →
         IsOfKind R.rules kind content old under.now → ShowsPlayed R.rules old played) }
 {
     let stored = match under {

@@ -1,6 +1,6 @@
 //! What the rows of a game show: its view by its own row, and by the rows of the ply that is asked of.
 
-ghost use Rattle.std.specs.Prelude.{◌≡◌, ◌<◌, pos, IfOk, OnOk, None};
+ghost use Rattle.std.specs.Prelude.{◌≡◌, ◌<◌, pos, IfOk, is_ok, None};
 ghost use Rattle.std.specs.Option.{option_map};
 ghost use Rattle.club_core.specs.Events as core;
 ghost use Rattle.club_core.specs.Game.{Game};
@@ -11,10 +11,9 @@ ghost use Rattle.club_rows.specs.RowView.{HasLastStood, AreRowsAt, row_at};
 ghost use Rattle.sqlite.specs.State.{HasCleanDisk};
 ghost use Rattle.sqlite.specs.Held.{state};
 ghost use Rattle.store_tables.specs.Cells.{move_cells};
-ghost use Rattle.store_tables.specs.Club.{IsExactly};
+ghost use Rattle.store_tables.specs.Beside.{HasRows};
 ghost use Rattle.store_tables.specs.Contents.{Content};
-ghost use Rattle.store_tables.specs.Reading.{OnlyReads};
-ghost use Rattle.store_sql.specs.Read.{KeepsContent};
+ghost use Rattle.store_tables.specs.Reading.{Reads};
 ghost use Rattle.club_changes.specs.Steps.{IsRecordOf, TellsMoves, TellsSeen};
 
 use crate::fault::CallFault;
@@ -46,12 +45,10 @@ fn last_stood<R: Rules, S: Alter>(
     conn: &mut Connection<S>,
     stored: &StoredGame,
 ) -> Result<Stood, CallFault>
-    ensures reads { OnlyReads (state S.Store conn.old) (state S.Store conn.new) }
-    ensures kept { HasCleanDisk (state S.Store conn.new) → OnOk result (KeepsContent (state S.Store conn.old)
-        (state S.Store conn.new)) }
+    ensures reads { Reads (is_ok result) (state S.Store conn.old) (state S.Store conn.new) }
     ensures stood { HasCleanDisk (state S.Store conn.new) →
         IfOk result (λ stood. (content : Content) (game : Game R.Move) →
-        IsExactly content (state S.Store conn.old) → TellsSeen R.rules stored.now.id game content →
+        HasRows content (state S.Store conn.old) → TellsSeen R.rules stored.now.id game content →
         IsRecordOf R.rules (terms_given stored.now.terms) stored.now.id stored.now.row game →
         HasLastStood R.rules game stood) }
 {
@@ -80,11 +77,9 @@ pub fn row_of<R: Rules, S: Alter>(
     game: u32,
     ply: u32,
 ) -> Result<Option<MoveRow>, CallFault>
-    ensures reads { OnlyReads (state S.Store conn.old) (state S.Store conn.new) }
-    ensures kept { HasCleanDisk (state S.Store conn.new) → OnOk result (KeepsContent (state S.Store conn.old)
-        (state S.Store conn.new)) }
+    ensures reads { Reads (is_ok result) (state S.Store conn.old) (state S.Store conn.new) }
     ensures found { HasCleanDisk (state S.Store conn.new) → IfOk result (λ row. (content : Content) (terms : core.Terms)
-        (old : Game R.Move) → IsExactly content (state S.Store conn.old) → TellsMoves R.rules terms game old content →
+        (old : Game R.Move) → HasRows content (state S.Store conn.old) → TellsMoves R.rules terms game old content →
         option_map move_cells row ≡ row_at R.rules terms game old ply) }
 {
     let question = ply_of(game, ply);
@@ -110,12 +105,10 @@ fn rows_at<R: Rules, S: Alter>(
     game: u32,
     ply: u64,
 ) -> Result<PlyRows, CallFault>
-    ensures reads { OnlyReads (state S.Store conn.old) (state S.Store conn.new) }
-    ensures kept { HasCleanDisk (state S.Store conn.new) → OnOk result (KeepsContent (state S.Store conn.old)
-        (state S.Store conn.new)) }
+    ensures reads { Reads (is_ok result) (state S.Store conn.old) (state S.Store conn.new) }
     ensures found { HasCleanDisk (state S.Store conn.new) →
         IfOk result (λ rows. (content : Content) (terms : core.Terms)
-        (old : Game R.Move) → IsExactly content (state S.Store conn.old) → TellsMoves R.rules terms game old content →
+        (old : Game R.Move) → HasRows content (state S.Store conn.old) → TellsMoves R.rules terms game old content →
         IsLegalGame R.rules terms old → AreRowsAt R.rules terms game old ply rows) }
 {
     if ply == 0 {
@@ -135,14 +128,12 @@ pub fn view<R: Rules, S: Alter>(
     conn: &mut Connection<S>,
     stored: &StoredGame,
 ) -> Result<GameView<R>, CallFault>
-    ensures reads { OnlyReads (state S.Store conn.old) (state S.Store conn.new) }
-    ensures kept { HasCleanDisk (state S.Store conn.new) → OnOk result (KeepsContent (state S.Store conn.old)
-        (state S.Store conn.new)) }
+    ensures reads { Reads (is_ok result) (state S.Store conn.old) (state S.Store conn.new) }
     ensures sound { IfOk result (IsSound R.rules) }
     ensures terms { IfOk result (λ view. terms_of view ≡ terms_given stored.now.terms) }
     ensures shows { HasCleanDisk (state S.Store conn.new) →
         IfOk result (λ view. (content : Content) (game : Game R.Move) →
-        IsExactly content (state S.Store conn.old) → TellsSeen R.rules stored.now.id game content →
+        HasRows content (state S.Store conn.old) → TellsSeen R.rules stored.now.id game content →
         IsRecordOf R.rules (terms_given stored.now.terms) stored.now.id stored.now.row game → Shows R.rules game view) }
 {
     let stood = last_stood::<R, S>(alloc, conn, stored)?;
@@ -159,14 +150,12 @@ pub fn asked_view<R: Rules, S: Alter>(
     stored: &StoredGame,
     ply: u64,
 ) -> Result<GameView<R>, CallFault>
-    ensures reads { OnlyReads (state S.Store conn.old) (state S.Store conn.new) }
-    ensures kept { HasCleanDisk (state S.Store conn.new) → OnOk result (KeepsContent (state S.Store conn.old)
-        (state S.Store conn.new)) }
+    ensures reads { Reads (is_ok result) (state S.Store conn.old) (state S.Store conn.new) }
     ensures sound { IfOk result (IsSound R.rules) }
     ensures terms { IfOk result (λ view. terms_of view ≡ terms_given stored.now.terms) }
     ensures shows { HasCleanDisk (state S.Store conn.new) →
         IfOk result (λ view. (content : Content) (game : Game R.Move) →
-        IsExactly content (state S.Store conn.old) → TellsSeen R.rules stored.now.id game content →
+        HasRows content (state S.Store conn.old) → TellsSeen R.rules stored.now.id game content →
         TellsMoves R.rules (terms_given stored.now.terms) stored.now.id game content →
         IsRecordOf R.rules (terms_given stored.now.terms) stored.now.id stored.now.row game →
         Shows R.rules game view × ShowsPly R.rules game ply view) }

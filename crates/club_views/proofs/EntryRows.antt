@@ -1,18 +1,14 @@
 -- The rows of a game's moves as the entries of its record.
 use Rattle.std.proofs.Common.{◌≡◌, ℕ, zero, suc, ◌≤◌, List, [], ◌∷◌, ◌++◌, length, take, drop, pos}
-use Rattle.std.proofs.Common.{Option, Some, None, Bool, Result, Ok, Err, refl, ap, sym, subst, ◌∙◌, arith}
+use Rattle.std.proofs.Common.{Option, Some, None, Ok, refl, ap, sym, subst, ◌∙◌, arith}
 use Rattle.std.proofs.Common.{take-append-drop}
 use Rattle.std.specs.Prelude.{slice_get, string_bytes}
 use Rattle.std.specs.Option.{option_map}
 use Rattle.std.proofs.Math.Seq.{take-length}
-use Rattle.sqlite.specs.State.{State}
-use Rattle.store_sql.specs.Read.{KeepsContent}
-use Rattle.club_views.specs.Exported.{KeepsUnlessCalled, IsTitleBy, IsTitleOf}
+use Rattle.club_views.specs.Exported.{IsTitleBy, IsTitleOf}
 use Rattle.club_views.specs.declared.exported.Names.{Names}
 use Rattle.club_core.specs.View.{IsRowOf}
 use Rattle.club_core.specs.declared.rows.GameRow.{GameRow}
-use Rattle.club_views.specs.declared.exported.Stopped.{Stopped}
-use Rattle.club_views.specs.declared.exported.Stopped.TheVariants as stopped
 use Rattle.std.proofs.lemmas.Option.{slice_get-map, same_Some}
 use Rattle.std.proofs.lemmas.List.{take-map}
 use Rattle.club_rules.specs.GameRules.{GameRules}
@@ -108,21 +104,6 @@ take-none xs = refl
 pub take-whole : {A : Type 0} (xs : List A) (n : ℕ) → n ≡ length xs → take n xs ≡ xs
 take-whole xs n is = ap (λ k. take k xs) is ∙ take-length xs
 
--- what is kept is kept whatever the writing came to
-pub keeps-all : {A : Type 0} (r : Result A Stopped) (old new : State) → KeepsContent old new
-    → KeepsUnlessCalled r old new
-keeps-all (Ok a) old new kept = kept
-keeps-all (Err stopped.Output) old new kept = kept
-keeps-all (Err (stopped.Call fault)) old new kept = tt
-
--- what was kept up to a call, and then unless the call failed
-pub keeps-then : {A : Type 0} (r : Result A Stopped) (old mid new : State) → KeepsContent old mid
-    → KeepsUnlessCalled r mid new → KeepsUnlessCalled r old new
-keeps-then (Ok a) old mid new first then = λ schema content k. then schema content (first schema content k)
-keeps-then (Err stopped.Output) old mid new first then =
-    λ schema content k. then schema content (first schema content k)
-keeps-then (Err (stopped.Call fault)) old mid new first then = tt
-
 -- what a record says by the row of a game is what it says of the game
 pub titled : {P M E T : Type 0} (rules : GameRules P M E T) (terms : Terms) (game : Game M) (names : Names)
     (row : GameRow E) (title : Title E) → IsTitleBy names row title → IsRowOf rules terms game row
@@ -158,9 +139,3 @@ module _ {M E : Type 0} (IsText : Title E → List (M × ℕ) → List ℕ → T
   pub adds-from : AddsRecord IsText title (timed title.start entries) before now
       → AddsRecord IsText title (timed start entries) before now
   adds-from adds = subst (λ t. AddsRecord IsText title (timed t entries) before now) is adds
-
--- and where it failed, whatever it would have answered
-pub keeps-failed : (fault : Stopped) (old mid new : State) → KeepsContent old mid
-    → KeepsUnlessCalled {A = Unit {0}} (Err fault) mid new → KeepsUnlessCalled {A = Bool} (Err fault) old new
-keeps-failed stopped.Output old mid new first then = λ schema content k. then schema content (first schema content k)
-keeps-failed (stopped.Call fault) old mid new first then = tt

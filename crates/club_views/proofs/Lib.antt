@@ -1,4 +1,5 @@
 pub mod CrossTableLemmas
 pub mod EntryRows
 pub mod Proved
+pub mod ReadLemmas
 pub mod ViewedLemmas

@@ -1,7 +1,6 @@
 -- The record of a game of the club, and what a writer has of it.
 use Rattle.std.specs.Prelude.{◌≡◌, ℕ, List, ◌⊎◌, Option, Some, None, Bool, true, false, Result, Ok, Err, string_bytes}
 use Rattle.std.specs.Option.{option_map}
-use Rattle.sqlite.specs.State.{State}
 use Rattle.record_writer.specs.declared.fault.WriteFault.{WriteFault}
 use Rattle.record_writer.specs.declared.fault.WriteFault.TheVariants as write_fault
 use Rattle.club_rules.specs.GameRules.{GameRules}
@@ -13,7 +12,6 @@ use Rattle.club_exports.specs.Written.{AddsRecord, BeginsRecord}
 use Rattle.club_exports.specs.PdnRecords.{IsPdnText}
 use Rattle.club_exports.specs.CsaRecords.{IsCsaText}
 use Rattle.club_rows.specs.Club.{ClubGame, ClubState, both_games}
-use Rattle.store_sql.specs.Read.{KeepsContent}
 use Rattle.club_views.specs.declared.exported.Names.{Names}
 use Rattle.club_views.specs.declared.exported.Stopped.{Stopped}
 use Rattle.club_views.specs.declared.exported.Stopped.TheVariants as stopped
@@ -49,11 +47,15 @@ module _ {P M E T : Type 0} (rules : GameRules P M E T) where
         (title : Title E) × IsTitleOf names game title
         × BeginsRecord IsText title (timed game.start game.entries) before now
 
--- what a connection holds is kept, unless a call on it failed; a writer that fails leaves it as it is
-abbrev pub KeepsUnlessCalled : {A : Type 0} → Result A Stopped → State → State → Type 0
-KeepsUnlessCalled (Ok a) old new = KeepsContent old new
-KeepsUnlessCalled (Err stopped.Output) old new = KeepsContent old new
-KeepsUnlessCalled (Err (stopped.Call fault)) old new = Unit {0}
+-- whether the writer failed, and no call of the club's
+abbrev pub is_output : Stopped → Bool
+is_output stopped.Output = true
+is_output (stopped.Call fault) = false
+
+-- whether no call of the club's failed; a writer that fails leaves the connection as it is
+abbrev pub no_call_failed : {A : Type 0} → Result A Stopped → Bool
+no_call_failed (Ok a) = true
+no_call_failed (Err why) = is_output why
 
 -- why the writing of a record stopped, by what the writer of its format says
 abbrev pub stopped_by : WriteFault → Stopped

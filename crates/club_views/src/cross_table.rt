@@ -1,6 +1,6 @@
 //! The cross table of an event, by the rows of its scores and of the members.
 
-ghost use Rattle.std.specs.Prelude.{◌≡◌, ◌==◌, ◌∷◌, ℕ, map, filter, IfOk, OnOk, string_bytes};
+ghost use Rattle.std.specs.Prelude.{◌≡◌, ◌==◌, ◌∷◌, ℕ, map, filter, IfOk, is_ok, string_bytes};
 ghost use Rattle.std.specs.Option.{option_map};
 ghost use Rattle.sqlite.specs.State.{HasCleanDisk};
 ghost use Rattle.sqlite.specs.Held.{state};
@@ -13,9 +13,8 @@ ghost use Rattle.club_rows.specs.Club.{ClubState, IsClub, tables};
 ghost use Rattle.club_rows.specs.Tables.{event_row};
 ghost use Rattle.cross_tables.specs.Lines.{header_text};
 ghost use Rattle.store_tables.specs.Cells.{event_cells};
-ghost use Rattle.store_tables.specs.Club.{IsExactly};
-ghost use Rattle.store_tables.specs.Reading.{OnlyReads};
-ghost use Rattle.store_sql.specs.Read.{KeepsContent};
+ghost use Rattle.store_tables.specs.Beside.{HasRows};
+ghost use Rattle.store_tables.specs.Reading.{Reads};
 ghost use Rattle.club_views.specs.CrossTable.{name_in, standing_line, lines_from, AreScoresIn, AreTableRows};
 ghost use Rattle.club_views.specs.CrossTable.{IsCrossTable};
 
@@ -45,11 +44,9 @@ fn event_named<S: Alter>(
     conn: &mut Connection<S>,
     name: &str,
 ) -> Result<Option<u32>, CallFault>
-    ensures reads { OnlyReads (state S.Store conn.old) (state S.Store conn.new) }
-    ensures kept { HasCleanDisk (state S.Store conn.new) → OnOk result (KeepsContent (state S.Store conn.old)
-        (state S.Store conn.new)) }
+    ensures reads { Reads (is_ok result) (state S.Store conn.old) (state S.Store conn.new) }
     ensures found { HasCleanDisk (state S.Store conn.new) → IfOk result (λ event. (s : ClubState) → IsClub s →
-        IsExactly (tables s) (state S.Store conn.old) → event ≡ find_id (has_event_name name.now) s.events) }
+        HasRows (tables s) (state S.Store conn.old) → event ≡ find_id (has_event_name name.now) s.events) }
 {
     match first(find(alloc, conn, &EventName { name })?) {
         Some(row) => Ok(Some(event_in(&row)?)),
@@ -63,11 +60,9 @@ fn scores_in<S: Alter>(
     conn: &mut Connection<S>,
     event: u32,
 ) -> Result<Vec<Scored>, CallFault>
-    ensures reads { OnlyReads (state S.Store conn.old) (state S.Store conn.new) }
-    ensures kept { HasCleanDisk (state S.Store conn.new) → OnOk result (KeepsContent (state S.Store conn.old)
-        (state S.Store conn.new)) }
+    ensures reads { Reads (is_ok result) (state S.Store conn.old) (state S.Store conn.new) }
     ensures scores { HasCleanDisk (state S.Store conn.new) → IfOk result (λ scores. (s : ClubState) →
-        IsExactly (tables s) (state S.Store conn.old) → AreScoresIn s event scores.items) }
+        HasRows (tables s) (state S.Store conn.old) → AreScoresIn s event scores.items) }
 {
     let number = i64::from(event);
     let rows = find_by_first::<ScoreRow, S>(alloc, conn, &number)?;
@@ -146,11 +141,9 @@ fn event_table<S: Alter>(
     event: u32,
     name: &str,
 ) -> Result<Vec<String>, CallFault>
-    ensures reads { OnlyReads (state S.Store conn.old) (state S.Store conn.new) }
-    ensures kept { HasCleanDisk (state S.Store conn.new) → OnOk result (KeepsContent (state S.Store conn.old)
-        (state S.Store conn.new)) }
+    ensures reads { Reads (is_ok result) (state S.Store conn.old) (state S.Store conn.new) }
     ensures table { HasCleanDisk (state S.Store conn.new) → IfOk result (λ lines. (s : ClubState) →
-        IsExactly (tables s) (state S.Store conn.old) →
+        HasRows (tables s) (state S.Store conn.old) →
         IsCrossTable s event name.now (map (λ t. string_bytes t) lines.items)) }
 {
     let scores = scores_in(alloc, conn, event)?;
@@ -165,11 +158,9 @@ pub fn table_of<S: Alter>(
     conn: &mut Connection<S>,
     name: &str,
 ) -> Result<Option<Vec<String>>, CallFault>
-    ensures reads { OnlyReads (state S.Store conn.old) (state S.Store conn.new) }
-    ensures kept { HasCleanDisk (state S.Store conn.new) → OnOk result (KeepsContent (state S.Store conn.old)
-        (state S.Store conn.new)) }
+    ensures reads { Reads (is_ok result) (state S.Store conn.old) (state S.Store conn.new) }
     ensures rows { HasCleanDisk (state S.Store conn.new) → IfOk result (λ found. (s : ClubState) → IsClub s →
-        IsExactly (tables s) (state S.Store conn.old) →
+        HasRows (tables s) (state S.Store conn.old) →
         AreTableRows s name.now (option_map (λ lines. map (λ t. string_bytes t) lines.items) found)) }
 {
     match event_named(alloc, conn, name)? {

@@ -1,7 +1,7 @@
 //! Games of the club as records, written a row at a time.
 
 ghost use Rattle.std.specs.Prelude.{◌≡◌, ◌⊎◌, ◌<◌, ℕ, suc, [], List, Option, Some, take, length, pos, IfOk};
-ghost use Rattle.std.specs.Prelude.{IfSome, OnOk};
+ghost use Rattle.std.specs.Prelude.{IfSome, OnOk, is_ok};
 ghost use Rattle.std.specs.Option.{option_map};
 ghost use Rattle.club_core.specs.Events as core;
 ghost use Rattle.club_core.specs.Game.{Game};
@@ -14,13 +14,12 @@ ghost use Rattle.club_rows.specs.RowView.{row_at};
 ghost use Rattle.sqlite.specs.State.{HasCleanDisk};
 ghost use Rattle.sqlite.specs.Held.{state};
 ghost use Rattle.store_tables.specs.Cells.{move_cells};
-ghost use Rattle.store_tables.specs.Club.{IsExactly};
+ghost use Rattle.store_tables.specs.Beside.{HasRows};
 ghost use Rattle.store_tables.specs.Contents.{Content};
-ghost use Rattle.store_tables.specs.Reading.{OnlyReads};
-ghost use Rattle.store_sql.specs.Read.{KeepsContent};
+ghost use Rattle.store_tables.specs.Reading.{Reads};
 ghost use Rattle.club_core.specs.State.{place};
 ghost use Rattle.club_rows.specs.Club.{ClubGame, ClubState, IsClub, tables};
-ghost use Rattle.club_views.specs.Exported.{KeepsUnlessCalled, IsTitleBy, AddsNamed, BeginsNamed, AreNamesOf};
+ghost use Rattle.club_views.specs.Exported.{no_call_failed, IsTitleBy, AddsNamed, BeginsNamed, AreNamesOf};
 ghost use Rattle.club_changes.specs.Steps.{IsRecordOf, TellsMoves, TellsSeen};
 ghost use Rattle.club_changes.specs.Stored.{IsStoredGame};
 
@@ -135,19 +134,17 @@ fn write_plies<R: Exports, S: Alter, W: Write>(
     writer: &mut W,
 ) -> Result<(), Stopped>
     requires { IsUnderWay R.rules R.HasWritten (W.contents writer.old) export.old }
-    ensures reads { OnlyReads (state S.Store conn.old) (state S.Store conn.new) }
-    ensures kept { HasCleanDisk (state S.Store conn.new) →
-        KeepsUnlessCalled result (state S.Store conn.old) (state S.Store conn.new) }
+    ensures reads { Reads (no_call_failed result) (state S.Store conn.old) (state S.Store conn.new) }
     ensures written { HasCleanDisk (state S.Store conn.new) → OnOk result ((content : Content) (terms : core.Terms)
         (game : Game R.Move) (title : Title R.End) (before : Option (List ℕ)) →
-        IsExactly content (state S.Store conn.old) →
+        HasRows content (state S.Store conn.old) →
         TellsMoves R.rules terms stored.now.id game content → IsLegalGame R.rules terms game →
         plies ≡ length game.entries →
         IsWritten R.rules R.HasWritten title [] before (W.contents writer.old) export.old →
         IsWritten R.rules R.HasWritten title game.entries before (W.contents writer.new) export.new) }
     ensures begun { HasCleanDisk (state S.Store conn.new) → (content : Content) (terms : core.Terms)
         (game : Game R.Move) (title : Title R.End) (before : Option (List ℕ)) →
-        IsExactly content (state S.Store conn.old) →
+        HasRows content (state S.Store conn.old) →
         TellsMoves R.rules terms stored.now.id game content → IsLegalGame R.rules terms game →
         plies ≡ length game.entries →
         IsWritten R.rules R.HasWritten title [] before (W.contents writer.old) export.old →
@@ -183,16 +180,14 @@ pub(crate) fn write_record<R: Exports, S: Alter, W: Write>(
     names: &Names,
     writer: &mut W,
 ) -> Result<(), Stopped>
-    ensures reads { OnlyReads (state S.Store conn.old) (state S.Store conn.new) }
-    ensures kept { HasCleanDisk (state S.Store conn.new) →
-        KeepsUnlessCalled result (state S.Store conn.old) (state S.Store conn.new) }
+    ensures reads { Reads (no_call_failed result) (state S.Store conn.old) (state S.Store conn.new) }
     ensures written { HasCleanDisk (state S.Store conn.new) → OnOk result ((content : Content) (game : Game R.Move) →
-        IsExactly content (state S.Store conn.old) → TellsSeen R.rules stored.now.id game content →
+        HasRows content (state S.Store conn.old) → TellsSeen R.rules stored.now.id game content →
         TellsMoves R.rules (terms_given stored.now.terms) stored.now.id game content →
         IsRecordOf R.rules (terms_given stored.now.terms) stored.now.id stored.now.row game →
         AddsNamed R.rules R.IsText names.now game (W.contents writer.old) (W.contents writer.new)) }
     ensures begun { HasCleanDisk (state S.Store conn.new) → (content : Content) (game : Game R.Move) →
-        IsExactly content (state S.Store conn.old) → TellsSeen R.rules stored.now.id game content →
+        HasRows content (state S.Store conn.old) → TellsSeen R.rules stored.now.id game content →
         TellsMoves R.rules (terms_given stored.now.terms) stored.now.id game content →
         IsRecordOf R.rules (terms_given stored.now.terms) stored.now.id stored.now.row game →
         (writer.new ≡ writer.old) ⊎
@@ -218,12 +213,10 @@ pub(crate) fn names_of<S: Alter>(
     conn: &mut Connection<S>,
     stored: &StoredGame,
 ) -> Result<Names, CallFault>
-    ensures reads { OnlyReads (state S.Store conn.old) (state S.Store conn.new) }
-    ensures kept { HasCleanDisk (state S.Store conn.new) → OnOk result (KeepsContent (state S.Store conn.old)
-        (state S.Store conn.new)) }
+    ensures reads { Reads (is_ok result) (state S.Store conn.old) (state S.Store conn.new) }
     ensures named { HasCleanDisk (state S.Store conn.new) → IfOk result (λ names. (s : ClubState) (id : ℕ)
         (game : ClubGame) → IsClub s → place s.games id ≡ Some game → IsStoredGame s id game stored.now →
-        IsExactly (tables s) (state S.Store conn.old) → AreNamesOf s game names) }
+        HasRows (tables s) (state S.Store conn.old) → AreNamesOf s game names) }
 {
     let ids = ids_in(&stored.row)?;
     let pairing = ids.pairing;

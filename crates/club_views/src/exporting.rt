@@ -3,11 +3,11 @@
 ghost use Rattle.std.specs.Prelude.{◌≡◌, ℕ, Some, true, false, Err, IfOk, OnOk};
 ghost use Rattle.sqlite.specs.State.{HasCleanDisk};
 ghost use Rattle.sqlite.specs.Held.{state};
-ghost use Rattle.store_tables.specs.Club.{IsExactly};
-ghost use Rattle.store_tables.specs.Reading.{OnlyReads};
+ghost use Rattle.store_tables.specs.Beside.{HasRows};
+ghost use Rattle.store_tables.specs.Reading.{Reads};
 ghost use Rattle.club_core.specs.State.{place};
 ghost use Rattle.club_rows.specs.Club.{ClubGame, ClubState, IsClub, tables};
-ghost use Rattle.club_views.specs.Exported.{KeepsUnlessCalled, IsExported, IsWrittenSome};
+ghost use Rattle.club_views.specs.Exported.{no_call_failed, IsExported, IsWrittenSome};
 ghost use Rattle.club_changes.specs.Stored.{IsStoredGame};
 
 use crate::exported::{Stopped, names_of};
@@ -25,16 +25,14 @@ fn export_stored<S: Alter, W: Write>(
     stored: &StoredGame,
     writer: &mut W,
 ) -> Result<(), Stopped>
-    ensures reads { OnlyReads (state S.Store conn.old) (state S.Store conn.new) }
-    ensures kept { HasCleanDisk (state S.Store conn.new) →
-        KeepsUnlessCalled result (state S.Store conn.old) (state S.Store conn.new) }
+    ensures reads { Reads (no_call_failed result) (state S.Store conn.old) (state S.Store conn.new) }
     ensures written { HasCleanDisk (state S.Store conn.new) → OnOk result ((s : ClubState) (id : ℕ)
         (game : ClubGame) → IsClub s → place s.games id ≡ Some game → IsStoredGame s id game stored.now →
-        IsExactly (tables s) (state S.Store conn.old) →
+        HasRows (tables s) (state S.Store conn.old) →
         IsExported s id true (W.contents writer.old) (W.contents writer.new)) }
     ensures begun { HasCleanDisk (state S.Store conn.new) → (s : ClubState) (id : ℕ)
         (game : ClubGame) → IsClub s → place s.games id ≡ Some game → IsStoredGame s id game stored.now →
-        IsExactly (tables s) (state S.Store conn.old) →
+        HasRows (tables s) (state S.Store conn.old) →
         IsWrittenSome s id (W.contents writer.old) (W.contents writer.new) }
 {
     let names = names_of(alloc, conn, stored)?;
@@ -48,14 +46,12 @@ pub fn export_of<S: Alter, W: Write>(
     game: u64,
     writer: &mut W,
 ) -> Result<bool, Stopped>
-    ensures reads { OnlyReads (state S.Store conn.old) (state S.Store conn.new) }
-    ensures kept { HasCleanDisk (state S.Store conn.new) →
-        KeepsUnlessCalled result (state S.Store conn.old) (state S.Store conn.new) }
+    ensures reads { Reads (no_call_failed result) (state S.Store conn.old) (state S.Store conn.new) }
     ensures written { HasCleanDisk (state S.Store conn.new) → IfOk result (λ found. (s : ClubState) → IsClub s →
-        IsExactly (tables s) (state S.Store conn.old) →
+        HasRows (tables s) (state S.Store conn.old) →
         IsExported s game found (W.contents writer.old) (W.contents writer.new)) }
     ensures begun { HasCleanDisk (state S.Store conn.new) → (s : ClubState) → IsClub s →
-        IsExactly (tables s) (state S.Store conn.old) →
+        HasRows (tables s) (state S.Store conn.old) →
         IsWrittenSome s game (W.contents writer.old) (W.contents writer.new) }
 {
     match stored_game(alloc, conn, game)? {

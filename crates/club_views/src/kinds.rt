@@ -1,14 +1,13 @@
 //! The kinds of games: what a game tells by the rules of its event's kind.
 
-ghost use Rattle.std.specs.Prelude.{◌≡◌, ◌⊎◌, ℕ, map, IfOk, OnOk, Some, string_bytes};
+ghost use Rattle.std.specs.Prelude.{◌≡◌, ◌⊎◌, ℕ, map, IfOk, OnOk, is_ok, Some, string_bytes};
 ghost use Rattle.club_core.specs.State.{place};
 ghost use Rattle.club_rows.specs.Club.{ClubGame, ClubState, IsClub, tables};
-ghost use Rattle.store_tables.specs.Club.{IsExactly};
-ghost use Rattle.store_tables.specs.Reading.{OnlyReads};
-ghost use Rattle.store_sql.specs.Read.{KeepsContent};
+ghost use Rattle.store_tables.specs.Beside.{HasRows};
+ghost use Rattle.store_tables.specs.Reading.{Reads};
 ghost use Rattle.sqlite.specs.State.{HasCleanDisk};
 ghost use Rattle.sqlite.specs.Held.{state};
-ghost use Rattle.club_views.specs.Exported.{AddsGame, BeginsGame, KeepsUnlessCalled};
+ghost use Rattle.club_views.specs.Exported.{AddsGame, BeginsGame, no_call_failed};
 ghost use Rattle.club_changes.specs.Stored.{IsStoredGame, AreMovesOf};
 ghost use Rattle.club_views.specs.Viewed.{IsPlayedIn};
 
@@ -29,12 +28,10 @@ pub(crate) fn legal_in<S: Alter>(
     conn: &mut Connection<S>,
     stored: &StoredGame,
 ) -> Result<Vec<String>, CallFault>
-    ensures reads { OnlyReads (state S.Store conn.old) (state S.Store conn.new) }
-    ensures kept { HasCleanDisk (state S.Store conn.new) → OnOk result (KeepsContent (state S.Store conn.old)
-        (state S.Store conn.new)) }
+    ensures reads { Reads (is_ok result) (state S.Store conn.old) (state S.Store conn.new) }
     ensures legal { HasCleanDisk (state S.Store conn.new) → IfOk result (λ texts. (s : ClubState) (id : ℕ)
         (game : ClubGame) → IsClub s → place s.games id ≡ Some game → IsStoredGame s id game stored.now →
-        IsExactly (tables s) (state S.Store conn.old) → AreMovesOf game (map (λ t. string_bytes t) texts.items)) }
+        HasRows (tables s) (state S.Store conn.old) → AreMovesOf game (map (λ t. string_bytes t) texts.items)) }
 {
     match stored.kind {
         GameKind::Draughts => legal::<Draughts, S>(alloc, conn, stored),
@@ -48,12 +45,10 @@ pub(crate) fn played_in<S: Alter>(
     conn: &mut Connection<S>,
     stored: &StoredGame,
 ) -> Result<Played, CallFault>
-    ensures reads { OnlyReads (state S.Store conn.old) (state S.Store conn.new) }
-    ensures kept { HasCleanDisk (state S.Store conn.new) → OnOk result (KeepsContent (state S.Store conn.old)
-        (state S.Store conn.new)) }
+    ensures reads { Reads (is_ok result) (state S.Store conn.old) (state S.Store conn.new) }
     ensures played { HasCleanDisk (state S.Store conn.new) → IfOk result (λ played. (s : ClubState) (id : ℕ)
         (game : ClubGame) → IsClub s → place s.games id ≡ Some game → IsStoredGame s id game stored.now →
-        IsExactly (tables s) (state S.Store conn.old) → IsPlayedIn s game played) }
+        HasRows (tables s) (state S.Store conn.old) → IsPlayedIn s game played) }
 {
     match stored.kind {
         GameKind::Draughts => make_played::<Draughts, S>(alloc, conn, stored),
@@ -69,16 +64,14 @@ pub(crate) fn export_in<S: Alter, W: Write>(
     names: &Names,
     writer: &mut W,
 ) -> Result<(), Stopped>
-    ensures reads { OnlyReads (state S.Store conn.old) (state S.Store conn.new) }
-    ensures kept { HasCleanDisk (state S.Store conn.new) →
-        KeepsUnlessCalled result (state S.Store conn.old) (state S.Store conn.new) }
+    ensures reads { Reads (no_call_failed result) (state S.Store conn.old) (state S.Store conn.new) }
     ensures written { HasCleanDisk (state S.Store conn.new) → OnOk result ((s : ClubState) (id : ℕ)
         (game : ClubGame) → IsClub s → place s.games id ≡ Some game → IsStoredGame s id game stored.now →
-        IsExactly (tables s) (state S.Store conn.old) →
+        HasRows (tables s) (state S.Store conn.old) →
         AddsGame names.now game (W.contents writer.old) (W.contents writer.new)) }
     ensures begun { HasCleanDisk (state S.Store conn.new) → (s : ClubState) (id : ℕ)
         (game : ClubGame) → IsClub s → place s.games id ≡ Some game → IsStoredGame s id game stored.now →
-        IsExactly (tables s) (state S.Store conn.old) → (writer.new ≡ writer.old) ⊎
+        HasRows (tables s) (state S.Store conn.old) → (writer.new ≡ writer.old) ⊎
         BeginsGame names.now game (W.contents writer.old) (W.contents writer.new) }
 {
     match stored.kind {

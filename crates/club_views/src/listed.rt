@@ -1,16 +1,15 @@
 //! The legal moves of a stored game.
 
-ghost use Rattle.std.specs.Prelude.{◌<◌, map, IfOk, OnOk};
+ghost use Rattle.std.specs.Prelude.{◌<◌, map, IfOk, is_ok};
 ghost use Rattle.std.specs.Prelude.{string_bytes};
 ghost use Rattle.club_core.specs.Game.{Game};
 ghost use Rattle.club_rows.specs.Listed.{AreLegalTexts};
 ghost use Rattle.club_rows.specs.Replay.{terms_given};
 ghost use Rattle.sqlite.specs.State.{HasCleanDisk};
 ghost use Rattle.sqlite.specs.Held.{state};
-ghost use Rattle.store_tables.specs.Club.{IsExactly};
+ghost use Rattle.store_tables.specs.Beside.{HasRows};
 ghost use Rattle.store_tables.specs.Contents.{Content};
-ghost use Rattle.store_tables.specs.Reading.{OnlyReads};
-ghost use Rattle.store_sql.specs.Read.{KeepsContent};
+ghost use Rattle.store_tables.specs.Reading.{Reads};
 ghost use Rattle.club_changes.specs.Steps.{IsRecordOf};
 ghost use Rattle.club_changes.specs.Steps.{TellsSeen};
 
@@ -27,12 +26,10 @@ pub(crate) fn legal<R: Rules, S: Alter>(
     conn: &mut Connection<S>,
     stored: &StoredGame,
 ) -> Result<Vec<String>, CallFault>
-    ensures reads { OnlyReads (state S.Store conn.old) (state S.Store conn.new) }
-    ensures kept { HasCleanDisk (state S.Store conn.new) → OnOk result (KeepsContent (state S.Store conn.old)
-        (state S.Store conn.new)) }
+    ensures reads { Reads (is_ok result) (state S.Store conn.old) (state S.Store conn.new) }
     ensures legal { HasCleanDisk (state S.Store conn.new) →
         IfOk result (λ texts. (content : Content) (game : Game R.Move) →
-        IsExactly content (state S.Store conn.old) → TellsSeen R.rules stored.now.id game content →
+        HasRows content (state S.Store conn.old) → TellsSeen R.rules stored.now.id game content →
         IsRecordOf R.rules (terms_given stored.now.terms) stored.now.id stored.now.row game →
         AreLegalTexts R.rules game (map (λ t. string_bytes t) texts.items)) }
 {

@@ -1,13 +1,12 @@
 //! What a reader is shown of a game.
 
-ghost use Rattle.std.specs.Prelude.{◌≡◌, ℕ, Some, IfOk, OnOk, map};
+ghost use Rattle.std.specs.Prelude.{◌≡◌, ℕ, Some, IfOk, is_ok, map};
 ghost use Rattle.std.specs.Prelude.{string_bytes};
 ghost use Rattle.std.specs.Option.{option_map};
 ghost use Rattle.sqlite.specs.State.{HasCleanDisk};
 ghost use Rattle.sqlite.specs.Held.{state};
-ghost use Rattle.store_tables.specs.Club.{IsExactly};
-ghost use Rattle.store_tables.specs.Reading.{OnlyReads};
-ghost use Rattle.store_sql.specs.Read.{KeepsContent};
+ghost use Rattle.store_tables.specs.Beside.{HasRows};
+ghost use Rattle.store_tables.specs.Reading.{Reads};
 ghost use Rattle.club_core.specs.State.{place};
 ghost use Rattle.club_rows.specs.Club.{ClubGame, ClubState, IsClub, tables};
 ghost use Rattle.club_changes.specs.Stored.{AreLegalRows, IsStoredGame};
@@ -26,11 +25,9 @@ pub fn legal_of<S: Alter>(
     conn: &mut Connection<S>,
     game: u64,
 ) -> Result<Option<Vec<String>>, CallFault>
-    ensures reads { OnlyReads (state S.Store conn.old) (state S.Store conn.new) }
-    ensures kept { HasCleanDisk (state S.Store conn.new) → OnOk result (KeepsContent (state S.Store conn.old)
-        (state S.Store conn.new)) }
+    ensures reads { Reads (is_ok result) (state S.Store conn.old) (state S.Store conn.new) }
     ensures rows { HasCleanDisk (state S.Store conn.new) → IfOk result (λ found. (s : ClubState) → IsClub s →
-        IsExactly (tables s) (state S.Store conn.old) →
+        HasRows (tables s) (state S.Store conn.old) →
         AreLegalRows s game (option_map (λ texts. map (λ t. string_bytes t) texts.items) found)) }
 {
     match stored_game(alloc, conn, game)? {
@@ -48,12 +45,10 @@ fn viewed<S: Alter>(
     conn: &mut Connection<S>,
     stored: &StoredGame,
 ) -> Result<ViewedGame, CallFault>
-    ensures reads { OnlyReads (state S.Store conn.old) (state S.Store conn.new) }
-    ensures kept { HasCleanDisk (state S.Store conn.new) → OnOk result (KeepsContent (state S.Store conn.old)
-        (state S.Store conn.new)) }
+    ensures reads { Reads (is_ok result) (state S.Store conn.old) (state S.Store conn.new) }
     ensures viewed { HasCleanDisk (state S.Store conn.new) → IfOk result (λ viewed. (s : ClubState) (id : ℕ)
         (game : ClubGame) → IsClub s → place s.games id ≡ Some game → IsStoredGame s id game stored.now →
-        IsExactly (tables s) (state S.Store conn.old) → IsViewOf s game viewed) }
+        HasRows (tables s) (state S.Store conn.old) → IsViewOf s game viewed) }
 {
     let ids = ids_in(&stored.row)?;
     let pairing = ids.pairing;
@@ -75,11 +70,9 @@ pub fn view_of<S: Alter>(
     conn: &mut Connection<S>,
     game: u64,
 ) -> Result<Option<ViewedGame>, CallFault>
-    ensures reads { OnlyReads (state S.Store conn.old) (state S.Store conn.new) }
-    ensures kept { HasCleanDisk (state S.Store conn.new) → OnOk result (KeepsContent (state S.Store conn.old)
-        (state S.Store conn.new)) }
+    ensures reads { Reads (is_ok result) (state S.Store conn.old) (state S.Store conn.new) }
     ensures viewed { HasCleanDisk (state S.Store conn.new) → IfOk result (λ found. (s : ClubState) → IsClub s →
-        IsExactly (tables s) (state S.Store conn.old) → IsViewed s game found) }
+        HasRows (tables s) (state S.Store conn.old) → IsViewed s game found) }
 {
     let found = stored_game(alloc, conn, game)?;
     match found {

@@ -1,6 +1,6 @@
 //! A game as its players and those who watch see it.
 
-ghost use Rattle.std.specs.Prelude.{◌≡◌, ◌+◌, ◌<◌, ◌^◌, ℕ, pos, true, map, IfOk, OnOk, Some, slice_get, string_bytes};
+ghost use Rattle.std.specs.Prelude.{◌≡◌, ◌+◌, ◌<◌, ◌^◌, ℕ, pos, true, map, IfOk, is_ok, Some, slice_get, string_bytes};
 ghost use Rattle.std.specs.Option.{option_map};
 ghost use Rattle.club_core.specs.Events as core;
 ghost use Rattle.club_core.specs.Game.{Game};
@@ -11,11 +11,10 @@ ghost use Rattle.club_rows.specs.Tables.{move_rows};
 ghost use Rattle.sqlite.specs.State.{HasCleanDisk};
 ghost use Rattle.sqlite.specs.Held.{state};
 ghost use Rattle.store_tables.specs.Cells.{move_cells};
-ghost use Rattle.store_tables.specs.Club.{IsExactly};
+ghost use Rattle.store_tables.specs.Beside.{HasRows};
 ghost use Rattle.store_tables.specs.Contents.{Content};
-ghost use Rattle.store_tables.specs.Reading.{OnlyReads};
+ghost use Rattle.store_tables.specs.Reading.{Reads};
 ghost use Rattle.store_tables.specs.declared.rows.MoveRow as row_of;
-ghost use Rattle.store_sql.specs.Read.{KeepsContent};
 ghost use Rattle.club_changes.specs.Steps.{HaveSame, IsRecordOf, TellsLine, TellsSeen};
 ghost use Rattle.club_views.specs.Viewed.{IsPlayed, named};
 
@@ -71,11 +70,9 @@ fn line<R: Rules, S: Alter>(
     conn: &mut Connection<S>,
     game: u32,
 ) -> Result<Vec<MoveRow>, CallFault>
-    ensures reads { OnlyReads (state S.Store conn.old) (state S.Store conn.new) }
-    ensures kept { HasCleanDisk (state S.Store conn.new) → OnOk result (KeepsContent (state S.Store conn.old)
-        (state S.Store conn.new)) }
+    ensures reads { Reads (is_ok result) (state S.Store conn.old) (state S.Store conn.new) }
     ensures rows { HasCleanDisk (state S.Store conn.new) → IfOk result (λ rows. (content : Content) (terms : core.Terms)
-        (old : Game R.Move) → IsExactly content (state S.Store conn.old) → TellsLine R.rules terms game old content →
+        (old : Game R.Move) → HasRows content (state S.Store conn.old) → TellsLine R.rules terms game old content →
         HaveSame (map move_cells rows.items) (move_rows R.rules terms game old)) }
 {
     let number = i64::from(game);
@@ -162,11 +159,9 @@ pub(crate) fn make_played<R: Rules, S: Alter>(
     conn: &mut Connection<S>,
     stored: &StoredGame,
 ) -> Result<Played, CallFault>
-    ensures reads { OnlyReads (state S.Store conn.old) (state S.Store conn.new) }
-    ensures kept { HasCleanDisk (state S.Store conn.new) → OnOk result (KeepsContent (state S.Store conn.old)
-        (state S.Store conn.new)) }
+    ensures reads { Reads (is_ok result) (state S.Store conn.old) (state S.Store conn.new) }
     ensures played { HasCleanDisk (state S.Store conn.new) → IfOk result (λ played. (content : Content)
-        (game : Game R.Move) → IsExactly content (state S.Store conn.old) →
+        (game : Game R.Move) → HasRows content (state S.Store conn.old) →
         TellsSeen R.rules stored.now.id game content →
         TellsLine R.rules (terms_given stored.now.terms) stored.now.id game content →
         IsRecordOf R.rules (terms_given stored.now.terms) stored.now.id stored.now.row game →

@@ -1,3 +1,4 @@
+pub mod BesideLemmas
 pub mod HistoryLemmas
 pub mod LegalLemmas
 pub mod OpeningLemmas

@@ -1,12 +1,10 @@
--- What a connection holds after a question was asked.
-use Rattle.std.specs.Prelude.{Result, Ok, Err}
-use Rattle.sqlite.specs.State.{State}
-use Rattle.store_sql.specs.Read.{KeepsContent}
+-- What a question leaves of a club.
+use Rattle.std.specs.Prelude.{Bool, true, false, Result, Ok, Err}
 use Rattle.store.specs.declared.fault.AskFault.{AskFault}
 use Rattle.store.specs.declared.fault.AskFault.TheVariants as ask_fault
 
--- it is kept, unless a call of the club's failed; a writer that fails leaves it as it is
-abbrev pub KeepsUnlessFault : {A : Type 0} → Result A AskFault → State → State → Type 0
-KeepsUnlessFault (Ok a) old new = KeepsContent old new
-KeepsUnlessFault (Err ask_fault.Output) old new = KeepsContent old new
-KeepsUnlessFault (Err (ask_fault.Club fault)) old new = Unit {0}
+-- whether the club can be asked again: unless a call of its own failed; a writer that fails leaves it as it is
+abbrev pub stays_open : {A : Type 0} → Result A AskFault → Bool
+stays_open (Ok a) = true
+stays_open (Err ask_fault.Output) = true
+stays_open (Err (ask_fault.Club fault)) = false

@@ -1,6 +1,6 @@
 //! What a command about a challenge does to the tables.
 
-ghost use Rattle.std.specs.Prelude.{◌≡◌, ◌≤◌, ◌<◌, ℕ, length, Some, IfOk, OnOk};
+ghost use Rattle.std.specs.Prelude.{◌≡◌, ◌≤◌, ◌<◌, ℕ, length, Some, IfOk, is_ok};
 ghost use Rattle.std.specs.Prelude.{string_bytes};
 ghost use Rattle.sqlite.specs.State.{HasCleanDisk};
 ghost use Rattle.sqlite.specs.Held.{state};
@@ -11,9 +11,8 @@ ghost use Rattle.club_requests.specs.Outcome.{by_member};
 ghost use Rattle.club_core.specs.Seats.{has_member_name};
 ghost use Rattle.club_core.specs.State.{open_challenge, withdraw_challenge, answer_challenge};
 ghost use Rattle.club_rows.specs.Club.{ClubState, IsClub, tables};
-ghost use Rattle.store_tables.specs.Club.{IsExactly};
-ghost use Rattle.store_tables.specs.Reading.{OnlyReads};
-ghost use Rattle.store_sql.specs.Read.{KeepsContent};
+ghost use Rattle.store_tables.specs.Beside.{HasRows};
+ghost use Rattle.store_tables.specs.Reading.{Reads};
 ghost use Rattle.club_changes.specs.Steps.{caller_step, IsDecided};
 ghost use Rattle.club_changes.specs.Whole.{IsWhole};
 
@@ -44,12 +43,10 @@ pub(crate) fn on_challenge<S: Alter>(
     command: &OpenChallenge,
     moment: Moment,
 ) -> Result<Decided, CallFault>
-    ensures reads { OnlyReads (state S.Store conn.old) (state S.Store conn.new) }
-    ensures kept { HasCleanDisk (state S.Store conn.new) → OnOk result (KeepsContent (state S.Store conn.old)
-        (state S.Store conn.new)) }
+    ensures reads { Reads (is_ok result) (state S.Store conn.old) (state S.Store conn.new) }
     ensures acts { IfOk result IsWhole }
     ensures step { HasCleanDisk (state S.Store conn.new) → IfOk result (λ d. (s : ClubState) → IsClub s →
-        IsExactly (tables s) (state S.Store conn.old) →
+        HasRows (tables s) (state S.Store conn.old) →
         IsDecided s (caller_step s moment caller (open_challenge command.now.number (string_bytes command.now.event)
         (string_bytes command.now.other) command.now.first)) d) }
 {
@@ -68,12 +65,10 @@ pub(crate) fn on_withdraw<S: Alter>(
     command: &Withdraw,
     moment: Moment,
 ) -> Result<Decided, CallFault>
-    ensures reads { OnlyReads (state S.Store conn.old) (state S.Store conn.new) }
-    ensures kept { HasCleanDisk (state S.Store conn.new) → OnOk result (KeepsContent (state S.Store conn.old)
-        (state S.Store conn.new)) }
+    ensures reads { Reads (is_ok result) (state S.Store conn.old) (state S.Store conn.new) }
     ensures acts { IfOk result IsWhole }
     ensures step { HasCleanDisk (state S.Store conn.new) → IfOk result (λ d. (s : ClubState) → IsClub s →
-        IsExactly (tables s) (state S.Store conn.old) →
+        HasRows (tables s) (state S.Store conn.old) →
         IsDecided s (caller_step s moment caller (withdraw_challenge command.now.number)) d) }
 {
     let under = challenge_by(alloc, conn, member_id(caller), command.number)?;
@@ -89,11 +84,9 @@ fn decided_answer<S: Alter>(
     command: &AnswerChallenge,
 ) -> Result<ChallengeDecision, CallFault>
     requires { length members.now ≤ 200 }
-    ensures reads { OnlyReads (state S.Store conn.old) (state S.Store conn.new) }
-    ensures kept { HasCleanDisk (state S.Store conn.new) → OnOk result (KeepsContent (state S.Store conn.old)
-        (state S.Store conn.new)) }
+    ensures reads { Reads (is_ok result) (state S.Store conn.old) (state S.Store conn.new) }
     ensures decided { HasCleanDisk (state S.Store conn.new) → IfOk result (λ d. (s : ClubState) → IsClub s →
-        members_of members.now ≡ s.members → IsExactly (tables s) (state S.Store conn.old) →
+        members_of members.now ≡ s.members → HasRows (tables s) (state S.Store conn.old) →
         challenge_outcome_of d ≡ by_member caller (λ member. answer_step
         (challenge_by s.challenges (find_id (has_member_name (string_bytes command.now.challenger)) s.members)
         command.now.number) (length s.games) member command.now.accept)) }
@@ -112,12 +105,10 @@ pub(crate) fn on_answer<S: Alter>(
     command: &AnswerChallenge,
     moment: Moment,
 ) -> Result<Decided, CallFault>
-    ensures reads { OnlyReads (state S.Store conn.old) (state S.Store conn.new) }
-    ensures kept { HasCleanDisk (state S.Store conn.new) → OnOk result (KeepsContent (state S.Store conn.old)
-        (state S.Store conn.new)) }
+    ensures reads { Reads (is_ok result) (state S.Store conn.old) (state S.Store conn.new) }
     ensures acts { IfOk result IsWhole }
     ensures step { HasCleanDisk (state S.Store conn.new) → IfOk result (λ d. (s : ClubState) → IsClub s →
-        IsExactly (tables s) (state S.Store conn.old) →
+        HasRows (tables s) (state S.Store conn.old) →
         IsDecided s (caller_step s moment caller (answer_challenge (string_bytes command.now.challenger)
         command.now.number command.now.accept)) d) }
 {

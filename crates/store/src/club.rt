@@ -4,6 +4,8 @@ ghost use Rattle.std.specs.Prelude.{◌≡◌, ◌≢◌, ◌≤◌, ◌⊎◌, 
 ghost use Rattle.sqlite.specs.State.{HasCleanDisk, IsUnchanged};
 ghost use Rattle.sqlite.specs.Held.{state};
 ghost use Rattle.sqlite_trees.specs.View.{doubt};
+ghost use Rattle.store_tables.specs.Beside.{HasRows, TakesRows};
+ghost use Rattle.store_tables.specs.Contents as of_schema;
 ghost use Rattle.store_tables.specs.Contents.{IsExactlyEmpty, IsEmpty};
 ghost use Rattle.store_tables.specs.Club.{IsExactly, IsOpened, Leaves};
 ghost use Rattle.store_tables.specs.Reading.{KeepsMay, OnlyReads};
@@ -175,13 +177,14 @@ impl<S: Alter> Club<S> {
         ensures goes_on { OnOk result (self.new.needs_reopening ≡ false) }
         ensures ends { OnErr result (self.new.needs_reopening ≡ true) }
         ensures named { IfErr result (λ fault. self.old.needs_reopening ≡ false → fault ≡ StoreFault.Store) }
-        ensures stored { HasCleanDisk (state S.Store self.new.connection) → OnOk result ((content : _) →
-            IsExactly content (state S.Store self.old.connection) → IsExactly (changed changes.now content)
-            (state S.Store self.new.connection)) }
+        ensures stored { HasCleanDisk (state S.Store self.new.connection) → OnOk result ((schema : _) →
+            TakesRows schema → (content : _) → of_schema.IsExactly schema content (state S.Store self.old.connection) →
+            of_schema.IsExactly schema (changed changes.now content) (state S.Store self.new.connection)) }
         ensures fault { HasCleanDisk (state S.Store self.new.connection) →
-            OnErr result (self.old.needs_reopening ≡ false → (content : _) → IsExactly content
-            (state S.Store self.old.connection) → (db : _) → (state S.Store self.new.connection).may_leave db →
-            Leaves content db ⊎ Leaves (changed changes.now content) db) }
+            OnErr result (self.old.needs_reopening ≡ false → (schema : _) → TakesRows schema → (content : _) →
+            of_schema.IsExactly schema content (state S.Store self.old.connection) → (db : _) →
+            (state S.Store self.new.connection).may_leave db →
+            of_schema.Leaves schema content db ⊎ of_schema.Leaves schema (changed changes.now content) db) }
     {
         if self.needs_reopening {
             return Err(StoreFault::Reopen);
@@ -213,16 +216,17 @@ impl<S: Alter> Club<S> {
         ensures clean { doubt (state S.Store self.old.connection).is_clean ≤ doubt
             (state S.Store self.new.connection).is_clean }
         ensures answer { HasCleanDisk (state S.Store self.new.connection) → IfOk result (λ outcome. (s : ClubState) →
-            IsClub s → IsExactly (tables s) (state S.Store self.old.connection) →
+            IsClub s → HasRows (tables s) (state S.Store self.old.connection) →
             outcome_of outcome ≡ answered (club_step s (request who.now command.now moment))) }
-        ensures step { HasCleanDisk (state S.Store self.new.connection) → OnOk result ((s : ClubState) → IsClub s →
-            IsExactly (tables s) (state S.Store self.old.connection) →
-            IsExactly (tables (club_next s (request who.now command.now moment))) (state S.Store self.new.connection)) }
+        ensures step { HasCleanDisk (state S.Store self.new.connection) → OnOk result ((schema : _) →
+            TakesRows schema → (s : ClubState) → IsClub s →
+            of_schema.IsExactly schema (tables s) (state S.Store self.old.connection) → of_schema.IsExactly schema
+            (tables (club_next s (request who.now command.now moment))) (state S.Store self.new.connection)) }
         ensures fault { HasCleanDisk (state S.Store self.new.connection) →
-            OnErr result (self.old.needs_reopening ≡ false → (s : ClubState) → IsClub s → IsExactly (tables s)
-            (state S.Store self.old.connection) →
-            (db : _) → (state S.Store self.new.connection).may_leave db →
-            Leaves (tables s) db ⊎ Leaves (tables (club_next s (request who.now command.now moment))) db) }
+            OnErr result (self.old.needs_reopening ≡ false → (schema : _) → TakesRows schema → (s : ClubState) →
+            IsClub s → of_schema.IsExactly schema (tables s) (state S.Store self.old.connection) →
+            (db : _) → (state S.Store self.new.connection).may_leave db → of_schema.Leaves schema (tables s) db ⊎
+            of_schema.Leaves schema (tables (club_next s (request who.now command.now moment))) db) }
         ensures stands { HasCleanDisk (state S.Store self.new.connection) → IfOk result (λ outcome. (sessions : _) →
             IsHistory sessions (state S.Store self.old.connection) →
             IsHistory (sessions ++ answered_session (request who.now command.now moment) outcome ∷ [])

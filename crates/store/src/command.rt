@@ -1,6 +1,6 @@
 //! What a command does to the tables.
 
-ghost use Rattle.std.specs.Prelude.{◌≡◌, ◌≤◌, ◌<◌, Some, None, IfOk, OnOk};
+ghost use Rattle.std.specs.Prelude.{◌≡◌, ◌≤◌, ◌<◌, Some, None, IfOk, is_ok};
 ghost use Rattle.std.specs.Prelude.{length, string_bytes};
 ghost use Rattle.sqlite.specs.State.{HasCleanDisk};
 ghost use Rattle.sqlite.specs.Held.{state};
@@ -9,9 +9,8 @@ ghost use Rattle.club_core.specs.Answer.{command_of, game_command_of, import_of}
 ghost use Rattle.club_core.specs.State as club;
 ghost use Rattle.club_core.specs.State.{game_under};
 ghost use Rattle.club_core.specs.State.{import_record, on_game};
-ghost use Rattle.store_tables.specs.Club.{IsExactly};
-ghost use Rattle.store_tables.specs.Reading.{OnlyReads};
-ghost use Rattle.store_sql.specs.Read.{KeepsContent};
+ghost use Rattle.store_tables.specs.Beside.{HasRows};
+ghost use Rattle.store_tables.specs.Reading.{Reads};
 ghost use Rattle.club_rows.specs.Club.{ClubState, IsClub, tables};
 ghost use Rattle.club_changes.specs.Steps.{request, club_step, caller_step};
 ghost use Rattle.club_changes.specs.Steps.{IsDecided};
@@ -44,13 +43,11 @@ fn on_seat<S: Alter>(
 ) -> Result<Decided, CallFault>
     requires members { length members.now ≤ 200 }
     requires events { length events.now ≤ 50 }
-    ensures reads { OnlyReads (state S.Store conn.old) (state S.Store conn.new) }
-    ensures kept { HasCleanDisk (state S.Store conn.new) → OnOk result (KeepsContent (state S.Store conn.old)
-        (state S.Store conn.new)) }
+    ensures reads { Reads (is_ok result) (state S.Store conn.old) (state S.Store conn.new) }
     ensures acts { IfOk result IsWhole }
     ensures step { HasCleanDisk (state S.Store conn.new) → IfOk result (λ d. (s : ClubState) → IsClub s →
         members_of members.now ≡ s.members → events_of events.now ≡ s.events →
-        IsExactly (tables s) (state S.Store conn.old) → IsDecided s (caller_step s moment caller
+        HasRows (tables s) (state S.Store conn.old) → IsDecided s (caller_step s moment caller
         (club.seat (string_bytes command.now.key) (string_bytes command.now.event) (string_bytes command.now.first)
         (string_bytes command.now.second))) d) }
 {
@@ -79,12 +76,10 @@ fn on_game<S: Alter>(
     command: &OnGame,
     moment: Moment,
 ) -> Result<Decided, CallFault>
-    ensures reads { OnlyReads (state S.Store conn.old) (state S.Store conn.new) }
-    ensures kept { HasCleanDisk (state S.Store conn.new) → OnOk result (KeepsContent (state S.Store conn.old)
-        (state S.Store conn.new)) }
+    ensures reads { Reads (is_ok result) (state S.Store conn.old) (state S.Store conn.new) }
     ensures acts { IfOk result IsWhole }
     ensures step { HasCleanDisk (state S.Store conn.new) → IfOk result (λ d. (s : ClubState) → IsClub s →
-        s.last ≤ moment → IsExactly (tables s) (state S.Store conn.old) →
+        s.last ≤ moment → HasRows (tables s) (state S.Store conn.old) →
         IsDecided s (caller_step s moment caller (on_game command.now.game (game_command_of command.now.command))) d) }
 {
     match stored_game(alloc, conn, command.game)? {
@@ -104,12 +99,10 @@ fn on_import<S: Alter>(
     command: &Import,
     moment: Moment,
 ) -> Result<Decided, CallFault>
-    ensures reads { OnlyReads (state S.Store conn.old) (state S.Store conn.new) }
-    ensures kept { HasCleanDisk (state S.Store conn.new) → OnOk result (KeepsContent (state S.Store conn.old)
-        (state S.Store conn.new)) }
+    ensures reads { Reads (is_ok result) (state S.Store conn.old) (state S.Store conn.new) }
     ensures acts { IfOk result IsWhole }
     ensures step { HasCleanDisk (state S.Store conn.new) → IfOk result (λ d. (s : ClubState) → IsClub s →
-        IsExactly (tables s) (state S.Store conn.old) →
+        HasRows (tables s) (state S.Store conn.old) →
         IsDecided s (caller_step s moment caller (import_record (import_of command.now))) d) }
 {
     let known = read_known(alloc, conn, command.key.as_str())?;
@@ -124,12 +117,10 @@ fn on_command<S: Alter>(
     command: &Command,
     moment: Moment,
 ) -> Result<Decided, CallFault>
-    ensures reads { OnlyReads (state S.Store conn.old) (state S.Store conn.new) }
-    ensures kept { HasCleanDisk (state S.Store conn.new) → OnOk result (KeepsContent (state S.Store conn.old)
-        (state S.Store conn.new)) }
+    ensures reads { Reads (is_ok result) (state S.Store conn.old) (state S.Store conn.new) }
     ensures acts { IfOk result IsWhole }
     ensures step { HasCleanDisk (state S.Store conn.new) → IfOk result (λ d. (s : ClubState) → IsClub s →
-        s.last ≤ moment → IsExactly (tables s) (state S.Store conn.old) →
+        s.last ≤ moment → HasRows (tables s) (state S.Store conn.old) →
         IsDecided s (caller_step s moment caller (command_of command.now)) d) }
 {
     match command {
@@ -166,12 +157,10 @@ pub(crate) fn decide_request<S: Alter>(
     command: &Command,
     moment: Moment,
 ) -> Result<Decided, CallFault>
-    ensures reads { OnlyReads (state S.Store conn.old) (state S.Store conn.new) }
-    ensures kept { HasCleanDisk (state S.Store conn.new) → OnOk result (KeepsContent (state S.Store conn.old)
-        (state S.Store conn.new)) }
+    ensures reads { Reads (is_ok result) (state S.Store conn.old) (state S.Store conn.new) }
     ensures acts { IfOk result IsWhole }
     ensures step { HasCleanDisk (state S.Store conn.new) → IfOk result (λ d. (s : ClubState) → IsClub s →
-        IsExactly (tables s) (state S.Store conn.old) →
+        HasRows (tables s) (state S.Store conn.old) →
         IsDecided s (club_step s (request who.now command.now moment)) d) }
 {
     let last = last_moment(alloc, conn)?;

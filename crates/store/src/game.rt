@@ -1,6 +1,6 @@
 //! What is done in one game, by its rules and its rows.
 
-ghost use Rattle.std.specs.Prelude.{◌≡◌, ◌≤◌, ◌<◌, ℕ, length, IfOk, OnOk, IsTrue};
+ghost use Rattle.std.specs.Prelude.{◌≡◌, ◌≤◌, ◌<◌, ℕ, length, IfOk, is_ok, IsTrue};
 ghost use Rattle.club_core.specs.Answer.{game_command_of};
 ghost use Rattle.club_core.specs.Events as core;
 ghost use Rattle.club_core.specs.Game.{Game, clocks_of};
@@ -12,10 +12,9 @@ ghost use Rattle.club_core.specs.View.{IsConcluded, IsDecision, IsSound, Shows, 
 ghost use Rattle.club_rows.specs.Replay.{terms_given};
 ghost use Rattle.sqlite.specs.State.{HasCleanDisk};
 ghost use Rattle.sqlite.specs.Held.{state};
-ghost use Rattle.store_tables.specs.Club.{IsExactly};
+ghost use Rattle.store_tables.specs.Beside.{HasRows};
 ghost use Rattle.store_tables.specs.Contents.{Content};
-ghost use Rattle.store_tables.specs.Reading.{OnlyReads};
-ghost use Rattle.store_sql.specs.Read.{KeepsContent};
+ghost use Rattle.store_tables.specs.Reading.{Reads};
 ghost use Rattle.club_changes.specs.Steps.{IsDecidedIn, IsRecordOf, IsSeenAfter, AreScoresAfter, HasTwoPlayers};
 ghost use Rattle.club_changes.specs.Steps.{TellsMoves, TellsSeen};
 ghost use Rattle.club_changes.specs.Whole.{IsWhole};
@@ -45,12 +44,10 @@ fn counted<R: Rules, S: Alter>(
     plies: u32,
 ) -> Result<Concluded<R>, CallFault>
     requires { plies ≤ 600 }
-    ensures reads { OnlyReads (state S.Store conn.old) (state S.Store conn.new) }
-    ensures kept { HasCleanDisk (state S.Store conn.new) → OnOk result (KeepsContent (state S.Store conn.old)
-        (state S.Store conn.new)) }
+    ensures reads { Reads (is_ok result) (state S.Store conn.old) (state S.Store conn.new) }
     ensures concluded { HasCleanDisk (state S.Store conn.new) → IfOk result (λ new. (content : Content)
         (terms : core.Terms) (old : Game R.Move) (moment : ℕ) (who : Caller) (command : machine.GameCommand) →
-        IsExactly content (state S.Store conn.old) → TellsSeen R.rules game old content →
+        HasRows content (state S.Store conn.old) → TellsSeen R.rules game old content →
         IsLegalGame R.rules terms old → plies ≡ length old.entries →
         IsDecision R.rules terms old (game_step R.rules terms old moment who command) decision →
         IsConcluded R.rules terms old (game_step R.rules terms old moment who command) new.decision
@@ -79,12 +76,10 @@ fn on_view<R: Rules, S: Alter>(
     moment: Moment,
 ) -> Result<Decided, CallFault>
     requires { IsSound R.rules view.now }
-    ensures reads { OnlyReads (state S.Store conn.old) (state S.Store conn.new) }
-    ensures kept { HasCleanDisk (state S.Store conn.new) → OnOk result (KeepsContent (state S.Store conn.old)
-        (state S.Store conn.new)) }
+    ensures reads { Reads (is_ok result) (state S.Store conn.old) (state S.Store conn.new) }
     ensures acts { IfOk result IsWhole }
     ensures step { HasCleanDisk (state S.Store conn.new) → IfOk result (λ d. (content : Content) (old : Game R.Move) →
-        IsExactly content (state S.Store conn.old) → TellsSeen R.rules game old content →
+        HasRows content (state S.Store conn.old) → TellsSeen R.rules game old content →
         IsTrue (is_budget view.now.budget) →
         IsTrue (is_increment view.now.increment) → IsLegalGame R.rules (terms_of view.now) old →
         Shows R.rules old view.now →
@@ -108,12 +103,10 @@ pub(crate) fn act<R: Rules, S: Alter>(
     command: &GameCommand,
     moment: Moment,
 ) -> Result<Decided, CallFault>
-    ensures reads { OnlyReads (state S.Store conn.old) (state S.Store conn.new) }
-    ensures kept { HasCleanDisk (state S.Store conn.new) → OnOk result (KeepsContent (state S.Store conn.old)
-        (state S.Store conn.new)) }
+    ensures reads { Reads (is_ok result) (state S.Store conn.old) (state S.Store conn.new) }
     ensures acts { IfOk result IsWhole }
     ensures step { HasCleanDisk (state S.Store conn.new) → IfOk result (λ d. (content : Content) (old : Game R.Move) →
-        IsExactly content (state S.Store conn.old) → TellsSeen R.rules stored.now.id old content →
+        HasRows content (state S.Store conn.old) → TellsSeen R.rules stored.now.id old content →
         TellsMoves R.rules (terms_given stored.now.terms) stored.now.id old content →
         IsRecordOf R.rules (terms_given stored.now.terms) stored.now.id stored.now.row old →
         (clocks_of old (terms_given stored.now.terms)).since ≤ moment →

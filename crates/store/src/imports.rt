@@ -1,6 +1,6 @@
 //! What an import does to the tables.
 
-ghost use Rattle.std.specs.Prelude.{◌≢◌, ◌≤◌, length, Option, Some, IfOk, OnOk};
+ghost use Rattle.std.specs.Prelude.{◌≢◌, ◌≤◌, length, Option, Some, IfOk, is_ok};
 ghost use Rattle.std.specs.Prelude.{string_bytes};
 ghost use Rattle.sqlite.specs.State.{HasCleanDisk};
 ghost use Rattle.sqlite.specs.Held.{state};
@@ -10,22 +10,20 @@ ghost use Rattle.club_core.specs.Game.{Game};
 ghost use Rattle.club_core.specs.Imports.{imported};
 ghost use Rattle.club_core.specs.State.{place, terms_at};
 ghost use Rattle.club_rows.specs.Club.{tables};
-ghost use Rattle.store_tables.specs.Club.{IsExactly};
+ghost use Rattle.store_tables.specs.Beside.{HasRows};
 ghost use Rattle.store_tables.specs.Contents.{Content};
-ghost use Rattle.store_tables.specs.Reading.{OnlyReads};
-ghost use Rattle.store_sql.specs.Read.{KeepsContent};
+ghost use Rattle.store_tables.specs.Reading.{Reads};
 ghost use Rattle.club_changes.specs.Importing.{IsOfKind, IsImportedIn, PutsNewGame, imported_by};
 ghost use Rattle.club_changes.specs.Whole.{IsWhole};
 
 use clocks::Moment;
-use club_changes::{Decided, Known, event_at, put_rows, terms_of, unchanged};
+use club_changes::{Decided, Known, event_at, new_rows, put_rows, terms_of, unchanged};
 use club_core::Event;
 use club_imports::{Importing, NewGame, import};
 use club_reads::{CallFault, played_under, scores_with};
 use club_requests::values::{is_budget, is_increment};
 use club_requests::{Answer, Caller, Import, Outcome};
 use club_rules::{GameKind, Records, Rules};
-use import_rows::new_rows;
 use sqlite::{Alter, Connection};
 use std::alloc::Global;
 use store_tables::Changes;
@@ -40,11 +38,9 @@ fn added<R: Rules, S: Alter>(
     moment: Moment,
 ) -> Result<Changes, CallFault>
     requires { IsGameByRules R.rules (recorded_of new.now.recorded) }
-    ensures reads { OnlyReads (state S.Store conn.old) (state S.Store conn.new) }
-    ensures kept { HasCleanDisk (state S.Store conn.new) → OnOk result (KeepsContent (state S.Store conn.old)
-        (state S.Store conn.new)) }
+    ensures reads { Reads (is_ok result) (state S.Store conn.old) (state S.Store conn.new) }
     ensures puts { HasCleanDisk (state S.Store conn.new) → IfOk result (λ changes. (content : Content) →
-        IsExactly content (state S.Store conn.old) → new.now.pairing.first ≢ new.now.pairing.second →
+        HasRows content (state S.Store conn.old) → new.now.pairing.first ≢ new.now.pairing.second →
         PutsNewGame R.rules (terms_at (place (events_of events.now) new.now.pairing.event)) new.now.game moment
         (content 14)
         (imported R.rules (Some key.now) (pairing_of new.now.pairing) moment (recorded_of new.now.recorded)) changes) }
@@ -83,12 +79,10 @@ pub(crate) fn import_as<R: Records, S: Alter>(
 ) -> Result<Decided, CallFault>
     requires members { length known.now.members.items ≤ 200 }
     requires events { length known.now.events.items ≤ 50 }
-    ensures reads { OnlyReads (state S.Store conn.old) (state S.Store conn.new) }
-    ensures kept { HasCleanDisk (state S.Store conn.new) → OnOk result (KeepsContent (state S.Store conn.old)
-        (state S.Store conn.new)) }
+    ensures reads { Reads (is_ok result) (state S.Store conn.old) (state S.Store conn.new) }
     ensures acts { IfOk result IsWhole }
     ensures step { HasCleanDisk (state S.Store conn.new) → IfOk result (λ d. (content : Content)
-        (old : Option (Game R.Move)) → IsExactly content (state S.Store conn.old) →
+        (old : Option (Game R.Move)) → HasRows content (state S.Store conn.old) →
         IsOfKind R.rules kind content old known.now.under →
         IsImportedIn R.rules (events_of known.now.events.items) (string_bytes command.now.key) known.now.games moment
         (content 14) (imported_by R.rules R.records known.now caller (import_of command.now) old) d) }

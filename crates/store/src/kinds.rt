@@ -1,12 +1,11 @@
 //! The kinds of games: what is done in a game by the rules of its event's kind.
 
-ghost use Rattle.std.specs.Prelude.{◌≡◌, ◌≤◌, ℕ, length, IfOk, OnOk, Some, string_bytes};
+ghost use Rattle.std.specs.Prelude.{◌≡◌, ◌≤◌, ℕ, length, IfOk, is_ok, Some, string_bytes};
 ghost use Rattle.club_core.specs.Answer.{game_command_of, import_of};
 ghost use Rattle.club_core.specs.State.{place, import_record, on_game};
 ghost use Rattle.club_rows.specs.Club.{ClubGame, ClubState, IsClub, tables};
-ghost use Rattle.store_tables.specs.Club.{IsExactly};
-ghost use Rattle.store_tables.specs.Reading.{OnlyReads};
-ghost use Rattle.store_sql.specs.Read.{KeepsContent};
+ghost use Rattle.store_tables.specs.Beside.{HasRows};
+ghost use Rattle.store_tables.specs.Reading.{Reads};
 ghost use Rattle.sqlite.specs.State.{HasCleanDisk};
 ghost use Rattle.sqlite.specs.Held.{state};
 ghost use Rattle.club_changes.specs.Importing.{IsKnown};
@@ -34,13 +33,11 @@ pub(crate) fn act_in<S: Alter>(
     command: &GameCommand,
     moment: Moment,
 ) -> Result<Decided, CallFault>
-    ensures reads { OnlyReads (state S.Store conn.old) (state S.Store conn.new) }
-    ensures kept { HasCleanDisk (state S.Store conn.new) → OnOk result (KeepsContent (state S.Store conn.old)
-        (state S.Store conn.new)) }
+    ensures reads { Reads (is_ok result) (state S.Store conn.old) (state S.Store conn.new) }
     ensures acts { IfOk result IsWhole }
     ensures step { HasCleanDisk (state S.Store conn.new) → IfOk result (λ d. (s : ClubState) (id : ℕ)
         (game : ClubGame) → IsClub s → s.last ≤ moment → place s.games id ≡ Some game →
-        IsStoredGame s id game stored.now → IsExactly (tables s) (state S.Store conn.old) →
+        IsStoredGame s id game stored.now → HasRows (tables s) (state S.Store conn.old) →
         IsDecided s (caller_step s moment caller (on_game id (game_command_of command.now))) d) }
 {
     match stored.kind {
@@ -60,12 +57,10 @@ pub(crate) fn import_in<S: Alter>(
 ) -> Result<Decided, CallFault>
     requires members { length known.now.members.items ≤ 200 }
     requires events { length known.now.events.items ≤ 50 }
-    ensures reads { OnlyReads (state S.Store conn.old) (state S.Store conn.new) }
-    ensures kept { HasCleanDisk (state S.Store conn.new) → OnOk result (KeepsContent (state S.Store conn.old)
-        (state S.Store conn.new)) }
+    ensures reads { Reads (is_ok result) (state S.Store conn.old) (state S.Store conn.new) }
     ensures acts { IfOk result IsWhole }
     ensures step { HasCleanDisk (state S.Store conn.new) → IfOk result (λ d. (s : ClubState) → IsClub s →
-        IsKnown s (string_bytes command.now.key) known.now → IsExactly (tables s) (state S.Store conn.old) →
+        IsKnown s (string_bytes command.now.key) known.now → HasRows (tables s) (state S.Store conn.old) →
         IsDecided s (caller_step s moment caller (import_record (import_of command.now))) d) }
 {
     match event_kind(known.events.as_slice(), command.event.as_str()) {

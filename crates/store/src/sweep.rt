@@ -1,14 +1,13 @@
 //! What a sweep does to the tables.
 
-ghost use Rattle.std.specs.Prelude.{IfOk, OnOk};
+ghost use Rattle.std.specs.Prelude.{IfOk, is_ok};
 ghost use Rattle.sqlite.specs.State.{HasCleanDisk};
 ghost use Rattle.sqlite.specs.Held.{state};
 ghost use Rattle.club_core.specs.State.{sweep};
 ghost use Rattle.club_requests.specs.declared.requests.Caller.TheVariants.{Officer};
 ghost use Rattle.club_rows.specs.Club.{ClubState, IsClub, tables};
-ghost use Rattle.store_tables.specs.Club.{IsExactly};
-ghost use Rattle.store_tables.specs.Reading.{OnlyReads};
-ghost use Rattle.store_sql.specs.Read.{KeepsContent};
+ghost use Rattle.store_tables.specs.Beside.{HasRows};
+ghost use Rattle.store_tables.specs.Reading.{Reads};
 ghost use Rattle.club_changes.specs.Steps.{caller_step, IsDecided};
 ghost use Rattle.club_changes.specs.Whole.{IsWhole};
 
@@ -27,12 +26,10 @@ fn swept<S: Alter>(
     conn: &mut Connection<S>,
     moment: Moment,
 ) -> Result<Decided, CallFault>
-    ensures reads { OnlyReads (state S.Store conn.old) (state S.Store conn.new) }
-    ensures kept { HasCleanDisk (state S.Store conn.new) → OnOk result (KeepsContent (state S.Store conn.old)
-        (state S.Store conn.new)) }
+    ensures reads { Reads (is_ok result) (state S.Store conn.old) (state S.Store conn.new) }
     ensures acts { IfOk result IsWhole }
     ensures step { HasCleanDisk (state S.Store conn.new) → IfOk result (λ d. (s : ClubState) → IsClub s →
-        IsExactly (tables s) (state S.Store conn.old) → IsDecided s (caller_step s moment Officer sweep) d) }
+        HasRows (tables s) (state S.Store conn.old) → IsDecided s (caller_step s moment Officer sweep) d) }
 {
     let games = list::<GameRecord, S>(alloc, conn)?;
     let scores = list::<ScoreRow, S>(alloc, conn)?;
@@ -47,12 +44,10 @@ pub(crate) fn on_sweep<S: Alter>(
     caller: Caller,
     moment: Moment,
 ) -> Result<Decided, CallFault>
-    ensures reads { OnlyReads (state S.Store conn.old) (state S.Store conn.new) }
-    ensures kept { HasCleanDisk (state S.Store conn.new) → OnOk result (KeepsContent (state S.Store conn.old)
-        (state S.Store conn.new)) }
+    ensures reads { Reads (is_ok result) (state S.Store conn.old) (state S.Store conn.new) }
     ensures acts { IfOk result IsWhole }
     ensures step { HasCleanDisk (state S.Store conn.new) → IfOk result (λ d. (s : ClubState) → IsClub s →
-        IsExactly (tables s) (state S.Store conn.old) → IsDecided s (caller_step s moment caller sweep) d) }
+        HasRows (tables s) (state S.Store conn.old) → IsDecided s (caller_step s moment caller sweep) d) }
 {
     match caller {
         Caller::Officer => swept(alloc, conn, moment),

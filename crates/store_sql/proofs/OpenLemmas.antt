@@ -5,7 +5,7 @@ use Rattle.sqlite.specs.Schema.{Schema}
 use Rattle.sqlite.specs.State.{State, Opens, IsLive}
 use Rattle.sqlite_catalog.specs.Listing.{IsSound}
 use Rattle.sqlite_catalog.proofs.ReadLemmas.{reads, read_once}
-use Rattle.store_tables.specs.Contents.{Content, Holds, Leaves, IsExactly}
+use Rattle.store_tables.specs.Contents.{Content, Leaves, IsExactly}
 
 -- trees list one schema
 pub schema_once : (db : Trees) (s t : Schema) → IsSound s db → IsSound t db → s ≡ t

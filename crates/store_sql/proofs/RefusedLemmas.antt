@@ -1,8 +1,8 @@
 -- Why a text that is understood is not run: never for how it is written.
-use Rattle.std.proofs.Common.{ℕ, ◌≡◌, ◌≢◌, ◌⊎◌, ◌+◌, ◌∷◌, [], ℤ, List, Bool, true, false, Option, Some, None, Ok, Err}
-use Rattle.std.proofs.Common.{Result, refl, sym, ap, subst, subst₂, ◌∙◌, inl, inr, MatchBool}
+use Rattle.std.proofs.Common.{ℕ, ◌≡◌, ◌∷◌, [], ℤ, List, Bool, true, false, Option, Some, None, Ok, Err}
+use Rattle.std.proofs.Common.{Result, sym, ap, subst, subst₂, ◌∙◌, inl, inr, MatchBool}
 use Rattle.sqlite_value.specs.Order.{Row}
-use Rattle.sqlite_trees.specs.Tree.{Trees, rowid}
+use Rattle.sqlite_trees.specs.Tree.{Trees}
 use Rattle.sqlite_schema.specs.declared.schema.Table.{Table}
 use Rattle.sqlite_schema.specs.declared.schema.Schema.{Schema}
 use Rattle.sqlite_schema.specs.declared.schema.Keys.{Keys}
@@ -14,21 +14,18 @@ use Rattle.sqlite_schema.specs.declared.command.Conflict.TheVariants.{Abort, Ign
 use Rattle.sqlite_schema.specs.declared.command.Upsert.{Upsert}
 use Rattle.sqlite_rules.specs.declared.error.Refusal.{Refusal}
 use Rattle.sqlite_rules.specs.declared.error.Refusal.TheVariants.{Violates, Mismatch, BadReference, NoRowid, TooDeep}
-use Rattle.sqlite_rules.specs.declared.error.Rowids.TheVariants.{Given}
-use Rattle.sqlite_rules.specs.Edit.{Edit, edit_of}
-use Rattle.sqlite_rules.specs.Calls.{ids_of}
-use Rattle.sqlite_resolve.specs.declared.error.CompileError.{CompileError}
+use Rattle.sqlite_rules.specs.Edit.{Edit}
 use Rattle.sqlite.specs.declared.error.ErrorCode.{ErrorCode}
 use Rattle.sqlite.specs.declared.error.ErrorCode.TheVariants as code
 use Rattle.sqlite.specs.declared.error.Error.{Error}
-use Rattle.sqlite.specs.declared.error.Error.TheVariants.{SqliteFailure, SqlInputError, InvalidQuery}
+use Rattle.sqlite.specs.declared.error.Error.TheVariants.{SqliteFailure, InvalidQuery}
 use Rattle.sqlite.specs.declared.error.Error.TheVariants.{MultipleStatement, ExecuteReturnedResults}
 use Rattle.sqlite.specs.Effect.{Database, edit_error}
 use Rattle.sqlite.specs.Rows.{Part, Gives, Refuses, Then, Queried, Sourced, Edited, Written, Task, Updates, Puts}
 use Rattle.sqlite.specs.Rows.{Clears}
 use Rattle.sqlite.specs.Rows.{Resolves, Meets, Upserts, Judged, Tries, TriesEach, Counts, CountsIn, Counter}
 use Rattle.sqlite.specs.Rows.{CounterIn, InsertsOr}
-use Rattle.sqlite.specs.Rows.{sequence, count_of, counting, nothing, passes_over, Outcome}
+use Rattle.sqlite.specs.Rows.{sequence, count_of, counting, nothing, passes_over}
 use Rattle.std.specs.Prelude.{if◌then◌else◌, slice_get}
 use Rattle.sqlite_schema.specs.declared.schema.Constraint.TheVariants.{ForeignKey}
 use Rattle.sqlite_schema.specs.declared.schema.Among.{Among}

@@ -1,9 +1,8 @@
 -- What the texts of a table tell of a call.
 use Rattle.std.proofs.Common.{◌≡◌, ℕ, ℤ, ◌<◌, List, [], ◌∷◌, map, length, Result, Ok, Err, refl, ap, sym, subst, subst₂}
-use Rattle.std.proofs.Common.{◌∙◌, arith, inl, inr, ◌⊎◌, All, Some, slice_get}
+use Rattle.std.proofs.Common.{◌∙◌, arith, inl, inr, ◌⊎◌, All, Some, slice_get, true≢false}
 use Rattle.std.specs.Result.{OnOk}
-use Rattle.std.specs.Prelude.{IfOk, IfErr}
-use Rattle.std.proofs.lemmas.Result.{IfOk-weaker, IfErr-weaker}
+use Rattle.std.specs.Prelude.{IfOk, IfErr, OnErr, IsTrue, is_ok, ◌≢◌, false}
 use Rattle.std.specs.List.Sorted.{IsSorted}
 use Rattle.sqlite.specs.Order.{Row, column}
 use Rattle.sqlite.specs.Table.{Table}
@@ -14,40 +13,76 @@ use Rattle.sqlite.specs.declared.error.Error.{Error}
 use Rattle.sqlite.specs.State.{State, Shown, FailsToQuery, Survives, HasCleanDisk, IsUnchanged, CommitsShowing}
 use Rattle.sqlite_rules.specs.Lists.{Has}
 use Rattle.sqlite_trees.specs.Tree.{rowid}
+use Rattle.store_tables.specs.Beside.{Others, beside, HasRows, IsBeside}
 use Rattle.store_tables.specs.Changes.{HaveSame}
-use Rattle.store_tables.specs.Content.{Keeps, AreApart, cells}
+use Rattle.store_tables.specs.Content.{Keeps, cells}
 use Rattle.store_tables.specs.Contents.{Content, Stores, IsExactly, AreThose}
-use Rattle.store_tables.specs.Queries.{AreShownBy, IsSelect, Finds, by_others}
-use Rattle.store_tables.specs.Reading.{by_columns, Tells, TellsIds, IsNoInput, KeepsMay, OnlyReads}
-use Rattle.store_tables.proofs.Proved.{select_unchanged, only_reads, unchanged_exactly, tells, tells_ids, tells_first}
+use Rattle.store_tables.specs.Queries.{AreShownBy, IsSelect, by_others}
+use Rattle.store_tables.specs.Reading.{by_columns, Tells, TellsIds, IsNoInput, KeepsContent, KeepsMay, Reads}
+use Rattle.store_tables.proofs.Proved.{select_unchanged, only_reads, reads_by, unchanged_exactly, tells, tells_ids}
+use Rattle.store_tables.proofs.Proved.{tells_first}
 use Rattle.store_tables.proofs.Proved.{finds, no_input, ids_of, stored_at, all_alike, in_order, one_list, places_rise}
-use Rattle.store_tables.proofs.Proved.{same_length, got}
+use Rattle.store_tables.proofs.Proved.{same_length, got, at_schema, rows_of}
+use Rattle.store_tables.specs.Tables.{club_schema}
 use Rattle.sqlite.specs.Effect.{Database}
 use Rattle.store_sql.specs.declared.fault.ReadFault.{ReadFault}
-use Rattle.store_sql.specs.declared.fault.ReadFault.TheVariants.{Mistyped, Memory}
-use Rattle.store_sql.specs.Read.{BeginWithPlaces, KeepsContent, Blames}
+use Rattle.store_sql.specs.declared.fault.ReadFault.TheVariants.{Missing, Mistyped, Store, Memory}
+use Rattle.store_sql.specs.Read.{BeginWithPlaces, Blames, was_read}
+
+-- what the texts of a table show beside whatever others they show under the schema
+pub shown_at : (club : Schema) (table : Table) (width : ℕ) (all ids group : List ℕ)
+    → ((others : Others) → AreShownBy (beside club others) table width all ids group)
+    → (schema : Schema) → IsBeside club schema → AreShownBy schema table width all ids group
+shown_at club table width all ids group read = at_schema club (λ s. AreShownBy s table width all ids group) read
+
+-- a table of the club has the rows of the club, whatever stands beside it
+pub club_rows : (club : Schema) (table : Table) (width : ℕ) (all ids group : List ℕ)
+    → ((others : Others) → AreShownBy (beside club others) table width all ids group) → IsBeside club club_schema
+    → (content : Content) (s : State) (k : HasRows content s) → k.1 table.tree ≡ content table.tree
+club_rows club table width all ids group read here content s k =
+    let is = shown_at club table width all ids group read club_schema here in
+    rows_of content s k is.place table is.at
 
 -- a connection that only read, and answered, holds what it held
 pub keeps_content : (old new : State) → IsUnchanged old new → KeepsMay old new → KeepsContent old new
 keeps_content old new same may schema content k =
     unchanged_exactly schema content old new k same (λ db h. k.may_leave db (may db h))
 
-pub on_ok_by : {T E : Type 0} (r : Result T E) (P : T → Type 0) (Q : Type 0) → ((x : T) → P x → Q) → IfOk r P → OnOk r Q
-on_ok_by (Ok x) P Q f h = f x h
-on_ok_by (Err e) P Q f h = tt
+-- what is said of an answer, where there is one
+answer_of : {T E : Type 0} (r : Result T E) (P : T → Type 0) → IfOk r P → IsTrue (is_ok r) → (x : T) × P x
+answer_of (Ok x) P h answered = (x, h)
+answer_of (Err e) P h answered = absurd (true≢false (sym answered))
 
 -- what always holds holds of an answer
 pub always : {T E : Type 0} (r : Result T E) (P : Type 0) → P → OnOk r P
 always (Ok x) P p = p
 always (Err e) P p = tt
 
--- an answer to a SELECT leaves what the connection holds
-pub select_keeps : {X : Type 0} (sql : List ℕ) (params : Row) (old new : State) (items : X → List Row)
-    (r : Result X Error) → IsSelect sql → OnlyReads old new → HasCleanDisk new
-    → IfOk r (λ x. Shown sql params old new (items x)) → OnOk r (KeepsContent old new)
-select_keeps sql params old new items r select only clean shown =
-    on_ok_by r (λ x. Shown sql params old new (items x)) (KeepsContent old new)
-    (λ x h. keeps_content old new (select_unchanged sql select params old new (items x) h) (only.may clean)) shown
+-- and of a fault
+pub always_err : {T E : Type 0} (r : Result T E) (P : Type 0) → P → OnErr r P
+always_err (Ok x) P p = tt
+always_err (Err e) P p = p
+
+-- a call with a SELECT only reads, and where it answers it leaves what the connection holds
+pub select_reads : {X : Type 0} (sql : List ℕ) → IsSelect sql → (params : Row) (old new : State) (items : X → List Row)
+    (r : Result X Error) → (old.in_transaction ≡ false → new.in_transaction ≡ false)
+    → Survives old new (CommitsShowing sql params old)
+    → (HasCleanDisk new → IfOk r (λ x. Shown sql params old new (items x)))
+    → (HasCleanDisk new → IfErr r (FailsToQuery sql params old new)) → Reads (is_ok r) old new
+select_reads sql select params old new items r mode survives ok err =
+    let only = only_reads sql select params old new items r mode survives ok err in
+    reads_by (is_ok r) old new only
+    (λ answered clean.
+    let shown = answer_of r (λ x. Shown sql params old new (items x)) (ok clean) answered in
+    keeps_content old new (select_unchanged sql select params old new (items shown.0) shown.1) (only.may clean))
+
+-- a call that failed for another cause than the types of its rows
+pub failed_read : (e : ReadFault) (old new : State) → e ≢ Mistyped → Reads false old new
+    → Reads (was_read {T = ℕ} (Err e)) old new
+failed_read Missing old new other reads = reads
+failed_read Mistyped old new other reads = absurd (other refl)
+failed_read Store old new other reads = reads
+failed_read Memory old new other reads = reads
 
 places_first : (rows : List Row) → BeginWithPlaces rows → BeginWithPlaces (map (λ r. column r 0 ∷ []) rows)
 places_first rows places k h =

@@ -1,18 +1,21 @@
 -- Whether the table of the rules of events stands, by an answer to a SELECT from it.
-use Rattle.std.proofs.Common.{◌≡◌, ℕ, Bool, true, false, true≢false, List, Ok, Err, Result, refl, sym, ap, ◌∙◌, inl}
-use Rattle.std.proofs.Common.{inr}
+use Rattle.std.proofs.Common.{◌≡◌, ℕ, Bool, true, false, true≢false, List, Ok, Err, Result, refl, sym, ap, ◌∙◌}
+use Rattle.std.proofs.Common.{inl, inr, subst}
+use Rattle.sqlite.specs.Clock.{timed}
 use Rattle.sqlite.specs.Order.{Row}
 use Rattle.sqlite.specs.Listing.{understood, listing_schema}
-use Rattle.sqlite.specs.State.{State, Shown, FailsToQuery, IsNotRun, IsUnchanged, store_error}
+use Rattle.sqlite.specs.State.{State, Shown, FailsToQuery, FailsToShow, IsNotRun, IsUnchanged, store_error}
 use Rattle.sqlite.specs.declared.error.Error.{Error}
 use Rattle.sqlite_trees.specs.declared.error.StoreError.{StoreError}
 use Rattle.sqlite_trees.specs.declared.error.StoreError.TheVariants as failure
 use Rattle.sqlite_tied.specs.Compute.{everything}
 use Rattle.sqlite_resolve.specs.declared.compiled.Compiled.{Compiled}
 use Rattle.sqlite_resolve.specs.declared.error.CompileError.{CompileError}
+use Rattle.store_tables.specs.Queries.{IsSelect}
 use Rattle.store_tables.specs.Reading.{IsNoInput}
 use Rattle.store_tables.specs.Tables.{first_schema}
 use Rattle.store_tables.specs.Texts as t
+use Rattle.store_tables.proofs.Proved.{select_plain}
 
 abbrev is_understood : Result Compiled CompileError → Bool
 is_understood (Ok c) = true
@@ -43,9 +46,14 @@ module _ (sql : List ℕ) (params : Row) (old new : State) (text : sql ≡ t.eve
   unfolding Shown
   never_shown rows h = not_understood h.0 h.1.is
 
-  -- and where it is refused, the connection is as it was
-  pub refused_unchanged : (e : Error) → FailsToQuery sql params old new e → ¬ IsNoInput e → IsUnchanged old new
-  unfolding FailsToQuery IsNotRun
-  refused_unchanged e (inl (inl h)) refused = h.1
-  refused_unchanged e (inl (inr h)) refused = absurd (refused (λ why is. no_store h.0 why (sym h.1 ∙ is)))
-  refused_unchanged e (inr h) refused = absurd (not_understood h.0 h.1.is)
+-- where a SELECT is refused, whatever the schema, the connection is as it was
+pub refused_unchanged : (sql : List ℕ) (params : Row) (old new : State) → IsSelect sql → (e : Error)
+    → FailsToQuery sql params old new e → ¬ IsNoInput e → IsUnchanged old new
+unfolding FailsToQuery IsNotRun
+refused_unchanged sql params old new select e (inl (inl h)) refused = h.1
+refused_unchanged sql params old new select e (inl (inr h)) refused =
+    absurd (refused (λ why is. no_store h.0 why (sym h.1 ∙ is)))
+refused_unchanged sql params old new select e (inr h) refused =
+    let it = subst (FailsToShow old new sql h.0 (timed params h.0.formats h.1.now) e)
+    (select_plain old.now.schema sql h.0 select h.1.is) h.2 in
+    it.3

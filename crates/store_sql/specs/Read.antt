@@ -1,14 +1,13 @@
 -- What reading a table tells of what a connection holds, and what a fault says of its rows.
-use Rattle.std.specs.Prelude.{◌≡◌, ◌⊎◌, ℕ, ℤ, ◌+◌, ◌<◌, pos, List, [], ◌∷◌, map, filter, length, get_or}
+use Rattle.std.specs.Prelude.{Bool, true, false, Result, Ok, Err, ◌≡◌, ◌⊎◌, ℕ, ℤ, ◌+◌, ◌<◌, pos, List, [], ◌∷◌}
+use Rattle.std.specs.Prelude.{map, filter, length, get_or}
 use Rattle.std.specs.List.{AllByRecursion}
 use Rattle.std.specs.List.Sorted.{IsSorted, IsPermutation}
 use Rattle.sqlite.specs.Order.{Row, column}
-use Rattle.sqlite.specs.Schema.{Schema}
 use Rattle.sqlite.specs.Table.{Table}
 use Rattle.sqlite.specs.State.{State, IsUnchanged}
 use Rattle.sqlite.specs.declared.types.Value.TheVariants.{Int}
 use Rattle.store_tables.specs.Content.{Keeps, AreApart, cells, same_key}
-use Rattle.store_tables.specs.Contents.{Content, IsExactly}
 use Rattle.store_tables.specs.Queries.{by_others}
 use Rattle.store_tables.specs.Reading.{by_columns}
 use Rattle.store_sql.specs.declared.fault.ReadFault.{ReadFault}
@@ -50,7 +49,8 @@ Blames table IsTyped old fault =
 abbrev pub BeginWithPlaces : List Row → Type 0
 BeginWithPlaces rows = (k : ℕ) → k < length rows → column (get_or rows k []) 0 ≡ Int (pos (k + 1))
 
--- What the connection holds exactly, by whatever schema, it still holds exactly.
-abbrev pub KeepsContent : State → State → Type 0
-KeepsContent old new = (schema : Schema) (content : Content) → IsExactly schema content old
-    → IsExactly schema content new
+-- The rows were there to be judged: they were read, or a value among them is of another type than its column.
+abbrev pub was_read : {T : Type 0} → Result T ReadFault → Bool
+was_read (Ok rows) = true
+was_read (Err Mistyped) = true
+was_read (Err fault) = false

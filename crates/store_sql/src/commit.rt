@@ -4,7 +4,8 @@ ghost use Rattle.std.specs.Prelude.{◌≡◌, ◌≤◌, ◌⊎◌, false, [], 
 ghost use Rattle.sqlite.specs.State.{HasCleanDisk, Survives};
 ghost use Rattle.sqlite.specs.Held.{state};
 ghost use Rattle.sqlite_trees.specs.View.{doubt};
-ghost use Rattle.store_tables.specs.Club.{Holds, Steps, IsExactly, Leaves};
+ghost use Rattle.store_tables.specs.Beside.{StepsBeside, TakesRows};
+ghost use Rattle.store_tables.specs.Contents as of_schema;
 ghost use Rattle.store_tables.specs.Changed.{people_put, play_put, counts_put, meta_put, changed};
 
 use crate::upsert::{Put, put_all};
@@ -15,7 +16,7 @@ use store_tables::Changes;
 fn put_people<S: Alter>(tx: &mut Transaction<'_, S>, changes: &Changes) -> Result<(), Error>
     ensures same_reference { tx.new.conn.ghost_name ≡ tx.old.conn.ghost_name }
     ensures put { HasCleanDisk (state S.Store tx.new.conn.now) → IsTrue
-        (state S.Store tx.old.conn.now).in_transaction → OnOk result (Steps (people_put changes.now)
+        (state S.Store tx.old.conn.now).in_transaction → OnOk result (StepsBeside (people_put changes.now)
         (state S.Store tx.old.conn.now) (state S.Store tx.new.conn.now)) }
     ensures survives { Survives (state S.Store tx.old.conn.now) (state S.Store tx.new.conn.now) (λ _. ⊥) }
 {
@@ -30,7 +31,7 @@ fn put_people<S: Alter>(tx: &mut Transaction<'_, S>, changes: &Changes) -> Resul
 fn put_play<S: Alter>(tx: &mut Transaction<'_, S>, changes: &Changes) -> Result<(), Error>
     ensures same_reference { tx.new.conn.ghost_name ≡ tx.old.conn.ghost_name }
     ensures put { HasCleanDisk (state S.Store tx.new.conn.now) → IsTrue
-        (state S.Store tx.old.conn.now).in_transaction → OnOk result (Steps (play_put changes.now)
+        (state S.Store tx.old.conn.now).in_transaction → OnOk result (StepsBeside (play_put changes.now)
         (state S.Store tx.old.conn.now) (state S.Store tx.new.conn.now)) }
     ensures survives { Survives (state S.Store tx.old.conn.now) (state S.Store tx.new.conn.now) (λ _. ⊥) }
 {
@@ -43,7 +44,7 @@ fn put_play<S: Alter>(tx: &mut Transaction<'_, S>, changes: &Changes) -> Result<
 fn put_counts<S: Alter>(tx: &mut Transaction<'_, S>, changes: &Changes) -> Result<(), Error>
     ensures same_reference { tx.new.conn.ghost_name ≡ tx.old.conn.ghost_name }
     ensures put { HasCleanDisk (state S.Store tx.new.conn.now) → IsTrue
-        (state S.Store tx.old.conn.now).in_transaction → OnOk result (Steps (counts_put changes.now)
+        (state S.Store tx.old.conn.now).in_transaction → OnOk result (StepsBeside (counts_put changes.now)
         (state S.Store tx.old.conn.now) (state S.Store tx.new.conn.now)) }
     ensures survives { Survives (state S.Store tx.old.conn.now) (state S.Store tx.new.conn.now) (λ _. ⊥) }
 {
@@ -56,7 +57,7 @@ fn put_counts<S: Alter>(tx: &mut Transaction<'_, S>, changes: &Changes) -> Resul
 fn put_meta<S: Alter>(tx: &mut Transaction<'_, S>, changes: &Changes) -> Result<(), Error>
     ensures same_reference { tx.new.conn.ghost_name ≡ tx.old.conn.ghost_name }
     ensures put { HasCleanDisk (state S.Store tx.new.conn.now) → IsTrue
-        (state S.Store tx.old.conn.now).in_transaction → OnOk result (Steps (meta_put changes.now)
+        (state S.Store tx.old.conn.now).in_transaction → OnOk result (StepsBeside (meta_put changes.now)
         (state S.Store tx.old.conn.now) (state S.Store tx.new.conn.now)) }
     ensures survives { Survives (state S.Store tx.old.conn.now) (state S.Store tx.new.conn.now) (λ _. ⊥) }
 {
@@ -73,7 +74,7 @@ pub(crate) fn put_changes<S: Alter>(
 ) -> Result<(), Error>
     ensures same_reference { tx.new.conn.ghost_name ≡ tx.old.conn.ghost_name }
     ensures put { HasCleanDisk (state S.Store tx.new.conn.now) → IsTrue
-        (state S.Store tx.old.conn.now).in_transaction → OnOk result (Steps (changed changes.now)
+        (state S.Store tx.old.conn.now).in_transaction → OnOk result (StepsBeside (changed changes.now)
         (state S.Store tx.old.conn.now) (state S.Store tx.new.conn.now)) }
     ensures survives { Survives (state S.Store tx.old.conn.now) (state S.Store tx.new.conn.now) (λ _. ⊥) }
 {
@@ -88,13 +89,16 @@ pub(crate) fn put_changes<S: Alter>(
 pub fn commit_changes<S: Alter>(conn: &mut Connection<S>, changes: &Changes) -> Result<(), Error>
     requires { conn.old.in_transaction ≡ false }
     ensures idle { conn.new.in_transaction ≡ false }
-    ensures stored { HasCleanDisk (state S.Store conn.new) → OnOk result ((content : _) → IsExactly content
-        (state S.Store conn.old) → IsExactly (changed changes.now content) (state S.Store conn.new)) }
-    ensures fault { HasCleanDisk (state S.Store conn.new) → OnErr result ((content : _) → IsExactly content
-        (state S.Store conn.old) → (db : _) → (state S.Store conn.new).may_leave db →
-        Leaves content db ⊎ Leaves (changed changes.now content) db) }
-    ensures survives { Survives (state S.Store conn.old) (state S.Store conn.new) (λ db. (content : _) → Holds
-        (state S.Store conn.old).now content → Leaves (changed changes.now content) db) }
+    ensures stored { HasCleanDisk (state S.Store conn.new) → OnOk result ((schema : _) → TakesRows schema →
+        (content : _) → of_schema.IsExactly schema content (state S.Store conn.old) →
+        of_schema.IsExactly schema (changed changes.now content) (state S.Store conn.new)) }
+    ensures fault { HasCleanDisk (state S.Store conn.new) → OnErr result ((schema : _) → TakesRows schema →
+        (content : _) → of_schema.IsExactly schema content (state S.Store conn.old) → (db : _) →
+        (state S.Store conn.new).may_leave db →
+        of_schema.Leaves schema content db ⊎ of_schema.Leaves schema (changed changes.now content) db) }
+    ensures survives { Survives (state S.Store conn.old) (state S.Store conn.new) (λ db. (schema : _) →
+        TakesRows schema → (content : _) → of_schema.Holds schema (state S.Store conn.old).now content →
+        of_schema.Leaves schema (changed changes.now content) db) }
 {
     let mut tx = conn.transaction();
     put_changes(&mut tx, changes)?;

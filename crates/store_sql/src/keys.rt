@@ -1,14 +1,13 @@
 //! Rows by the values of a whole key, or of a column that is UNIQUE.
 
-ghost use Rattle.std.specs.Prelude.{◌≡◌, ℕ, List, [], ◌∷◌, IfOk, OnOk, map};
+ghost use Rattle.std.specs.Prelude.{◌≡◌, ℕ, List, [], ◌∷◌, IfOk, is_ok, map};
 ghost use Rattle.sqlite.specs.Order.{Row as Cells};
 ghost use Rattle.sqlite.specs.State.{HasCleanDisk};
 ghost use Rattle.sqlite.specs.Held.{state};
 ghost use Rattle.sqlite.specs.declared.types.Value.TheVariants.{Null, Int, Text};
 ghost use Rattle.store_tables.specs.Contents.{AreThose};
-ghost use Rattle.store_tables.specs.Club.{IsExactly};
-ghost use Rattle.store_tables.specs.Reading.{OnlyReads};
-ghost use Rattle.store_sql.specs.Read.{KeepsContent};
+ghost use Rattle.store_tables.specs.Beside.{HasRows};
+ghost use Rattle.store_tables.specs.Reading.{Reads};
 
 use crate::fault::CallFault;
 use crate::read::parsed;
@@ -49,12 +48,10 @@ pub trait Question {
 
     /// Shows the row that has the values.
     fn show<S: Alter>(&self, conn: &mut Connection<S>) -> Result<Vec<Row>, Error>
-        ensures reads { OnlyReads (state S.Store conn.old) (state S.Store conn.new) }
-        ensures rows { HasCleanDisk (state S.Store conn.new) → IfOk result (λ shown. (content : _) → IsExactly content
-            (state S.Store conn.old) →
-            AreThose columns (wanted self.now) (content Self.Row.table.tree) shown.items) }
-        ensures kept { HasCleanDisk (state S.Store conn.new) → OnOk result (KeepsContent (state S.Store conn.old)
-            (state S.Store conn.new)) };
+        ensures reads { Reads (is_ok result) (state S.Store conn.old) (state S.Store conn.new) }
+        ensures rows { HasCleanDisk (state S.Store conn.new) → IfOk result (λ shown. (content : _) →
+            HasRows content (state S.Store conn.old) →
+            AreThose columns (wanted self.now) (content Self.Row.table.tree) shown.items) };
 }
 
 /// The member with a name.
@@ -215,12 +212,10 @@ pub fn find<Q: Question, S: Alter>(
     conn: &mut Connection<S>,
     question: &Q,
 ) -> Result<Vec<Q::Row>, CallFault>
-    ensures reads { OnlyReads (state S.Store conn.old) (state S.Store conn.new) }
-    ensures rows { HasCleanDisk (state S.Store conn.new) → IfOk result (λ found. (content : _) → IsExactly content
-        (state S.Store conn.old) →
+    ensures reads { Reads (is_ok result) (state S.Store conn.old) (state S.Store conn.new) }
+    ensures rows { HasCleanDisk (state S.Store conn.new) → IfOk result (λ found. (content : _) →
+        HasRows content (state S.Store conn.old) →
         AreThose Q.columns (Q.wanted question.now) (content Q.Row.table.tree) (map Q.Row.cells found.items)) }
-    ensures kept { HasCleanDisk (state S.Store conn.new) → OnOk result (KeepsContent (state S.Store conn.old)
-        (state S.Store conn.new)) }
 {
     match question.show(conn) {
         Ok(shown) => parsed(alloc, &shown),

@@ -1,16 +1,17 @@
 //! All rows of a table, or those whose first column is given, as rows of its type.
 
-ghost use Rattle.std.specs.Prelude.{◌≡◌, ◌⊎◌, IsTrue, IfOk, IfErr, OnOk, All, [], ◌∷◌, map, length};
+ghost use Rattle.std.specs.Prelude.{◌≡◌, ◌≢◌, ◌⊎◌, IsTrue, IfOk, IfErr, OnOk, is_ok, All, [], ◌∷◌, map, length};
 ghost use Rattle.std.specs.List.Sorted.{IsSorted};
 ghost use Rattle.sqlite.specs.State.{HasCleanDisk, IsUnchanged};
 ghost use Rattle.sqlite.specs.Held.{state};
 ghost use Rattle.sqlite.specs.declared.types.Value.TheVariants.{Int};
 ghost use Rattle.store_tables.specs.Changes.{HaveSame};
+ghost use Rattle.store_tables.specs.Content.{AreApart};
 ghost use Rattle.store_tables.specs.Contents.{AreThose};
-ghost use Rattle.store_tables.specs.Club.{IsExactly};
+ghost use Rattle.store_tables.specs.Beside.{HasRows, IsBeside};
 ghost use Rattle.store_tables.specs.Queries.{by_others};
-ghost use Rattle.store_tables.specs.Reading.{AreIds, by_columns, IsNoInput, OnlyReads, Tells, TellsIds};
-ghost use Rattle.store_sql.specs.Read.{AreCounted, AreReadOf, IsReadAs, Blames, BeginWithPlaces, KeepsContent};
+ghost use Rattle.store_tables.specs.Reading.{AreIds, by_columns, IsNoInput, Reads, Tells, TellsIds};
+ghost use Rattle.store_sql.specs.Read.{AreCounted, AreReadOf, IsReadAs, Blames, BeginWithPlaces, was_read};
 
 use crate::fault::{CallFault, ReadFault, is_refused};
 use crate::texts::Select;
@@ -20,34 +21,30 @@ use store_tables::{TableRow, Unread, check_ids, parse_all};
 
 /// Shows all rows of a table, in the order of its key.
 pub fn show_all<T: Select, S: Alter>(conn: &mut Connection<S>) -> Result<Vec<Row>, Error>
-    ensures reads { OnlyReads (state S.Store conn.old) (state S.Store conn.new) }
+    ensures reads { Reads (is_ok result) (state S.Store conn.old) (state S.Store conn.new) }
     ensures rows { HasCleanDisk (state S.Store conn.new) → IfOk result (λ rows.
-        T.stands (state S.Store conn.old).now.schema →
+        IsBeside T.club (state S.Store conn.old).now.schema →
         Tells T.table T.width rows.items (state S.Store conn.old) (state S.Store conn.new)) }
     ensures known { HasCleanDisk (state S.Store conn.new) → IfErr result (λ e.
-        T.stands (state S.Store conn.old).now.schema → IsNoInput e) }
-    ensures kept { HasCleanDisk (state S.Store conn.new) → OnOk result (KeepsContent (state S.Store conn.old)
-        (state S.Store conn.new)) }
+        IsBeside T.club (state S.Store conn.old).now.schema → IsNoInput e) }
 {
     conn.query_all(T::all(), &[])
 }
 
 /// Shows the rowids of a table, in their order.
 fn show_ids<T: Select, S: Alter>(conn: &mut Connection<S>) -> Result<Vec<Row>, Error>
-    ensures reads { OnlyReads (state S.Store conn.old) (state S.Store conn.new) }
+    ensures reads { Reads (is_ok result) (state S.Store conn.old) (state S.Store conn.new) }
     ensures ids { HasCleanDisk (state S.Store conn.new) → IfOk result (λ rows.
-        T.stands (state S.Store conn.old).now.schema →
+        IsBeside T.club (state S.Store conn.old).now.schema →
         TellsIds T.table.tree rows.items (state S.Store conn.old) (state S.Store conn.new)) }
     ensures known { HasCleanDisk (state S.Store conn.new) → IfErr result (λ e.
-        T.stands (state S.Store conn.old).now.schema → IsNoInput e) }
+        IsBeside T.club (state S.Store conn.old).now.schema → IsNoInput e) }
     ensures number { HasCleanDisk (state S.Store conn.new) → IfOk result (λ rows.
-        T.stands (state S.Store conn.old).now.schema →
+        IsBeside T.club (state S.Store conn.old).now.schema →
         length rows.items ≡ length ((state S.Store conn.old).now.trees T.table.tree)) }
     ensures count { HasCleanDisk (state S.Store conn.new) → IfOk result (λ rows. IsTrue T.has_id → (content : _) →
-        IsExactly content (state S.Store conn.old) →
+        HasRows content (state S.Store conn.old) →
         BeginWithPlaces (content T.table.tree) → length rows.items ≡ length (content T.table.tree)) }
-    ensures kept { HasCleanDisk (state S.Store conn.new) → OnOk result (KeepsContent (state S.Store conn.old)
-        (state S.Store conn.new)) }
 {
     conn.query_all(T::ids(), &[])
 }
@@ -57,18 +54,16 @@ fn show_by_first<T: Select, S: Alter>(
     conn: &mut Connection<S>,
     first: &i64,
 ) -> Result<Vec<Row>, Error>
-    ensures reads { OnlyReads (state S.Store conn.old) (state S.Store conn.new) }
-    ensures rows { HasCleanDisk (state S.Store conn.new) → IfOk result (λ rows. (content : _) → IsExactly content
-        (state S.Store conn.old) →
+    ensures reads { Reads (is_ok result) (state S.Store conn.old) (state S.Store conn.new) }
+    ensures rows { HasCleanDisk (state S.Store conn.new) → IfOk result (λ rows. (content : _) →
+        HasRows content (state S.Store conn.old) →
         AreThose (0 ∷ []) (Int first.now ∷ []) (content T.table.tree) rows.items ×
         IsSorted (by_others T.width) rows.items) }
     ensures told { HasCleanDisk (state S.Store conn.new) → IfOk result (λ rows.
-        T.stands (state S.Store conn.old).now.schema →
+        IsBeside T.club (state S.Store conn.old).now.schema →
         AreReadOf T.table T.width first.now rows.items (state S.Store conn.old) (state S.Store conn.new)) }
     ensures known { HasCleanDisk (state S.Store conn.new) → IfErr result (λ e.
-        T.stands (state S.Store conn.old).now.schema → IsNoInput e) }
-    ensures kept { HasCleanDisk (state S.Store conn.new) → OnOk result (KeepsContent (state S.Store conn.old)
-        (state S.Store conn.new)) }
+        IsBeside T.club (state S.Store conn.old).now.schema → IsNoInput e) }
 {
     conn.query_all(T::by_first(), params![first])
 }
@@ -86,7 +81,8 @@ pub(crate) fn parsed<T: TableRow>(alloc: Global, shown: &[Row]) -> Result<Vec<T>
 
 /// A text that is refused names a table or a column that is missing.
 fn failed(error: Error) -> ReadFault
-    ensures { IsNoInput error → result ≡ ReadFault.Store }
+    ensures store { IsNoInput error → result ≡ ReadFault.Store }
+    ensures typed { result ≢ ReadFault.Mistyped }
 {
     if is_refused(&error) {
         ReadFault::Missing
@@ -134,13 +130,16 @@ pub fn check_rowids<T: Select, S: Alter>(
     alloc: Global,
     conn: &mut Connection<S>,
 ) -> Result<usize, ReadFault>
-    ensures reads { OnlyReads (state S.Store conn.old) (state S.Store conn.new) }
+    ensures reads { Reads (was_read result) (state S.Store conn.old) (state S.Store conn.new) }
     ensures counted { HasCleanDisk (state S.Store conn.new) → IfOk result (λ count.
-        T.stands (state S.Store conn.old).now.schema →
+        IsBeside T.club (state S.Store conn.old).now.schema →
         AreCounted T.table.tree count (state S.Store conn.old) (state S.Store conn.new)) }
     ensures blames { HasCleanDisk (state S.Store conn.new) → IfErr result (λ e.
-        T.stands (state S.Store conn.old).now.schema →
+        IsBeside T.club (state S.Store conn.old).now.schema →
         Blames T.table T.IsTyped (state S.Store conn.old) e) }
+    ensures apart { HasCleanDisk (state S.Store conn.new) → IfErr result (λ e. e ≡ ReadFault.Mistyped →
+        IsBeside T.club (state S.Store conn.old).now.schema →
+        ¬ AreApart ((state S.Store conn.old).now.trees T.table.tree)) }
 {
     let ids = match show_ids::<T, S>(conn) {
         Ok(ids) => ids,
@@ -155,12 +154,12 @@ pub fn check_rowids<T: Select, S: Alter>(
 /// Tests that a table stands with all of its columns, whatever its rows: of a database that is looked at for the first
 /// time.
 pub fn check_columns<T: Select, S: Alter>(conn: &mut Connection<S>) -> Result<(), ReadFault>
-    ensures reads { OnlyReads (state S.Store conn.old) (state S.Store conn.new) }
+    ensures reads { Reads (is_ok result) (state S.Store conn.old) (state S.Store conn.new) }
     ensures same { HasCleanDisk (state S.Store conn.new) → OnOk result (
-        T.stands (state S.Store conn.old).now.schema →
+        IsBeside T.club (state S.Store conn.old).now.schema →
         IsUnchanged (state S.Store conn.old) (state S.Store conn.new)) }
     ensures blames { HasCleanDisk (state S.Store conn.new) → IfErr result (λ e.
-        T.stands (state S.Store conn.old).now.schema → e ≡ ReadFault.Store) }
+        IsBeside T.club (state S.Store conn.old).now.schema → e ≡ ReadFault.Store) }
 {
     match show_by_first::<T, S>(conn, &0) {
         Ok(_) => Ok(()),
@@ -174,12 +173,12 @@ pub fn read_all<T: Select, S: Alter>(
     alloc: Global,
     conn: &mut Connection<S>,
 ) -> Result<Vec<T>, ReadFault>
-    ensures reads { OnlyReads (state S.Store conn.old) (state S.Store conn.new) }
+    ensures reads { Reads (was_read result) (state S.Store conn.old) (state S.Store conn.new) }
     ensures rows { HasCleanDisk (state S.Store conn.new) → IfOk result (λ found.
-        T.stands (state S.Store conn.old).now.schema →
+        IsBeside T.club (state S.Store conn.old).now.schema →
         IsReadAs T.table T.width (map T.cells found.items) (state S.Store conn.old) (state S.Store conn.new)) }
     ensures blames { HasCleanDisk (state S.Store conn.new) → IfErr result (λ e.
-        T.stands (state S.Store conn.old).now.schema →
+        IsBeside T.club (state S.Store conn.old).now.schema →
         Blames T.table T.IsTyped (state S.Store conn.old) e) }
 {
     match check_rowids::<T, S>(alloc, conn) {
@@ -200,14 +199,17 @@ pub fn read_by_first<T: Select, S: Alter>(
     conn: &mut Connection<S>,
     first: &i64,
 ) -> Result<Vec<T>, ReadFault>
-    ensures reads { OnlyReads (state S.Store conn.old) (state S.Store conn.new) }
+    ensures reads { Reads (was_read result) (state S.Store conn.old) (state S.Store conn.new) }
     ensures rows { HasCleanDisk (state S.Store conn.new) → IfOk result (λ found.
-        T.stands (state S.Store conn.old).now.schema →
+        IsBeside T.club (state S.Store conn.old).now.schema →
         AreReadOf T.table T.width first.now (map T.cells found.items) (state S.Store conn.old)
         (state S.Store conn.new)) }
     ensures blames { HasCleanDisk (state S.Store conn.new) → IfErr result (λ e.
-        T.stands (state S.Store conn.old).now.schema →
+        IsBeside T.club (state S.Store conn.old).now.schema →
         Blames T.table T.IsTyped (state S.Store conn.old) e) }
+    ensures same { HasCleanDisk (state S.Store conn.new) → IfErr result (λ e. e ≡ ReadFault.Mistyped →
+        IsBeside T.club (state S.Store conn.old).now.schema →
+        IsUnchanged (state S.Store conn.old) (state S.Store conn.new)) }
 {
     let shown = match show_by_first::<T, S>(conn, first) {
         Ok(shown) => shown,
@@ -221,14 +223,13 @@ pub fn list<T: Select, S: Alter>(
     alloc: Global,
     conn: &mut Connection<S>,
 ) -> Result<Vec<T>, CallFault>
-    ensures reads { OnlyReads (state S.Store conn.old) (state S.Store conn.new) }
+    ensures reads { Reads (is_ok result) (state S.Store conn.old) (state S.Store conn.new) }
     ensures rows { HasCleanDisk (state S.Store conn.new) → IfOk result (λ found. IsTrue T.has_id → (content : _) →
-        IsExactly content (state S.Store conn.old) →
+        HasRows content (state S.Store conn.old) →
         BeginWithPlaces (content T.table.tree) → map T.cells found.items ≡ content T.table.tree) }
     ensures same { HasCleanDisk (state S.Store conn.new) → IfOk result (λ found. (content : _) →
-        IsExactly content (state S.Store conn.old) → HaveSame (map T.cells found.items) (content T.table.tree)) }
-    ensures kept { HasCleanDisk (state S.Store conn.new) → OnOk result (KeepsContent (state S.Store conn.old)
-        (state S.Store conn.new)) }
+        HasRows content (state S.Store conn.old) →
+        HaveSame (map T.cells found.items) (content T.table.tree)) }
 {
     match show_all::<T, S>(conn) {
         Ok(shown) => parsed(alloc, &shown),
@@ -243,13 +244,11 @@ pub fn find_by_first<T: Select, S: Alter>(
     conn: &mut Connection<S>,
     first: &i64,
 ) -> Result<Vec<T>, CallFault>
-    ensures reads { OnlyReads (state S.Store conn.old) (state S.Store conn.new) }
-    ensures rows { HasCleanDisk (state S.Store conn.new) → IfOk result (λ found. (content : _) → IsExactly content
-        (state S.Store conn.old) →
+    ensures reads { Reads (is_ok result) (state S.Store conn.old) (state S.Store conn.new) }
+    ensures rows { HasCleanDisk (state S.Store conn.new) → IfOk result (λ found. (content : _) →
+        HasRows content (state S.Store conn.old) →
         AreThose (0 ∷ []) (Int first.now ∷ []) (content T.table.tree) (map T.cells found.items) ×
         IsSorted (by_others T.width) (map T.cells found.items)) }
-    ensures kept { HasCleanDisk (state S.Store conn.new) → OnOk result (KeepsContent (state S.Store conn.old)
-        (state S.Store conn.new)) }
 {
     match show_by_first::<T, S>(conn, first) {
         Ok(shown) => parsed(alloc, &shown),
@@ -259,12 +258,10 @@ pub fn find_by_first<T: Select, S: Alter>(
 
 /// How many rows a table has, where their ids are places.
 pub fn count<T: Select, S: Alter>(conn: &mut Connection<S>) -> Result<usize, CallFault>
-    ensures reads { OnlyReads (state S.Store conn.old) (state S.Store conn.new) }
+    ensures reads { Reads (is_ok result) (state S.Store conn.old) (state S.Store conn.new) }
     ensures count { HasCleanDisk (state S.Store conn.new) → IfOk result (λ n. IsTrue T.has_id → (content : _) →
-        IsExactly content (state S.Store conn.old) →
+        HasRows content (state S.Store conn.old) →
         BeginWithPlaces (content T.table.tree) → n ≡ length (content T.table.tree)) }
-    ensures kept { HasCleanDisk (state S.Store conn.new) → OnOk result (KeepsContent (state S.Store conn.old)
-        (state S.Store conn.new)) }
 {
     match show_ids::<T, S>(conn) {
         Ok(ids) => Ok(ids.len()),

@@ -7,12 +7,14 @@ ghost use Rattle.sqlite_trees.specs.Tree.{rowid};
 ghost use Rattle.store_tables.specs.Content.{cells as shown};
 ghost use Rattle.store_tables.specs.Queries.{AreShownBy};
 ghost use Rattle.sqlite.specs.Schema.{Schema};
-ghost use Rattle.store_tables.specs.Tables.{club_schema, IsClubSchema, meta, members, events, event_rules, challenges};
-ghost use Rattle.store_tables.specs.Tables.{moves, games, seen, scores};
+ghost use Rattle.store_tables.specs.Beside.{beside, IsBeside, Others};
+ghost use Rattle.store_tables.specs.Tables.{club_schema, first_schema, meta, members, events, event_rules};
+ghost use Rattle.store_tables.specs.Tables.{challenges, moves, games, seen, scores};
 ghost use Rattle.store_tables.specs.Texts as texts;
-ghost use Rattle.std.proofs.Common.{true≢false, sym, subst, inr};
+ghost use Rattle.std.proofs.Common.{true≢false, sym};
 ghost use Rattle.store_tables.proofs.Proved.{meta_read, members_read, events_read, challenges_read, moves_read};
-ghost use Rattle.store_tables.proofs.Proved.{games_read, seen_read, scores_read, event_rules_read, either_schema};
+ghost use Rattle.store_tables.proofs.Proved.{games_read, seen_read, scores_read, event_rules_read};
+ghost use Rattle.store_tables.proofs.Proved.{first_within};
 
 use store_tables::{
     ChallengeRow, EventRow, EventRuleRow, GameRecord, MemberRow, MetaRow, MoveRow, ScoreRow,
@@ -89,8 +91,8 @@ pub trait Select: TableRow {
 
     ghost width: { ℕ };
 
-    // the schemas that have the table
-    ghost stands: { Schema → Type 0 };
+    // the first of the schemas of a club that has the table
+    ghost club: { Schema };
 
     ghost has_id: { Bool };
 
@@ -112,10 +114,10 @@ pub trait Select: TableRow {
     fn by_first() -> &'static str
         ensures { result.now ≡ by_first_text };
 
-    ghost current: { stands club_schema };
+    ghost current: { (schema : Schema) → IsBeside club_schema schema → IsBeside club schema };
 
-    ghost read: { (schema : Schema) → stands schema →
-        AreShownBy schema table width all_text ids_text by_first_text };
+    ghost read: { (others : Others) →
+        AreShownBy (beside club others) table width all_text ids_text by_first_text };
 
     ghost numbered: { IsTrue has_id → (width ≡ 1) × ((r : Row) → column (shown table r) 0 ≡ rowid r) };
 }
@@ -123,7 +125,7 @@ pub trait Select: TableRow {
 impl Select for MetaRow {
     ghost table = { meta 0 };
 
-    ghost stands = { IsClubSchema };
+    ghost club = { first_schema };
 
     ghost width = { 1 };
 
@@ -135,11 +137,9 @@ impl Select for MetaRow {
 
     ghost by_first_text = { texts.meta_by_first };
 
-    ghost current = { inr refl };
+    ghost current = { first_within };
 
-    ghost read = { either_schema (λ s. AreShownBy s (meta 0) 1 texts.meta_all
-        texts.meta_ids texts.meta_by_first)
-        meta_read };
+    ghost read = { meta_read };
 
     ghost numbered = { λ it. (refl, λ r. refl) };
 
@@ -159,7 +159,7 @@ impl Select for MetaRow {
 impl Select for MemberRow {
     ghost table = { members 1 };
 
-    ghost stands = { IsClubSchema };
+    ghost club = { first_schema };
 
     ghost width = { 1 };
 
@@ -171,11 +171,9 @@ impl Select for MemberRow {
 
     ghost by_first_text = { texts.members_by_first };
 
-    ghost current = { inr refl };
+    ghost current = { first_within };
 
-    ghost read = { either_schema (λ s. AreShownBy s (members 1) 1 texts.members_all
-        texts.members_ids texts.members_by_first)
-        members_read };
+    ghost read = { members_read };
 
     ghost numbered = { λ it. (refl, λ r. refl) };
 
@@ -195,7 +193,7 @@ impl Select for MemberRow {
 impl Select for EventRow {
     ghost table = { events 4 };
 
-    ghost stands = { IsClubSchema };
+    ghost club = { first_schema };
 
     ghost width = { 1 };
 
@@ -207,11 +205,9 @@ impl Select for EventRow {
 
     ghost by_first_text = { texts.events_by_first };
 
-    ghost current = { inr refl };
+    ghost current = { first_within };
 
-    ghost read = { either_schema (λ s. AreShownBy s (events 4) 1 texts.events_all
-        texts.events_ids texts.events_by_first)
-        events_read };
+    ghost read = { events_read };
 
     ghost numbered = { λ it. (refl, λ r. refl) };
 
@@ -231,7 +227,7 @@ impl Select for EventRow {
 impl Select for EventRuleRow {
     ghost table = { event_rules 16 };
 
-    ghost stands = { λ schema. schema ≡ club_schema };
+    ghost club = { club_schema };
 
     ghost width = { 1 };
 
@@ -243,11 +239,9 @@ impl Select for EventRuleRow {
 
     ghost by_first_text = { texts.event_rules_by_first };
 
-    ghost current = { refl };
+    ghost current = { λ schema is. is };
 
-    ghost read = { λ schema is. subst (λ s. AreShownBy s (event_rules 16) 1 texts.event_rules_all
-        texts.event_rules_ids
-        texts.event_rules_by_first) (sym is) event_rules_read };
+    ghost read = { event_rules_read };
 
     ghost numbered = { λ it. (refl, λ r. refl) };
 
@@ -267,7 +261,7 @@ impl Select for EventRuleRow {
 impl Select for ChallengeRow {
     ghost table = { challenges 6 };
 
-    ghost stands = { IsClubSchema };
+    ghost club = { first_schema };
 
     ghost width = { 2 };
 
@@ -279,11 +273,9 @@ impl Select for ChallengeRow {
 
     ghost by_first_text = { texts.challenges_by_first };
 
-    ghost current = { inr refl };
+    ghost current = { first_within };
 
-    ghost read = { either_schema (λ s. AreShownBy s (challenges 6) 2 texts.challenges_all
-        texts.challenges_ids texts.challenges_by_first)
-        challenges_read };
+    ghost read = { challenges_read };
 
     ghost numbered = { λ it. absurd (true≢false (sym it)) };
 
@@ -303,7 +295,7 @@ impl Select for ChallengeRow {
 impl Select for MoveRow {
     ghost table = { moves 8 };
 
-    ghost stands = { IsClubSchema };
+    ghost club = { first_schema };
 
     ghost width = { 2 };
 
@@ -315,11 +307,9 @@ impl Select for MoveRow {
 
     ghost by_first_text = { texts.moves_by_first };
 
-    ghost current = { inr refl };
+    ghost current = { first_within };
 
-    ghost read = { either_schema (λ s. AreShownBy s (moves 8) 2 texts.moves_all
-        texts.moves_ids texts.moves_by_first)
-        moves_read };
+    ghost read = { moves_read };
 
     ghost numbered = { λ it. absurd (true≢false (sym it)) };
 
@@ -339,7 +329,7 @@ impl Select for MoveRow {
 impl Select for GameRecord {
     ghost table = { games 10 };
 
-    ghost stands = { IsClubSchema };
+    ghost club = { first_schema };
 
     ghost width = { 1 };
 
@@ -351,11 +341,9 @@ impl Select for GameRecord {
 
     ghost by_first_text = { texts.games_by_first };
 
-    ghost current = { inr refl };
+    ghost current = { first_within };
 
-    ghost read = { either_schema (λ s. AreShownBy s (games 10) 1 texts.games_all
-        texts.games_ids texts.games_by_first)
-        games_read };
+    ghost read = { games_read };
 
     ghost numbered = { λ it. (refl, λ r. refl) };
 
@@ -375,7 +363,7 @@ impl Select for GameRecord {
 impl Select for SeenRow {
     ghost table = { seen 12 };
 
-    ghost stands = { IsClubSchema };
+    ghost club = { first_schema };
 
     ghost width = { 2 };
 
@@ -387,11 +375,9 @@ impl Select for SeenRow {
 
     ghost by_first_text = { texts.seen_by_first };
 
-    ghost current = { inr refl };
+    ghost current = { first_within };
 
-    ghost read = { either_schema (λ s. AreShownBy s (seen 12) 2 texts.seen_all
-        texts.seen_ids texts.seen_by_first)
-        seen_read };
+    ghost read = { seen_read };
 
     ghost numbered = { λ it. absurd (true≢false (sym it)) };
 
@@ -411,7 +397,7 @@ impl Select for SeenRow {
 impl Select for ScoreRow {
     ghost table = { scores 14 };
 
-    ghost stands = { IsClubSchema };
+    ghost club = { first_schema };
 
     ghost width = { 3 };
 
@@ -423,11 +409,9 @@ impl Select for ScoreRow {
 
     ghost by_first_text = { texts.scores_by_first };
 
-    ghost current = { inr refl };
+    ghost current = { first_within };
 
-    ghost read = { either_schema (λ s. AreShownBy s (scores 14) 3 texts.scores_all
-        texts.scores_ids texts.scores_by_first)
-        scores_read };
+    ghost read = { scores_read };
 
     ghost numbered = { λ it. absurd (true≢false (sym it)) };
 

@@ -5,7 +5,7 @@ ghost use Rattle.sqlite.specs.State.{HasCleanDisk, Survives};
 ghost use Rattle.sqlite.specs.Held.{state};
 ghost use Rattle.store_tables.specs.Contents.{put_in, put_each};
 ghost use Rattle.store_tables.specs.Cells.{meta_cells};
-ghost use Rattle.store_tables.specs.Club.{Steps};
+ghost use Rattle.store_tables.specs.Beside.{StepsBeside};
 ghost use Rattle.store_tables.specs.Reading.{IsNoInput};
 ghost use Rattle.store_tables.specs.Tables.{club_schema};
 
@@ -53,7 +53,7 @@ pub trait Put: TableRow {
         ensures same_reference { tx.new.conn.ghost_name ≡ tx.old.conn.ghost_name }
         ensures put { HasCleanDisk (state S.Store tx.new.conn.now) → IsTrue
             (state S.Store tx.old.conn.now).in_transaction →
-            OnOk result (Steps (put_in tree key (Self.cells self.now)) (state S.Store tx.old.conn.now)
+            OnOk result (StepsBeside (put_in tree key (Self.cells self.now)) (state S.Store tx.old.conn.now)
             (state S.Store tx.new.conn.now)) }
         ensures survives { Survives (state S.Store tx.old.conn.now) (state S.Store tx.new.conn.now) (λ _. ⊥) };
 }
@@ -64,7 +64,7 @@ pub(crate) fn put_meta<S: Alter>(row: &MetaRow, tx: &mut Transaction<'_, S>) -> 
     ensures same_reference { tx.new.conn.ghost_name ≡ tx.old.conn.ghost_name }
     ensures put { HasCleanDisk (state S.Store tx.new.conn.now) → IsTrue
         (state S.Store tx.old.conn.now).in_transaction →
-        OnOk result (Steps (put_in 0 (0 ∷ []) (meta_cells row.now)) (state S.Store tx.old.conn.now)
+        OnOk result (StepsBeside (put_in 0 (0 ∷ []) (meta_cells row.now)) (state S.Store tx.old.conn.now)
         (state S.Store tx.new.conn.now)) }
     ensures known { HasCleanDisk (state S.Store tx.new.conn.now) → IsTrue
         (state S.Store tx.old.conn.now).in_transaction → (state S.Store tx.old.conn.now).now.schema ≡ club_schema →
@@ -253,7 +253,7 @@ pub fn put_all<T: Put, S: Alter>(tx: &mut Transaction<'_, S>, rows: &[T]) -> Res
     ensures same_reference { tx.new.conn.ghost_name ≡ tx.old.conn.ghost_name }
     ensures put { HasCleanDisk (state S.Store tx.new.conn.now) → IsTrue
         (state S.Store tx.old.conn.now).in_transaction →
-        OnOk result (Steps (put_each T.tree T.key (map T.cells rows.now)) (state S.Store tx.old.conn.now)
+        OnOk result (StepsBeside (put_each T.tree T.key (map T.cells rows.now)) (state S.Store tx.old.conn.now)
         (state S.Store tx.new.conn.now)) }
     ensures survives { Survives (state S.Store tx.old.conn.now) (state S.Store tx.new.conn.now) (λ _. ⊥) }
 {

@@ -1,13 +1,13 @@
 //! Carrying the tables of schema 1 over to schema 2.
 
-ghost use Rattle.std.specs.Prelude.{◌≡◌, ◌≤◌, ◌⊎◌, true, false, [], IsTrue, IfOk, IfErr, OnOk, OnErr};
+ghost use Rattle.std.specs.Prelude.{◌≡◌, ◌≤◌, ◌⊎◌, true, false, [], IsTrue, IfOk, IfErr, OnOk, OnErr, is_ok};
 ghost use Rattle.sqlite.specs.State.{HasCleanDisk, IsUnchanged, Survives};
 ghost use Rattle.sqlite.specs.Held.{state};
 ghost use Rattle.sqlite_trees.specs.View.{doubt};
 ghost use Rattle.store_tables.specs.Changed.{widened};
 ghost use Rattle.store_tables.specs.Contents as of_schema;
 ghost use Rattle.store_tables.specs.Club.{IsExactly, Leaves};
-ghost use Rattle.store_tables.specs.Reading.{OnlyReads};
+ghost use Rattle.store_tables.specs.Reading.{Reads};
 ghost use Rattle.store_tables.specs.Tables.{club_schema, first_schema, IsClubSchema};
 ghost use Rattle.store_sql.specs.Widened.{WidensTo};
 
@@ -67,7 +67,7 @@ pub fn widen<S: Alter>(
 /// Whether the table of the rules of events stands with all of its columns, of a database that is looked at for the
 /// first time.
 pub fn has_event_rules<S: Alter>(conn: &mut Connection<S>) -> Result<bool, ReadFault>
-    ensures reads { OnlyReads (state S.Store conn.old) (state S.Store conn.new) }
+    ensures reads { Reads (is_ok result) (state S.Store conn.old) (state S.Store conn.new) }
     ensures same { HasCleanDisk (state S.Store conn.new) → OnOk result (
         IsClubSchema (state S.Store conn.old).now.schema →
         IsUnchanged (state S.Store conn.old) (state S.Store conn.new)) }

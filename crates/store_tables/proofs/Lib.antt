@@ -1,6 +1,8 @@
 pub mod AlterLemmas
 pub mod ApartLemmas
+pub mod BesideLemmas
 pub mod ContentLemmas
+pub mod ExcludedLemmas
 pub mod IdLemmas
 pub mod KeyLemmas
 pub mod MakeLemmas
@@ -18,3 +20,4 @@ pub mod SelectMeanings
 pub mod StepLemmas
 pub mod TellLemmas
 pub mod UpsertLemmas
+pub mod UpsertTexts

@@ -1,11 +1,12 @@
 -- What the tables offer to proofs of the crates above, which cite no other module of these proofs.
 -- A SELECT only reads, whatever the schema; what it shows of a table, and which rows it finds.
-pub use Rattle.store_tables.proofs.QueryLemmas.{select_keeps_may, select_unchanged, only_reads, reads_nothing}
-pub use Rattle.store_tables.proofs.QueryLemmas.{reads_then}
+pub use Rattle.store_tables.proofs.QueryLemmas.{select_keeps_may, select_plain, select_unchanged, only_reads}
+pub use Rattle.store_tables.proofs.QueryLemmas.{reads_nothing, reads_then, reads_by, only_reading, read_nothing}
+pub use Rattle.store_tables.proofs.QueryLemmas.{read_then, read_failed, has_rows, still_rows, rows_of}
 pub use Rattle.store_tables.proofs.ReadLemmas.{survives_given, shown_given, unchanged_exactly, may_as_before}
 pub use Rattle.store_tables.proofs.TellLemmas.{tells, tells_ids, tells_first, finds, no_input, all_alike, one_shown}
 pub use Rattle.store_tables.proofs.TellLemmas.{ids_of, apart_of, stored_at}
-pub use Rattle.store_tables.proofs.SchemaLemmas.{wider, either_schema}
+pub use Rattle.store_tables.proofs.SchemaLemmas.{current_itself, first_within, first_of_club, at_schema}
 pub use Rattle.store_tables.proofs.SelectMeanings.{meta_read, members_read, events_read, challenges_read, moves_read}
 pub use Rattle.store_tables.proofs.SelectMeanings.{games_read, seen_read, scores_read, event_rules_read}
 pub use Rattle.store_tables.proofs.SelectMeanings.{members_by_name_finds, members_by_key_finds, events_by_name_finds}
@@ -26,6 +27,7 @@ pub use Rattle.store_tables.proofs.OrderLemmas.{same_length, got}
 pub use Rattle.store_tables.proofs.ApartLemmas.{pairs_turned}
 -- When keys are the same.
 pub use Rattle.store_tables.proofs.KeyLemmas.{equal_cmp, equal_ints, equal_from, differ_ints}
+pub use Rattle.store_tables.proofs.BesideLemmas.{takes_itself}
 -- Rows that are put, in a transaction that is committed.
 pub use Rattle.store_tables.proofs.StepLemmas.{meta_put_of, member_put_of, event_put_of, challenge_put_of, move_put_of}
 pub use Rattle.store_tables.proofs.StepLemmas.{event_rule_put_of, game_put_of, seen_put_of, score_put_of}

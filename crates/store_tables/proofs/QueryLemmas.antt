@@ -1,5 +1,5 @@
 -- A SELECT changes nothing, whatever the schema.
-use Rattle.std.proofs.Common.{◌≡◌, ℕ, Bool, true, false, true≢false, List, Ok, Err, Result, Option, None, refl}
+use Rattle.std.proofs.Common.{◌≡◌, ℕ, Bool, true, false, true≢false, List, [], ◌∷◌, Ok, Err, Result, Option, None, refl}
 use Rattle.std.proofs.Common.{sym, ap, subst, ◌∙◌, inl, inr, ◌⊎◌, IsTrue, arith}
 use Rattle.std.specs.Prelude.{if◌then◌else◌, IfOk, IfErr, IsSome}
 use Rattle.std.proofs.lemmas.Bool.{cases_Bool}
@@ -20,7 +20,14 @@ use Rattle.sqlite_resolve.specs.declared.error.CompileError.{CompileError}
 use Rattle.sqlite_resolve.specs.Lowering.{Checked, and_then}
 use Rattle.sqlite_resolve.specs.Compile.{first, compiled, planned, meaning, returning, command}
 use Rattle.store_tables.specs.Queries.{is_select, is_read_as_select, IsSelect}
-use Rattle.store_tables.specs.Reading.{KeepsMay, OnlyReads}
+use Rattle.std.specs.List.{AllByRecursion}
+use Rattle.std.specs.Prelude.{slice_get, Some}
+use Rattle.sqlite.specs.Table.{Table}
+use Rattle.sqlite_rules.proofs.ListLemmas.{all_has, has_got}
+use Rattle.store_tables.specs.Beside.{no_others, HasRows}
+use Rattle.store_tables.specs.Contents.{Content, IsExactly}
+use Rattle.store_tables.specs.Reading.{KeepsContent, KeepsMay, OnlyReads, Reads}
+use Rattle.store_tables.specs.Tables.{club_schema}
 use Rattle.store_tables.proofs.UpsertLemmas.{same_value}
 
 nothing_shown : (schema : Schema) (base : ℕ) (s : Statement) → is_select s ≡ true → returning schema base s ≡ Ok None
@@ -150,3 +157,61 @@ reads_then a b c one two =
       was_open = λ clean h. one.was_open (before clean) (two.was_open clean h);
       committed = λ clean h. two.committed clean h ∙ one.committed (before clean) (two.was_open clean h);
     }
+
+-- ---- calls that read
+
+pub reads_by : (answered : Bool) (old new : State) → OnlyReads old new
+    → (IsTrue answered → HasCleanDisk new → KeepsContent old new) → Reads answered old new
+reads_by answered old new only kept = record {
+  idle = only.idle;
+  clean = only.clean;
+  may = only.may;
+  was_open = only.was_open;
+  committed = only.committed;
+  kept = kept;
+}
+
+pub only_reading : (answered : Bool) (old new : State) → Reads answered old new → OnlyReads old new
+only_reading answered old new reads = record {
+  idle = reads.idle;
+  clean = reads.clean;
+  may = reads.may;
+  was_open = reads.was_open;
+  committed = reads.committed;
+}
+
+-- no call
+pub read_nothing : (answered : Bool) (s : State) → Reads answered s s
+read_nothing answered s = reads_by answered s s (reads_nothing s) (λ t clean schema content k. k)
+
+-- a call after one that answered
+pub read_then : (answered : Bool) (a b c : State) → Reads true a b → Reads answered b c → Reads answered a c
+read_then answered a b c one two =
+    reads_by answered a c (reads_then a b c (only_reading true a b one) (only_reading answered b c two))
+    (λ t clean schema content k. two.kept t clean schema content
+    (one.kept refl (omega (arith, clean, two.clean)) schema content k))
+
+-- a call whose answer comes to nothing
+pub read_failed : (answered : Bool) (a b : State) → Reads answered a b → Reads false a b
+read_failed answered a b reads = reads_by false a b (only_reading answered a b reads) (λ t. absurd (true≢false (sym t)))
+
+-- ---- a club beside what other programs made
+
+each_same : (content : Content) (ts : List Table) → AllByRecursion (λ t. content t.tree ≡ content t.tree) ts
+each_same content [] = tt
+each_same content (t ∷ ts) = (refl, each_same content ts)
+
+pub has_rows : (content : Content) (s : State) → IsExactly club_schema content s → HasRows content s
+has_rows content s k = (club_schema, content, (no_others, refl), each_same content club_schema.tables, k)
+
+-- what a call that answered leaves
+pub still_rows : (old new : State) → KeepsContent old new → (content : Content) → HasRows content old
+    → HasRows content new
+still_rows old new kept content k = (k.0, k.1, k.2, k.3, kept k.0 k.1 k.4)
+
+-- the rows of a table of the club
+pub rows_of : (content : Content) (s : State) (k : HasRows content s) (place : ℕ) (table : Table)
+    → slice_get club_schema.tables place ≡ Some table → k.1 table.tree ≡ content table.tree
+rows_of content s k place table at =
+    all_has (λ t. k.1 t.tree ≡ content t.tree) club_schema.tables table k.3
+    (has_got club_schema.tables place table at)

@@ -1,20 +1,26 @@
--- The schemas of a club as schema 1 with further tables.
-use Rattle.std.proofs.Common.{List, [], ◌∷◌, ◌++◌, sym, subst, inl, inr}
-use Rattle.sqlite.specs.Table.{Table}
+-- The schemas of a club as schema 1 beside further tables.
+use Rattle.std.proofs.Common.{◌∷◌, refl, sym, subst, inl, inr}
 use Rattle.sqlite.specs.Schema.{Schema}
-use Rattle.sqlite_schema.specs.declared.schema.Index.{Index}
-use Rattle.store_tables.specs.Tables.{event_rules, first_schema, IsClubSchema}
+use Rattle.store_tables.specs.Beside.{Others, no_others, beside, IsBeside}
+use Rattle.store_tables.specs.Tables.{event_rules, club_schema, first_schema, IsClubSchema}
 
--- schema 1 with further tables and indexes
-abbrev pub wider : List Table → List Index → Schema
-wider more others = record {
-  tables = first_schema.tables ++ more;
-  indexes = first_schema.indexes ++ others;
-  views = [];
-}
+-- a schema stands beside itself
+pub current_itself : IsBeside club_schema club_schema
+current_itself = (no_others, refl)
 
--- what holds beside whatever further tables holds of each schema of a club
-pub either_schema : (P : Schema → Type 0) → ((more : List Table) (others : List Index) → P (wider more others))
-    → (schema : Schema) → IsClubSchema schema → P schema
-either_schema P beside schema (inl first) = subst P (sym first) (beside [] [])
-either_schema P beside schema (inr current) = subst P (sym current) (beside (event_rules 16 ∷ []) [])
+-- the table of the rules of events, and then the others
+abbrev with_rules : Others → Others
+with_rules others = record { tables = event_rules 16 ∷ others.tables; indexes = others.indexes; views = others.views }
+
+-- what stands beside schema 2 stands beside schema 1
+pub first_within : (schema : Schema) → IsBeside club_schema schema → IsBeside first_schema schema
+first_within schema (others, is) = (with_rules others, is)
+
+pub first_of_club : (schema : Schema) → IsClubSchema schema → IsBeside first_schema schema
+first_of_club schema (inl first) = (no_others, first)
+first_of_club schema (inr current) = (with_rules no_others, current)
+
+-- what is said beside whatever others is said of the schema
+pub at_schema : (club : Schema) (P : Schema → Type 0) → ((others : Others) → P (beside club others))
+    → (schema : Schema) → IsBeside club schema → P schema
+at_schema club P says schema (others, is) = subst P (sym is) (says others)

@@ -1,7 +1,5 @@
--- What each SELECT means under the schemas of a club, by computing.
+-- What each SELECT means under the schemas of a club, beside whatever else the database has, by computing.
 use Rattle.std.proofs.Common.{ℕ, ℤ, List, [], ◌∷◌, Equal, refl, codes}
-use Rattle.sqlite.specs.Table.{Table}
-use Rattle.sqlite_schema.specs.declared.schema.Index.{Index}
 use Rattle.sqlite.specs.Listing.{understood}
 use Rattle.sqlite.specs.Term.{Term, col, op2}
 use Rattle.sqlite.specs.declared.types.Value.TheVariants.{Null, Int, Text}
@@ -11,19 +9,20 @@ use Rattle.sqlite.specs.Collation.TheVariants.{Binary}
 use Rattle.sqlite_tied.specs.Compute.{everything}
 use Rattle.sqlite_value.specs.Keys.{ascending, first_key}
 use Rattle.store_tables.specs.Queries.{Selects, Finds, AreShownBy, by_others, IsSelect}
-use Rattle.store_tables.specs.Tables.{club_schema, meta, members, events, event_rules, challenges, moves}
+use Rattle.store_tables.specs.Beside.{Others, beside}
+use Rattle.store_tables.specs.Tables.{club_schema, first_schema, meta, members, events, event_rules, challenges}
+use Rattle.store_tables.specs.Tables.{moves}
 use Rattle.store_tables.specs.Tables.{games, seen, scores}
 use Rattle.store_tables.specs.Texts as t
-use Rattle.store_tables.proofs.SchemaLemmas.{wider}
 
 -- ---- meta
 
 abbrev meta_columns : List Term
 meta_columns = col 1 0 ∷ col 1 2 ∷ col 1 3 ∷ []
 
-meta_all_is : (more : List Table) (others : List Index) → Selects (wider more others) 0 1 t.meta_all meta_columns
+meta_all_is : (others : Others) → Selects (beside first_schema others) 0 1 t.meta_all meta_columns
 unfolding understood everything
-meta_all_is more others = record {
+meta_all_is others = record {
   order = (col 1 0, ascending Binary) ∷ [];
   names = codes "id" ∷ codes "schema" ∷ codes "last" ∷ [];
   command = refl;
@@ -33,9 +32,9 @@ meta_all_is more others = record {
   by = λ r s. refl;
 }
 
-meta_ids_is : (more : List Table) (others : List Index) → Selects (wider more others) 0 1 t.meta_ids (col 1 0 ∷ [])
+meta_ids_is : (others : Others) → Selects (beside first_schema others) 0 1 t.meta_ids (col 1 0 ∷ [])
 unfolding understood everything
-meta_ids_is more others = record {
+meta_ids_is others = record {
   order = (col 1 0, ascending Binary) ∷ [];
   names = codes "id" ∷ [];
   command = refl;
@@ -45,10 +44,10 @@ meta_ids_is more others = record {
   by = λ r s. refl;
 }
 
-meta_some : (more : List Table) (others : List Index) (n : ℤ)
-    → Finds (wider more others) (meta 0) 0 (0 ∷ []) (Int n ∷ []) (Int n ∷ []) t.meta_by_first (by_others 1)
+meta_some : (others : Others) (n : ℤ)
+    → Finds (beside first_schema others) (meta 0) 0 (0 ∷ []) (Int n ∷ []) (Int n ∷ []) t.meta_by_first (by_others 1)
 unfolding understood everything first_key
-meta_some more others n = record {
+meta_some others n = record {
   at = refl;
   filter = op2 (Compare Eq Binary) (col 1 0) (col 0 0) ∷ [];
   project = meta_columns;
@@ -67,18 +66,18 @@ meta_selects : IsSelect t.meta_all × IsSelect t.meta_ids × IsSelect t.meta_by_
 unfolding understood everything
 meta_selects = (refl, refl, refl)
 
-pub meta_read : (more : List Table) (others : List Index)
-    → AreShownBy (wider more others) (meta 0) 1 t.meta_all t.meta_ids t.meta_by_first
-meta_read more others = record {
+pub meta_read : (others : Others)
+    → AreShownBy (beside first_schema others) (meta 0) 1 t.meta_all t.meta_ids t.meta_by_first
+meta_read others = record {
   place = 0;
   at = refl;
   columns = meta_columns;
-  rows = meta_all_is more others;
+  rows = meta_all_is others;
   whole = λ r. refl;
   firsts = col 1 0 ∷ [];
-  numbers = meta_ids_is more others;
+  numbers = meta_ids_is others;
   first = λ r. refl;
-  some = meta_some more others;
+  some = meta_some others;
   all_is = meta_selects.0;
   ids_is = meta_selects.1;
   group_is = meta_selects.2;
@@ -89,10 +88,10 @@ meta_read more others = record {
 abbrev members_columns : List Term
 members_columns = col 1 0 ∷ col 1 2 ∷ col 1 3 ∷ []
 
-members_all_is : (more : List Table) (others : List Index)
-    → Selects (wider more others) 1 1 t.members_all members_columns
+members_all_is : (others : Others)
+    → Selects (beside first_schema others) 1 1 t.members_all members_columns
 unfolding understood everything
-members_all_is more others = record {
+members_all_is others = record {
   order = (col 1 0, ascending Binary) ∷ [];
   names = codes "id" ∷ codes "name" ∷ codes "key" ∷ [];
   command = refl;
@@ -102,10 +101,10 @@ members_all_is more others = record {
   by = λ r s. refl;
 }
 
-members_ids_is : (more : List Table) (others : List Index)
-    → Selects (wider more others) 1 1 t.members_ids (col 1 0 ∷ [])
+members_ids_is : (others : Others)
+    → Selects (beside first_schema others) 1 1 t.members_ids (col 1 0 ∷ [])
 unfolding understood everything
-members_ids_is more others = record {
+members_ids_is others = record {
   order = (col 1 0, ascending Binary) ∷ [];
   names = codes "id" ∷ [];
   command = refl;
@@ -115,11 +114,11 @@ members_ids_is more others = record {
   by = λ r s. refl;
 }
 
-members_some : (more : List Table) (others : List Index) (n : ℤ)
-    → Finds (wider more others) (members 1) 1 (0 ∷ []) (Int n ∷ []) (Int n ∷ []) t.members_by_first
+members_some : (others : Others) (n : ℤ)
+    → Finds (beside first_schema others) (members 1) 1 (0 ∷ []) (Int n ∷ []) (Int n ∷ []) t.members_by_first
     (by_others 1)
 unfolding understood everything first_key
-members_some more others n = record {
+members_some others n = record {
   at = refl;
   filter = op2 (Compare Eq Binary) (col 1 0) (col 0 0) ∷ [];
   project = members_columns;
@@ -138,18 +137,18 @@ members_selects : IsSelect t.members_all × IsSelect t.members_ids × IsSelect t
 unfolding understood everything
 members_selects = (refl, refl, refl)
 
-pub members_read : (more : List Table) (others : List Index)
-    → AreShownBy (wider more others) (members 1) 1 t.members_all t.members_ids t.members_by_first
-members_read more others = record {
+pub members_read : (others : Others)
+    → AreShownBy (beside first_schema others) (members 1) 1 t.members_all t.members_ids t.members_by_first
+members_read others = record {
   place = 1;
   at = refl;
   columns = members_columns;
-  rows = members_all_is more others;
+  rows = members_all_is others;
   whole = λ r. refl;
   firsts = col 1 0 ∷ [];
-  numbers = members_ids_is more others;
+  numbers = members_ids_is others;
   first = λ r. refl;
-  some = members_some more others;
+  some = members_some others;
   all_is = members_selects.0;
   ids_is = members_selects.1;
   group_is = members_selects.2;
@@ -160,9 +159,9 @@ members_read more others = record {
 abbrev events_columns : List Term
 events_columns = col 1 0 ∷ col 1 2 ∷ col 1 3 ∷ col 1 4 ∷ col 1 5 ∷ []
 
-events_all_is : (more : List Table) (others : List Index) → Selects (wider more others) 4 1 t.events_all events_columns
+events_all_is : (others : Others) → Selects (beside first_schema others) 4 1 t.events_all events_columns
 unfolding understood everything
-events_all_is more others = record {
+events_all_is others = record {
   order = (col 1 0, ascending Binary) ∷ [];
   names = codes "id" ∷ codes "name" ∷ codes "game" ∷ codes "budget" ∷ codes "increment" ∷ [];
   command = refl;
@@ -172,9 +171,9 @@ events_all_is more others = record {
   by = λ r s. refl;
 }
 
-events_ids_is : (more : List Table) (others : List Index) → Selects (wider more others) 4 1 t.events_ids (col 1 0 ∷ [])
+events_ids_is : (others : Others) → Selects (beside first_schema others) 4 1 t.events_ids (col 1 0 ∷ [])
 unfolding understood everything
-events_ids_is more others = record {
+events_ids_is others = record {
   order = (col 1 0, ascending Binary) ∷ [];
   names = codes "id" ∷ [];
   command = refl;
@@ -184,11 +183,11 @@ events_ids_is more others = record {
   by = λ r s. refl;
 }
 
-events_some : (more : List Table) (others : List Index) (n : ℤ)
-    → Finds (wider more others) (events 4) 2 (0 ∷ []) (Int n ∷ []) (Int n ∷ []) t.events_by_first
+events_some : (others : Others) (n : ℤ)
+    → Finds (beside first_schema others) (events 4) 2 (0 ∷ []) (Int n ∷ []) (Int n ∷ []) t.events_by_first
     (by_others 1)
 unfolding understood everything first_key
-events_some more others n = record {
+events_some others n = record {
   at = refl;
   filter = op2 (Compare Eq Binary) (col 1 0) (col 0 0) ∷ [];
   project = events_columns;
@@ -207,18 +206,18 @@ events_selects : IsSelect t.events_all × IsSelect t.events_ids × IsSelect t.ev
 unfolding understood everything
 events_selects = (refl, refl, refl)
 
-pub events_read : (more : List Table) (others : List Index)
-    → AreShownBy (wider more others) (events 4) 1 t.events_all t.events_ids t.events_by_first
-events_read more others = record {
+pub events_read : (others : Others)
+    → AreShownBy (beside first_schema others) (events 4) 1 t.events_all t.events_ids t.events_by_first
+events_read others = record {
   place = 2;
   at = refl;
   columns = events_columns;
-  rows = events_all_is more others;
+  rows = events_all_is others;
   whole = λ r. refl;
   firsts = col 1 0 ∷ [];
-  numbers = events_ids_is more others;
+  numbers = events_ids_is others;
   first = λ r. refl;
-  some = events_some more others;
+  some = events_some others;
   all_is = events_selects.0;
   ids_is = events_selects.1;
   group_is = events_selects.2;
@@ -229,12 +228,13 @@ events_read more others = record {
 abbrev challenges_columns : List Term
 challenges_columns = col 1 1 ∷ col 1 2 ∷ col 1 3 ∷ col 1 4 ∷ col 1 5 ∷ col 1 6 ∷ col 1 7 ∷ []
 
-challenges_all_is : (more : List Table) (others : List Index)
-    → Selects (wider more others) 6 2 t.challenges_all challenges_columns
+challenges_all_is : (others : Others)
+    → Selects (beside first_schema others) 6 2 t.challenges_all challenges_columns
 unfolding understood everything
-challenges_all_is more others = record {
+challenges_all_is others = record {
   order = (col 1 1, ascending Binary) ∷ (col 1 2, ascending Binary) ∷ [];
-  names = codes "member" ∷ codes "number" ∷ codes "event" ∷ codes "other" ∷ codes "first" ∷ codes "state" ∷ codes "game"
+  names = codes "member" ∷ codes "number" ∷ codes "event" ∷ codes "other" ∷ codes "first" ∷ codes "state" ∷ codes
+      "game"
       ∷ [];
   command = refl;
   plain = (refl, refl);
@@ -243,10 +243,10 @@ challenges_all_is more others = record {
   by = λ r s. refl;
 }
 
-challenges_ids_is : (more : List Table) (others : List Index)
-    → Selects (wider more others) 6 1 t.challenges_ids (col 1 0 ∷ [])
+challenges_ids_is : (others : Others)
+    → Selects (beside first_schema others) 6 1 t.challenges_ids (col 1 0 ∷ [])
 unfolding understood everything
-challenges_ids_is more others = record {
+challenges_ids_is others = record {
   order = (col 1 0, ascending Binary) ∷ [];
   names = codes "rowid" ∷ [];
   command = refl;
@@ -256,16 +256,17 @@ challenges_ids_is more others = record {
   by = λ r s. refl;
 }
 
-challenges_some : (more : List Table) (others : List Index) (n : ℤ)
-    → Finds (wider more others) (challenges 6) 3 (0 ∷ []) (Int n ∷ []) (Int n ∷ []) t.challenges_by_first
+challenges_some : (others : Others) (n : ℤ)
+    → Finds (beside first_schema others) (challenges 6) 3 (0 ∷ []) (Int n ∷ []) (Int n ∷ []) t.challenges_by_first
     (by_others 2)
 unfolding understood everything first_key
-challenges_some more others n = record {
+challenges_some others n = record {
   at = refl;
   filter = op2 (Compare Eq Binary) (col 1 1) (col 0 0) ∷ [];
   project = challenges_columns;
   order = (col 1 2, ascending Binary) ∷ [];
-  names = codes "member" ∷ codes "number" ∷ codes "event" ∷ codes "other" ∷ codes "first" ∷ codes "state" ∷ codes "game"
+  names = codes "member" ∷ codes "number" ∷ codes "event" ∷ codes "other" ∷ codes "first" ∷ codes "state" ∷ codes
+      "game"
       ∷ [];
   command = refl;
   plain = (refl, refl);
@@ -280,18 +281,18 @@ challenges_selects : IsSelect t.challenges_all × IsSelect t.challenges_ids × I
 unfolding understood everything
 challenges_selects = (refl, refl, refl)
 
-pub challenges_read : (more : List Table) (others : List Index)
-    → AreShownBy (wider more others) (challenges 6) 2 t.challenges_all t.challenges_ids t.challenges_by_first
-challenges_read more others = record {
+pub challenges_read : (others : Others)
+    → AreShownBy (beside first_schema others) (challenges 6) 2 t.challenges_all t.challenges_ids t.challenges_by_first
+challenges_read others = record {
   place = 3;
   at = refl;
   columns = challenges_columns;
-  rows = challenges_all_is more others;
+  rows = challenges_all_is others;
   whole = λ r. refl;
   firsts = col 1 0 ∷ [];
-  numbers = challenges_ids_is more others;
+  numbers = challenges_ids_is others;
   first = λ r. refl;
-  some = challenges_some more others;
+  some = challenges_some others;
   all_is = challenges_selects.0;
   ids_is = challenges_selects.1;
   group_is = challenges_selects.2;
@@ -302,9 +303,9 @@ challenges_read more others = record {
 abbrev moves_columns : List Term
 moves_columns = col 1 1 ∷ col 1 2 ∷ col 1 3 ∷ col 1 4 ∷ col 1 5 ∷ col 1 6 ∷ []
 
-moves_all_is : (more : List Table) (others : List Index) → Selects (wider more others) 8 2 t.moves_all moves_columns
+moves_all_is : (others : Others) → Selects (beside first_schema others) 8 2 t.moves_all moves_columns
 unfolding understood everything
-moves_all_is more others = record {
+moves_all_is others = record {
   order = (col 1 1, ascending Binary) ∷ (col 1 2, ascending Binary) ∷ [];
   names = codes "game" ∷ codes "ply" ∷ codes "text" ∷ codes "moment" ∷ codes "left" ∷ codes "position" ∷ [];
   command = refl;
@@ -314,9 +315,9 @@ moves_all_is more others = record {
   by = λ r s. refl;
 }
 
-moves_ids_is : (more : List Table) (others : List Index) → Selects (wider more others) 8 1 t.moves_ids (col 1 0 ∷ [])
+moves_ids_is : (others : Others) → Selects (beside first_schema others) 8 1 t.moves_ids (col 1 0 ∷ [])
 unfolding understood everything
-moves_ids_is more others = record {
+moves_ids_is others = record {
   order = (col 1 0, ascending Binary) ∷ [];
   names = codes "rowid" ∷ [];
   command = refl;
@@ -326,10 +327,10 @@ moves_ids_is more others = record {
   by = λ r s. refl;
 }
 
-moves_some : (more : List Table) (others : List Index) (n : ℤ)
-    → Finds (wider more others) (moves 8) 4 (0 ∷ []) (Int n ∷ []) (Int n ∷ []) t.moves_by_first (by_others 2)
+moves_some : (others : Others) (n : ℤ)
+    → Finds (beside first_schema others) (moves 8) 4 (0 ∷ []) (Int n ∷ []) (Int n ∷ []) t.moves_by_first (by_others 2)
 unfolding understood everything first_key
-moves_some more others n = record {
+moves_some others n = record {
   at = refl;
   filter = op2 (Compare Eq Binary) (col 1 1) (col 0 0) ∷ [];
   project = moves_columns;
@@ -348,18 +349,18 @@ moves_selects : IsSelect t.moves_all × IsSelect t.moves_ids × IsSelect t.moves
 unfolding understood everything
 moves_selects = (refl, refl, refl)
 
-pub moves_read : (more : List Table) (others : List Index)
-    → AreShownBy (wider more others) (moves 8) 2 t.moves_all t.moves_ids t.moves_by_first
-moves_read more others = record {
+pub moves_read : (others : Others)
+    → AreShownBy (beside first_schema others) (moves 8) 2 t.moves_all t.moves_ids t.moves_by_first
+moves_read others = record {
   place = 4;
   at = refl;
   columns = moves_columns;
-  rows = moves_all_is more others;
+  rows = moves_all_is others;
   whole = λ r. refl;
   firsts = col 1 0 ∷ [];
-  numbers = moves_ids_is more others;
+  numbers = moves_ids_is others;
   first = λ r. refl;
-  some = moves_some more others;
+  some = moves_some others;
   all_is = moves_selects.0;
   ids_is = moves_selects.1;
   group_is = moves_selects.2;
@@ -371,9 +372,9 @@ abbrev games_columns : List Term
 games_columns = col 1 0 ∷ col 1 2 ∷ col 1 3 ∷ col 1 4 ∷ col 1 5 ∷ col 1 6 ∷ col 1 7 ∷ col 1 8 ∷ col 1 9 ∷ col 1 10
     ∷ col 1 11 ∷ col 1 12 ∷ col 1 13 ∷ col 1 14 ∷ col 1 15 ∷ col 1 16 ∷ col 1 17 ∷ []
 
-games_all_is : (more : List Table) (others : List Index) → Selects (wider more others) 10 1 t.games_all games_columns
+games_all_is : (others : Others) → Selects (beside first_schema others) 10 1 t.games_all games_columns
 unfolding understood everything
-games_all_is more others = record {
+games_all_is others = record {
   order = (col 1 0, ascending Binary) ∷ [];
   names = codes "id" ∷ codes "key" ∷ codes "event" ∷ codes "first" ∷ codes "second" ∷ codes "start" ∷ codes "since"
       ∷ codes "plies" ∷ codes "left1" ∷ codes "left2" ∷ codes "offer_side" ∷ codes "offer_ply" ∷ codes "end"
@@ -385,9 +386,9 @@ games_all_is more others = record {
   by = λ r s. refl;
 }
 
-games_ids_is : (more : List Table) (others : List Index) → Selects (wider more others) 10 1 t.games_ids (col 1 0 ∷ [])
+games_ids_is : (others : Others) → Selects (beside first_schema others) 10 1 t.games_ids (col 1 0 ∷ [])
 unfolding understood everything
-games_ids_is more others = record {
+games_ids_is others = record {
   order = (col 1 0, ascending Binary) ∷ [];
   names = codes "id" ∷ [];
   command = refl;
@@ -397,10 +398,11 @@ games_ids_is more others = record {
   by = λ r s. refl;
 }
 
-games_some : (more : List Table) (others : List Index) (n : ℤ)
-    → Finds (wider more others) (games 10) 5 (0 ∷ []) (Int n ∷ []) (Int n ∷ []) t.games_by_first (by_others 1)
+games_some : (others : Others) (n : ℤ)
+    → Finds (beside first_schema others) (games 10) 5 (0 ∷ []) (Int n ∷ []) (Int n ∷ [])
+    t.games_by_first (by_others 1)
 unfolding understood everything first_key
-games_some more others n = record {
+games_some others n = record {
   at = refl;
   filter = op2 (Compare Eq Binary) (col 1 0) (col 0 0) ∷ [];
   project = games_columns;
@@ -421,18 +423,18 @@ games_selects : IsSelect t.games_all × IsSelect t.games_ids × IsSelect t.games
 unfolding understood everything
 games_selects = (refl, refl, refl)
 
-pub games_read : (more : List Table) (others : List Index)
-    → AreShownBy (wider more others) (games 10) 1 t.games_all t.games_ids t.games_by_first
-games_read more others = record {
+pub games_read : (others : Others)
+    → AreShownBy (beside first_schema others) (games 10) 1 t.games_all t.games_ids t.games_by_first
+games_read others = record {
   place = 5;
   at = refl;
   columns = games_columns;
-  rows = games_all_is more others;
+  rows = games_all_is others;
   whole = λ r. refl;
   firsts = col 1 0 ∷ [];
-  numbers = games_ids_is more others;
+  numbers = games_ids_is others;
   first = λ r. refl;
-  some = games_some more others;
+  some = games_some others;
   all_is = games_selects.0;
   ids_is = games_selects.1;
   group_is = games_selects.2;
@@ -443,9 +445,9 @@ games_read more others = record {
 abbrev seen_columns : List Term
 seen_columns = col 1 1 ∷ col 1 2 ∷ col 1 3 ∷ col 1 4 ∷ []
 
-seen_all_is : (more : List Table) (others : List Index) → Selects (wider more others) 12 2 t.seen_all seen_columns
+seen_all_is : (others : Others) → Selects (beside first_schema others) 12 2 t.seen_all seen_columns
 unfolding understood everything
-seen_all_is more others = record {
+seen_all_is others = record {
   order = (col 1 1, ascending Binary) ∷ (col 1 2, ascending Binary) ∷ [];
   names = codes "game" ∷ codes "position" ∷ codes "count" ∷ codes "first_ply" ∷ [];
   command = refl;
@@ -455,9 +457,9 @@ seen_all_is more others = record {
   by = λ r s. refl;
 }
 
-seen_ids_is : (more : List Table) (others : List Index) → Selects (wider more others) 12 1 t.seen_ids (col 1 0 ∷ [])
+seen_ids_is : (others : Others) → Selects (beside first_schema others) 12 1 t.seen_ids (col 1 0 ∷ [])
 unfolding understood everything
-seen_ids_is more others = record {
+seen_ids_is others = record {
   order = (col 1 0, ascending Binary) ∷ [];
   names = codes "rowid" ∷ [];
   command = refl;
@@ -467,10 +469,10 @@ seen_ids_is more others = record {
   by = λ r s. refl;
 }
 
-seen_some : (more : List Table) (others : List Index) (n : ℤ)
-    → Finds (wider more others) (seen 12) 6 (0 ∷ []) (Int n ∷ []) (Int n ∷ []) t.seen_by_first (by_others 2)
+seen_some : (others : Others) (n : ℤ)
+    → Finds (beside first_schema others) (seen 12) 6 (0 ∷ []) (Int n ∷ []) (Int n ∷ []) t.seen_by_first (by_others 2)
 unfolding understood everything first_key
-seen_some more others n = record {
+seen_some others n = record {
   at = refl;
   filter = op2 (Compare Eq Binary) (col 1 1) (col 0 0) ∷ [];
   project = seen_columns;
@@ -489,18 +491,18 @@ seen_selects : IsSelect t.seen_all × IsSelect t.seen_ids × IsSelect t.seen_by_
 unfolding understood everything
 seen_selects = (refl, refl, refl)
 
-pub seen_read : (more : List Table) (others : List Index)
-    → AreShownBy (wider more others) (seen 12) 2 t.seen_all t.seen_ids t.seen_by_first
-seen_read more others = record {
+pub seen_read : (others : Others)
+    → AreShownBy (beside first_schema others) (seen 12) 2 t.seen_all t.seen_ids t.seen_by_first
+seen_read others = record {
   place = 6;
   at = refl;
   columns = seen_columns;
-  rows = seen_all_is more others;
+  rows = seen_all_is others;
   whole = λ r. refl;
   firsts = col 1 0 ∷ [];
-  numbers = seen_ids_is more others;
+  numbers = seen_ids_is others;
   first = λ r. refl;
-  some = seen_some more others;
+  some = seen_some others;
   all_is = seen_selects.0;
   ids_is = seen_selects.1;
   group_is = seen_selects.2;
@@ -511,9 +513,9 @@ seen_read more others = record {
 abbrev scores_columns : List Term
 scores_columns = col 1 1 ∷ col 1 2 ∷ col 1 3 ∷ col 1 4 ∷ col 1 5 ∷ col 1 6 ∷ col 1 7 ∷ []
 
-scores_all_is : (more : List Table) (others : List Index) → Selects (wider more others) 14 3 t.scores_all scores_columns
+scores_all_is : (others : Others) → Selects (beside first_schema others) 14 3 t.scores_all scores_columns
 unfolding understood everything
-scores_all_is more others = record {
+scores_all_is others = record {
   order = (col 1 1, ascending Binary) ∷ (col 1 2, ascending Binary) ∷ (col 1 3, ascending Binary) ∷ [];
   names = codes "event" ∷ codes "member" ∷ codes "opponent" ∷ codes "points" ∷ codes "wins" ∷ codes "draws"
       ∷ codes "losses" ∷ [];
@@ -524,9 +526,9 @@ scores_all_is more others = record {
   by = λ r s. refl;
 }
 
-scores_ids_is : (more : List Table) (others : List Index) → Selects (wider more others) 14 1 t.scores_ids (col 1 0 ∷ [])
+scores_ids_is : (others : Others) → Selects (beside first_schema others) 14 1 t.scores_ids (col 1 0 ∷ [])
 unfolding understood everything
-scores_ids_is more others = record {
+scores_ids_is others = record {
   order = (col 1 0, ascending Binary) ∷ [];
   names = codes "rowid" ∷ [];
   command = refl;
@@ -536,11 +538,11 @@ scores_ids_is more others = record {
   by = λ r s. refl;
 }
 
-scores_some : (more : List Table) (others : List Index) (n : ℤ)
-    → Finds (wider more others) (scores 14) 7 (0 ∷ []) (Int n ∷ []) (Int n ∷ []) t.scores_by_first
+scores_some : (others : Others) (n : ℤ)
+    → Finds (beside first_schema others) (scores 14) 7 (0 ∷ []) (Int n ∷ []) (Int n ∷ []) t.scores_by_first
     (by_others 3)
 unfolding understood everything first_key
-scores_some more others n = record {
+scores_some others n = record {
   at = refl;
   filter = op2 (Compare Eq Binary) (col 1 1) (col 0 0) ∷ [];
   project = scores_columns;
@@ -560,18 +562,18 @@ scores_selects : IsSelect t.scores_all × IsSelect t.scores_ids × IsSelect t.sc
 unfolding understood everything
 scores_selects = (refl, refl, refl)
 
-pub scores_read : (more : List Table) (others : List Index)
-    → AreShownBy (wider more others) (scores 14) 3 t.scores_all t.scores_ids t.scores_by_first
-scores_read more others = record {
+pub scores_read : (others : Others)
+    → AreShownBy (beside first_schema others) (scores 14) 3 t.scores_all t.scores_ids t.scores_by_first
+scores_read others = record {
   place = 7;
   at = refl;
   columns = scores_columns;
-  rows = scores_all_is more others;
+  rows = scores_all_is others;
   whole = λ r. refl;
   firsts = col 1 0 ∷ [];
-  numbers = scores_ids_is more others;
+  numbers = scores_ids_is others;
   first = λ r. refl;
-  some = scores_some more others;
+  some = scores_some others;
   all_is = scores_selects.0;
   ids_is = scores_selects.1;
   group_is = scores_selects.2;
@@ -582,9 +584,10 @@ scores_read more others = record {
 abbrev event_rules_columns : List Term
 event_rules_columns = col 1 0 ∷ col 1 2 ∷ []
 
-event_rules_all_is : Selects club_schema 16 1 t.event_rules_all event_rules_columns
+event_rules_all_is : (others : Others) → Selects (beside club_schema others) 16 1
+    t.event_rules_all event_rules_columns
 unfolding understood everything
-event_rules_all_is = record {
+event_rules_all_is others = record {
   order = (col 1 0, ascending Binary) ∷ [];
   names = codes "event" ∷ codes "declares" ∷ [];
   command = refl;
@@ -594,9 +597,9 @@ event_rules_all_is = record {
   by = λ r s. refl;
 }
 
-event_rules_ids_is : Selects club_schema 16 1 t.event_rules_ids (col 1 0 ∷ [])
+event_rules_ids_is : (others : Others) → Selects (beside club_schema others) 16 1 t.event_rules_ids (col 1 0 ∷ [])
 unfolding understood everything
-event_rules_ids_is = record {
+event_rules_ids_is others = record {
   order = (col 1 0, ascending Binary) ∷ [];
   names = codes "event" ∷ [];
   command = refl;
@@ -606,10 +609,11 @@ event_rules_ids_is = record {
   by = λ r s. refl;
 }
 
-event_rules_some : (n : ℤ)
-    → Finds club_schema (event_rules 16) 8 (0 ∷ []) (Int n ∷ []) (Int n ∷ []) t.event_rules_by_first (by_others 1)
+event_rules_some : (others : Others) (n : ℤ)
+    → Finds (beside club_schema others) (event_rules 16) 8 (0 ∷ []) (Int n ∷ []) (Int n ∷ [])
+    t.event_rules_by_first (by_others 1)
 unfolding understood everything first_key
-event_rules_some n = record {
+event_rules_some others n = record {
   at = refl;
   filter = op2 (Compare Eq Binary) (col 1 0) (col 0 0) ∷ [];
   project = event_rules_columns;
@@ -628,18 +632,19 @@ event_rules_selects : IsSelect t.event_rules_all × IsSelect t.event_rules_ids �
 unfolding understood everything
 event_rules_selects = (refl, refl, refl)
 
-pub event_rules_read :
-    AreShownBy club_schema (event_rules 16) 1 t.event_rules_all t.event_rules_ids t.event_rules_by_first
-event_rules_read = record {
+pub event_rules_read : (others : Others)
+    → AreShownBy (beside club_schema others) (event_rules 16) 1
+    t.event_rules_all t.event_rules_ids t.event_rules_by_first
+event_rules_read others = record {
   place = 8;
   at = refl;
   columns = event_rules_columns;
-  rows = event_rules_all_is;
+  rows = event_rules_all_is others;
   whole = λ r. refl;
   firsts = col 1 0 ∷ [];
-  numbers = event_rules_ids_is;
+  numbers = event_rules_ids_is others;
   first = λ r. refl;
-  some = event_rules_some;
+  some = event_rules_some others;
   all_is = event_rules_selects.0;
   ids_is = event_rules_selects.1;
   group_is = event_rules_selects.2;
@@ -647,10 +652,11 @@ event_rules_read = record {
 
 -- ---- by a whole key, or by a column that is UNIQUE
 
-pub members_by_name_finds : (a : List ℕ)
-    → Finds club_schema (members 1) 1 (1 ∷ []) (Null ∷ Text a ∷ []) (Text a ∷ []) t.members_by_name (λ x y. Equal)
+pub members_by_name_finds : (others : Others) (a : List ℕ)
+    → Finds (beside club_schema others) (members 1) 1 (1 ∷ []) (Null ∷ Text a ∷ []) (Text a ∷ [])
+    t.members_by_name (λ x y. Equal)
 unfolding understood everything first_key
-members_by_name_finds a = record {
+members_by_name_finds others a = record {
   at = refl;
   filter = op2 (Compare Eq Binary) (col 1 2) (col 0 0) ∷ [];
   project = members_columns;
@@ -669,10 +675,11 @@ pub members_by_name_select : IsSelect t.members_by_name
 unfolding understood everything
 members_by_name_select = refl
 
-pub members_by_key_finds : (a : List ℕ) →
-    Finds club_schema (members 1) 1 (2 ∷ []) (Null ∷ Null ∷ Text a ∷ []) (Text a ∷ []) t.members_by_key (λ x y. Equal)
+pub members_by_key_finds : (others : Others) (a : List ℕ) →
+    Finds (beside club_schema others) (members 1) 1 (2 ∷ []) (Null ∷ Null ∷ Text a ∷ []) (Text a ∷ [])
+    t.members_by_key (λ x y. Equal)
 unfolding understood everything first_key
-members_by_key_finds a = record {
+members_by_key_finds others a = record {
   at = refl;
   filter = op2 (Compare Eq Binary) (col 1 3) (col 0 0) ∷ [];
   project = members_columns;
@@ -691,10 +698,11 @@ pub members_by_key_select : IsSelect t.members_by_key
 unfolding understood everything
 members_by_key_select = refl
 
-pub events_by_name_finds : (a : List ℕ) →
-    Finds club_schema (events 4) 2 (1 ∷ []) (Null ∷ Text a ∷ []) (Text a ∷ []) t.events_by_name (λ x y. Equal)
+pub events_by_name_finds : (others : Others) (a : List ℕ) →
+    Finds (beside club_schema others) (events 4) 2 (1 ∷ []) (Null ∷ Text a ∷ []) (Text a ∷ [])
+    t.events_by_name (λ x y. Equal)
 unfolding understood everything first_key
-events_by_name_finds a = record {
+events_by_name_finds others a = record {
   at = refl;
   filter = op2 (Compare Eq Binary) (col 1 2) (col 0 0) ∷ [];
   project = events_columns;
@@ -713,10 +721,11 @@ pub events_by_name_select : IsSelect t.events_by_name
 unfolding understood everything
 events_by_name_select = refl
 
-pub games_by_key_finds : (a : List ℕ) → Finds club_schema (games 10) 5 (1 ∷ []) (Null ∷ Text a ∷ []) (Text a ∷ [])
+pub games_by_key_finds : (others : Others) (a : List ℕ)
+    → Finds (beside club_schema others) (games 10) 5 (1 ∷ []) (Null ∷ Text a ∷ []) (Text a ∷ [])
     t.games_by_key (λ x y. Equal)
 unfolding understood everything first_key
-games_by_key_finds a = record {
+games_by_key_finds others a = record {
   at = refl;
   filter = op2 (Compare Eq Binary) (col 1 2) (col 0 0) ∷ [];
   project = games_columns;
@@ -737,16 +746,18 @@ pub games_by_key_select : IsSelect t.games_by_key
 unfolding understood everything
 games_by_key_select = refl
 
-pub challenges_by_number_finds : (a : ℤ) (b : ℤ)
-    → Finds club_schema (challenges 6) 3 (0 ∷ 1 ∷ []) (Int a ∷ Int b ∷ []) (Int a ∷ Int b ∷ []) t.challenges_by_number
+pub challenges_by_number_finds : (others : Others) (a : ℤ) (b : ℤ)
+    → Finds (beside club_schema others) (challenges 6) 3 (0 ∷ 1 ∷ []) (Int a ∷ Int b ∷ []) (Int a ∷ Int b ∷ [])
+    t.challenges_by_number
     (λ x y. Equal)
 unfolding understood everything first_key
-challenges_by_number_finds a b = record {
+challenges_by_number_finds others a b = record {
   at = refl;
   filter = op2 (Compare Eq Binary) (col 1 1) (col 0 0) ∷ op2 (Compare Eq Binary) (col 1 2) (col 0 1) ∷ [];
   project = challenges_columns;
   order = [];
-  names = codes "member" ∷ codes "number" ∷ codes "event" ∷ codes "other" ∷ codes "first" ∷ codes "state" ∷ codes "game"
+  names = codes "member" ∷ codes "number" ∷ codes "event" ∷ codes "other" ∷ codes "first" ∷ codes "state" ∷ codes
+      "game"
       ∷ [];
   command = refl;
   plain = (refl, refl);
@@ -761,10 +772,11 @@ pub challenges_by_number_select : IsSelect t.challenges_by_number
 unfolding understood everything
 challenges_by_number_select = refl
 
-pub moves_by_ply_finds : (a : ℤ) (b : ℤ)
-    → Finds club_schema (moves 8) 4 (0 ∷ 1 ∷ []) (Int a ∷ Int b ∷ []) (Int a ∷ Int b ∷ []) t.moves_by_ply (λ x y. Equal)
+pub moves_by_ply_finds : (others : Others) (a : ℤ) (b : ℤ)
+    → Finds (beside club_schema others) (moves 8) 4 (0 ∷ 1 ∷ []) (Int a ∷ Int b ∷ []) (Int a ∷ Int b ∷ [])
+    t.moves_by_ply (λ x y. Equal)
 unfolding understood everything first_key
-moves_by_ply_finds a b = record {
+moves_by_ply_finds others a b = record {
   at = refl;
   filter = op2 (Compare Eq Binary) (col 1 1) (col 0 0) ∷ op2 (Compare Eq Binary) (col 1 2) (col 0 1) ∷ [];
   project = moves_columns;
@@ -783,11 +795,12 @@ pub moves_by_ply_select : IsSelect t.moves_by_ply
 unfolding understood everything
 moves_by_ply_select = refl
 
-pub seen_by_position_finds : (a : ℤ) (b : List ℕ)
-    → Finds club_schema (seen 12) 6 (0 ∷ 1 ∷ []) (Int a ∷ Text b ∷ []) (Int a ∷ Text b ∷ []) t.seen_by_position
+pub seen_by_position_finds : (others : Others) (a : ℤ) (b : List ℕ)
+    → Finds (beside club_schema others) (seen 12) 6 (0 ∷ 1 ∷ []) (Int a ∷ Text b ∷ []) (Int a ∷ Text b ∷ [])
+    t.seen_by_position
     (λ x y. Equal)
 unfolding understood everything first_key
-seen_by_position_finds a b = record {
+seen_by_position_finds others a b = record {
   at = refl;
   filter = op2 (Compare Eq Binary) (col 1 1) (col 0 0) ∷ op2 (Compare Eq Binary) (col 1 2) (col 0 1) ∷ [];
   project = seen_columns;
@@ -806,11 +819,12 @@ pub seen_by_position_select : IsSelect t.seen_by_position
 unfolding understood everything
 seen_by_position_select = refl
 
-pub scores_by_pair_finds : (a : ℤ) (b : ℤ) (c : ℤ)
-    → Finds club_schema (scores 14) 7 (0 ∷ 1 ∷ 2 ∷ []) (Int a ∷ Int b ∷ Int c ∷ []) (Int a ∷ Int b ∷ Int c ∷ [])
+pub scores_by_pair_finds : (others : Others) (a : ℤ) (b : ℤ) (c : ℤ)
+    → Finds (beside club_schema others) (scores 14) 7 (0 ∷ 1 ∷ 2 ∷ []) (Int a ∷ Int b ∷ Int c ∷ [])
+    (Int a ∷ Int b ∷ Int c ∷ [])
     t.scores_by_pair (λ x y. Equal)
 unfolding understood everything first_key
-scores_by_pair_finds a b c = record {
+scores_by_pair_finds others a b c = record {
   at = refl;
   filter = op2 (Compare Eq Binary) (col 1 1) (col 0 0) ∷ op2 (Compare Eq Binary) (col 1 2) (col 0 1)
       ∷ op2 (Compare Eq Binary) (col 1 3) (col 0 2) ∷ [];

@@ -1,5 +1,5 @@
 -- What reading a table tells, of whatever database.
-use Rattle.std.specs.Prelude.{◌≡◌, ◌≢◌, ◌≤◌, ℕ, zero, suc, false, List, [], ◌∷◌, map, IsTrue}
+use Rattle.std.specs.Prelude.{◌≡◌, ◌≢◌, ◌≤◌, ℕ, zero, suc, Bool, false, List, [], ◌∷◌, map, IsTrue}
 use Rattle.std.specs.List.{AllByRecursion}
 use Rattle.std.specs.List.Sorted.{IsSorted, IsPermutation}
 use Rattle.std.specs.declared.cmp.Ordering.{Ordering}
@@ -9,6 +9,7 @@ use Rattle.sqlite_value.specs.Keys.{ascending}
 use Rattle.sqlite_value.specs.Order.{value_cmp}
 use Rattle.sqlite.specs.Collation.TheVariants.{Binary}
 use Rattle.sqlite.specs.Order.{Row, column}
+use Rattle.sqlite.specs.Schema.{Schema}
 use Rattle.sqlite.specs.Tree.{Trees}
 use Rattle.sqlite.specs.Table.{Table}
 use Rattle.sqlite.specs.State.{State, HasCleanDisk, IsUnchanged}
@@ -19,6 +20,7 @@ use Rattle.sqlite_sql.specs.Query.{key_cmp}
 use Rattle.sqlite_trees.specs.Tree.{IsAscending}
 use Rattle.sqlite_trees.specs.View.{doubt, is_int}
 use Rattle.store_tables.specs.Content.{Keeps, AreApart, cells}
+use Rattle.store_tables.specs.Contents.{Content, IsExactly}
 
 -- the first column of these rows has integers, none of them twice
 pub record AreIds (rows : List Row) : Type 0 where
@@ -67,3 +69,19 @@ pub record OnlyReads (old new : State) : Type 0 where
   pub may : HasCleanDisk new → KeepsMay old new
   pub was_open : HasCleanDisk new → IsTrue new.is_open → IsTrue old.is_open
   pub committed : HasCleanDisk new → IsTrue new.is_open → new.committed ≡ old.committed
+
+-- What the connection holds exactly, by whatever schema, it still holds exactly.
+abbrev pub KeepsContent : State → State → Type 0
+KeepsContent old new = (schema : Schema) (content : Content) → IsExactly schema content old
+    → IsExactly schema content new
+
+-- A call reads, and changes nothing. Whatever the schema and whatever the answer: the connection stays outside a
+-- transaction, doubt of the disk does not shrink, a stop leaves nothing that it could not leave before, and what was
+-- committed is what was committed. Where the call answered, the connection holds what it held.
+pub record Reads (answered : Bool) (old new : State) : Type 0 where
+  pub idle : old.in_transaction ≡ false → new.in_transaction ≡ false
+  pub clean : doubt old.is_clean ≤ doubt new.is_clean
+  pub may : HasCleanDisk new → KeepsMay old new
+  pub was_open : HasCleanDisk new → IsTrue new.is_open → IsTrue old.is_open
+  pub committed : HasCleanDisk new → IsTrue new.is_open → new.committed ≡ old.committed
+  pub kept : IsTrue answered → HasCleanDisk new → KeepsContent old new

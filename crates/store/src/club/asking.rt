@@ -3,11 +3,11 @@
 ghost use Rattle.std.specs.Prelude.{◌≡◌, ◌⊎◌, true, false, Err, IfOk, IfErr, OnOk};
 ghost use Rattle.sqlite.specs.State.{HasCleanDisk};
 ghost use Rattle.sqlite.specs.Held.{state};
-ghost use Rattle.store_tables.specs.Club.{IsExactly};
-ghost use Rattle.store_tables.specs.Reading.{OnlyReads};
+ghost use Rattle.store_tables.specs.Beside.{HasRows};
+ghost use Rattle.store_tables.specs.Reading.{Reads};
 ghost use Rattle.club_rows.specs.Club.{ClubState, IsClub, tables};
 ghost use Rattle.club_answers.specs.AnswerTexts.{HasShown, HasShownSome};
-ghost use Rattle.store.specs.Asking.{KeepsUnlessFault};
+ghost use Rattle.store.specs.Asking.{stays_open};
 
 use super::Club;
 use crate::fault::{AskFault, StoreFault};
@@ -37,15 +37,13 @@ impl<S: Alter> Club<S> {
         ensures ends { IfErr result (λ fault. (fault ≡ AskFault.Output) ⊎ (self.new.needs_reopening ≡ true)) }
         ensures named { IfErr result (λ fault. self.old.needs_reopening ≡ false → (fault ≡ AskFault.Output) ⊎
             ((fault ≡ AskFault.Club StoreFault.Store) ⊎ (fault ≡ AskFault.Club StoreFault.Memory))) }
-        ensures reads { self.old.needs_reopening ≡ false →
-            OnlyReads (state S.Store self.old.connection) (state S.Store self.new.connection) }
-        ensures kept { HasCleanDisk (state S.Store self.new.connection) → self.old.needs_reopening ≡ false →
-            KeepsUnlessFault result (state S.Store self.old.connection) (state S.Store self.new.connection) }
+        ensures reads { Reads (stays_open result) (state S.Store self.old.connection)
+            (state S.Store self.new.connection) }
         ensures shown { HasCleanDisk (state S.Store self.new.connection) → IfOk result (λ refusal. (s : ClubState) →
-            IsClub s → IsExactly (tables s) (state S.Store self.old.connection) →
+            IsClub s → HasRows (tables s) (state S.Store self.old.connection) →
             HasShown s moment question.now refusal (W.contents writer.old) (W.contents writer.new)) }
         ensures begun { HasCleanDisk (state S.Store self.new.connection) → (s : ClubState) → IsClub s →
-            IsExactly (tables s) (state S.Store self.old.connection) →
+            HasRows (tables s) (state S.Store self.old.connection) →
             HasShownSome s moment question.now (W.contents writer.old) (W.contents writer.new) }
     {
         if self.needs_reopening {

@@ -1,11 +1,11 @@
 //! Whose a key is. Reading changes nothing.
 
-ghost use Rattle.std.specs.Prelude.{◌≡◌, ◌⊎◌, true, false, Err, IfOk, IfErr, OnOk, OnErr, option_map, string_bytes};
+ghost use Rattle.std.specs.Prelude.{◌≡◌, ◌⊎◌, true, false, Err, IfOk, IfErr, OnOk, OnErr, is_ok, option_map};
+ghost use Rattle.std.specs.Prelude.{string_bytes};
 ghost use Rattle.sqlite.specs.State.{HasCleanDisk};
 ghost use Rattle.sqlite.specs.Held.{state};
-ghost use Rattle.store_tables.specs.Club.{IsExactly};
-ghost use Rattle.store_tables.specs.Reading.{OnlyReads};
-ghost use Rattle.store_sql.specs.Read.{KeepsContent};
+ghost use Rattle.store_tables.specs.Beside.{HasRows};
+ghost use Rattle.store_tables.specs.Reading.{Reads};
 ghost use Rattle.club_rows.specs.Club.{ClubState, IsClub, tables};
 ghost use Rattle.club_reads.specs.Keys.{holder_of};
 
@@ -24,12 +24,10 @@ impl<S: Alter> Club<S> {
         ensures ends { OnErr result (self.new.needs_reopening ≡ true) }
         ensures named { IfErr result (λ fault. self.old.needs_reopening ≡ false →
             (fault ≡ StoreFault.Store) ⊎ (fault ≡ StoreFault.Memory)) }
-        ensures reads { self.old.needs_reopening ≡ false →
-            OnlyReads (state S.Store self.old.connection) (state S.Store self.new.connection) }
-        ensures kept { HasCleanDisk (state S.Store self.new.connection) → OnOk result (KeepsContent
-            (state S.Store self.old.connection) (state S.Store self.new.connection)) }
+        ensures reads { Reads (is_ok result) (state S.Store self.old.connection)
+            (state S.Store self.new.connection) }
         ensures held { HasCleanDisk (state S.Store self.new.connection) → IfOk result (λ name. (s : ClubState) →
-            IsClub s → IsExactly (tables s) (state S.Store self.old.connection) →
+            IsClub s → HasRows (tables s) (state S.Store self.old.connection) →
             option_map string_bytes name ≡ holder_of s key.now) }
     {
         if self.needs_reopening {

@@ -1,13 +1,12 @@
 //! What a club is asked of its games. Reading changes nothing.
 
-ghost use Rattle.std.specs.Prelude.{◌≡◌, ◌⊎◌, true, false, Err, IfOk, IfErr, OnOk, OnErr, map};
+ghost use Rattle.std.specs.Prelude.{◌≡◌, ◌⊎◌, true, false, Err, IfOk, IfErr, OnOk, OnErr, is_ok, map};
 ghost use Rattle.std.specs.Prelude.{string_bytes};
 ghost use Rattle.std.specs.Option.{option_map};
 ghost use Rattle.sqlite.specs.State.{HasCleanDisk};
 ghost use Rattle.sqlite.specs.Held.{state};
-ghost use Rattle.store_tables.specs.Club.{IsExactly};
-ghost use Rattle.store_tables.specs.Reading.{OnlyReads};
-ghost use Rattle.store_sql.specs.Read.{KeepsContent};
+ghost use Rattle.store_tables.specs.Beside.{HasRows};
+ghost use Rattle.store_tables.specs.Reading.{Reads};
 ghost use Rattle.club_rows.specs.Club.{ClubState, IsClub, tables};
 ghost use Rattle.club_changes.specs.Stored.{AreLegalRows};
 ghost use Rattle.club_views.specs.Viewed.{IsViewed};
@@ -32,12 +31,10 @@ impl<S: Alter> Club<S> {
         ensures ends { OnErr result (self.new.needs_reopening ≡ true) }
         ensures named { IfErr result (λ fault. self.old.needs_reopening ≡ false →
             (fault ≡ StoreFault.Store) ⊎ (fault ≡ StoreFault.Memory)) }
-        ensures reads { self.old.needs_reopening ≡ false →
-            OnlyReads (state S.Store self.old.connection) (state S.Store self.new.connection) }
-        ensures kept { HasCleanDisk (state S.Store self.new.connection) → OnOk result (KeepsContent
-            (state S.Store self.old.connection) (state S.Store self.new.connection)) }
+        ensures reads { Reads (is_ok result) (state S.Store self.old.connection)
+            (state S.Store self.new.connection) }
         ensures rows { HasCleanDisk (state S.Store self.new.connection) → IfOk result (λ found. (s : ClubState) →
-            IsClub s → IsExactly (tables s) (state S.Store self.old.connection) →
+            IsClub s → HasRows (tables s) (state S.Store self.old.connection) →
             AreLegalRows s game (option_map (λ texts. map (λ t. string_bytes t) texts.items) found)) }
     {
         if self.needs_reopening {
@@ -60,12 +57,10 @@ impl<S: Alter> Club<S> {
         ensures ends { OnErr result (self.new.needs_reopening ≡ true) }
         ensures named { IfErr result (λ fault. self.old.needs_reopening ≡ false →
             (fault ≡ StoreFault.Store) ⊎ (fault ≡ StoreFault.Memory)) }
-        ensures reads { self.old.needs_reopening ≡ false →
-            OnlyReads (state S.Store self.old.connection) (state S.Store self.new.connection) }
-        ensures kept { HasCleanDisk (state S.Store self.new.connection) → OnOk result (KeepsContent
-            (state S.Store self.old.connection) (state S.Store self.new.connection)) }
+        ensures reads { Reads (is_ok result) (state S.Store self.old.connection)
+            (state S.Store self.new.connection) }
         ensures viewed { HasCleanDisk (state S.Store self.new.connection) → IfOk result (λ found. (s : ClubState) →
-            IsClub s → IsExactly (tables s) (state S.Store self.old.connection) → IsViewed s game found) }
+            IsClub s → HasRows (tables s) (state S.Store self.old.connection) → IsViewed s game found) }
     {
         if self.needs_reopening {
             return Err(StoreFault::Reopen);

@@ -5,6 +5,8 @@ ghost use Rattle.std.specs.Prelude.{OnOk, OnErr, [], map, length, take};
 ghost use Rattle.sqlite.specs.State.{HasCleanDisk};
 ghost use Rattle.sqlite.specs.Held.{state};
 ghost use Rattle.sqlite_trees.specs.View.{doubt};
+ghost use Rattle.store_tables.specs.Beside.{HasRows, TakesRows};
+ghost use Rattle.store_tables.specs.Contents as of_schema;
 ghost use Rattle.store_tables.specs.Club.{IsExactly, Leaves};
 ghost use Rattle.club_core.specs.Answer.{answered, outcome_of, request_of};
 ghost use Rattle.club_rows.specs.Club.{ClubState, IsClub, tables};
@@ -49,16 +51,17 @@ impl<S: Alter> Club<S> {
             (state S.Store self.new.connection).is_clean }
         ensures legal { (s : ClubState) → IsClub s → IsClub (club_next s (request_of request.now)) }
         ensures answer { HasCleanDisk (state S.Store self.new.connection) → IfOk result (λ outcome. (s : ClubState) →
-            IsClub s → IsExactly (tables s) (state S.Store self.old.connection) →
+            IsClub s → HasRows (tables s) (state S.Store self.old.connection) →
             outcome_of outcome ≡ answered (club_step s (request_of request.now))) }
-        ensures step { HasCleanDisk (state S.Store self.new.connection) → OnOk result ((s : ClubState) → IsClub s →
-            IsExactly (tables s) (state S.Store self.old.connection) →
-            IsExactly (tables (club_next s (request_of request.now))) (state S.Store self.new.connection)) }
+        ensures step { HasCleanDisk (state S.Store self.new.connection) → OnOk result ((schema : _) →
+            TakesRows schema → (s : ClubState) → IsClub s →
+            of_schema.IsExactly schema (tables s) (state S.Store self.old.connection) → of_schema.IsExactly schema
+            (tables (club_next s (request_of request.now))) (state S.Store self.new.connection)) }
         ensures fault { HasCleanDisk (state S.Store self.new.connection) →
-            OnErr result (self.old.needs_reopening ≡ false → (s : ClubState) → IsClub s → IsExactly (tables s)
-            (state S.Store self.old.connection) →
-            (db : _) → (state S.Store self.new.connection).may_leave db →
-            Leaves (tables s) db ⊎ Leaves (tables (club_next s (request_of request.now))) db) }
+            OnErr result (self.old.needs_reopening ≡ false → (schema : _) → TakesRows schema → (s : ClubState) →
+            IsClub s → of_schema.IsExactly schema (tables s) (state S.Store self.old.connection) →
+            (db : _) → (state S.Store self.new.connection).may_leave db → of_schema.Leaves schema (tables s) db ⊎
+            of_schema.Leaves schema (tables (club_next s (request_of request.now))) db) }
     {
         let _within = request.moment.seconds();
         self.apply(alloc, &request.who, &request.command, request.moment)

@@ -1,23 +1,17 @@
-use Rattle.std.proofs.Common.{Some, arith, subst, ◌∙◌}
-use Rattle.sqlite.specs.Held.{state}
-use Rattle.sqlite.specs.State.{HasCleanDisk}
-use Rattle.store_tables.specs.Tables.{club_schema}
+use Rattle.std.proofs.Common.{Some, subst, ◌∙◌}
 use Rattle.club_rows.specs.Club.{tables}
 use Rattle.club_views.specs.Viewed.{IsViewed}
 use Rattle.club_answers.proofs.BoardLemmas.{event_is, member_is, moves_are, view_is}
+use Rattle.club_views.proofs.Proved.{clean_before, rows_after, reads_on}
 use Rattle.club_answers.proofs.boards.board_in.Goals as goal
 
-pub returns-in-Some-clause-kept : goal.returns-in-Some-clause-kept
-returns-in-Some-clause-kept g c clean schema content k =
-    let first : HasCleanDisk (state g.S.Store c.diagram_in.new.conn) =
-    omega (arith, c.view_of.ensures.reads.clean) in
-    c.in_ok-viewed.ensures.kept clean schema content (c.in_ok-diagram.ensures.kept first schema content k)
+pub returns-in-Some-clause-reads : goal.returns-in-Some-clause-reads
+returns-in-Some-clause-reads g c = reads_on c.in_ok-diagram.ensures.reads c.in_ok-viewed.ensures.reads
 
 pub returns-in-Some-clause-shown : goal.returns-in-Some-clause-shown
 returns-in-Some-clause-shown g c clean s id game is_club at is k =
-    let first : HasCleanDisk (state g.S.Store c.diagram_in.new.conn) =
-    omega (arith, c.view_of.ensures.reads.clean) in
-    let kept = c.in_ok-diagram.ensures.kept first club_schema (tables s) k in
+    let first = clean_before c.view_of.ensures.reads clean in
+    let kept = rows_after c.in_ok-diagram.ensures.reads first (tables s) k in
     let found = subst (IsViewed s c.from.result) c.in-Some.is
     (c.in_ok-viewed.ensures.viewed clean s is_club kept) in
     let viewed = view_is s id game c.in-Some.viewed at

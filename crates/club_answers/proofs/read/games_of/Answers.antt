@@ -3,7 +3,11 @@ use Rattle.std.proofs.lemmas.Result.{IfOk-weaker}
 use Rattle.store_tables.specs.Cells.{game_cells}
 use Rattle.club_rows.specs.Club.{tables}
 use Rattle.club_reads.proofs.Proved.{games_begin}
+use Rattle.club_views.proofs.Proved.{ended}
 use Rattle.club_answers.proofs.read.games_of.Goals as goal
+
+pub returns-clause-reads : goal.returns-clause-reads
+returns-clause-reads g c = ended _ c.in_ok-rows.ensures.reads
 
 pub returns-clause-told : goal.returns-clause-told
 returns-clause-told g c clean =

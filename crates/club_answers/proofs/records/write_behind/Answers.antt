@@ -1,14 +1,12 @@
 use Rattle.std.proofs.Common.{inl, true, subst}
-use Rattle.sqlite.specs.Held.{state}
 use Rattle.club_views.specs.Exported.{IsExported, IsWrittenSome}
 use Rattle.club_answers.proofs.RecordLemmas.{behind_added, behind_begun}
-use Rattle.club_answers.proofs.AnswerTextLemmas.{keeps_all}
+use Rattle.sqlite.specs.Held.{state}
+use Rattle.store_tables.proofs.Proved.{read_nothing}
 use Rattle.club_answers.proofs.records.write_behind.Goals as goal
 
-pub returns-in_err-write_front-clause-kept : goal.returns-in_err-write_front-clause-kept
-returns-in_err-write_front-clause-kept g c clean =
-    keeps_all c.from_residual.result (state g.S.Store c.args.conn.now)
-    (state g.S.Store c.args.conn.now) (λ schema content k. k)
+pub returns-in_err-write_front-clause-reads : goal.returns-in_err-write_front-clause-reads
+returns-in_err-write_front-clause-reads g c = read_nothing _ (state g.S.Store c.args.conn.now)
 
 pub returns-in_err-write_front-clause-begun : goal.returns-in_err-write_front-clause-begun
 returns-in_err-write_front-clause-begun g c clean s is_club k = inl c.write_front.ensures.begun

@@ -1,9 +1,8 @@
-use Rattle.std.proofs.Common.{◌≡◌, None, take}
+use Rattle.std.proofs.Common.{◌≡◌, None, true, take}
 use Rattle.sqlite.specs.Held.{state}
 use Rattle.sqlite.specs.State.{HasCleanDisk}
-use Rattle.store_tables.specs.Club.{IsExactly}
-use Rattle.store_tables.specs.Reading.{OnlyReads}
-use Rattle.store_sql.specs.Read.{KeepsContent}
+use Rattle.store_tables.specs.Beside.{HasRows}
+use Rattle.store_tables.specs.Reading.{Reads}
 use Rattle.club_rows.specs.Club.{ClubState, IsClub, tables}
 use Rattle.club_answers.specs.Writing.{HasRecords}
 use Rattle.club_answers.proofs.RecordLemmas.{is_none}
@@ -12,9 +11,8 @@ use Rattle.club_answers.proofs.records.write_records.Given as goal
 abbrev pub invariant-loop-id : goal.invariant-loop-id
 invariant-loop-id g l = record {
   first : l.is_first ≡ is_none (take l.id-index l.ids);
-  reads : OnlyReads (state g.S.Store l.fn.conn) (state g.S.Store l.conn);
-  kept : HasCleanDisk (state g.S.Store l.conn) → KeepsContent (state g.S.Store l.fn.conn) (state g.S.Store l.conn);
+  reads : Reads true (state g.S.Store l.fn.conn) (state g.S.Store l.conn);
   written : HasCleanDisk (state g.S.Store l.conn) → (s : ClubState) → IsClub s
-      → IsExactly (tables s) (state g.S.Store l.fn.conn)
+      → HasRows (tables s) (state g.S.Store l.fn.conn)
       → HasRecords s l.kind (take l.id-index l.ids) None (g.W.Write.contents l.fn.writer) (g.W.Write.contents l.writer);
 }

@@ -1,30 +1,21 @@
-use Rattle.std.proofs.Common.{ap, arith, ◌∙◌}
-use Rattle.sqlite.specs.Held.{state}
-use Rattle.sqlite.specs.State.{HasCleanDisk}
-use Rattle.store_tables.specs.Tables.{club_schema}
+use Rattle.std.proofs.Common.{ap, ◌∙◌}
 use Rattle.club_core.specs.Answer.{events_of, members_of}
 use Rattle.club_rows.specs.Club.{tables}
 use Rattle.club_lists.specs.Shows.{mine_text, name_by}
 use Rattle.club_lists.specs.SummaryViews.{all_by}
+use Rattle.club_views.proofs.Proved.{clean_before, rows_after, reads_on}
 use Rattle.club_answers.proofs.shows.mine.Goals as goal
 
-pub returns-in_default-clause-kept : goal.returns-in_default-clause-kept
-returns-in_default-clause-kept g c clean schema content k =
-    let first : HasCleanDisk (state g.S.Store c.read_club.new.conn) =
-    omega (arith, c.all_challenges.ensures.reads.clean) in
-    c.in_ok-challenges.ensures.kept clean schema content (c.in_ok-club.ensures.kept first schema content k)
+pub returns-in_default-clause-reads : goal.returns-in_default-clause-reads
+returns-in_default-clause-reads g c = reads_on c.in_ok-club.ensures.reads c.in_ok-challenges.ensures.reads
 
-pub returns-clause-kept : goal.returns-clause-kept
-returns-clause-kept g c clean schema content k =
-    let first : HasCleanDisk (state g.S.Store c.read_club.new.conn) =
-    omega (arith, c.all_challenges.ensures.reads.clean) in
-    c.in_ok-challenges.ensures.kept clean schema content (c.in_ok-club.ensures.kept first schema content k)
+pub returns-clause-reads : goal.returns-clause-reads
+returns-clause-reads g c = reads_on c.in_ok-club.ensures.reads c.in_ok-challenges.ensures.reads
 
 pub returns-clause-found : goal.returns-clause-found
 returns-clause-found g c clean s is_club k =
-    let first : HasCleanDisk (state g.S.Store c.read_club.new.conn) =
-    omega (arith, c.all_challenges.ensures.reads.clean) in
-    let kept = c.in_ok-club.ensures.kept first club_schema (tables s) k in
+    let first = clean_before c.all_challenges.ensures.reads clean in
+    let kept = rows_after c.in_ok-club.ensures.reads first (tables s) k in
     let read = c.in_ok-club.ensures.read first s is_club k in
     let key = c.args.key.now in
     let name = c.in-Some.name.now in

@@ -1,4 +1,4 @@
-use Rattle.std.proofs.Common.{inl, inr}
+use Rattle.std.proofs.Common.{inl, inr, refl}
 use Rattle.sqlite.specs.Held.{state}
 use Rattle.store_tables.specs.Changed.{changed}
 use Rattle.store_tables.specs.Contents.{opening}
@@ -23,4 +23,4 @@ returns-clause-fault g c read clean content k empty db left =
     ]
 
 pub returns-clause-goes_on : goal.returns-clause-goes_on
-returns-clause-goes_on g c read is = c.in-Ok.ensures.kept read
+returns-clause-goes_on g c read is = c.in-Ok.ensures.reads.kept refl read

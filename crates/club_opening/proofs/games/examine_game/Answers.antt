@@ -1,63 +1,124 @@
-use Rattle.std.proofs.Common.{◌≡◌, length, sym, subst, subst₂, arith, rules}
+use Rattle.std.proofs.Common.{List, length, Some, ap, inl, inr, refl, sym, subst, subst₂, true, ◌∙◌, arith}
 use Rattle.club_audit.specs.Audit.{HasPeople}
 use Rattle.club_audit.specs.FirstWrong.{IsFirstWrong}
 use Rattle.club_audit.specs.GameAudit.{IsRightAt}
 use Rattle.club_rows.specs.Club.{ClubState}
-use Rattle.sqlite.specs.Effect.{Database}
 use Rattle.sqlite.specs.Held.{state}
 use Rattle.sqlite.specs.State.{HasCleanDisk}
+use Rattle.store_tables.proofs.Proved.{first_of_club, read_then}
+use Rattle.store_tables.specs.Cells.{IsMove}
+use Rattle.store_tables.specs.Tables.{moves}
+use Rattle.store_tables.specs.declared.names.Table.TheVariants.{Moves, Seen}
+use Rattle.store_tables.specs.declared.rows.MoveRow.{MoveRow}
+use Rattle.store_tables.specs.declared.rows.SeenRow.{SeenRow}
 use Rattle.club_opening.specs.Examined.{IsGameFound}
-use Rattle.club_opening.specs.RightTables.{NamesPlayed}
-use Rattle.club_opening.proofs.BlameLemmas.{still}
-use Rattle.club_opening.proofs.ExaminedLemmas.{game_found}
-use Rattle.club_opening.proofs.FirstLemmas.{moves_types_wrong, seen_types_wrong, wrong_later}
+use Rattle.club_opening.specs.RightTables.{IsUntyped}
+use Rattle.club_opening.proofs.BlameLemmas.{names_both, still}
+use Rattle.club_opening.proofs.ExaminedLemmas.{IsOneOf, game_found}
+use Rattle.club_opening.proofs.FirstLemmas.{either_later, memory_undamaged, moves_types_wrong, some_later, store_undamaged}
+use Rattle.club_opening.proofs.FirstLemmas.{wrong_later}
 use Rattle.club_opening.proofs.MovesReadLemmas.{game_games_wrong, game_moves_right, game_moves_wrong, game_seen_wrong}
+use Rattle.club_opening.proofs.UntypedLemmas.{untyped_found}
 use Rattle.club_opening.proofs.games.examine_game.Goals as goal
-
-pub returns-in-Ok-wrong_game-clause-found : goal.returns-in-Ok-wrong_game-clause-found
-returns-in-Ok-wrong_game-clause-found g c clean has =
-    let s0 = state g.S.Store c.args.conn.now in
-    let s1 = state g.S.Store c.read_of.new.conn in
-    let s2 = state g.S.Store c.read_of-2.new.conn in
-    let early : HasCleanDisk s1 = omega (arith, c.read_of-2.ensures.reads.clean) in
-    let one = c.in-Ok.ensures.rows early has in
-    let here = still s0 s1 one.same has in
-    let two = c.in-Ok-read_of.ensures.rows clean here in
-    let ms = c.in-Ok.moves.items in
-    let ss = c.in-Ok-read_of.seen.items in
-    let many_moves : c.len.result ≡ length ms = search rules in
-    let many_seen : c.len-in-Ok-wrong_game.result ≡ length ss = search rules in
-    let wrong = c.in-Ok-wrong_game.wrong in
-    let rows = c.args.rows.now in
-    let game = c.args.game.now in
-    let first : (s : ClubState) → HasPeople s rows
-    → IsFirstWrong (IsRightAt s rows c.args.place game ms ss c.given.result) wrong =
-    rw (sym c.deref.ensures.value, sym c.deref-2.ensures.value) c.in-Ok-wrong_game.ensures in
-    subst₂ (λ a b. IsGameFound rows c.args.last.now c.args.place game a b wrong s0 s2) (sym many_moves) (sym many_seen)
-    (game_found rows c.args.place game ms ss s0 s1 s2 one two c.args.last.now c.requires.last wrong
-    (subst (λ l. (s : ClubState) → HasPeople s rows
-    → IsFirstWrong (IsRightAt s rows c.args.place game ms ss l) wrong) c.given.ensures first) c.requires.at
-    (game_moves_wrong rows c.args.place game ms ss c.given.result s0 s1 one wrong first c.requires.at)
-    (game_games_wrong rows c.args.place game ms ss c.given.result s0 s1 one wrong first c.requires.at)
-    (game_seen_wrong rows c.args.place game ms ss c.given.result s0 s1 one wrong first c.requires.at s2 two)
-    (game_moves_right rows c.args.place game ms ss c.given.result s0 s1 one wrong first))
-
-pub returns-in-Ok-wrong_game-clause-later : goal.returns-in-Ok-wrong_game-clause-later
-returns-in-Ok-wrong_game-clause-later g c s people =
-    wrong_later s c.args.rows.now c.args.place c.args.game.now _ _ c.given.result c.in-Ok-wrong_game.wrong
-    (c.in-Ok-wrong_game.ensures s people)
 
 pub returns-in-Err-clause-later_fault : goal.returns-in-Err-clause-later_fault
 returns-in-Err-clause-later_fault g c clean has =
     moves_types_wrong c.args.rows.now (state g.S.Store c.args.conn.now) c.in-Err.fault
-    (c.in-Err.ensures.blames clean has)
+    (c.in-Err.ensures.blames clean (first_of_club _ has))
 
-pub returns-in-Err-read_of-clause-later_fault : goal.returns-in-Err-read_of-clause-later_fault
-returns-in-Err-read_of-clause-later_fault g c clean has =
+pub returns-in-Err-clause-blames : goal.returns-in-Err-clause-blames
+returns-in-Err-clause-blames g c clean has =
+    inl
+    (names_both Moves (moves 8) 4 IsMove (state g.S.Store c.args.conn.now) c.in-Err.fault refl refl (λ content all. all)
+    (c.in-Err.ensures.blames clean (first_of_club _ has)))
+
+pub returns-in-Err-read_seen-clause-blames : goal.returns-in-Err-read_seen-clause-blames
+returns-in-Err-read_seen-clause-blames g c clean has =
     let s0 = state g.S.Store c.args.conn.now in
     let s1 = state g.S.Store c.read_of.new.conn in
-    let early : HasCleanDisk s1 = omega (arith, c.read_of-2.ensures.reads.clean) in
-    let one = c.in-Ok.ensures.rows early has in
-    subst (λ (d : Database). NamesPlayed c.args.rows.now d c.in-Err-read_of.fault) one.same.0.now_is
-    (seen_types_wrong c.args.rows.now s1 c.in-Err-read_of.fault
-    (c.in-Err-read_of.ensures.blames clean (still s0 s1 one.same has)))
+    let early : HasCleanDisk s1 = omega (arith, c.read_seen.ensures.reads.clean) in
+    let one = c.in-Ok.ensures.rows early (first_of_club _ has) in
+    elim (c.in-Err-read_seen.ensures.blames clean (still s0 s1 one.same has)) [
+      | inl store ↦ inl (inl store)
+      | inr memory ↦ inl (inr (inl memory))
+    ]
+
+pub returns-in-Err-read_seen-clause-later_fault : goal.returns-in-Err-read_seen-clause-later_fault
+returns-in-Err-read_seen-clause-later_fault g c clean has t is =
+    let s0 = state g.S.Store c.args.conn.now in
+    let s1 = state g.S.Store c.read_of.new.conn in
+    let early : HasCleanDisk s1 = omega (arith, c.read_seen.ensures.reads.clean) in
+    let one = c.in-Ok.ensures.rows early (first_of_club _ has) in
+    elim (c.in-Err-read_seen.ensures.blames clean (still s0 s1 one.same has)) [
+      | inl store ↦ absurd (store_undamaged c.in-Err-read_seen.fault store t is)
+      | inr memory ↦ absurd (memory_undamaged c.in-Err-read_seen.fault memory t is)
+    ]
+
+pub returns-in-Ok-found_of-clause-reads : goal.returns-in-Ok-found_of-clause-reads
+returns-in-Ok-found_of-clause-reads g c = read_then true _ _ _ c.in-Ok.ensures.reads c.in-Ok-read_seen.ensures.reads
+
+pub returns-in-Ok-found_of-2-clause-reads : goal.returns-in-Ok-found_of-2-clause-reads
+returns-in-Ok-found_of-2-clause-reads g c = read_then true _ _ _ c.in-Ok.ensures.reads c.in-Ok-read_seen.ensures.reads
+
+pub returns-in-Ok-found_of-clause-found : goal.returns-in-Ok-found_of-clause-found
+returns-in-Ok-found_of-clause-found g c clean has =
+    let s0 = state g.S.Store c.args.conn.now in
+    let s1 = state g.S.Store c.read_of.new.conn in
+    let s2 = state g.S.Store c.read_seen.new.conn in
+    let early : HasCleanDisk s1 = omega (arith, c.read_seen.ensures.reads.clean) in
+    let one = c.in-Ok.ensures.rows early (first_of_club _ has) in
+    let two = (rw c.in-Some.is at (c.in-Ok-read_seen.ensures.rows clean)) (still s0 s1 one.same has) in
+    let rows = c.args.rows.now in
+    let game = c.args.game.now in
+    let last = c.args.last.now in
+    let ms = c.in-Ok.moves.items in
+    let ss = c.in-Some.seen.items in
+    let wrong = c.in-Ok-found_of.found.wrong in
+    let many_moves = c.in-Ok-found_of.ensures.moves ∙ ap length c.deref.ensures.value in
+    let many_seen = c.in-Ok-found_of.ensures.seen ∙ ap length c.deref-in-Some.ensures.value in
+    let first =
+    subst₂ (λ (m : List MoveRow) (p : List SeenRow). (s : ClubState) → HasPeople s rows
+    → IsFirstWrong (IsRightAt s rows c.args.place game m p last) wrong) c.deref.ensures.value
+    c.deref-in-Some.ensures.value c.in-Ok-found_of.ensures.first in
+    subst₂ (λ a b. IsGameFound rows last c.args.place game a b wrong s0 s2) (sym many_moves) (sym many_seen)
+    (game_found rows c.args.place game ms ss s0 s1 s2 one two last c.requires.last wrong first c.requires.at
+    (game_moves_wrong rows c.args.place game ms ss last s0 s1 one wrong first c.requires.at)
+    (game_games_wrong rows c.args.place game ms ss last s0 s1 one wrong first c.requires.at)
+    (game_seen_wrong rows c.args.place game ms ss last s0 s1 one wrong first c.requires.at s2 two)
+    (game_moves_right rows c.args.place game ms ss last s0 s1 one wrong first))
+
+pub returns-in-Ok-found_of-2-clause-found : goal.returns-in-Ok-found_of-2-clause-found
+returns-in-Ok-found_of-2-clause-found g c clean has =
+    let s0 = state g.S.Store c.args.conn.now in
+    let s1 = state g.S.Store c.read_of.new.conn in
+    let s2 = state g.S.Store c.read_seen.new.conn in
+    let early : HasCleanDisk s1 = omega (arith, c.read_seen.ensures.reads.clean) in
+    let one = c.in-Ok.ensures.rows early (first_of_club _ has) in
+    let (same, untyped) = c.in-Ok-read_seen.ensures.untyped clean c.in-None.is (still s0 s1 one.same has) in
+    let rows = c.args.rows.now in
+    let game = c.args.game.now in
+    let last = c.args.last.now in
+    let wrong = c.in-Ok-found_of-2.found.wrong in
+    let none = c.deref-in-None-2.ensures.value ∙ c.new-none.ensures.items in
+    let many_moves = c.in-Ok-found_of-2.ensures.moves ∙ ap length c.deref-in-None.ensures.value in
+    let many_seen = c.in-Ok-found_of-2.ensures.seen ∙ ap length none in
+    let first =
+    subst₂ (λ (m : List MoveRow) (p : List SeenRow). (s : ClubState) → HasPeople s rows
+    → IsFirstWrong (IsRightAt s rows c.args.place game m p last) wrong) c.deref-in-None.ensures.value none
+    c.in-Ok-found_of-2.ensures.first in
+    let one_of : IsOneOf wrong (Some Seen) c.first_of.result =
+    record { none = c.first_of.ensures.none; some = c.first_of.ensures.some; first = c.first_of.ensures.first } in
+    subst₂ (λ a b. IsGameFound rows last c.args.place game a b c.first_of.result s0 s2) (sym many_moves) (sym many_seen)
+    (untyped_found rows c.args.place game c.in-Ok.moves.items last s0 s1 s2 one same
+    (subst (IsUntyped Seen) one.same.0.now_is untyped) wrong c.first_of.result first one_of c.requires.at)
+
+pub returns-in-Ok-found_of-clause-later : goal.returns-in-Ok-found_of-clause-later
+returns-in-Ok-found_of-clause-later g c s people =
+    wrong_later s c.args.rows.now c.args.place c.args.game.now _ _ c.args.last.now c.in-Ok-found_of.found.wrong
+    (c.in-Ok-found_of.ensures.first s people)
+
+pub returns-in-Ok-found_of-2-clause-later : goal.returns-in-Ok-found_of-2-clause-later
+returns-in-Ok-found_of-2-clause-later g c s people =
+    either_later c.in-Ok-found_of-2.found.wrong (Some Seen) c.first_of.result c.first_of.ensures.some
+    (wrong_later s c.args.rows.now c.args.place c.args.game.now _ _ c.args.last.now c.in-Ok-found_of-2.found.wrong
+    (c.in-Ok-found_of-2.ensures.first s people)) (some_later Seen (inl (omega arith, omega arith)))

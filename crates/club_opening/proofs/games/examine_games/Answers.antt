@@ -1,4 +1,4 @@
-use Rattle.std.proofs.Common.{◌≡◌, ◌+◌, length, Some, refl, sym, ap, subst, subst₂, ◌∙◌, arith}
+use Rattle.std.proofs.Common.{◌≡◌, ◌+◌, length, Some, refl, sym, ap, subst, subst₂, ◌∙◌, arith, true}
 use Rattle.sqlite.specs.Effect.{Database}
 use Rattle.club_opening.specs.RightTables.{NamesPlayed}
 use Rattle.std.specs.Prelude.{slice_get}
@@ -6,7 +6,7 @@ use Rattle.std.proofs.lemmas.Option.{slice_get_read}
 use Rattle.sqlite.specs.Held.{state}
 use Rattle.sqlite.specs.State.{HasCleanDisk}
 use Rattle.sqlite.proofs.StateLemmas.{unchanged}
-use Rattle.store_tables.proofs.Proved.{reads_nothing, reads_then}
+use Rattle.store_tables.proofs.Proved.{read_nothing, read_then}
 use Rattle.club_opening.specs.Examined.{AreLeftAfter}
 use Rattle.club_opening.proofs.BlameLemmas.{still}
 use Rattle.club_opening.proofs.ExaminedLemmas.{IsOneOf, NamesLeft, blamed_before, both_after, left_all, left_more, left_start, not_last}
@@ -19,7 +19,7 @@ loop-place-init g c =
     let s0 = state g.S.Store c.args.conn.now in
     record {
       items = c.deref-game-items.ensures.value;
-      reads = reads_nothing s0;
+      reads = read_nothing true s0;
       kept = λ none. none;
       later = λ s people known. known;
       free = λ u after. after;
@@ -46,7 +46,7 @@ loop-place-preserved g c =
     record { none = c.first_of-wrong.ensures.none; some = c.first_of-wrong.ensures.some; first = c.first_of-wrong.ensures.first } in
     record {
       items = c.loop-place.invariant.items;
-      reads = reads_then s0 mid new c.loop-place.invariant.reads c.examine_game.ensures.reads;
+      reads = read_then true s0 mid new c.loop-place.invariant.reads c.in-Ok.ensures.reads;
       kept = λ none. c.loop-place.invariant.kept (one_of.none none).0;
       later = λ s people known. either_later c.loop-place.wrong found.wrong c.first_of-wrong.result one_of.some
           (c.loop-place.invariant.later s people known) (c.in-Ok.ensures.later s people);

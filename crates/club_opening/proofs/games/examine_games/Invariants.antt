@@ -1,7 +1,7 @@
-use Rattle.std.proofs.Common.{◌≡◌, length, IsTrue}
+use Rattle.std.proofs.Common.{◌≡◌, length, IsTrue, true}
 use Rattle.sqlite.specs.State.{HasCleanDisk}
 use Rattle.sqlite.specs.Held.{state}
-use Rattle.store_tables.specs.Reading.{OnlyReads}
+use Rattle.store_tables.specs.Reading.{Reads}
 use Rattle.store_tables.specs.declared.names.Table.{Table}
 use Rattle.store_tables.specs.Tables.{IsClubSchema}
 use Rattle.club_audit.specs.Audit.{HasPeople}
@@ -14,7 +14,7 @@ use Rattle.club_opening.proofs.games.examine_games.Given as goal
 abbrev pub invariant-loop-place : goal.invariant-loop-place
 invariant-loop-place g l = record {
   items : l.game-items ≡ l.rows.games.items;
-  reads : OnlyReads (state g.S.Store l.fn.conn) (state g.S.Store l.conn);
+  reads : Reads true (state g.S.Store l.fn.conn) (state g.S.Store l.conn);
   kept : IsKept l.fn.known l.wrong;
   later : (s : ClubState) → HasPeople s l.rows → IsLater l.fn.known → IsLater l.wrong;
   free : (u : Table) → IsAfter u l.wrong → IsAfter u l.fn.known;

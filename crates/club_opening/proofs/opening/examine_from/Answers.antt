@@ -2,7 +2,7 @@ use Rattle.std.proofs.Common.{arith, refl, subst, sym}
 use Rattle.sqlite.specs.Held.{state}
 use Rattle.sqlite.specs.State.{HasCleanDisk}
 use Rattle.sqlite.proofs.Callers.{unchanged_then}
-use Rattle.store_tables.proofs.Proved.{reads_then}
+use Rattle.store_tables.proofs.Proved.{only_reading, reads_then}
 use Rattle.club_opening.specs.Places.{IsRegisterOf}
 use Rattle.club_opening.specs.Versions.{IsExactlyClub, IsOpenedAt}
 use Rattle.club_rows.specs.Club.{ClubState}
@@ -35,7 +35,8 @@ returns-in-Ok-examine_rows-clause-found g c clean version opened =
     let all = c.in-Ok-examine_rows.ensures.found clean (still s0 s1 read.same has) in
     let n = all.moment in
     let (moment, within) = all.last in
-    let reads = reads_then s0 s1 s3 c.read_rows.ensures.reads c.examine_rows.ensures.reads in
+    let reads = reads_then s0 s1 s3 (only_reading _ s0 s1 c.read_rows.ensures.reads)
+    (only_reading _ s1 s3 c.examine_rows.ensures.reads) in
     let (ms, are_ms) = c.in-Ok.ensures.members in
     let (es, are_es) = c.in-Ok.ensures.events in
     let (cs, are_cs) = all.challenges in

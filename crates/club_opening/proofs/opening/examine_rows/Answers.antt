@@ -1,4 +1,4 @@
-use Rattle.std.proofs.Common.{None, Some, ap, arith, inl, inr, subst, sym, ◌∙◌}
+use Rattle.std.proofs.Common.{true, None, Some, ap, arith, inl, inr, subst, sym, ◌∙◌}
 use Rattle.std.proofs.lemmas.Int.{ints}
 use Rattle.std.proofs.lemmas.Option.{IfSome_then}
 use Rattle.sqlite.specs.Held.{state}
@@ -13,6 +13,7 @@ use Rattle.sqlite.specs.Effect.{Database}
 use Rattle.club_opening.specs.RightTables.{IsWrongOfPlay, NamesScores}
 use Rattle.club_opening.proofs.FirstLemmas.{damaged_same}
 use Rattle.club_opening.proofs.PlayedLemmas.{are_played, are_scored, are_seated, before_last, meta_played, none_played}
+use Rattle.store_tables.proofs.Proved.{read_then}
 use Rattle.club_opening.proofs.opening.examine_rows.Goals as goal
 
 pub examine_play-requires-clause-last : goal.examine_play-requires-clause-last
@@ -169,3 +170,7 @@ returns-in-Some-wrong-clause-examined g c clean has s people ids t is =
         are_scored rows s1 s2 s3 play.games.same scored,
       )),
     )
+
+pub returns-in-None-wrong-clause-reads : goal.returns-in-None-wrong-clause-reads
+returns-in-None-wrong-clause-reads g c =
+    read_then true _ _ _ c.in-Ok-examine_play.ensures.reads c.in-Ok-examine_scores.ensures.reads

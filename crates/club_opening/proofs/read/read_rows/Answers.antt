@@ -1,8 +1,9 @@
-use Rattle.std.proofs.Common.{arith, inl, length, refl, subst, sym}
+use Rattle.std.proofs.Common.{true, arith, inl, length, refl, subst, sym}
 use Rattle.club_audit.specs.Audit.{AreEvents, AreRules}
 use Rattle.sqlite.specs.Held.{state}
 use Rattle.sqlite.specs.State.{HasCleanDisk}
 use Rattle.sqlite.proofs.Callers.{unchanged_then}
+use Rattle.store_tables.proofs.Proved.{first_of_club, read_then}
 use Rattle.store_tables.specs.Cells.{IsChallenge, IsGame}
 use Rattle.store_tables.specs.Tables.{members, events, challenges, games, schema_of}
 use Rattle.store_tables.specs.declared.names.Table.TheVariants.{Challenges, Games}
@@ -68,9 +69,9 @@ returns-clause-rows g c clean has =
     (schema_of version) same3 schema) are_events.same.0.is_open in
     let rules_same = rules_unchanged version _ _ s3 s4 are_rules in
     let same4 = unchanged_then s0 s3 s4 same3 rules_same in
-    let are_challenges = c.in-Ok-read.ensures.rows clean5 (still s0 s4 same4 has) in
+    let are_challenges = c.in-Ok-read.ensures.rows clean5 (first_of_club _ (still s0 s4 same4 has)) in
     let same5 = unchanged_then s0 s4 s5 same4 are_challenges.same in
-    let are_games = c.in-Ok-read-2.ensures.rows clean (still s0 s5 same5 has) in
+    let are_games = c.in-Ok-read-2.ensures.rows clean (first_of_club _ (still s0 s5 same5 has)) in
     let after5 = are_games.same in
     let after4 = unchanged_then s4 s5 s6 are_challenges.same after5 in
     let after3 = unchanged_then s3 s4 s6 rules_same after4 in
@@ -181,7 +182,7 @@ returns-in-Err-read-clause-blames g c clean has =
     rows_blamed_before c.args.oldest s0 s4 c.in-Err-read.fault same4
     (inl
     (names_both Challenges (challenges 6) 3 IsChallenge s4 c.in-Err-read.fault refl refl (λ content all. all)
-    (c.in-Err-read.ensures.blames clean (still s0 s4 same4 has))))
+    (c.in-Err-read.ensures.blames clean (first_of_club _ (still s0 s4 same4 has)))))
 
 pub returns-in-Err-read-2-clause-blames : goal.returns-in-Err-read-2-clause-blames
 returns-in-Err-read-2-clause-blames g c clean has =
@@ -225,12 +226,12 @@ returns-in-Err-read-2-clause-blames g c clean has =
     (schema_of version) same3 schema) are_events.same.0.is_open in
     let rules_same = rules_unchanged version _ _ s3 s4 are_rules in
     let same4 = unchanged_then s0 s3 s4 same3 rules_same in
-    let are_challenges = c.in-Ok-read.ensures.rows clean5 (still s0 s4 same4 has) in
+    let are_challenges = c.in-Ok-read.ensures.rows clean5 (first_of_club _ (still s0 s4 same4 has)) in
     let same5 = unchanged_then s0 s4 s5 same4 are_challenges.same in
     rows_blamed_before c.args.oldest s0 s5 c.in-Err-read-2.fault same5
     (inl
     (names_both Games (games 10) 5 IsGame s5 c.in-Err-read-2.fault refl refl (λ content all. all)
-    (c.in-Err-read-2.ensures.blames clean (still s0 s5 same5 has))))
+    (c.in-Err-read-2.ensures.blames clean (first_of_club _ (still s0 s5 same5 has)))))
 
 pub returns-clause-rules : goal.returns-clause-rules
 returns-clause-rules g c =
@@ -331,7 +332,7 @@ returns-in-Err-read-clause-first g c clean has =
     let own_events = subst (λ l. IsReadAs (events 4) 1 (map event_cells l) s2 s3) (sym c.deref.ensures.value) are_events
     in
     let e = c.in-Err-read.fault in
-    let wrong = challenge_types_wrong s4 e (c.in-Err-read.ensures.blames clean (still s0 s4 same4 has)) in
+    let wrong = challenge_types_wrong s4 e (c.in-Err-read.ensures.blames clean (first_of_club _ (still s0 s4 same4 has))) in
     first_challenges s0.now e
     (subst (λ (d : Database). NamesWrong Challenges d e) same4.0.now_is wrong)
     (people_right version c.in-Ok-read_members.members.items event_rows c.in-Ok-read_rules.rules.items s0.now
@@ -367,13 +368,21 @@ returns-in-Err-read-2-clause-first g c clean has =
     let own_es = subst (AreEvents es) (sym c.deref.ensures.value) are_es in
     let own_events = subst (λ l. IsReadAs (events 4) 1 (map event_cells l) s2 s3) (sym c.deref.ensures.value) are_events
     in
-    let are_challenges = c.in-Ok-read.ensures.rows clean5 (still s0 s4 same4 has) in
+    let are_challenges = c.in-Ok-read.ensures.rows clean5 (first_of_club _ (still s0 s4 same4 has)) in
     let same5 = unchanged_then s0 s4 s5 same4 are_challenges.same in
     let e = c.in-Err-read-2.fault in
-    let untyped = games_untyped s5 e (c.in-Err-read-2.ensures.blames clean (still s0 s5 same5 has)) in
+    let untyped = games_untyped s5 e (c.in-Err-read-2.ensures.blames clean (first_of_club _ (still s0 s5 same5 has))) in
     first_games s0.now e
     (subst (λ (d : Database). (t : Table) → e ≡ Damaged t
     → (t ≡ Games) × HoldsNone d (λ version content. HasTypes Games content)) same5.0.now_is untyped)
     (people_right version c.in-Ok-read_members.members.items event_rows c.in-Ok-read_rules.rules.items s0.now
     (people_read version _ event_rows _ s0 s1 s2 s3 s4 schema same1 are_members own_events are_rules ms are_ms es own_es
     (c.in-Ok-read_rules.ensures.are es own_es)))
+
+pub returns-clause-reads : goal.returns-clause-reads
+returns-clause-reads g c =
+    read_then true _ _ _ c.in-Ok.ensures.reads
+    (read_then true _ _ _ c.in-Ok-read_members.ensures.reads
+    (read_then true _ _ _ c.in-Ok-read_events.ensures.reads
+    (read_then true _ _ _ c.in-Ok-read_rules.ensures.reads
+    (read_then true _ _ _ c.in-Ok-read.ensures.reads c.in-Ok-read-2.ensures.reads))))

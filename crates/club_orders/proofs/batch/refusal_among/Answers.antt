@@ -1,8 +1,8 @@
-use Rattle.std.proofs.Common.{◌≡◌, ◌+◌, suc, ◌∷◌, drop, sym, subst, ◌∙◌, arith}
+use Rattle.std.proofs.Common.{◌≡◌, ◌+◌, suc, ◌∷◌, drop, refl, sym, subst, ◌∙◌, arith}
 use Rattle.std.proofs.Math.Seq.{drop-cons}
 use Rattle.sqlite.specs.State.{HasCleanDisk}
 use Rattle.sqlite.specs.Held.{state}
-use Rattle.store_tables.proofs.Proved.{reads_then}
+use Rattle.store_tables.proofs.Proved.{read_then, still_rows}
 use Rattle.club_rows.specs.Club.{tables}
 use Rattle.club_orders.specs.Batches.{IsAsked}
 use Rattle.club_orders.proofs.GivingLemmas.{asked_last, asked_more}
@@ -20,7 +20,8 @@ returns-in-Ok-Some-clause-asked g c clean s is_club here =
     (drop-cons questions k question c.loop-question-test.true
     ∙ (λ i. sym c.question-item.is i ∷ drop (next i) questions))
     (subst (λ r. IsAsked s c.args.moment question r) c.in-Ok-Some.field-0-is
-    (c.in-Ok-Some.ensures.asked clean s is_club (c.loop-question.invariant.kept before (tables s) here)))
+    (c.in-Ok-Some.ensures.asked clean s is_club
+    (still_rows _ _ (c.loop-question.invariant.reads.kept refl before) (tables s) here)))
     (c.loop-question.invariant.asked before s is_club here)
 
 pub loop-question-preserved : goal.loop-question-preserved
@@ -34,15 +35,17 @@ loop-question-preserved g c =
     let next : suc k ≡ k + 1 = omega arith in
     record {
       ready = c.in-Ok-None.ensures.ready;
-      reads = reads_then _ _ _ c.loop-question.invariant.reads c.refusal_of.ensures.reads;
-      kept = λ clean content here.
-          c.in-Ok-None.ensures.kept clean content (c.loop-question.invariant.kept (before clean) content here);
+      reads = read_then _ _ _ _ c.loop-question.invariant.reads c.in-Ok-None.ensures.reads;
       asked = λ clean s is_club here.
           asked_more s c.args.moment questions (drop k questions) (drop (k + 1) questions) question
           (drop-cons questions k question c.loop-question-test.true
           ∙ (λ i. sym c.question-item.is i ∷ drop (next i) questions))
           (subst (λ r. IsAsked s c.args.moment question r) c.in-Ok-None.field-0-is
           (c.in-Ok-None.ensures.asked clean s is_club
-          (c.loop-question.invariant.kept (before clean) (tables s) here)))
+          (still_rows _ _ (c.loop-question.invariant.reads.kept refl (before clean)) (tables s) here)))
           (c.loop-question.invariant.asked (before clean) s is_club here);
     }
+
+pub returns-in-Ok-Some-clause-reads : goal.returns-in-Ok-Some-clause-reads
+returns-in-Ok-Some-clause-reads g c =
+    read_then _ _ _ _ c.loop-question.invariant.reads c.in-Ok-Some.ensures.reads

@@ -1,9 +1,8 @@
-use Rattle.std.proofs.Common.{◌≡◌, drop, false}
+use Rattle.std.proofs.Common.{◌≡◌, drop, true, false}
 use Rattle.sqlite.specs.State.{HasCleanDisk}
 use Rattle.sqlite.specs.Held.{state}
-use Rattle.store_tables.specs.Club.{IsExactly}
-use Rattle.store_tables.specs.Contents.{Content}
-use Rattle.store_tables.specs.Reading.{OnlyReads}
+use Rattle.store_tables.specs.Beside.{HasRows}
+use Rattle.store_tables.specs.Reading.{Reads}
 use Rattle.club_rows.specs.Club.{ClubState, IsClub, tables}
 use Rattle.club_orders.proofs.GivingLemmas.{AskedOn}
 use Rattle.club_orders.proofs.batch.refusal_among.Given as goal
@@ -12,11 +11,8 @@ abbrev pub invariant-loop-question : goal.invariant-loop-question
 invariant-loop-question g l =
     record {
       ready : l.club.needs_reopening ≡ false;
-      reads : OnlyReads (state g.S.Store l.fn.club.connection) (state g.S.Store l.club.connection);
-      kept : HasCleanDisk (state g.S.Store l.club.connection)
-          → (content : Content) → IsExactly content (state g.S.Store l.fn.club.connection)
-          → IsExactly content (state g.S.Store l.club.connection);
+      reads : Reads true (state g.S.Store l.fn.club.connection) (state g.S.Store l.club.connection);
       asked : HasCleanDisk (state g.S.Store l.club.connection) → (s : ClubState) → IsClub s
-          → IsExactly (tables s) (state g.S.Store l.fn.club.connection)
+          → HasRows (tables s) (state g.S.Store l.fn.club.connection)
           → AskedOn s l.moment l.questions (drop l.question-index l.questions);
     }

@@ -2,6 +2,7 @@ use Rattle.std.proofs.Common.{arith, refl, sym, subst}
 use Rattle.std.proofs.lemmas.Result.{IfOk-weaker, IfErr-weaker}
 use Rattle.sqlite.specs.State.{HasCleanDisk}
 use Rattle.sqlite.specs.Held.{state}
+use Rattle.store_tables.proofs.Proved.{has_rows}
 use Rattle.club_rows.specs.Club.{tables}
 use Rattle.club_orders.specs.Report.{Shows}
 use Rattle.club_orders.proofs.QuestionLemmas.{shows}
@@ -24,22 +25,22 @@ returns-clause-asked g c clean opens live s is_club left =
     let after = subst (λ h. HasCleanDisk (state g.S.Store h)) same clean in
     let ready = c.in-Ok.ensures.ready in
     let taken : HasCleanDisk (state g.S.Store c.in-Ok.club.connection) =
-    omega (arith, (c.ask-answer.ensures.reads ready).clean, after) in
+    omega (arith, c.ask-answer.ensures.reads.clean, after) in
     let here = c.in-Ok.ensures.same taken (tables s) (c.holds_exactly.ensures opens live _ _ left) in
     let before = g.W.Write.contents c.args.out.now in
     let now = g.W.Write.contents c.ask-answer.new.writer in
     let answer = c.ask-answer.result in
     subst (λ r. Shows s c.args.moment c.args.question.now before now r) (sym c.asked.ensures.report)
     (shows s c.args.moment c.args.question.now before now answer
-    (IfOk-weaker answer _ _ (λ refusal told. told s is_club here) (c.ask-answer.ensures.shown after))
-    (c.ask-answer.ensures.begun after s is_club here)
+    (IfOk-weaker answer _ _ (λ refusal told. told s is_club (has_rows _ _ here)) (c.ask-answer.ensures.shown after))
+    (c.ask-answer.ensures.begun after s is_club (has_rows _ _ here))
     (IfErr-weaker answer _ _ (λ fault told. told ready) c.ask-answer.ensures.named))
 
 pub returns-clause-led : goal.returns-clause-led
 returns-clause-led g c clean opens live sessions led db left =
     let same = c.into_connection.ensures.same in
     let after = subst (λ h. HasCleanDisk (state g.S.Store h)) same clean in
-    let reads = c.ask-answer.ensures.reads c.in-Ok.ensures.ready in
+    let reads = c.ask-answer.ensures.reads in
     let taken : HasCleanDisk (state g.S.Store c.in-Ok.club.connection) = omega (arith, reads.clean, after) in
     let (version, at) = c.holds_what_sessions_left.ensures opens live sessions led in
     let before = reads.may after db (subst (λ h. (state g.S.Store h).may_leave db) same left) in
@@ -68,7 +69,7 @@ returns-clause-older g c clean opens live s (club, left) =
     let after = subst (λ h. HasCleanDisk (state g.S.Store h)) same clean in
     let taken : HasCleanDisk (state g.S.Store c.in-Ok.club.connection) = omega (
       arith,
-      (c.ask-answer.ensures.reads c.in-Ok.ensures.ready).clean,
+      c.ask-answer.ensures.reads.clean,
       after,
     ) in
     absurd (c.in-Ok.ensures.older taken s club (c.holds_exactly.ensures opens live _ _ left))

@@ -1,6 +1,7 @@
 use Rattle.std.proofs.Common.{◌++◌, arith, sym, subst}
 use Rattle.sqlite.specs.State.{HasCleanDisk}
 use Rattle.sqlite.specs.Held.{state}
+use Rattle.store_tables.proofs.Proved.{has_rows}
 use Rattle.club_rows.specs.Club.{tables}
 use Rattle.store.specs.Histories.{IsHistory}
 use Rattle.club_orders.specs.declared.report.Report.TheVariants.{Answered}
@@ -27,7 +28,7 @@ returns-in-Ok-apply-clause-answer g c clean opens live s is_club left =
     let after = subst (λ h. HasCleanDisk (state g.S.Store h)) same clean in
     let taken : HasCleanDisk (state g.S.Store c.in-Ok.club.connection) = omega (arith, c.apply.ensures.clean, after) in
     c.in-Ok-apply.ensures.answer after s is_club
-    (c.in-Ok.ensures.same taken (tables s) (c.holds_exactly.ensures opens live _ _ left))
+    (has_rows _ _ (c.in-Ok.ensures.same taken (tables s) (c.holds_exactly.ensures opens live _ _ left)))
 
 pub returns-in-Ok-apply-clause-led : goal.returns-in-Ok-apply-clause-led
 returns-in-Ok-apply-clause-led g c clean opens live sessions led db left =

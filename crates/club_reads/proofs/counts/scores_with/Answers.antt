@@ -1,15 +1,10 @@
-use Rattle.std.proofs.Common.{◌≡◌, refl, subst₂, arith, rules}
+use Rattle.std.proofs.Common.{true, ◌≡◌, refl, subst₂, arith, rules}
 use Rattle.std.specs.Option.{option_map}
 use Rattle.sqlite.specs.Held.{state}
 use Rattle.sqlite.specs.State.{HasCleanDisk}
-use Rattle.store_tables.specs.Tables.{club_schema}
+use Rattle.store_tables.proofs.Proved.{read_then, still_rows}
 use Rattle.club_rows.specs.NextScores.{AreNext}
 use Rattle.club_reads.proofs.counts.scores_with.Goals as goal
-
-pub returns-in-Some-clause-kept : goal.returns-in-Some-clause-kept
-returns-in-Some-clause-kept g c clean schema content k =
-    let looked : HasCleanDisk (state g.S.Store c.score_of.new.conn) = omega (arith, c.score_of-2.ensures.reads.clean) in
-    c.in_ok-seconds.ensures.kept clean schema content (c.in_ok-firsts.ensures.kept looked schema content k)
 
 pub returns-in-Some-clause-puts : goal.returns-in-Some-clause-puts
 returns-in-Some-clause-puts g c clean content k apart =
@@ -22,8 +17,12 @@ returns-in-Some-clause-puts g c clean content k apart =
       pair = c.in-Some.pair;
       firsts_are = c.in_ok-firsts.ensures.found looked content k;
       seconds_are = c.in_ok-seconds.ensures.found clean content
-          (c.in_ok-firsts.ensures.kept looked club_schema content k);
+          (still_rows _ _ (c.in_ok-firsts.ensures.reads.kept refl looked) content k);
       next = subst₂ (λ one other. AreNext c.args.event c.args.one c.args.other c.args.score one other c.in-Some.pair)
           firsts seconds (c.in-Some.ensures.some apart);
       rows_are = refl;
     }
+
+pub returns-in-Some-clause-reads : goal.returns-in-Some-clause-reads
+returns-in-Some-clause-reads g c =
+    read_then true _ _ _ c.in_ok-firsts.ensures.reads c.in_ok-seconds.ensures.reads

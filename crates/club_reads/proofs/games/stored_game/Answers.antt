@@ -1,5 +1,5 @@
-use Rattle.store_tables.specs.Tables.{club_schema}
-use Rattle.std.proofs.Common.{[], ◌∷◌, map, SFits, w64, to_z-of_z, sym, subst, ◌∙◌, arith}
+use Rattle.store_tables.proofs.Proved.{read_then, still_rows}
+use Rattle.std.proofs.Common.{true, refl, [], ◌∷◌, map, SFits, w64, to_z-of_z, sym, subst, ◌∙◌, arith}
 use Rattle.sqlite.specs.Held.{state}
 use Rattle.sqlite.specs.State.{HasCleanDisk}
 use Rattle.sqlite.specs.declared.types.Value.TheVariants.{Int}
@@ -25,7 +25,7 @@ returns-in_ok-stored-in-Some-clause-found g c clean s is_club k =
     let (game, at, cells) = id_some s is_club id (map game_cells rows) (game_cells c.in-Some.row) those
     (first_mapped game_cells rows c.in-Some.row (sym c.first.ensures ∙ c.in-Some.is)) in
     let stored = c.in_ok-stored-in-Some.ensures.found clean s id game is_club at cells
-    (c.in_ok-find_by_first.ensures.kept looked club_schema (tables s) k) in
+    (still_rows _ _ (c.in_ok-find_by_first.ensures.reads.kept refl looked) (tables s) k) in
     (game, at, stored)
 
 pub returns-in-None-clause-found : goal.returns-in-None-clause-found
@@ -38,9 +38,6 @@ returns-in-None-clause-found g c clean s is_club k =
     (to_z-of_z fits ∙ c.in-Ok.ensures.1) found.0 in
     id_none s is_club id (map game_cells rows) those (none_mapped game_cells rows (sym c.first.ensures ∙ c.in-None.is))
 
-pub returns-in_ok-stored-in-Some-clause-kept : goal.returns-in_ok-stored-in-Some-clause-kept
-returns-in_ok-stored-in-Some-clause-kept g c clean schema content k =
-    let looked : HasCleanDisk (state g.S.Store c.find_by_first.new.conn) =
-    omega (arith, c.read_game.ensures.reads.clean) in
-    c.in_ok-stored-in-Some.ensures.kept clean schema content
-    (c.in_ok-find_by_first.ensures.kept looked schema content k)
+pub returns-in_ok-stored-in-Some-clause-reads : goal.returns-in_ok-stored-in-Some-clause-reads
+returns-in_ok-stored-in-Some-clause-reads g c =
+    read_then true _ _ _ c.in_ok-find_by_first.ensures.reads c.in_ok-stored-in-Some.ensures.reads

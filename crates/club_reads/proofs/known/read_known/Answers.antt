@@ -1,5 +1,5 @@
-use Rattle.store_tables.specs.Tables.{club_schema}
-use Rattle.std.proofs.Common.{arith}
+use Rattle.store_tables.proofs.Proved.{read_then, still_rows}
+use Rattle.std.proofs.Common.{true, refl, arith}
 use Rattle.sqlite.specs.Held.{state}
 use Rattle.sqlite.specs.State.{HasCleanDisk}
 use Rattle.club_rows.specs.Club.{tables}
@@ -13,9 +13,9 @@ returns-clause-known g c clean s is_club k =
     omega (arith, at_members, c.all_members.ensures.reads.clean) in
     let at_under : HasCleanDisk (state g.S.Store c.stored_under.new.conn) =
     omega (arith, at_games, c.games_in.ensures.reads.clean) in
-    let one = c.in_ok-under.ensures.kept at_under club_schema (tables s) k in
-    let two = c.in_ok-games.ensures.kept at_games club_schema (tables s) one in
-    let three = c.in_ok-members.ensures.kept at_members club_schema (tables s) two in
+    let one = still_rows _ _ (c.in_ok-under.ensures.reads.kept refl at_under) (tables s) k in
+    let two = still_rows _ _ (c.in_ok-games.ensures.reads.kept refl at_games) (tables s) one in
+    let three = still_rows _ _ (c.in_ok-members.ensures.reads.kept refl at_members) (tables s) two in
     let under = c.in_ok-under.ensures.found at_under s is_club k in
     record {
       members_are = c.in_ok-members.ensures.values at_members s two;
@@ -25,14 +25,8 @@ returns-clause-known g c clean s is_club k =
       games_are = c.in_ok-games.ensures.count at_games s one;
     }
 
-pub returns-clause-kept : goal.returns-clause-kept
-returns-clause-kept g c clean schema content k =
-    let at_members : HasCleanDisk (state g.S.Store c.all_members.new.conn) =
-    omega (arith, c.all_events.ensures.reads.clean) in
-    let at_games : HasCleanDisk (state g.S.Store c.games_in.new.conn) =
-    omega (arith, at_members, c.all_members.ensures.reads.clean) in
-    let at_under : HasCleanDisk (state g.S.Store c.stored_under.new.conn) =
-    omega (arith, at_games, c.games_in.ensures.reads.clean) in
-    c.in_ok-events.ensures.kept clean schema content
-    (c.in_ok-members.ensures.kept at_members schema content
-    (c.in_ok-games.ensures.kept at_games schema content (c.in_ok-under.ensures.kept at_under schema content k)))
+pub returns-clause-reads : goal.returns-clause-reads
+returns-clause-reads g c =
+    read_then true _ _ _ c.in_ok-under.ensures.reads
+    (read_then true _ _ _ c.in_ok-games.ensures.reads
+    (read_then true _ _ _ c.in_ok-members.ensures.reads c.in_ok-events.ensures.reads))

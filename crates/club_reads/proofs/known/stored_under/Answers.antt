@@ -1,5 +1,5 @@
-use Rattle.store_tables.specs.Tables.{club_schema}
-use Rattle.std.proofs.Common.{map, sym, ◌∙◌, arith}
+use Rattle.store_tables.proofs.Proved.{read_then, still_rows}
+use Rattle.std.proofs.Common.{true, refl, map, sym, ◌∙◌, arith}
 use Rattle.sqlite.specs.Held.{state}
 use Rattle.sqlite.specs.State.{HasCleanDisk}
 use Rattle.store_tables.specs.Cells.{game_cells}
@@ -15,7 +15,7 @@ returns-in_ok-stored-in-Some-clause-found g c clean s is_club k =
     let (id, game, here, under, keyed, cells) =
     under_stored s is_club c.args.key.now (map game_cells rows) (game_cells c.in-Some.row) those
     (first_mapped game_cells rows c.in-Some.row (sym c.first.ensures ∙ c.in-Some.is)) in
-    let kept = c.in_ok-find.ensures.kept looked club_schema (tables s) k in
+    let kept = still_rows _ _ (c.in_ok-find.ensures.reads.kept refl looked) (tables s) k in
     record {
       id = id;
       game = game;
@@ -34,7 +34,6 @@ returns-in-None-clause-found g c clean s is_club k =
       under_none s is_club c.args.key.now (map game_cells rows) those none,
     )
 
-pub returns-in_ok-stored-in-Some-clause-kept : goal.returns-in_ok-stored-in-Some-clause-kept
-returns-in_ok-stored-in-Some-clause-kept g c clean schema content k =
-    let looked : HasCleanDisk (state g.S.Store c.find.new.conn) = omega (arith, c.read_game.ensures.reads.clean) in
-    c.in_ok-stored-in-Some.ensures.kept clean schema content (c.in_ok-find.ensures.kept looked schema content k)
+pub returns-in_ok-stored-in-Some-clause-reads : goal.returns-in_ok-stored-in-Some-clause-reads
+returns-in_ok-stored-in-Some-clause-reads g c =
+    read_then true _ _ _ c.in_ok-find.ensures.reads c.in_ok-stored-in-Some.ensures.reads

@@ -1,4 +1,4 @@
-use Rattle.std.proofs.Common.{[], ◌∷◌, refl, sym, ◌∙◌}
+use Rattle.std.proofs.Common.{[], refl, sym, ◌∙◌}
 use Rattle.club_rows.specs.Tables.{meta_row}
 use Rattle.store_tables.specs.Cells.{meta_cells}
 use Rattle.club_rows.specs.Club.{tables}

@@ -1,7 +1,7 @@
-use Rattle.std.proofs.Common.{arith}
+use Rattle.std.proofs.Common.{true, refl, arith}
 use Rattle.sqlite.specs.Held.{state}
 use Rattle.sqlite.specs.State.{HasCleanDisk}
-use Rattle.store_tables.specs.Tables.{club_schema}
+use Rattle.store_tables.proofs.Proved.{read_then, still_rows}
 use Rattle.club_changes.proofs.Proved.{past_none}
 use Rattle.club_reads.proofs.shown.rows_at.Goals as goal
 
@@ -11,16 +11,15 @@ returns-then-ply-from-clause-found g c clean content terms old k tells legal =
     past_none g.R.Rules.rules terms c.args.game old none.result none.ensures.at none.ensures.before c.args.ply
     (omega (arith, c.if-ply-from.true, c.from.ensures, legal.plies))
 
-pub returns-clause-kept : goal.returns-clause-kept
-returns-clause-kept g c clean schema content k =
-    let looked : HasCleanDisk (state g.S.Store c.row_of.new.conn) = omega (arith, c.row_of-2.ensures.reads.clean) in
-    c.in_ok-before.ensures.kept clean schema content (c.in_ok-at.ensures.kept looked schema content k)
-
 pub returns-clause-found : goal.returns-clause-found
 returns-clause-found g c clean content terms old k tells legal =
     let looked : HasCleanDisk (state g.S.Store c.row_of.new.conn) = omega (arith, c.row_of-2.ensures.reads.clean) in
-    let kept = c.in_ok-at.ensures.kept looked club_schema content k in
+    let kept = still_rows _ _ (c.in_ok-at.ensures.reads.kept refl looked) content k in
     record {
       at = c.in_ok-at.ensures.found looked content terms old k tells;
       before = c.in_ok-before.ensures.found clean content terms old kept tells;
     }
+
+pub returns-clause-reads : goal.returns-clause-reads
+returns-clause-reads g c =
+    read_then true _ _ _ c.in_ok-at.ensures.reads c.in_ok-before.ensures.reads

@@ -1,31 +1,24 @@
-use Rattle.std.proofs.Common.{◌∷◌, ap, subst, ◌∙◌, arith}
+use Rattle.std.proofs.Common.{◌∷◌, ap, subst, ◌∙◌}
 use Rattle.std.proofs.lemmas.Result.{IfOk-weaker}
-use Rattle.sqlite.specs.Held.{state}
-use Rattle.sqlite.specs.State.{HasCleanDisk}
-use Rattle.store_tables.specs.Tables.{club_schema}
 use Rattle.club_core.specs.Answer.{members_of}
 use Rattle.club_rows.specs.Club.{tables}
 use Rattle.cross_tables.specs.Lines.{header_text}
 use Rattle.cross_tables.specs.Totals.{AreTotals}
 use Rattle.club_views.specs.CrossTable.{lines_from}
-use Rattle.store_sql.proofs.Proved.{always}
+use Rattle.club_views.proofs.ReadLemmas.{clean_before, rows_after, reads_on, ended}
 use Rattle.club_views.proofs.cross_table.event_table.Goals as goal
 
-pub returns-clause-kept : goal.returns-clause-kept
-returns-clause-kept g c clean =
-    let looked : HasCleanDisk (state g.S.Store c.scores_in.new.conn) =
-    omega (arith, c.all_members.ensures.reads.clean) in
-    always c.lines_of.result _ (λ schema content k.
-    c.in_ok-members.ensures.kept clean schema content (c.in_ok-scores.ensures.kept looked schema content k))
+pub returns-clause-reads : goal.returns-clause-reads
+returns-clause-reads g c =
+    ended _ (reads_on c.in_ok-scores.ensures.reads c.in_ok-members.ensures.reads)
 
 pub returns-clause-table : goal.returns-clause-table
 returns-clause-table g c clean =
-    let looked : HasCleanDisk (state g.S.Store c.scores_in.new.conn) =
-    omega (arith, c.all_members.ensures.reads.clean) in
+    let looked = clean_before c.all_members.ensures.reads clean in
     let standings = c.in_ok-standings.standings in
     IfOk-weaker c.lines_of.result _ _ (λ lines are s k.
     let members = ap members_of c.deref-2.ensures.value
-    ∙ c.in_ok-members.ensures.values clean s (c.in_ok-scores.ensures.kept looked club_schema (tables s) k) in
+    ∙ c.in_ok-members.ensures.values clean s (rows_after c.in_ok-scores.ensures.reads looked (tables s) k) in
     let scores = c.deref-3.ensures.value in
     record {
       scores = c.in_ok-scores.scores.items;

@@ -5,7 +5,11 @@ use Rattle.store_tables.specs.Contents.{AreThose}
 use Rattle.store_tables.specs.Cells.{score_cells}
 use Rattle.club_rows.specs.Club.{tables}
 use Rattle.club_views.proofs.CrossTableLemmas.{scores_are, both_ok}
+use Rattle.club_views.proofs.ReadLemmas.{ended}
 use Rattle.club_views.proofs.cross_table.scores_in.Goals as goal
+
+pub returns-clause-reads : goal.returns-clause-reads
+returns-clause-reads g c = ended _ c.in_ok-rows.ensures.reads
 
 pub returns-clause-scores : goal.returns-clause-scores
 returns-clause-scores g c clean =

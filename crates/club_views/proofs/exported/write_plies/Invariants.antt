@@ -1,4 +1,4 @@
-use Rattle.std.proofs.Common.{◌≡◌, List, [], ℕ, Option, length, take}
+use Rattle.std.proofs.Common.{◌≡◌, List, [], ℕ, Option, true, length, take}
 use Rattle.sqlite.specs.Held.{state}
 use Rattle.sqlite.specs.State.{HasCleanDisk}
 use Rattle.club_core.specs.Events as core
@@ -6,21 +6,19 @@ use Rattle.club_core.specs.Game.{Game}
 use Rattle.club_core.specs.Legal.{IsLegalGame}
 use Rattle.club_exports.specs.Title.{Title}
 use Rattle.club_exports.specs.Exported.{IsWritten, IsUnderWay}
-use Rattle.store_tables.specs.Club.{IsExactly}
+use Rattle.store_tables.specs.Beside.{HasRows}
 use Rattle.store_tables.specs.Contents.{Content}
-use Rattle.store_tables.specs.Reading.{OnlyReads}
-use Rattle.store_sql.specs.Read.{KeepsContent}
+use Rattle.store_tables.specs.Reading.{Reads}
 use Rattle.club_changes.specs.Steps.{TellsMoves}
 use Rattle.club_views.proofs.exported.write_plies.Given as goal
 
 abbrev pub invariant-loop-ply : goal.invariant-loop-ply
 invariant-loop-ply g l = record {
   under_way : IsUnderWay g.R.Rules.rules g.R.Exports.HasWritten (g.W.Write.contents l.writer) l.export;
-  reads : OnlyReads (state g.S.Store l.fn.conn) (state g.S.Store l.conn);
-  kept : HasCleanDisk (state g.S.Store l.conn) → KeepsContent (state g.S.Store l.fn.conn) (state g.S.Store l.conn);
+  reads : Reads true (state g.S.Store l.fn.conn) (state g.S.Store l.conn);
   written : HasCleanDisk (state g.S.Store l.conn)
       → (content : Content) (terms : core.Terms) (game : Game g.row.R-Move.Denot) (title : Title g.row.R-End.Denot)
-      (before : Option (List ℕ)) → IsExactly content (state g.S.Store l.fn.conn)
+      (before : Option (List ℕ)) → HasRows content (state g.S.Store l.fn.conn)
       → TellsMoves g.R.Rules.rules terms l.stored.id game content → IsLegalGame g.R.Rules.rules terms game
       → l.plies ≡ length game.entries → IsWritten g.R.Rules.rules g.R.Exports.HasWritten title [] before
       (g.W.Write.contents l.fn.writer) l.fn.export

@@ -1,39 +1,27 @@
-use Rattle.std.proofs.Common.{Some, ap, sym, ◌∙◌, arith}
+use Rattle.std.proofs.Common.{Some, ap, sym, ◌∙◌}
 use Rattle.std.specs.Option.{option_map}
-use Rattle.sqlite.specs.Held.{state}
-use Rattle.sqlite.specs.State.{HasCleanDisk}
-use Rattle.store_tables.specs.Tables.{club_schema}
 use Rattle.club_core.specs.Answer.{keyed_of}
 use Rattle.club_core.specs.Events.{Event}
 use Rattle.club_core.specs.Members.{Member}
 use Rattle.club_core.specs.State.{place}
 use Rattle.club_rows.specs.Club.{tables}
 use Rattle.club_changes.proofs.Proved.{event_stands, players_stand, pairing_same}
+use Rattle.club_views.proofs.ReadLemmas.{clean_before, rows_after, reads_on}
 use Rattle.club_views.proofs.reading.viewed.Goals as goal
 
-pub returns-clause-kept : goal.returns-clause-kept
-returns-clause-kept g c clean schema content k =
-    let three : HasCleanDisk (state g.S.Store c.name_of-2.new.conn) = omega (arith, c.played_in.ensures.reads.clean) in
-    let two : HasCleanDisk (state g.S.Store c.name_of.new.conn) =
-    omega (arith, c.name_of-2.ensures.reads.clean, c.played_in.ensures.reads.clean) in
-    let one : HasCleanDisk (state g.S.Store c.event_with.new.conn) =
-    omega (arith, c.name_of.ensures.reads.clean, c.name_of-2.ensures.reads.clean, c.played_in.ensures.reads.clean)
-    in
-    c.in_ok-played.ensures.kept clean schema content
-    (c.in_ok-second.ensures.kept three schema content
-    (c.in_ok-first.ensures.kept two schema content (c.in_ok-event.ensures.kept one schema content k)))
+pub returns-clause-reads : goal.returns-clause-reads
+returns-clause-reads g c =
+    reads_on c.in_ok-event.ensures.reads
+    (reads_on c.in_ok-first.ensures.reads (reads_on c.in_ok-second.ensures.reads c.in_ok-played.ensures.reads))
 
 pub returns-clause-viewed : goal.returns-clause-viewed
 returns-clause-viewed g c clean s id game is_club at is k =
-    let three : HasCleanDisk (state g.S.Store c.name_of-2.new.conn) = omega (arith, c.played_in.ensures.reads.clean) in
-    let two : HasCleanDisk (state g.S.Store c.name_of.new.conn) =
-    omega (arith, c.name_of-2.ensures.reads.clean, c.played_in.ensures.reads.clean) in
-    let one : HasCleanDisk (state g.S.Store c.event_with.new.conn) =
-    omega (arith, c.name_of.ensures.reads.clean, c.name_of-2.ensures.reads.clean, c.played_in.ensures.reads.clean)
-    in
-    let k1 = c.in_ok-event.ensures.kept one club_schema (tables s) k in
-    let k2 = c.in_ok-first.ensures.kept two club_schema (tables s) k1 in
-    let k3 = c.in_ok-second.ensures.kept three club_schema (tables s) k2 in
+    let three = clean_before c.played_in.ensures.reads clean in
+    let two = clean_before c.name_of-2.ensures.reads three in
+    let one = clean_before c.name_of.ensures.reads two in
+    let k1 = rows_after c.in_ok-event.ensures.reads one (tables s) k in
+    let k2 = rows_after c.in_ok-first.ensures.reads two (tables s) k1 in
+    let k3 = rows_after c.in_ok-second.ensures.reads three (tables s) k2 in
     let ids = c.in_ok-ids.ids in
     let same = pairing_same (keyed_of ids) id game (c.in_ok-ids.ensures s id game is.row) in
     let (event, event_at) = event_stands s is_club id game at in

@@ -1,5 +1,4 @@
-use Rattle.store_tables.specs.Tables.{club_schema}
-use Rattle.std.proofs.Common.{ℕ, ap, sym, subst, ◌∙◌, arith, length, string_bytes}
+use Rattle.std.proofs.Common.{ℕ, ap, sym, subst, ◌∙◌, arith, length, string_bytes, refl}
 use Rattle.sqlite.specs.Held.{state}
 use Rattle.sqlite.specs.State.{HasCleanDisk}
 use Rattle.club_core.specs.declared.challenges.Challenge.{Challenge}
@@ -13,6 +12,7 @@ use Rattle.club_rows.specs.Club.{tables}
 use Rattle.club_changes.specs.Challenged.{AnswersTo}
 use Rattle.club_changes.specs.Steps.{IsDecided}
 use Rattle.club_changes.proofs.Proved.{member_answers, member_mapped}
+use Rattle.store_tables.proofs.Proved.{read_then, still_rows}
 use Rattle.store.proofs.challenges.on_answer.Goals as goal
 
 pub returns-clause-step : goal.returns-clause-step
@@ -23,8 +23,8 @@ returns-clause-step g c clean s is_club k =
     omega (arith, c.decided_answer.ensures.reads.clean) in
     let at_members : HasCleanDisk (state g.S.Store c.all_members.new.conn) =
     omega (arith, at_events, c.all_events.ensures.reads.clean) in
-    let one = c.in_ok-members.ensures.kept at_members club_schema (tables s) k in
-    let two = c.in_ok-events.ensures.kept at_events club_schema (tables s) one in
+    let one = still_rows _ _ (c.in_ok-members.ensures.reads.kept refl at_members) (tables s) k in
+    let two = still_rows _ _ (c.in_ok-events.ensures.reads.kept refl at_events) (tables s) one in
     let ms = ap members_of c.deref.ensures.value ∙ c.in_ok-members.ensures.values at_members s k in
     let es = ap events_of c.deref-2.ensures.value ∙ c.in_ok-events.ensures.values at_events s is_club one in
     let command = c.args.command.now in
@@ -39,11 +39,7 @@ returns-clause-step g c clean s is_club k =
     subst (λ o. IsDecided s o d) (ap (map_outcome f) is ∙ sym (member_mapped f c.args.caller wanted))
     (step s accept is_club es leaves)
 
-pub returns-clause-kept : goal.returns-clause-kept
-returns-clause-kept g c clean schema content k =
-    let at_events : HasCleanDisk (state g.S.Store c.all_events.new.conn) =
-    omega (arith, c.decided_answer.ensures.reads.clean) in
-    let at_members : HasCleanDisk (state g.S.Store c.all_members.new.conn) =
-    omega (arith, at_events, c.all_events.ensures.reads.clean) in
-    c.in_ok-decision.ensures.kept clean schema content
-    (c.in_ok-events.ensures.kept at_events schema content (c.in_ok-members.ensures.kept at_members schema content k))
+pub returns-clause-reads : goal.returns-clause-reads
+returns-clause-reads g c =
+    read_then _ _ _ _ c.in_ok-members.ensures.reads
+    (read_then _ _ _ _ c.in_ok-events.ensures.reads c.in_ok-decision.ensures.reads)

@@ -1,5 +1,4 @@
-use Rattle.store_tables.specs.Tables.{club_schema}
-use Rattle.std.proofs.Common.{ℕ, ap, sym, subst, ◌∙◌, arith, string_bytes}
+use Rattle.std.proofs.Common.{ℕ, ap, sym, subst, ◌∙◌, arith, string_bytes, refl}
 use Rattle.sqlite.specs.Held.{state}
 use Rattle.sqlite.specs.State.{HasCleanDisk}
 use Rattle.club_core.specs.declared.challenges.Challenge.{Challenge}
@@ -10,6 +9,7 @@ use Rattle.club_core.specs.State.{with_challenge}
 use Rattle.club_rows.specs.Club.{tables}
 use Rattle.club_changes.specs.Steps.{IsDecided}
 use Rattle.club_changes.proofs.Proved.{member_mapped, member_same}
+use Rattle.store_tables.proofs.Proved.{read_then, still_rows}
 use Rattle.store.proofs.challenges.on_challenge.Goals as goal
 
 pub returns-clause-step : goal.returns-clause-step
@@ -20,8 +20,8 @@ returns-clause-step g c clean s is_club k =
     omega (arith, c.all_events.ensures.reads.clean) in
     let at_under : HasCleanDisk (state g.S.Store c.challenge_by.new.conn) =
     omega (arith, at_members, c.all_members.ensures.reads.clean) in
-    let one = c.in_ok-under.ensures.kept at_under club_schema (tables s) k in
-    let two = c.in_ok-members.ensures.kept at_members club_schema (tables s) one in
+    let one = still_rows _ _ (c.in_ok-under.ensures.reads.kept refl at_under) (tables s) k in
+    let two = still_rows _ _ (c.in_ok-members.ensures.reads.kept refl at_members) (tables s) one in
     let ms = ap members_of c.deref.ensures.value ∙ c.in_ok-members.ensures.values at_members s one in
     let es = ap events_of c.deref-2.ensures.value ∙ c.in_ok-events.ensures.values clean s is_club two in
     let under = c.in_ok-under.ensures.found at_under s is_club k in
@@ -40,11 +40,7 @@ returns-clause-step g c clean s is_club k =
     subst (λ o. IsDecided s o d) (ap (map_outcome f) (c.open_challenge-decision.ensures ∙ same)
     ∙ sym (member_mapped f c.args.caller wanted)) (step s is_club)
 
-pub returns-clause-kept : goal.returns-clause-kept
-returns-clause-kept g c clean schema content k =
-    let at_members : HasCleanDisk (state g.S.Store c.all_members.new.conn) =
-    omega (arith, c.all_events.ensures.reads.clean) in
-    let at_under : HasCleanDisk (state g.S.Store c.challenge_by.new.conn) =
-    omega (arith, at_members, c.all_members.ensures.reads.clean) in
-    c.in_ok-events.ensures.kept clean schema content
-    (c.in_ok-members.ensures.kept at_members schema content (c.in_ok-under.ensures.kept at_under schema content k))
+pub returns-clause-reads : goal.returns-clause-reads
+returns-clause-reads g c =
+    read_then _ _ _ _ c.in_ok-under.ensures.reads
+    (read_then _ _ _ _ c.in_ok-members.ensures.reads c.in_ok-events.ensures.reads)

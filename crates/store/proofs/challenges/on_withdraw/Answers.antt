@@ -20,6 +20,3 @@ returns-clause-step g c clean s is_club k =
     in
     subst (λ o. IsDecided s o d) (ap (map_outcome f) (c.withdraw.ensures ∙ same)
     ∙ sym (member_mapped f c.args.caller wanted)) (step s is_club)
-
-pub returns-clause-kept : goal.returns-clause-kept
-returns-clause-kept g c clean = c.in_ok-under.ensures.kept clean

@@ -1,11 +1,11 @@
-use Rattle.store_tables.specs.Tables.{club_schema}
-use Rattle.std.proofs.Common.{ap, sym, ◌∙◌, arith}
+use Rattle.std.proofs.Common.{ap, sym, ◌∙◌, arith, refl}
 use Rattle.std.specs.Prelude.{max}
 use Rattle.std.proofs.lemmas.Result.{IfOk-weaker}
 use Rattle.sqlite.specs.Held.{state}
 use Rattle.sqlite.specs.State.{HasCleanDisk}
 use Rattle.club_rows.specs.Club.{tables}
-use Rattle.club_changes.proofs.Proved.{on_ok, caller_decided, nobody_decided}
+use Rattle.club_changes.proofs.Proved.{caller_decided, nobody_decided}
+use Rattle.store_tables.proofs.Proved.{read_then, still_rows}
 use Rattle.store.proofs.command.decide_request.Goals as goal
 
 pub returns-in-Some-clause-step : goal.returns-in-Some-clause-step
@@ -15,36 +15,29 @@ returns-in-Some-clause-step g c clean =
     let after_last : HasCleanDisk (state g.S.Store c.last_moment.new.conn) =
     omega (arith, c.caller_by.ensures.reads.clean, c.on_command.ensures.reads.clean) in
     IfOk-weaker c.on_command.result _ _ (λ d step s is_club k.
-    let kept = c.in_ok-last.ensures.kept after_last club_schema (tables s) k in
+    let kept = still_rows _ _ (c.in_ok-last.ensures.reads.kept refl after_last) (tables s) k in
     let last = c.in_ok-last.ensures.last after_last s k in
     let moment = c.later.ensures ∙ ap (max c.args.moment) last in
     let caller = sym c.in-Some.is ∙ c.in_ok-caller.ensures.found after_caller s is_club kept in
     caller_decided s c.args.moment c.later.result c.args.who.now c.in-Some.caller c.args.command.now d moment caller
-    (step s is_club (omega (arith, moment)) (c.in_ok-caller.ensures.kept after_caller club_schema (tables s) kept)))
+    (step s is_club (omega (arith, moment))
+    (still_rows _ _ (c.in_ok-caller.ensures.reads.kept refl after_caller) (tables s) kept)))
     (c.on_command.ensures.step clean)
 
 pub returns-in-None-clause-step : goal.returns-in-None-clause-step
 returns-in-None-clause-step g c clean s is_club k =
     let after_last : HasCleanDisk (state g.S.Store c.last_moment.new.conn) =
     omega (arith, c.caller_by.ensures.reads.clean) in
-    let kept = c.in_ok-last.ensures.kept after_last club_schema (tables s) k in
+    let kept = still_rows _ _ (c.in_ok-last.ensures.reads.kept refl after_last) (tables s) k in
     let caller = sym c.in-None.is ∙ c.in_ok-caller.ensures.found clean s is_club kept in
     nobody_decided s c.args.moment c.args.who.now c.args.command.now c.unchanged.result caller
     c.unchanged.ensures.outcome c.unchanged.ensures.none
 
-pub returns-in-Some-clause-kept : goal.returns-in-Some-clause-kept
-returns-in-Some-clause-kept g c clean =
-    let after_caller : HasCleanDisk (state g.S.Store c.caller_by.new.conn) =
-    omega (arith, c.on_command.ensures.reads.clean) in
-    let after_last : HasCleanDisk (state g.S.Store c.last_moment.new.conn) =
-    omega (arith, c.caller_by.ensures.reads.clean, c.on_command.ensures.reads.clean) in
-    on_ok c.on_command.result _ _ (λ last schema content k.
-    last schema content
-    (c.in_ok-caller.ensures.kept after_caller schema content
-    (c.in_ok-last.ensures.kept after_last schema content k))) (c.on_command.ensures.kept clean)
+pub returns-in-Some-clause-reads : goal.returns-in-Some-clause-reads
+returns-in-Some-clause-reads g c =
+    read_then _ _ _ _ c.in_ok-last.ensures.reads
+    (read_then _ _ _ _ c.in_ok-caller.ensures.reads c.on_command.ensures.reads)
 
-pub returns-in-None-clause-kept : goal.returns-in-None-clause-kept
-returns-in-None-clause-kept g c clean schema content k =
-    let after_last : HasCleanDisk (state g.S.Store c.last_moment.new.conn) =
-    omega (arith, c.caller_by.ensures.reads.clean) in
-    c.in_ok-caller.ensures.kept clean schema content (c.in_ok-last.ensures.kept after_last schema content k)
+pub returns-in-None-clause-reads : goal.returns-in-None-clause-reads
+returns-in-None-clause-reads g c =
+    read_then _ _ _ _ c.in_ok-last.ensures.reads c.in_ok-caller.ensures.reads

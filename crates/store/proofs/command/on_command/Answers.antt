@@ -1,12 +1,11 @@
-use Rattle.store_tables.specs.Tables.{club_schema}
-use Rattle.std.proofs.Common.{ap, sym, subst, ◌∙◌, arith}
+use Rattle.std.proofs.Common.{ap, sym, subst, ◌∙◌, arith, refl}
 use Rattle.std.proofs.lemmas.Result.{IfOk-weaker}
 use Rattle.sqlite.specs.Held.{state}
 use Rattle.sqlite.specs.State.{HasCleanDisk}
 use Rattle.club_core.specs.Answer.{events_of, members_of, command_of}
 use Rattle.club_rows.specs.Club.{tables}
 use Rattle.club_changes.specs.Steps.{caller_step, IsDecided}
-use Rattle.club_changes.proofs.Proved.{on_ok}
+use Rattle.store_tables.proofs.Proved.{read_then, still_rows}
 use Rattle.store.proofs.command.on_command.Goals as goal
 
 pub returns-in_ok-decided-in-AddMember-clause-step : goal.returns-in_ok-decided-in-AddMember-clause-step
@@ -33,23 +32,12 @@ returns-in_ok-events-in-Seat-clause-step g c clean =
     omega (arith, c.on_seat.ensures.reads.clean) in
     let listed : HasCleanDisk (state g.S.Store c.all_members-in-Seat.new.conn) =
     omega (arith, c.all_events-in-Seat.ensures.reads.clean, c.on_seat.ensures.reads.clean) in
-    let one = c.in_ok-members-in-Seat.ensures.kept listed club_schema (tables s) k in
-    let two = c.in_ok-events-in-Seat.ensures.kept read club_schema (tables s) one in
+    let one = still_rows _ _ (c.in_ok-members-in-Seat.ensures.reads.kept refl listed) (tables s) k in
+    let two = still_rows _ _ (c.in_ok-events-in-Seat.ensures.reads.kept refl read) (tables s) one in
     let ms = ap members_of c.deref-in-Seat.ensures.value ∙ c.in_ok-members-in-Seat.ensures.values listed s k in
     let es = ap events_of c.deref-in-Seat-2.ensures.value ∙ c.in_ok-events-in-Seat.ensures.values read s is_club one in
     subst (λ x. IsDecided s (caller_step s c.args.moment c.args.caller (command_of x)) d) (sym c.in-Seat.is)
     (step s is_club ms es two)) (c.on_seat.ensures.step clean)
-
-pub returns-in_ok-events-in-Seat-clause-kept : goal.returns-in_ok-events-in-Seat-clause-kept
-returns-in_ok-events-in-Seat-clause-kept g c clean =
-    let read : HasCleanDisk (state g.S.Store c.all_events-in-Seat.new.conn) =
-    omega (arith, c.on_seat.ensures.reads.clean) in
-    let listed : HasCleanDisk (state g.S.Store c.all_members-in-Seat.new.conn) =
-    omega (arith, c.all_events-in-Seat.ensures.reads.clean, c.on_seat.ensures.reads.clean) in
-    on_ok c.on_seat.result _ _ (λ last schema content k.
-    last schema content
-    (c.in_ok-events-in-Seat.ensures.kept read schema content
-    (c.in_ok-members-in-Seat.ensures.kept listed schema content k))) (c.on_seat.ensures.kept clean)
 
 pub returns-in-Import-clause-step : goal.returns-in-Import-clause-step
 returns-in-Import-clause-step g c clean =
@@ -80,3 +68,8 @@ returns-in-Answer-clause-step g c clean =
     IfOk-weaker c.on_answer.result _ _ (λ d step s is_club later k.
     subst (λ x. IsDecided s (caller_step s c.args.moment c.args.caller (command_of x)) d) (sym c.in-Answer.is)
     (step s is_club k)) (c.on_answer.ensures.step clean)
+
+pub returns-in_ok-events-in-Seat-clause-reads : goal.returns-in_ok-events-in-Seat-clause-reads
+returns-in_ok-events-in-Seat-clause-reads g c =
+    read_then _ _ _ _ c.in_ok-members-in-Seat.ensures.reads
+    (read_then _ _ _ _ c.in_ok-events-in-Seat.ensures.reads c.on_seat.ensures.reads)

@@ -1,4 +1,3 @@
-use Rattle.store_tables.specs.Tables.{club_schema}
 use Rattle.std.proofs.Common.{◌≡◌, [], ◌∷◌, length, Some, string_bytes, refl, ap, sym, subst, ◌∙◌, arith}
 use Rattle.sqlite.specs.Held.{state}
 use Rattle.sqlite.specs.State.{HasCleanDisk}
@@ -12,6 +11,7 @@ use Rattle.club_rows.specs.Club.{tables}
 use Rattle.club_changes.specs.Steps.{game_in, started, started_seen, started_scores, Puts, no_rows}
 use Rattle.club_changes.proofs.Proved.{numbered_length, officer_none, seat_same, seat_decided}
 use Rattle.club_reads.proofs.Proved.{games_begin}
+use Rattle.store_tables.proofs.Proved.{read_then, still_rows}
 use Rattle.store.proofs.command.on_seat.Goals as goal
 
 pub returns-in_ok-changes-in-Starts-clause-step : goal.returns-in_ok-changes-in-Starts-clause-step
@@ -25,7 +25,7 @@ returns-in_ok-changes-in-Starts-clause-step g c clean s is_club ms es k =
     let under = c.in_ok-under_key.ensures.found looked s is_club k ∙ ap (game_under s.games) c.as_str.ensures.value in
     let count =
     (c.in_ok-count.ensures.count clean refl (tables s)
-    (c.in_ok-under_key.ensures.kept looked club_schema (tables s) k) (games_begin s)) in
+    (still_rows _ _ (c.in_ok-under_key.ensures.reads.kept refl looked) (tables s) k) (games_begin s)) in
     let games : c.in-Ok.games ≡ length s.games =
     omega (arith, c.in-Ok.ensures, count, numbered_length (game_in s) 1 s.games) in
     let same = seat_same _ who key event first second _ s.members _ s.events _ (game_under s.games key) _
@@ -69,7 +69,7 @@ returns-in-Repeated-clause-step g c clean s is_club ms es k =
     let under = c.in_ok-under_key.ensures.found looked s is_club k ∙ ap (game_under s.games) c.as_str.ensures.value in
     let count =
     (c.in_ok-count.ensures.count clean refl (tables s)
-    (c.in_ok-under_key.ensures.kept looked club_schema (tables s) k) (games_begin s)) in
+    (still_rows _ _ (c.in_ok-under_key.ensures.reads.kept refl looked) (tables s) k) (games_begin s)) in
     let games : c.in-Ok.games ≡ length s.games =
     omega (arith, c.in-Ok.ensures, count, numbered_length (game_in s) 1 s.games) in
     let step = seat_step s.members s.events (game_under s.games key) (length s.games) key event first second in
@@ -90,7 +90,7 @@ returns-in-Refused-clause-step g c clean s is_club ms es k =
     let under = c.in_ok-under_key.ensures.found looked s is_club k ∙ ap (game_under s.games) c.as_str.ensures.value in
     let count =
     (c.in_ok-count.ensures.count clean refl (tables s)
-    (c.in_ok-under_key.ensures.kept looked club_schema (tables s) k) (games_begin s)) in
+    (still_rows _ _ (c.in_ok-under_key.ensures.reads.kept refl looked) (tables s) k) (games_begin s)) in
     let games : c.in-Ok.games ≡ length s.games =
     omega (arith, c.in-Ok.ensures, count, numbered_length (game_in s) 1 s.games) in
     let step = seat_step s.members s.events (game_under s.games key) (length s.games) key event first second in
@@ -100,17 +100,14 @@ returns-in-Refused-clause-step g c clean s is_club ms es k =
     (given.Refused c.in-Refused.refusal) c.unchanged-in-Refused.ensures.outcome c.unchanged-in-Refused.ensures.none
     (ap answered same) refl
 
-pub returns-in_ok-changes-in-Starts-clause-kept : goal.returns-in_ok-changes-in-Starts-clause-kept
-returns-in_ok-changes-in-Starts-clause-kept g c clean schema content k =
-    let looked : HasCleanDisk (state g.S.Store c.game_under.new.conn) = omega (arith, c.count.ensures.reads.clean) in
-    c.in_ok-count.ensures.kept clean schema content (c.in_ok-under_key.ensures.kept looked schema content k)
+pub returns-in_ok-changes-in-Starts-clause-reads : goal.returns-in_ok-changes-in-Starts-clause-reads
+returns-in_ok-changes-in-Starts-clause-reads g c =
+    read_then _ _ _ _ c.in_ok-under_key.ensures.reads c.in_ok-count.ensures.reads
 
-pub returns-in-Repeated-clause-kept : goal.returns-in-Repeated-clause-kept
-returns-in-Repeated-clause-kept g c clean schema content k =
-    let looked : HasCleanDisk (state g.S.Store c.game_under.new.conn) = omega (arith, c.count.ensures.reads.clean) in
-    c.in_ok-count.ensures.kept clean schema content (c.in_ok-under_key.ensures.kept looked schema content k)
+pub returns-in-Repeated-clause-reads : goal.returns-in-Repeated-clause-reads
+returns-in-Repeated-clause-reads g c =
+    read_then _ _ _ _ c.in_ok-under_key.ensures.reads c.in_ok-count.ensures.reads
 
-pub returns-in-Refused-clause-kept : goal.returns-in-Refused-clause-kept
-returns-in-Refused-clause-kept g c clean schema content k =
-    let looked : HasCleanDisk (state g.S.Store c.game_under.new.conn) = omega (arith, c.count.ensures.reads.clean) in
-    c.in_ok-count.ensures.kept clean schema content (c.in_ok-under_key.ensures.kept looked schema content k)
+pub returns-in-Refused-clause-reads : goal.returns-in-Refused-clause-reads
+returns-in-Refused-clause-reads g c =
+    read_then _ _ _ _ c.in_ok-under_key.ensures.reads c.in_ok-count.ensures.reads

@@ -1,5 +1,4 @@
-use Rattle.store_tables.specs.Tables.{club_schema}
-use Rattle.std.proofs.Common.{◌≤◌, sym, subst, arith}
+use Rattle.std.proofs.Common.{◌≤◌, sym, subst, arith, refl}
 use Rattle.std.specs.Prelude.{IsTrue}
 use Rattle.std.proofs.lemmas.Result.{IfOk-weaker}
 use Rattle.sqlite.specs.Held.{state}
@@ -12,7 +11,7 @@ use Rattle.club_core.specs.Step.{game_step}
 use Rattle.club_core.specs.View.{ShowsPly}
 use Rattle.club_rows.specs.Replay.{terms_given}
 use Rattle.club_changes.specs.Steps.{IsDecidedIn}
-use Rattle.club_changes.proofs.Proved.{on_ok}
+use Rattle.store_tables.proofs.Proved.{read_then, still_rows}
 use Rattle.store.proofs.game.act.Goals as goal
 
 pub returns-clause-step : goal.returns-clause-step
@@ -25,7 +24,7 @@ returns-clause-step g c clean =
     let view = c.in_ok-view.view in
     let (shows, asked) = c.in_ok-view.ensures.shows looked content old k tells plays of in
     let is = c.in_ok-view.ensures.terms in
-    let kept = c.in_ok-view.ensures.kept looked club_schema content k in
+    let kept = still_rows _ _ (c.in_ok-view.ensures.reads.kept refl looked) content k in
     let asked_for = subst (λ n. ShowsPly laws old n view) c.asked_ply-ply.ensures asked in
     subst
     (λ t. IsDecidedIn laws t c.args.stored.now.id c.args.moment (content 14) old
@@ -35,8 +34,6 @@ returns-clause-step g c clean =
     (subst (λ t. IsLegalGame laws t old) (sym is) of.legal) shows asked_for
     (subst (λ t. (clocks_of old t).since ≤ c.args.moment) (sym is) since))) (c.on_view.ensures.step clean)
 
-pub returns-clause-kept : goal.returns-clause-kept
-returns-clause-kept g c clean =
-    let looked : HasCleanDisk (state g.S.Store c.asked_view.new.conn) = omega (arith, c.on_view.ensures.reads.clean) in
-    on_ok c.on_view.result _ _ (λ last schema content k.
-    last schema content (c.in_ok-view.ensures.kept looked schema content k)) (c.on_view.ensures.kept clean)
+pub returns-clause-reads : goal.returns-clause-reads
+returns-clause-reads g c =
+    read_then _ _ _ _ c.in_ok-view.ensures.reads c.on_view.ensures.reads

@@ -1,17 +1,12 @@
-use Rattle.std.proofs.Common.{◌≡◌, ap, sym, subst, ◌∙◌, arith}
+use Rattle.std.proofs.Common.{◌≡◌, ap, sym, subst, ◌∙◌, arith, refl}
 use Rattle.sqlite.specs.Held.{state}
 use Rattle.sqlite.specs.State.{HasCleanDisk}
-use Rattle.store_tables.specs.Tables.{club_schema}
 use Rattle.club_core.specs.Step.{game_step}
 use Rattle.club_core.specs.View.{IsConcluded, concluded, settled_of}
 use Rattle.club_changes.specs.Steps.{IsSeenAfter}
 use Rattle.club_changes.proofs.Proved.{step_legal, seen_stood, seen_concluded}
+use Rattle.store_tables.proofs.Proved.{read_then, still_rows}
 use Rattle.store.proofs.game.counted.Goals as goal
-
-pub returns-clause-kept : goal.returns-clause-kept
-returns-clause-kept g c clean schema content k =
-    let looked : HasCleanDisk (state g.S.Store c.seen_by.new.conn) = omega (arith, c.scores_by.ensures.reads.clean) in
-    c.in_ok-scores.ensures.kept clean schema content (c.in_ok-seen.ensures.kept looked schema content k)
 
 pub returns-clause-concluded : goal.returns-clause-concluded
 returns-clause-concluded g c clean content terms old moment who command k tells legal plies decided =
@@ -30,6 +25,10 @@ returns-clause-concluded g c clean content terms old moment who command k tells 
       subst (λ d. IsSeenAfter laws c.args.game o d c.in_ok-seen.seen) (sym concluded_as)
           (seen_concluded laws terms old moment c.args.game o c.in_ok-seen.seen c.args.decision
           (settled_of laws c.args.decision times first) seen),
-      λ players. c.in_ok-scores.ensures.scores clean content (c.in_ok-seen.ensures.kept looked club_schema content k)
-          players,
+      λ players. c.in_ok-scores.ensures.scores clean content
+          (still_rows _ _ (c.in_ok-seen.ensures.reads.kept refl looked) content k) players,
     )
+
+pub returns-clause-reads : goal.returns-clause-reads
+returns-clause-reads g c =
+    read_then _ _ _ _ c.in_ok-seen.ensures.reads c.in_ok-scores.ensures.reads

@@ -5,7 +5,7 @@ use Rattle.club_core.specs.Imports.{imported}
 use Rattle.club_core.specs.State.{place, terms_at}
 use Rattle.club_laws.proofs.Proved.{imported-result}
 use Rattle.club_rows.specs.Replay.{terms_given}
-use Rattle.import_rows.specs.NewGames.{AreNewRows}
+use Rattle.club_changes.specs.NewGames.{AreNewRows}
 use Rattle.club_changes.specs.Steps.{score_list}
 use Rattle.club_changes.proofs.Proved.{put_as}
 use Rattle.store.proofs.imports.added.Goals as goal

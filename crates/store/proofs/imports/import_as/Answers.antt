@@ -1,4 +1,4 @@
-use Rattle.std.proofs.Common.{Some, ap, sym, subst₂, ◌∙◌, arith}
+use Rattle.std.proofs.Common.{Some, ap, sym, subst₂, ◌∙◌, arith, refl}
 use Rattle.std.specs.Option.{option_map}
 use Rattle.sqlite.specs.Held.{state}
 use Rattle.sqlite.specs.State.{HasCleanDisk}
@@ -10,9 +10,9 @@ use Rattle.club_core.specs.Members.{find_id}
 use Rattle.club_core.specs.Seats.{has_member_name}
 use Rattle.club_core.specs.State.{place, terms_at}
 use Rattle.club_imports.specs.Importing.{importing_of}
-use Rattle.store_tables.specs.Tables.{club_schema}
 use Rattle.club_changes.specs.Importing.{PutsNewGame, imported_by}
 use Rattle.club_changes.proofs.Proved.{by_known, officer_adds, added_in, repeated_in, refused_in}
+use Rattle.store_tables.proofs.Proved.{read_then, still_rows}
 use Rattle.store.proofs.imports.import_as.Goals as goal
 
 pub returns-in-Adds-clause-step : goal.returns-in-Adds-clause-step
@@ -33,7 +33,7 @@ returns-in-Adds-clause-step g c clean content old k of =
     known.games (record { pairing = pairing_of new.pairing; recorded = recorded_of new.recorded }) new.game who
     (event_declares (events_of known.events.items) given.event)
     (find_id (has_event_name given.event) (events_of known.events.items)) same in
-    let kept = c.in_ok-played.ensures.kept looked club_schema content k in
+    let kept = still_rows _ _ (c.in_ok-played.ensures.reads.kept refl looked) content k in
     let puts = c.in_ok-changes-in-Adds.ensures.puts clean content kept adds.apart in
     added_in laws (events_of known.events.items) given.key known.games c.args.moment (content 14)
     (imported_by laws records known who given old)
@@ -74,7 +74,6 @@ returns-clause-step g c clean content old k of =
     c.unchanged-in-Refused.result (imported_by laws records known who given old) c.in-Refused.refusal
     c.unchanged-in-Refused.ensures.outcome c.unchanged-in-Refused.ensures.none same
 
-pub returns-in-Adds-clause-kept : goal.returns-in-Adds-clause-kept
-returns-in-Adds-clause-kept g c clean schema content k =
-    let looked : HasCleanDisk (state g.S.Store c.played_under.new.conn) = omega (arith, c.added.ensures.reads.clean) in
-    c.in_ok-changes-in-Adds.ensures.kept clean schema content (c.in_ok-played.ensures.kept looked schema content k)
+pub returns-in-Adds-clause-reads : goal.returns-in-Adds-clause-reads
+returns-in-Adds-clause-reads g c =
+    read_then _ _ _ _ c.in_ok-played.ensures.reads c.in_ok-changes-in-Adds.ensures.reads

@@ -1,4 +1,3 @@
-use Rattle.store_tables.specs.Tables.{club_schema}
 use Rattle.std.proofs.Common.{arith}
 use Rattle.sqlite.specs.Held.{state}
 use Rattle.store_tables.proofs.Proved.{steps_then}
@@ -23,5 +22,5 @@ returns-clause-put g c clean inside =
     (omega (arith, c.put_counts.ensures.survives.clean, c.put_meta.ensures.survives.clean)) one.inside in
     let three = c.in_ok-put_counts.ensures.put (omega (arith, c.put_meta.ensures.survives.clean)) two.inside in
     let four = c.in_ok-put_meta.ensures.put clean three.inside in
-    steps_then club_schema _ _ s0 s3 s4
-    (steps_then club_schema _ _ s0 s2 s3 (steps_then club_schema _ _ s0 s1 s2 one two) three) four
+    steps_then _ _ s0 s3 s4
+    (steps_then _ _ s0 s2 s3 (steps_then _ _ s0 s1 s2 one two) three) four

@@ -29,7 +29,8 @@ returns-in_err-commit-clause-survives g c =
     let old = c.args.conn.now in
     let last = c.fill_inside.new.tx.conn.now in
     let begun = c.transaction-tx.ensures.begun in
-    let P = λ (trees : Trees). (IsExactlyEmpty (state g.S.Store old) → Leaves (changed c.args.changes.now opening) trees)
+    let P = λ (trees : Trees).
+    (IsExactlyEmpty (state g.S.Store old) → Leaves (changed c.args.changes.now opening) trees)
     × (IsClubSchema (state g.S.Store old).now.schema → ⊥) in
     let whole = survives_then (state g.S.Store old) (state g.S.Store last) (state g.S.Store c.commit.new.self.0) _ _ P
     (λ _ db none. absurd none)
@@ -38,7 +39,8 @@ returns-in_err-commit-clause-survives g c =
           let steps = c.in_ok-fill_inside.ensures.filled (omega (arith, c.commit.ensures.survives.clean)) (rw begun)
           in
           subst (Leaves (changed c.args.changes.now opening)) (sym is)
-          (leaves_of club_schema (state g.S.Store last).now (changed c.args.changes.now opening) ((rw begun at steps.holds) k.now)),
+          (leaves_of club_schema (state g.S.Store last).now (changed c.args.changes.now opening)
+          ((rw begun at steps.holds) k.now)),
       λ has. c.in_ok-fill_inside.ensures.refuses (omega (arith, c.commit.ensures.survives.clean)) (rw begun)
           (rw begun has),
     ))
@@ -52,7 +54,8 @@ returns-clause-survives g c =
     let old = c.args.conn.now in
     let last = c.fill_inside.new.tx.conn.now in
     let begun = c.transaction-tx.ensures.begun in
-    let P = λ (trees : Trees). (IsExactlyEmpty (state g.S.Store old) → Leaves (changed c.args.changes.now opening) trees)
+    let P = λ (trees : Trees).
+    (IsExactlyEmpty (state g.S.Store old) → Leaves (changed c.args.changes.now opening) trees)
     × (IsClubSchema (state g.S.Store old).now.schema → ⊥) in
     let whole = survives_then (state g.S.Store old) (state g.S.Store last) (state g.S.Store c.commit.new.self.0) _ _ P
     (λ _ db none. absurd none)
@@ -61,7 +64,8 @@ returns-clause-survives g c =
           let steps = c.in_ok-fill_inside.ensures.filled (omega (arith, c.commit.ensures.survives.clean)) (rw begun)
           in
           subst (Leaves (changed c.args.changes.now opening)) (sym is)
-          (leaves_of club_schema (state g.S.Store last).now (changed c.args.changes.now opening) ((rw begun at steps.holds) k.now)),
+          (leaves_of club_schema (state g.S.Store last).now (changed c.args.changes.now opening)
+          ((rw begun at steps.holds) k.now)),
       λ has. c.in_ok-fill_inside.ensures.refuses (omega (arith, c.commit.ensures.survives.clean)) (rw begun)
           (rw begun has),
     ))

@@ -1,4 +1,3 @@
-use Rattle.std.proofs.Common.{◌≡◌}
 use Rattle.sqlite.specs.Held.{state}
 use Rattle.store_sql.proofs.OpenLemmas.{opens_exactly}
 use Rattle.store_sql.proofs.reopen.holds_exactly.Goals as goal

@@ -1,10 +1,9 @@
-use Rattle.store_tables.specs.Tables.{club_schema}
-use Rattle.std.proofs.Common.{arith, [], ◌∷◌, map, subst, sym, ap, ◌∙◌, take, ◌++◌, ◌<◌, length}
-use Rattle.std.proofs.lemmas.List.{take_more, map-append}
+use Rattle.std.proofs.Common.{◌≡◌, arith, [], ◌∷◌, map, subst, sym, ap, ◌∙◌, take, ◌++◌, ◌<◌, length}
+use Rattle.std.proofs.lemmas.List.{take_all, take_more, map-append}
 use Rattle.sqlite.specs.Held.{state}
 use Rattle.sqlite.proofs.StateLemmas.{survives_then}
 use Rattle.store_tables.specs.Contents.{put_each}
-use Rattle.store_tables.specs.Club.{Steps}
+use Rattle.store_tables.specs.Beside.{StepsBeside}
 use Rattle.store_tables.proofs.Proved.{one_more}
 use Rattle.store_sql.proofs.upsert.put_all.Goals as goal
 
@@ -28,7 +27,15 @@ rows-preserved g c =
           let longer = take_more rows i c.row-item.result within
           ∙ ap (λ r. take i rows ++ r ∷ []) (sym c.row-item.is) in
           let shown = ap (map cells) longer ∙ map-append cells (take i rows) (c.row-item.result ∷ []) in
-          subst (λ l. Steps (put_each tree key l) old new) (sym shown)
-          (one_more club_schema tree key (map cells (take i rows)) (cells c.row-item.result) old mid new so_far
+          subst (λ l. StepsBeside (put_each tree key l) old new) (sym shown)
+          (one_more tree key (map cells (take i rows)) (cells c.row-item.result) old mid new so_far
           step),
     )
+
+pub returns-clause-put : goal.returns-clause-put
+returns-clause-put g c clean inside =
+    let rows = c.args.rows.now in
+    let whole : take c.rows.row-index rows ≡ rows = take_all c.rows.row-index rows (omega arith) in
+    subst (λ l. StepsBeside (put_each g.T.Put.tree g.T.Put.key (map g.T.TableRow.cells l))
+    (state g.S.Store c.args.tx.now.conn.now) (state g.S.Store c.rows.tx.conn.now)) whole
+    (c.rows.invariant.2 clean inside)

@@ -2,7 +2,7 @@ use Rattle.std.proofs.Common.{◌≡◌, IsTrue, map, take}
 use Rattle.sqlite.specs.State.{HasCleanDisk, Survives}
 use Rattle.sqlite.specs.Held.{state}
 use Rattle.store_tables.specs.Contents.{put_each}
-use Rattle.store_tables.specs.Club.{Steps}
+use Rattle.store_tables.specs.Beside.{StepsBeside}
 use Rattle.store_sql.proofs.upsert.put_all.Given as goal
 
 abbrev pub invariant-rows : goal.invariant-rows
@@ -11,4 +11,4 @@ invariant-rows g l =
     let now = state g.S.Store l.tx.conn.now in
     (l.tx.conn.ghost_name ≡ l.fn.tx.conn.ghost_name) × Survives old now (λ _. ⊥)
     × (HasCleanDisk now → IsTrue old.in_transaction
-    → Steps (put_each g.T.Put.tree g.T.Put.key (map g.T.TableRow.cells (take l.row-index l.rows))) old now)
+    → StepsBeside (put_each g.T.Put.tree g.T.Put.key (map g.T.TableRow.cells (take l.row-index l.rows))) old now)

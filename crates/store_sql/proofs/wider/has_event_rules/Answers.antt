@@ -1,24 +1,27 @@
-use Rattle.std.proofs.Common.{◌≡◌, pos, rules, subst, sym, inl, inr}
+use Rattle.std.proofs.Common.{◌≡◌, pos, rules, subst, sym}
 use Rattle.sqlite.specs.Held.{state}
+use Rattle.store_tables.specs.Beside.{no_others}
 use Rattle.store_tables.specs.Queries.{IsSelect}
 use Rattle.store_tables.specs.Tables.{club_schema, event_rules}
 use Rattle.store_tables.specs.Texts.{event_rules_all, event_rules_by_first, event_rules_ids}
-use Rattle.store_tables.proofs.Proved.{event_rules_read, only_reads, select_unchanged}
+use Rattle.store_tables.proofs.Proved.{event_rules_read, only_reading, reads_by, select_unchanged}
 use Rattle.store_sql.proofs.GroupLemmas.{group_known}
+use Rattle.store_sql.proofs.SelectLemmas.{keeps_content, select_reads}
 use Rattle.store_sql.proofs.WiderLemmas.{never_shown, refused_unchanged}
 use Rattle.store_sql.proofs.wider.has_event_rules.Goals as goal
 
 pub returns-in-Ok-clause-reads : goal.returns-in-Ok-clause-reads
 returns-in-Ok-clause-reads g c =
     let text : c.by_first.result.now ≡ event_rules_by_first = c.by_first.ensures in
-    only_reads c.by_first.result.now (subst IsSelect (sym text) event_rules_read.group_is) _
+    rw c.in-Ok.is at
+    (select_reads c.by_first.result.now (subst IsSelect (sym text) (event_rules_read no_others).group_is) _
     (state g.S.Store c.args.conn.now) (state g.S.Store c.query_all.new.self) (λ rows. rows.items) c.query_all.result
-    c.query_all.ensures.mode c.query_all.ensures.survives c.query_all.ensures.ok c.query_all.ensures.err
+    c.query_all.ensures.mode c.query_all.ensures.survives c.query_all.ensures.ok c.query_all.ensures.err)
 
 pub returns-in-Ok-clause-same : goal.returns-in-Ok-clause-same
 returns-in-Ok-clause-same g c clean known =
     let text : c.by_first.result.now ≡ event_rules_by_first = c.by_first.ensures in
-    select_unchanged c.by_first.result.now (subst IsSelect (sym text) event_rules_read.group_is) _
+    select_unchanged c.by_first.result.now (subst IsSelect (sym text) (event_rules_read no_others).group_is) _
     (state g.S.Store c.args.conn.now) (state g.S.Store c.query_all.new.self) c.in-Ok.field-0.items
     (c.in-Ok.ensures.ok clean)
 
@@ -30,15 +33,25 @@ returns-in-Ok-clause-missing g c clean has =
 
 pub returns-then-is_refused-clause-reads : goal.returns-then-is_refused-clause-reads
 returns-then-is_refused-clause-reads g c =
+    let old = state g.S.Store c.args.conn.now in
+    let new = state g.S.Store c.query_all.new.self in
     let text : c.by_first.result.now ≡ event_rules_by_first = c.by_first.ensures in
-    only_reads c.by_first.result.now (subst IsSelect (sym text) event_rules_read.group_is) _
-    (state g.S.Store c.args.conn.now) (state g.S.Store c.query_all.new.self) (λ rows. rows.items) c.query_all.result
-    c.query_all.ensures.mode c.query_all.ensures.survives c.query_all.ensures.ok c.query_all.ensures.err
+    let select = subst IsSelect (sym text) (event_rules_read no_others).group_is in
+    let only = only_reading _ old new
+    (select_reads c.by_first.result.now select _ old new (λ rows. rows.items) c.query_all.result
+    c.query_all.ensures.mode c.query_all.ensures.survives c.query_all.ensures.ok c.query_all.ensures.err) in
+    reads_by _ old new only
+    (λ answered clean.
+    keeps_content old new
+    (refused_unchanged c.by_first.result.now _ old new select c.in-Err.error (c.in-Err.ensures.err clean)
+    (λ other. let no = c.is_refused.ensures.known other in let yes = c.if-is_refused.true in absurd cc))
+    (only.may clean))
 
 pub returns-then-is_refused-clause-stands : goal.returns-then-is_refused-clause-stands
 returns-then-is_refused-clause-stands g c clean has =
     let other = group_known club_schema (event_rules 16) 1 event_rules_all event_rules_ids event_rules_by_first
-    event_rules_read c.by_first.result.now _ (state g.S.Store c.args.conn.now) (state g.S.Store c.query_all.new.self)
+    (event_rules_read no_others) c.by_first.result.now _ (state g.S.Store c.args.conn.now)
+    (state g.S.Store c.query_all.new.self)
     c.by_first.ensures (pos 0) (search rules) c.in-Err.error (c.in-Err.ensures.err clean) has in
     let no = c.is_refused.ensures.known other in
     let yes = c.if-is_refused.true in
@@ -46,24 +59,16 @@ returns-then-is_refused-clause-stands g c clean has =
 
 pub returns-then-is_refused-clause-same : goal.returns-then-is_refused-clause-same
 returns-then-is_refused-clause-same g c clean known =
-    let old = state g.S.Store c.args.conn.now in
-    let new = state g.S.Store c.query_all.new.self in
-    elim known [
-      | inl first ↦ refused_unchanged c.by_first.result.now _ old new c.by_first.ensures first c.in-Err.error
-          (c.in-Err.ensures.err clean)
-          (λ other. let no = c.is_refused.ensures.known other in let yes = c.if-is_refused.true in absurd cc)
-      | inr current ↦
-          let other = group_known club_schema (event_rules 16) 1 event_rules_all event_rules_ids event_rules_by_first
-          event_rules_read c.by_first.result.now _ old new c.by_first.ensures (pos 0) (search rules) c.in-Err.error
-          (c.in-Err.ensures.err clean) current in
-          let no = c.is_refused.ensures.known other in
-          let yes = c.if-is_refused.true in
-          absurd cc
-    ]
+    let text : c.by_first.result.now ≡ event_rules_by_first = c.by_first.ensures in
+    let select = subst IsSelect (sym text) (event_rules_read no_others).group_is in
+    refused_unchanged c.by_first.result.now _ (state g.S.Store c.args.conn.now) (state g.S.Store c.query_all.new.self)
+    select c.in-Err.error (c.in-Err.ensures.err clean)
+    (λ other. let no = c.is_refused.ensures.known other in let yes = c.if-is_refused.true in absurd cc)
 
 pub returns-clause-reads : goal.returns-clause-reads
 returns-clause-reads g c =
     let text : c.by_first.result.now ≡ event_rules_by_first = c.by_first.ensures in
-    only_reads c.by_first.result.now (subst IsSelect (sym text) event_rules_read.group_is) _
+    rw c.in-Err.is at
+    (select_reads c.by_first.result.now (subst IsSelect (sym text) (event_rules_read no_others).group_is) _
     (state g.S.Store c.args.conn.now) (state g.S.Store c.query_all.new.self) (λ rows. rows.items) c.query_all.result
-    c.query_all.ensures.mode c.query_all.ensures.survives c.query_all.ensures.ok c.query_all.ensures.err
+    c.query_all.ensures.mode c.query_all.ensures.survives c.query_all.ensures.ok c.query_all.ensures.err)

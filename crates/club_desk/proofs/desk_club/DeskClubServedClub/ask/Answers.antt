@@ -1,5 +1,6 @@
-use Rattle.std.proofs.Common.{ap, Err}
+use Rattle.std.proofs.Common.{ap, Err, refl}
 use Rattle.sqlite.specs.Held.{state}
+use Rattle.store_tables.proofs.Proved.{has_rows}
 use Rattle.club_desk.proofs.AskLemmas.{asking_left, asking_shown}
 use Rattle.club_desk.proofs.ServeLemmas.{read_stands}
 use Rattle.club_desk.proofs.desk_club.DeskClubServedClub.ask.Goals as goal
@@ -8,10 +9,10 @@ pub returns-in-Ok-clause-serves : goal.returns-in-Ok-clause-serves
 returns-in-Ok-clause-serves g c clean s served = (
   asking_shown s c.args.moment c.args.question.now c.in-Ok.refusal c.new-bytes.result.items c.ask.new.writer.items
       c.answered.result c.new-bytes.ensures.items c.answered.ensures
-      (c.in-Ok.ensures.shown clean s served.legal served.exactly),
+      (c.in-Ok.ensures.shown clean s served.legal (has_rows _ _ served.exactly)),
   read_stands c.args.self.now.club.needs_reopening c.ask.new.self.needs_reopening
       (state g.S.Store c.args.self.now.club.connection) (state g.S.Store c.ask.new.self.connection) s
-      c.in-Ok.ensures.goes_on (c.in-Ok.ensures.kept clean served.ready) served,
+      c.in-Ok.ensures.goes_on (c.in-Ok.ensures.reads.kept refl clean) served,
 )
 
 pub returns-in-Err-clause-serves : goal.returns-in-Err-clause-serves
@@ -19,4 +20,4 @@ returns-in-Err-clause-serves g c clean s served =
     asking_left c.args.self.now.club.needs_reopening c.ask.new.self.needs_reopening
     (state g.S.Store c.args.self.now.club.connection) (state g.S.Store c.ask.new.self.connection) s c.in-Err.fault
     c.told_asking.result c.told_asking.ensures (λ is. c.in-Err.ensures.output (ap Err is)) c.in-Err.ensures.ends
-    (c.in-Err.ensures.named served.ready) c.in-Err.ensures.reads (c.in-Err.ensures.kept clean served.ready) clean served
+    (c.in-Err.ensures.named served.ready) c.in-Err.ensures.reads clean served

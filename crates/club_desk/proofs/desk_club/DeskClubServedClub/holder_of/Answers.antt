@@ -2,15 +2,9 @@ use Rattle.std.proofs.Common.{◌≡◌, ap, ◌∙◌}
 use Rattle.std.specs.Prelude.{option_map, string_bytes}
 use Rattle.sqlite.specs.Held.{state}
 use Rattle.club_reads.specs.Keys.{holder_of}
-use Rattle.club_desk.proofs.ServeLemmas.{clean_before, told_shut, read_serves, if_ok}
+use Rattle.store_tables.proofs.Proved.{has_rows}
+use Rattle.club_desk.proofs.ServeLemmas.{told_shut, read_serves, if_ok}
 use Rattle.club_desk.proofs.desk_club.DeskClubServedClub.holder_of.Goals as goal
-
-pub returns-clause-clean : goal.returns-clause-clean
-returns-clause-clean g c clean =
-    clean_before c.args.self.now.club.needs_reopening (state g.S.Store c.args.self.now.club.connection)
-    (state g.S.Store c.holder_of.new.self.connection)
-    (λ is. ap (λ k. state g.S.Store k.connection) (c.holder_of.ensures.shut is).1)
-    c.holder_of.ensures.reads clean
 
 pub returns-clause-shut : goal.returns-clause-shut
 returns-clause-shut g c fault shut =
@@ -23,7 +17,7 @@ returns-clause-serves g c clean s served =
     (state g.S.Store c.args.self.now.club.connection) (state g.S.Store c.holder_of.new.self.connection) s
     (λ name. option_map string_bytes name ≡ holder_of s c.args.key.now)
     c.holder_of.result c.told_all.result c.told_all.ensures c.holder_of.ensures.goes_on c.holder_of.ensures.ends
-    c.holder_of.ensures.named c.holder_of.ensures.reads (c.holder_of.ensures.kept clean)
+    c.holder_of.ensures.named c.holder_of.ensures.reads
     (if_ok _ _ c.holder_of.result (c.holder_of.ensures.held clean)
-    (λ name held. held s served.legal served.exactly))
+    (λ name held. held s served.legal (has_rows _ _ served.exactly)))
     clean served

@@ -2,15 +2,9 @@ use Rattle.std.proofs.Common.{ap, ◌∙◌}
 use Rattle.sqlite.specs.Held.{state}
 use Rattle.club_changes.specs.Stored.{AreLegalRows}
 use Rattle.http_bodies.specs.ShownViews.{rows_view}
-use Rattle.club_desk.proofs.ServeLemmas.{clean_before, told_shut, read_serves, if_ok}
+use Rattle.store_tables.proofs.Proved.{has_rows}
+use Rattle.club_desk.proofs.ServeLemmas.{told_shut, read_serves, if_ok}
 use Rattle.club_desk.proofs.desk_club.DeskClubServedClub.legal_rows.Goals as goal
-
-pub returns-clause-clean : goal.returns-clause-clean
-returns-clause-clean g c clean =
-    clean_before c.args.self.now.club.needs_reopening (state g.S.Store c.args.self.now.club.connection)
-    (state g.S.Store c.legal_rows.new.self.connection)
-    (λ is. ap (λ k. state g.S.Store k.connection) (c.legal_rows.ensures.shut is).1)
-    c.legal_rows.ensures.reads clean
 
 pub returns-clause-shut : goal.returns-clause-shut
 returns-clause-shut g c fault shut =
@@ -23,6 +17,7 @@ returns-clause-serves g c clean s served =
     (state g.S.Store c.args.self.now.club.connection) (state g.S.Store c.legal_rows.new.self.connection) s
     (λ rows. AreLegalRows s c.args.game (rows_view rows))
     c.legal_rows.result c.told_all.result c.told_all.ensures c.legal_rows.ensures.goes_on c.legal_rows.ensures.ends
-    c.legal_rows.ensures.named c.legal_rows.ensures.reads (c.legal_rows.ensures.kept clean)
-    (if_ok _ _ c.legal_rows.result (c.legal_rows.ensures.rows clean) (λ rows are. are s served.legal served.exactly))
+    c.legal_rows.ensures.named c.legal_rows.ensures.reads
+    (if_ok _ _ c.legal_rows.result (c.legal_rows.ensures.rows clean)
+    (λ rows are. are s served.legal (has_rows _ _ served.exactly)))
     clean served

@@ -1,20 +1,13 @@
-use Rattle.std.proofs.Common.{Option, Err, rules, subst}
+use Rattle.std.proofs.Common.{true, rules, subst}
 use Rattle.sqlite.specs.Held.{state}
-use Rattle.store_tables.specs.Contents.{IsExactly}
-use Rattle.club_requests.specs.declared.refusals.Refusal.{Refusal}
-use Rattle.club_views.specs.Exported.{KeepsUnlessCalled}
+use Rattle.store_tables.specs.Reading.{Reads}
+use Rattle.club_views.specs.Exported.{is_output}
 use Rattle.store.proofs.club.Club.ask.Goals as goal
 
-pub returns-in-Ok-clause-kept : goal.returns-in-Ok-clause-kept
-returns-in-Ok-clause-kept g c clean ready schema content k =
-    let inside : IsExactly schema content (state g.S.Store c.self.inside.connection) = search rules in
-    c.in-Ok.ensures.kept clean schema content inside
-
-pub returns-in-Err-Output-clause-kept : goal.returns-in-Err-Output-clause-kept
-returns-in-Err-Output-clause-kept g c clean ready schema content k =
-    let inside : IsExactly schema content (state g.S.Store c.self.inside.connection) = search rules in
-    let kept =
+pub returns-in-Err-Output-clause-reads : goal.returns-in-Err-Output-clause-reads
+returns-in-Err-Output-clause-reads g c =
+    let inside : Reads true (state g.S.Store c.self.inside.connection) (state g.S.Store c.answer.new.conn) =
     subst
-    (λ fault. KeepsUnlessCalled {A = Option Refusal} (Err fault) (state g.S.Store c.self.inside.connection)
-    (state g.S.Store c.answer.new.conn)) c.in-Err-Output.field-0-is (c.in-Err-Output.ensures.kept clean) in
-    kept schema content inside
+    (λ why. Reads (is_output why) (state g.S.Store c.self.inside.connection) (state g.S.Store c.answer.new.conn))
+    c.in-Err-Output.field-0-is c.in-Err-Output.ensures.reads in
+    search rules

@@ -8,6 +8,8 @@ use Rattle.club_changes.specs.Steps.{club_next}
 use Rattle.store.specs.Runs.{club_fold}
 use Rattle.store.proofs.RunLemmas.{count-more, first_of, served-none, served-next, served-outcomes}
 use Rattle.store.proofs.RunLemmas.{served-leaves, served-all, legal-all, after-served, after-next}
+use Rattle.store_tables.specs.Tables.{club_schema}
+use Rattle.store_tables.proofs.Proved.{has_rows, takes_itself}
 use Rattle.store.proofs.club.Club.run.Goals as goal
 
 pub loop-request-init : goal.loop-request-init
@@ -43,7 +45,8 @@ returns-in-Err-serve-clause-fault g c clean failed usable s is_club k db left =
     let now = club_fold s (first_of c.args.requests.now c.loop-request.request-index) in
     served-leaves s c.args.requests.now c.loop-request.request-index (length c.loop-request.outcomes.items)
     c.request-item.result db c.loop-request.invariant.2 c.loop-request-test.true c.request-item.is
-    (c.in-Err-serve.ensures.fault clean c.loop-request.invariant.0 now served.is_club served.exactly db left)
+    (c.in-Err-serve.ensures.fault clean c.loop-request.invariant.0 club_schema takes_itself now served.is_club
+    served.exactly db left)
 
 pub loop-request-preserved : goal.loop-request-preserved
 loop-request-preserved g c = (
@@ -61,8 +64,8 @@ loop-request-preserved g c = (
       (state g.S.Store c.loop-request.self.connection) (state g.S.Store c.serve.new.self.connection)
       c.loop-request-test.true c.request-item.is c.in-Ok-push.ensures.items served
       (c.serve.ensures.legal now served.is_club)
-      (c.in-Ok-serve.ensures.step clean now served.is_club served.exactly)
-      (c.in-Ok-serve.ensures.answer clean now served.is_club served.exactly),
+      (c.in-Ok-serve.ensures.step clean club_schema takes_itself now served.is_club served.exactly)
+      (c.in-Ok-serve.ensures.answer clean now served.is_club (has_rows _ _ served.exactly)),
 )
 
 pub returns-clause-goes_on : goal.returns-clause-goes_on
@@ -96,7 +99,7 @@ returns-in-Err-push-clause-fault g c clean failed usable s is_club k db left =
     let now = club_fold s (first_of c.args.requests.now c.loop-request.request-index) in
     let next = tables (club_next now (request_of c.request-item.result)) in
     let stored : IsExactly next (state g.S.Store c.serve.new.self.connection) =
-    c.in-Ok-serve.ensures.step after now served.is_club served.exactly in
+    c.in-Ok-serve.ensures.step after club_schema takes_itself now served.is_club served.exactly in
     let inside : IsExactly next (state g.S.Store c.self-in-loop-request.inside.connection) = search rules in
     served-leaves s c.args.requests.now c.loop-request.request-index (length c.push.new.self.items)
     c.request-item.result db (ap length c.in-Err-push.ensures.items ∙ c.loop-request.invariant.2)
@@ -121,7 +124,8 @@ returns-in-Err-serve-clause-left g c clean usable s is_club k db left =
     omega (arith, c.serve.ensures.clean, clean) in
     let served = c.loop-request.invariant.3 before s is_club k in
     let now = club_fold s (first_of c.args.requests.now c.loop-request.request-index) in
-    elim (c.in-Err-serve.ensures.fault clean c.loop-request.invariant.0 now served.is_club served.exactly db left) [
+    elim (c.in-Err-serve.ensures.fault clean c.loop-request.invariant.0 club_schema takes_itself now served.is_club
+    served.exactly db left) [
       | inl kept ↦
           inl
           (after-served s c.args.requests.now c.loop-request.request-index (length c.loop-request.outcomes.items) db
@@ -143,7 +147,7 @@ returns-in-Err-push-clause-left g c clean usable s is_club k db left =
     let now = club_fold s (first_of c.args.requests.now c.loop-request.request-index) in
     let next = tables (club_next now (request_of c.request-item.result)) in
     let stored : IsExactly next (state g.S.Store c.serve.new.self.connection) =
-    c.in-Ok-serve.ensures.step after now served.is_club served.exactly in
+    c.in-Ok-serve.ensures.step after club_schema takes_itself now served.is_club served.exactly in
     let inside : IsExactly next (state g.S.Store c.self-in-loop-request.inside.connection) = search rules in
     inr (
       search rules,

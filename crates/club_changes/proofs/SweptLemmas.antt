@@ -1,0 +1,321 @@
+-- A sweep, game by game: the rows so far, and the scores of the club in which these games have ended.
+use Rattle.std.proofs.Common.{◌≡◌, ◌≢◌, ℕ, ◌+◌, ◌≤◌, ◌^◌, List, [], ◌∷◌, ◌++◌, length, map, take, drop, pos, Option}
+use Rattle.std.proofs.Common.{Some, None, Bool, false, refl, ap, sym, subst, ◌∙◌, arith, inl, inr, append_assoc}
+use Rattle.std.proofs.Common.{length-append}
+use Rattle.std.specs.Prelude.{slice_get, count_by}
+use Rattle.std.specs.List.{flat_map}
+use Rattle.std.proofs.Math.Seq.{take-length}
+use Rattle.std.proofs.lemmas.Grind.{flat_map-append}
+use Rattle.std.proofs.lemmas.List.{append-nil, length-map, map-append}
+use Rattle.std.proofs.lemmas.List.Sums.{count_by-le-length}
+use Rattle.sqlite.specs.Order.{Row, column}
+use Rattle.squares.specs.declared.sides.Score.{Score}
+use Rattle.squares.specs.declared.sides.Side.{Side}
+use Rattle.squares.specs.Sides.{loses}
+use Rattle.store_tables.specs.Cells.{game_cells, score_cells}
+use Rattle.store_tables.specs.Changes.{HaveSame, put_rows}
+use Rattle.store_tables.specs.Content.{put}
+use Rattle.store_tables.specs.declared.rows.GameRecord.{GameRecord}
+use Rattle.store_tables.specs.declared.rows.ScoreRow.{ScoreRow}
+use Rattle.store_tables.proofs.Proved.{same_itself, same_then, put_had, put_kept, altered}
+use Rattle.club_core.specs.State.{draughts, shogi, pairing_of, is_late_any, swept_any, with_swept}
+use Rattle.club_rows.specs.Club.{ClubGame, ClubState, IsClub, both_games, tables}
+use Rattle.club_rows.specs.Scores.{Meeting, meetings, meetings_in, score_rows, scores_in}
+use Rattle.club_rows.specs.Tables.{number, gathered_from, row_of_game}
+use Rattle.club_rows.specs.declared.scores.Pair.{Pair}
+use Rattle.club_rows.specs.declared.scores.Sums.{Sums}
+use Rattle.club_changes.specs.Ended.{cells_lost}
+use Rattle.club_changes.specs.Standing.{AreShort, AreStanding, HasPlayers, PutsRows}
+use Rattle.club_changes.specs.Swept.{IsSwept}
+use Rattle.club_changes.specs.declared.swept.rows.SweptRows.{SweptRows}
+use Rattle.club_changes.proofs.FewLemmas.{meets_few, parts_length, players_short}
+use Rattle.club_changes.proofs.LateGames.{IsFoundLate, IsLostIn, TellsLateIn, tells_late, apart, in_time_stays}
+use Rattle.club_changes.proofs.PlacedIds.{numbered_at, numbered_length, take_next, drop_next, drop_all, taken_length}
+use Rattle.club_changes.proofs.PlacedIds.{gathered_last, row_if, row_if_passes, row_if_fails, passing_count}
+use Rattle.club_changes.proofs.PlacedIds.{passing_alter}
+
+-- ---- rows that are put in two turns
+
+module _ (key : List ℕ) where
+  put_then : (rows more table : List Row) → put_rows key (rows ++ more) table
+      ≡ put_rows key more (put_rows key rows table)
+  put_then [] more table = refl
+  put_then (row ∷ rows) more table = put_then rows more (put key row table)
+
+  put_same : (row : Row) (one other : List Row) → HaveSame one other → HaveSame (put key row one) (put key row other)
+  put_same row one other same = record {
+    there = λ z h. elim (put_had key row one z h)
+        [ inl is ↦ inl is | inr was ↦ put_kept key row other z (same.there z was.0) was.1 ];
+    back = λ z h. elim (put_had key row other z h)
+        [ inl is ↦ inl is | inr was ↦ put_kept key row one z (same.back z was.0) was.1 ];
+  }
+
+  rows_same : (rows one other : List Row) → HaveSame one other
+      → HaveSame (put_rows key rows one) (put_rows key rows other)
+  rows_same [] one other same = same
+  rows_same (row ∷ rows) one other same = rows_same rows (put key row one) (put key row other)
+      (put_same row one other same)
+
+  put_on : (table was now rows more all : List Row) → all ≡ rows ++ more → HaveSame (put_rows key rows table) was
+      → HaveSame (put_rows key more was) now → HaveSame (put_rows key all table) now
+  put_on table was now rows more all is first second =
+      subst (λ l. HaveSame l now) (sym (ap (λ l. put_rows key l table) is ∙ put_then rows more table))
+      (same_then (put_rows key more (put_rows key rows table)) (put_rows key more was) now
+      (rows_same more (put_rows key rows table) was first) second)
+
+-- ---- so many games of a club
+
+first_column : (s : ClubState) (id : ℕ) (g : ClubGame) → column (row_of_game both_games s.events id g) 0 ≡ number id
+first_column s id (draughts g) = refl
+first_column s id (shogi g) = refl
+
+module _ (s : ClubState) (moment : ℕ) where
+  abbrev late : ClubGame → Bool
+  late = is_late_any both_games s moment
+
+  abbrev after : ClubGame → ClubGame
+  after = swept_any both_games s moment
+
+  abbrev row : ℕ → ClubGame → Row
+  row = row_of_game both_games s.events
+
+  abbrev meets : List ClubGame → List Meeting
+  meets = flat_map (meetings_in both_games)
+
+  -- the rows of those of the games that end
+  abbrev ended_rows : List ClubGame → List Row
+  ended_rows games = gathered_from (row_if row late after) 1 games
+
+  -- the ended games where a sweep has come so far
+  abbrev met : ℕ → List Meeting
+  met n = meets (map after (take n s.games)) ++ meets (drop n s.games)
+
+-- where the game ends so, the rows of its players' scores are put
+abbrev pub Puts : GameRecord → Score → (sums sums_now : Pair → Option Sums) → (changed changed_now : List ScoreRow)
+    → Type 0
+Puts game score sums sums_now changed changed_now =
+    (event first second : ℕ) (left right : List Meeting) → HasPlayers game event first second → first ≢ second
+    → AreStanding sums (score_rows (left ++ right))
+    →
+    PutsRows (score_rows (left ++ right))
+    (score_rows (left ++ (meetings (pos event) (pos first) (pos second) score ++ right))) sums_now changed
+    changed_now
+
+-- where they are not, the sums are those of very many games
+abbrev pub AreMany : GameRecord → (Pair → Option Sums) → Type 0
+AreMany game sums = (event first second : ℕ) (ms : List Meeting) → HasPlayers game event first second
+    → AreShort event first second → AreStanding sums (score_rows ms) → 2 ^ 61 ≤ length ms
+
+-- what was made of the first games, and what stands then
+pub record IsSweptTo (s : ClubState) (moment n : ℕ) (ended : List GameRecord) (changed : List ScoreRow)
+    (sums : Pair → Option Sums) : Type 0 where
+  pub ended_are : map game_cells ended ≡ ended_rows s moment (take n s.games)
+  pub changed_are : HaveSame (put_rows (0 ∷ 1 ∷ 2 ∷ []) (map score_cells changed) (scores_in both_games s.games))
+      (score_rows (met s moment n))
+  pub standing : AreStanding sums (score_rows (met s moment n))
+
+module _ (s : ClubState) (moment : ℕ) where
+  pub swept_start : (sums : Pair → Option Sums) (ended : List GameRecord) (changed : List ScoreRow) → ended ≡ []
+      → changed ≡ [] → AreStanding sums (tables s 14) → IsSweptTo s moment 0 ended changed sums
+  swept_start sums ended changed none no_rows stand = record {
+    ended_are = ap (map game_cells) none;
+    changed_are =
+        subst
+        (λ l. HaveSame (put_rows (0 ∷ 1 ∷ 2 ∷ []) (map score_cells l) (scores_in both_games s.games))
+        (scores_in both_games s.games)) (sym no_rows) (same_itself (scores_in both_games s.games));
+    standing = stand;
+  }
+
+  -- the meetings of a club are few
+  met_short : IsClub s → (n : ℕ) → length (met s moment n) ≤ 10000
+  met_short is_club n =
+      let games : length s.games ≤ 5000 = is_club.game_count in
+      let taken = meets_few (map (after s moment) (take n s.games)) in
+      let left = meets_few (drop n s.games) in
+      let long = length-map (take n s.games) (after s moment) in
+      let parts = parts_length n s.games in
+      let both = length-append (meets s moment (map (after s moment) (take n s.games)))
+      (meets s moment (drop n s.games)) in
+      omega (arith, games, taken, left, long, parts, both)
+
+  -- the games that end are no more than those of the club
+  pub ended_few : IsClub s → (n : ℕ) (ended : List GameRecord) (changed : List ScoreRow) (sums : Pair → Option Sums)
+      → IsSweptTo s moment n ended changed sums → length ended ≤ 5000
+  ended_few is_club n ended changed sums now =
+      let games : length s.games ≤ 5000 = is_club.game_count in
+      let counted : length ended ≡ count_by (late s moment) (take n s.games) =
+      sym (length-map ended game_cells)
+      ∙ (ap length now.ended_are ∙ passing_count (row s moment) (late s moment) (after s moment) 1 (take n s.games))
+      in
+      let few = count_by-le-length (late s moment) (take n s.games) in
+      let parts = parts_length n s.games in
+      omega (arith, games, counted, few, parts)
+
+  module _ (is_club : IsClub s) (games : List GameRecord) (rows_are : map game_cells games ≡ tables s 10) (n : ℕ)
+      (game : GameRecord) (at : slice_get games n ≡ Some game)
+      (found : Option Side) (told : IsFoundLate game moment found) where
+    abbrev Here : Type 0
+    Here = (g : ClubGame) × (slice_get s.games n ≡ Some g) × (game_cells game ≡ row s moment (1 + n) g)
+
+    -- the game of the row
+    game_here : Here
+    game_here = numbered_at (row s moment) game_cells 1 games s.games rows_are n game at
+
+    module _ (g : ClubGame) (stands : slice_get s.games n ≡ Some g)
+        (cells : game_cells game ≡ row s moment (1 + n) g) where
+      abbrev before : List Meeting
+      before = meets s moment (map (after s moment) (take n s.games))
+
+      abbrev later : List Meeting
+      later = meets s moment (drop (n + 1) s.games)
+
+      met_here : met s moment n ≡ before ++ (meetings_in both_games g ++ later)
+      met_here = ap (λ l. before ++ meets s moment l) (drop_next s.games n g stands)
+
+      met_then : met s moment (n + 1) ≡ before ++ (meetings_in both_games (after s moment g) ++ later)
+      met_then =
+          let taken = ap (map (after s moment)) (take_next s.games n g stands)
+          ∙ map-append (after s moment) (take n s.games) (g ∷ []) in
+          ap (λ l. meets s moment l ++ later) taken
+          ∙
+          (ap (λ l. l ++ later)
+          (flat_map-append (meetings_in both_games) (map (after s moment) (take n s.games)) (after s moment g ∷ [])
+          ∙ ap (λ l. before ++ l) (append-nil (meetings_in both_games (after s moment g))))
+          ∙ append_assoc before (meetings_in both_games (after s moment g)) later)
+
+      ended_then : ended_rows s moment (take (n + 1) s.games) ≡ ended_rows s moment (take n s.games)
+          ++ row_if (row s moment) (late s moment) (after s moment) (1 + n) g
+      ended_then =
+          ap (ended_rows s moment) (take_next s.games n g stands)
+          ∙ (gathered_last (row_if (row s moment) (late s moment) (after s moment)) 1 (take n s.games) g
+          ∙ ap
+          (λ k. ended_rows s moment (take n s.games) ++ row_if (row s moment) (late s moment) (after s moment)
+          (1 + k) g) (taken_length s.games n g stands))
+
+      tells : TellsLateIn s moment (1 + n) g game found
+      tells = tells_late s moment (1 + n) g game found (is_club.games n g stands) cells told
+
+      -- a game that is not late stays
+      stays_next : (ended : List GameRecord) (changed : List ScoreRow) (sums : Pair → Option Sums)
+          → late s moment g ≡ false → IsSweptTo s moment n ended changed sums
+          → IsSweptTo s moment (n + 1) ended changed sums
+      stays_next ended changed sums in_time now =
+          let same : met s moment n ≡ met s moment (n + 1) = met_here
+          ∙
+          (ap (λ x. before ++ (meetings_in both_games x ++ later)) (sym (in_time_stays s moment (1 + n) g in_time))
+          ∙ sym met_then) in
+          record {
+            ended_are = now.ended_are
+                ∙ (sym (append-nil (ended_rows s moment (take n s.games)))
+                ∙
+                (ap (λ l. ended_rows s moment (take n s.games) ++ l)
+                (sym (row_if_fails (row s moment) (late s moment) (after s moment) (1 + n) g in_time))
+                ∙ sym ended_then));
+            changed_are =
+                subst
+                (λ ms. HaveSame (put_rows (0 ∷ 1 ∷ 2 ∷ []) (map score_cells changed) (scores_in both_games s.games))
+                (score_rows ms)) same now.changed_are;
+            standing = subst (λ ms. AreStanding sums (score_rows ms)) same now.standing;
+          }
+
+      -- a game that is late ends
+      ends_next : (side : Side) (lost : GameRecord) (ended ended_now : List GameRecord)
+          (changed changed_now : List ScoreRow) (sums sums_now : Pair → Option Sums)
+          → IsLostIn s moment (1 + n) g game side → game_cells lost ≡ cells_lost game (loses side)
+          → ended_now ≡ ended ++ lost ∷ [] → Puts game (loses side) sums sums_now changed changed_now
+          → IsSweptTo s moment n ended changed sums → IsSweptTo s moment (n + 1) ended_now changed_now sums_now
+      ends_next side lost ended ended_now changed changed_now sums sums_now is_lost lost_is pushed puts now =
+          let was : met s moment n ≡ before ++ later = met_here ∙ ap (λ ms. before ++ (ms ++ later)) is_lost.running in
+          let then : met s moment (n + 1) ≡ before
+          ++
+          (meetings (pos (pairing_of g).event) (pos (pairing_of g).first) (pos (pairing_of g).second) (loses side)
+          ++ later) = met_then ∙ ap (λ ms. before ++ (ms ++ later)) is_lost.meets in
+          let stood = subst (λ ms. AreStanding sums (score_rows ms)) was now.standing in
+          let put_them = puts (pairing_of g).event (pairing_of g).first (pairing_of g).second before later is_lost.has
+          (apart s moment (1 + n) g (is_club.games n g stands)) stood in
+          let one : map game_cells ended_now ≡ map game_cells ended ++ game_cells lost ∷ [] = ap (map game_cells) pushed
+          ∙ map-append game_cells ended (lost ∷ []) in
+          record {
+            ended_are =
+                one
+                ∙ (ap (λ l. l ++ game_cells lost ∷ []) now.ended_are
+                ∙ (ap (λ (r : Row). ended_rows s moment (take n s.games) ++ r ∷ []) (lost_is ∙ is_lost.cells)
+                ∙
+                (ap (λ l. ended_rows s moment (take n s.games) ++ l)
+                (sym (row_if_passes (row s moment) (late s moment) (after s moment) (1 + n) g is_lost.late_is))
+                ∙ sym ended_then)));
+            changed_are =
+                subst
+                (λ ms. HaveSame (put_rows (0 ∷ 1 ∷ 2 ∷ []) (map score_cells changed_now) (scores_in both_games s.games))
+                (score_rows ms)) (sym then)
+                (put_on (0 ∷ 1 ∷ 2 ∷ []) (scores_in both_games s.games) (score_rows (before ++ later)) _
+                (map score_cells changed) put_them.rows (map score_cells changed_now) put_them.more
+                (subst
+                (λ ms. HaveSame (put_rows (0 ∷ 1 ∷ 2 ∷ []) (map score_cells changed) (scores_in both_games s.games))
+                (score_rows ms)) was now.changed_are) put_them.makes);
+            standing = subst (λ ms. AreStanding sums_now (score_rows ms)) (sym then) put_them.standing;
+          }
+
+      -- the sums of its players fit
+      fit_here : (side : Side) (ended : List GameRecord) (changed : List ScoreRow) (sums : Pair → Option Sums)
+          → IsLostIn s moment (1 + n) g game side → AreMany game sums → IsSweptTo s moment n ended changed sums → ⊥
+      fit_here side ended changed sums is_lost many now =
+          let long = many (pairing_of g).event (pairing_of g).first (pairing_of g).second (met s moment n) is_lost.has
+          (players_short s is_club g (is_club.games n g stands)) now.standing in
+          let short = met_short is_club n in
+          omega (arith, long, short)
+
+    -- by the side that was found late, or none
+    pub stays_told : (ended : List GameRecord) (changed : List ScoreRow) (sums : Pair → Option Sums) → found ≡ None
+        → IsSweptTo s moment n ended changed sums → IsSweptTo s moment (n + 1) ended changed sums
+    stays_told ended changed sums none now = let (g, stands, cells) = game_here in
+        stays_next g stands cells ended changed sums ((tells g stands cells).in_time none) now
+
+    pub ends_told : (score : Score) (side : Side) (lost : GameRecord) (ended ended_now : List GameRecord)
+        (changed changed_now : List ScoreRow) (sums sums_now : Pair → Option Sums)
+        → found ≡ Some side → score ≡ loses side → game_cells lost ≡ cells_lost game score
+        → ended_now ≡ ended ++ lost ∷ [] → Puts game score sums sums_now changed changed_now
+        → IsSweptTo s moment n ended changed sums → IsSweptTo s moment (n + 1) ended_now changed_now sums_now
+    ends_told score side lost ended ended_now changed changed_now sums sums_now late is lost_is pushed puts now =
+        let (g, stands, cells) = game_here in
+        ends_next g stands cells side lost ended ended_now changed changed_now sums sums_now
+        ((tells g stands cells).lost side late) (lost_is ∙ ap (cells_lost game) is) pushed
+        (subst (λ sc. Puts game sc sums sums_now changed changed_now) is puts) now
+
+    pub fits_told : (side : Side) (ended : List GameRecord) (changed : List ScoreRow) (sums : Pair → Option Sums)
+        → found ≡ Some side → AreMany game sums → IsSweptTo s moment n ended changed sums → ⊥
+    fits_told side ended changed sums late many now =
+        let (g, stands, cells) = game_here in
+        fit_here g stands cells side ended changed sums ((tells g stands cells).lost side late) many now
+
+  -- all games were looked at
+  pub swept_all : (games : List GameRecord) (n : ℕ) (rows : SweptRows) (sums : Pair → Option Sums)
+      → map game_cells games ≡ tables s 10 → n ≡ length games → rows.count ≡ length rows.games.items
+      → IsSweptTo s moment n rows.games.items rows.scores.items sums → IsSwept s moment rows
+  swept_all games n rows sums rows_are end counted now =
+      let long : length games ≡ length s.games = sym (length-map games game_cells)
+      ∙ (ap length rows_are ∙ numbered_length (row s moment) 1 s.games) in
+      let taken : take n s.games ≡ s.games = ap (λ k. take k s.games) (end ∙ long) ∙ take-length s.games in
+      let left : drop n s.games ≡ [] = ap (λ k. drop k s.games) (end ∙ long) ∙ drop_all s.games in
+      let all : met s moment n ≡ meets s moment (map (after s moment) s.games) =
+      ap (λ l. meets s moment (map (after s moment) l) ++ meets s moment (drop n s.games)) taken
+      ∙ (ap (λ l. meets s moment (map (after s moment) s.games) ++ meets s moment l) left
+      ∙ append-nil (meets s moment (map (after s moment) s.games))) in
+      let ended : map game_cells rows.games.items ≡ ended_rows s moment s.games = now.ended_are
+      ∙ ap (ended_rows s moment) taken in
+      record {
+        count_is = counted
+            ∙ (sym (length-map rows.games.items game_cells)
+            ∙ (ap length ended ∙ passing_count (row s moment) (late s moment) (after s moment) 1 s.games));
+        games_are =
+            subst (λ l. HaveSame (put_rows (0 ∷ []) l (tables s 10)) (tables (with_swept both_games s moment) 10))
+            (sym ended)
+            (altered (0 ∷ []) (ended_rows s moment s.games) _ _
+            (passing_alter (row s moment) (late s moment) (after s moment) (in_time_stays s moment 0)
+            (first_column s) s.games));
+        scores_are =
+            subst
+            (λ ms.
+            HaveSame (put_rows (0 ∷ 1 ∷ 2 ∷ []) (map score_cells rows.scores.items) (scores_in both_games s.games))
+            (score_rows ms)) all now.changed_are;
+      }

@@ -1,0 +1,8 @@
+-- How a fault of a sweep is written.
+use Rattle.std.specs.Prelude.{ℕ, List, codes}
+use Rattle.club_changes.specs.declared.swept.fault.SweepFault.{SweepFault}
+use Rattle.club_changes.specs.declared.swept.fault.SweepFault.TheVariants as fault
+
+abbrev pub fault_text : SweepFault → List ℕ
+fault_text fault.Memory = codes "out of memory"
+fault_text fault.Unfit = codes "the rows are those of no club"

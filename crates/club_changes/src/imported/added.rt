@@ -1,0 +1,61 @@
+//! All rows of a recorded game but those of the scores.
+
+ghost use Rattle.std.specs.Prelude.{◌≡◌, Some, IfOk, IsTrue};
+ghost use Rattle.club_rules.specs.Records.{recorded_of, IsGameByRules};
+ghost use Rattle.club_core.specs.Answer.{pairing_of};
+ghost use Rattle.club_core.specs.Imports.{imported};
+ghost use Rattle.club_requests.specs.Limits.{is_budget, is_increment};
+ghost use Rattle.club_rows.specs.Replay.{terms_given};
+ghost use Rattle.club_changes.specs.NewGames.{AreNewRows};
+
+use crate::imported::moves::move_rows;
+use crate::imported::seen::seen_rows;
+use clocks::Moment;
+use club_core::Pairing;
+use club_imports::{NewGame, imported_row};
+use club_rows::{Terms, record_of};
+use club_rules::{Memory, Rules};
+use std::alloc::Global;
+use store_tables::{GameRecord, MoveRow, SeenRow};
+
+/// The rows of a game that is added: its own, one for each ply and one for each distinct position.
+#[derive(Drop)]
+pub struct NewRows {
+    pub game: GameRecord,
+    pub moves: Vec<MoveRow>,
+    pub seen: Vec<SeenRow>,
+}
+
+/// The rows of a recorded game that is added under a key, all of it at that moment, by the terms of its event.
+pub fn new_rows<R: Rules>(
+    alloc: Global,
+    key: &str,
+    terms: Terms,
+    moment: Moment,
+    new: &NewGame<R::Move>,
+) -> Result<NewRows, Memory>
+    requires by_rules { IsGameByRules R.rules (recorded_of new.now.recorded) }
+    requires budget { IsTrue (is_budget terms.budget) }
+    requires increment { IsTrue (is_increment terms.increment) }
+    ensures { IfOk result (AreNewRows R.rules (terms_given terms) new.now.game
+        (imported R.rules (Some key.now) (pairing_of new.now.pairing) moment (recorded_of new.now.recorded))) }
+{
+    let moves = new.recorded.moves.as_slice();
+    let row = imported_row::<R>(
+        alloc,
+        key,
+        new.pairing,
+        terms.budget,
+        terms.increment,
+        moment,
+        &new.recorded,
+    )?;
+    let game = record_of::<R>(alloc, new.game, &row)?;
+    let made = move_rows::<R>(alloc, new.game, terms, moment, moves)?;
+    let seen = seen_rows::<R>(alloc, new.game, moves)?;
+    Ok(NewRows {
+        game,
+        moves: made,
+        seen,
+    })
+}

@@ -1,0 +1,89 @@
+//! The rows of the moves of a recorded game.
+
+ghost use Rattle.std.specs.Prelude.{◌≡◌, ◌≤◌, ◌<◌, ◌+◌, ◌^◌, [], ◌∷◌, map, length, Ok, IfOk, IsTrue};
+ghost use Rattle.sqlite_value.specs.declared.value.Value.TheVariants.{Text};
+ghost use Rattle.club_rules.specs.Line.{IsLegalLine};
+ghost use Rattle.club_requests.specs.Limits.{most_plies, is_budget, is_increment};
+ghost use Rattle.club_rows.specs.Replay.{terms_given};
+ghost use Rattle.club_rows.specs.Tables.{number};
+ghost use Rattle.store_tables.specs.Cells.{move_cells};
+ghost use Rattle.club_changes.specs.AtOnce.{rows_at_once};
+
+use clocks::Moment;
+use club_imports::rows::Left;
+use club_rows::Terms;
+use club_rows::numbers::stored;
+use club_rules::{Memory, Rules};
+use std::alloc::Global;
+use store_tables::MoveRow;
+
+// The row of a ply, whose move was made in the one position and led to the other.
+fn ply_row<R: Rules>(
+    alloc: Global,
+    game: u32,
+    ply: usize,
+    before: &R::Position,
+    made: &R::Move,
+    after: &R::Position,
+    moment: Moment,
+    left: u64,
+) -> Result<MoveRow, Memory>
+    requires legal { R.rules.check before.now made.now ≡ Ok tt }
+    requires few { ply ≤ most_plies }
+    requires left { left < 2 ^ 63 }
+    ensures { IfOk result (λ row. move_cells row ≡ number game ∷ number ply
+        ∷ Text (R.rules.write_move before.now made.now)
+        ∷ number moment ∷ number left ∷ Text (R.rules.write_position after.now) ∷ []) }
+{
+    let text = R::write_move(alloc, before, made)?;
+    let position = R::write_position(alloc, after)?;
+    Ok(MoveRow {
+        game: i64::from(game),
+        ply: stored(ply as u64),
+        text,
+        moment: stored(moment.seconds()),
+        left: stored(left),
+        position,
+    })
+}
+
+/// The rows of moves that are all made at that moment in the game of this id, by the terms of its event.
+pub fn move_rows<R: Rules>(
+    alloc: Global,
+    game: u32,
+    terms: Terms,
+    moment: Moment,
+    moves: &[R::Move],
+) -> Result<Vec<MoveRow>, Memory>
+    requires line { IsLegalLine R.rules R.rules.start moves.now }
+    requires few { length moves.now ≤ most_plies }
+    requires budget { IsTrue (is_budget terms.budget) }
+    requires increment { IsTrue (is_increment terms.increment) }
+    ensures { IfOk result (λ rows. map move_cells rows.items
+        ≡ rows_at_once R.rules (terms_given terms) game moment moves.now) }
+{
+    let mut rows = Vec::new(alloc);
+    let mut position = R::start();
+    let mut left = Left {
+        first: terms.budget,
+        second: terms.budget,
+    };
+    for i in 0..moves.len() {
+        let made = &moves[i];
+        let turn = R::turn(&position);
+        let after = R::play(&position, made);
+        left = left.with(turn, terms.increment);
+        rows.push(ply_row::<R>(
+            alloc,
+            game,
+            i + 1,
+            &position,
+            made,
+            &after,
+            moment,
+            left.of(turn),
+        )?)?;
+        position = after;
+    }
+    Ok(rows)
+}

@@ -1,0 +1,53 @@
+//! What may go wrong where the rows of a sweep are made.
+
+use club_rules::Memory;
+use std::alloc::AllocFailed;
+use std::error::Error;
+use std::fmt;
+
+/// Why the rows of a sweep were not made.
+#[derive(Clone, Copy, Debug, PartialEq, Eq)]
+pub enum SweepFault {
+    /// Memory was refused.
+    Memory,
+    /// No club has the rows that were given, or a sum does not fit.
+    Unfit,
+}
+
+impl fmt::Display for SweepFault {
+    ghost use Rattle.std.specs.Prelude.{Some};
+    ghost use Rattle.club_changes.specs.SweepFaults.{fault_text};
+
+    ghost output = { λ fault. Some (fault_text fault) };
+
+    fn fmt<W: fmt::Write>(&self, f: &mut fmt::Formatter<W>) -> fmt::Result {
+        match self {
+            SweepFault::Memory => f.write_str("out of memory"),
+            SweepFault::Unfit => f.write_str("the rows are those of no club"),
+        }
+    }
+}
+
+impl Error for SweepFault {}
+
+impl From<Memory> for SweepFault {
+    ghost use Rattle.std.specs.Prelude.{◌≡◌};
+    ghost use Rattle.club_changes.specs.declared.swept.fault.SweepFault.TheVariants as fault;
+
+    ghost from_gives = { λ _ e. e ≡ fault.Memory };
+
+    fn from(_refused: Memory) -> SweepFault {
+        SweepFault::Memory
+    }
+}
+
+impl<T: Drop> From<AllocFailed<T>> for SweepFault {
+    ghost use Rattle.std.specs.Prelude.{◌≡◌};
+    ghost use Rattle.club_changes.specs.declared.swept.fault.SweepFault.TheVariants as fault;
+
+    ghost from_gives = { λ _ e. e ≡ fault.Memory };
+
+    fn from(_refused: AllocFailed<T>) -> SweepFault {
+        SweepFault::Memory
+    }
+}

@@ -1,0 +1,139 @@
+//! The sums of pairs of players as they stand while games end one after another.
+
+ghost use Rattle.std.specs.Prelude.{◌≡◌, ◌≢◌, ◌≤◌, ◌^◌, ◌++◌, ◌∷◌, ℕ, [], List, Some, None, pos, cond, length, map};
+ghost use Rattle.std.specs.Prelude.{IfOk, IfSome, OnOk, IsErrOf};
+ghost use Rattle.std.specs.Option.{option_map};
+ghost use Rattle.sqlite.specs.Order.{Row};
+ghost use Rattle.store_tables.specs.Cells.{score_cells};
+ghost use Rattle.store_tables.specs.Changes.{HaveSame};
+ghost use Rattle.club_rows.specs.NextScores.{row_with, sums_found};
+ghost use Rattle.club_rows.specs.Scores.{Meeting, meetings, same_pair, score_rows};
+ghost use Rattle.club_rows.specs.declared.scores.Pair as given_pair;
+ghost use Rattle.club_changes.specs.Standing.{AreShort, AreStanding, HasPlayers, PutsRows};
+ghost use Rattle.club_rows.specs.Pairs.{firsts_pair, pair_in, seconds_pair, sums_at};
+
+use crate::swept::fault::SweepFault;
+use club_rows::numbers::id;
+use club_rows::score_after;
+use club_rows::scores::{Pair, Sums, firsts_pair, pair_in, seconds_pair, sums_of};
+use club_rules::Memory;
+use squares::Score;
+use std::alloc::Global;
+use std::collections::HashMap;
+use store_tables::{GameRecord, ScoreRow};
+
+/// The ids of a game's event and of its players.
+#[derive(Clone, Copy)]
+pub struct Players {
+    pub event: u32,
+    pub first: u32,
+    pub second: u32,
+}
+
+// Those of the row, if each is an id.
+fn players_of(game: &GameRecord) -> Option<Players>
+    ensures some { IfSome result (λ players. HasPlayers game.now players.event players.first players.second) }
+    ensures none { result ≡ None → (event first second : ℕ) → HasPlayers game.now event first second →
+        ¬ AreShort event first second }
+{
+    Some(Players {
+        event: id(game.event)?,
+        first: id(game.first)?,
+        second: id(game.second)?,
+    })
+}
+
+// The row of a pair, if they met.
+fn row_of(standings: &HashMap<Pair, Sums>, pair: Pair) -> Option<ScoreRow>
+    ensures { result ≡ option_map (row_with pair) (sums_at standings.now pair) }
+{
+    match standings.get(&pair).copied() {
+        Some(sums) => Some(ScoreRow {
+            event: pair.event,
+            member: pair.member,
+            opponent: pair.opponent,
+            points: sums.points,
+            wins: sums.wins,
+            draws: sums.draws,
+            losses: sums.losses,
+        }),
+        None => None,
+    }
+}
+
+// Keeps the sums of the row as those of its pair.
+fn keep(standings: &mut HashMap<Pair, Sums>, row: &ScoreRow) -> Result<(), Memory>
+    ensures { OnOk result ((pair : given_pair.Pair) → sums_at standings.new pair
+        ≡ cond (same_pair (pair_in row.now) pair) (Some (sums_found (Some row.now))) (sums_at standings.old pair)) }
+{
+    standings.insert(pair_in(row), sums_of(Some(row)))?;
+    Ok(())
+}
+
+/// The sums of all pairs that have a row.
+pub fn standings_of(alloc: Global, rows: &[ScoreRow]) -> Result<HashMap<Pair, Sums>, Memory>
+    ensures { IfOk result (λ standings. (all : List Row) → HaveSame (map score_cells rows.now) all →
+        AreStanding (λ pair. sums_at standings pair) all) }
+{
+    let mut standings = HashMap::new(alloc);
+    for row in rows {
+        keep(&mut standings, row)?;
+    }
+    Ok(standings)
+}
+
+// Puts a row, as the one that stands for its pair.
+fn put(
+    standings: &mut HashMap<Pair, Sums>,
+    changed: &mut Vec<ScoreRow>,
+    row: ScoreRow,
+) -> Result<(), Memory>
+    ensures sums { OnOk result ((pair : given_pair.Pair) → sums_at standings.new pair
+        ≡ cond (same_pair (pair_in row) pair) (Some (sums_found (Some row))) (sums_at standings.old pair)) }
+    ensures more { OnOk result (changed.new.items ≡ changed.old.items ++ row ∷ []) }
+{
+    keep(standings, &row)?;
+    changed.push(row)?;
+    Ok(())
+}
+
+/// Puts the rows of the two players of a game that ended so, from what stands for them, and keeps these as what stands.
+pub fn put_scores(
+    standings: &mut HashMap<Pair, Sums>,
+    changed: &mut Vec<ScoreRow>,
+    game: &GameRecord,
+    score: Score,
+) -> Result<(), SweepFault>
+    ensures puts { OnOk result ((event first second : ℕ) (before after : List Meeting) →
+        HasPlayers game.now event first second → first ≢ second →
+        AreStanding (λ pair. sums_at standings.old pair) (score_rows (before ++ after)) →
+        PutsRows (score_rows (before ++ after))
+        (score_rows (before ++ (meetings (pos event) (pos first) (pos second) score ++ after)))
+        (λ pair. sums_at standings.new pair) changed.old.items changed.new.items) }
+    // Short ids are read, and only the sums of very many games do not fit.
+    ensures unfit { IsErrOf result SweepFault.Unfit → (event first second : ℕ) (ms : List Meeting) →
+        HasPlayers game.now event first second → AreShort event first second →
+        AreStanding (λ pair. sums_at standings.old pair) (score_rows ms) → 2 ^ 61 ≤ length ms }
+{
+    let Some(players) = players_of(game) else {
+        return Err(SweepFault::Unfit);
+    };
+    let firsts = row_of(standings, firsts_pair(game));
+    let seconds = row_of(standings, seconds_pair(game));
+    let rows = score_after(
+        players.event,
+        players.first,
+        players.second,
+        score,
+        firsts.as_ref(),
+        seconds.as_ref(),
+    );
+    match rows {
+        Some(pair) => {
+            put(standings, changed, pair.first)?;
+            put(standings, changed, pair.second)?;
+            Ok(())
+        }
+        None => Err(SweepFault::Unfit),
+    }
+}

@@ -1,3 +1,0 @@
-pub mod AtOnce
-pub mod NewGames
-pub mod Texts

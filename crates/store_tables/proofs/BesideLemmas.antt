@@ -1,0 +1,80 @@
+-- What other programs made has no part in putting a row of the club.
+use Rattle.std.proofs.Common.{◌≡◌, ℕ, ◌==◌, ◌&&◌, ◌||◌, Bool, true, false, List, [], ◌∷◌, Option, Some, None}
+use Rattle.std.proofs.Common.{refl, sym, subst, ◌∙◌, flat_map, filter_map, IfSome}
+use Rattle.std.specs.List.{AllByRecursion, list_any}
+use Rattle.std.specs.Prelude.{if◌then◌else◌}
+use Rattle.sqlite.specs.Order.{Row}
+use Rattle.sqlite_rules.specs.Action.{Work, loses, pairs, work_by, work_for}
+use Rattle.sqlite_rules.specs.Keys.{aims, shares}
+use Rattle.sqlite_rules.specs.Lists.{Has}
+use Rattle.sqlite_rules.specs.declared.action.Deed.{Deed}
+use Rattle.sqlite_rules.proofs.ListLemmas.{all_has}
+use Rattle.sqlite_schema.specs.Rules.{ParentKey, agree, guards, parent_key}
+use Rattle.sqlite_schema.specs.declared.schema.Index.{Index}
+use Rattle.sqlite_schema.specs.declared.schema.Keys.{Keys}
+use Rattle.sqlite_schema.specs.declared.schema.Reference.{Reference}
+use Rattle.sqlite_schema.specs.declared.schema.Schema.{Schema}
+use Rattle.sqlite_schema.specs.declared.schema.Table.{Table}
+use Rattle.store_tables.specs.Beside.{no_others, IsNoKey, IsOfOthers, StandsClear, TakesRows}
+use Rattle.store_tables.specs.Tables.{club_schema}
+use Rattle.store_tables.proofs.ContentLemmas.{club_apart}
+
+pub clear_alone : StandsClear club_schema no_others
+clear_alone = record { trees = club_apart; keys = tt; parents = tt }
+
+pub takes_itself : TakesRows club_schema
+takes_itself = (no_others, refl, clear_alone)
+
+-- ---- no FOREIGN KEY of theirs acts
+
+elsewhere : (key tree : ℕ) (x : Bool) (w : Work) → (key == tree) ≡ false
+    → ◌≡◌ {A = Option Work} (if (key == tree) && x then Some w else None) None
+elsewhere key tree x w other i = if other i && x then Some w else None
+
+no_work : (depth tree : ℕ) (moves : List (Row × Row)) (child : Table) (ref : Reference) (deed : Option Deed)
+    (key : Option ParentKey) → IfSome key (λ k. (k.0 == tree) ≡ false)
+    → work_by depth tree moves child ref deed key ≡ None
+no_work depth tree moves child ref None key other = refl
+no_work depth tree moves child ref (Some deed) None other = refl
+no_work depth tree moves child ref (Some deed) (Some key) other =
+    elsewhere key.0 tree (list_any (loses key.2 key.1) moves) _ other
+
+module _ (club : Schema) (tables : List Table) (table : Table) (listed : Has club.tables table) where
+  of_none : (key : Option ParentKey) → IfSome key (λ k. AllByRecursion (λ t. (k.0 == t.tree) ≡ false) club.tables)
+      → IfSome key (λ k. (k.0 == table.tree) ≡ false)
+  of_none None other = tt
+  of_none (Some key) other = all_has (λ t. (key.0 == t.tree) ≡ false) club.tables table other listed
+
+  module _ (schema : Schema) (same : schema.tables ≡ tables) (keys : Keys) (depth : ℕ) (olds news : List Row) where
+    none_for : (child : Table) (refs : List Reference) → AllByRecursion (IsOfOthers club tables) refs
+        → filter_map (work_for schema keys depth table.tree olds news child) refs ≡ []
+    none_for child [] others = refl
+    none_for child (ref ∷ refs) others =
+        let here : work_for schema keys depth table.tree olds news child ref ≡ None =
+        no_work depth table.tree (pairs olds news) child ref _ (parent_key schema.tables ref)
+        (subst (λ ts. IfSome (parent_key ts ref) (λ k. (k.0 == table.tree) ≡ false)) (sym same)
+        (of_none (parent_key tables ref) others.0)) in
+        rw here (none_for child refs others.1)
+
+    pub no_works : (ts : List Table) → AllByRecursion (λ t. AllByRecursion (IsOfOthers club tables) t.references) ts
+        → flat_map (λ child. filter_map (work_for schema keys depth table.tree olds news child) child.references) ts
+        ≡ []
+    no_works [] others = refl
+    no_works (t ∷ ts) others = rw (none_for t t.references others.0) (no_works ts others.1)
+
+-- ---- no index of theirs is the one of a key
+
+module _ (club : Schema) (table : Table) (listed : Has club.tables table) (new row : Row) where
+  pub unshared : (is : List Index) → AllByRecursion (IsNoKey club) is
+      → list_any (shares (Some table.primary) table new row) is ≡ false
+  unshared [] clear = refl
+  unshared (index ∷ is) clear =
+      let none = all_has (λ t. (guards index t && aims (Some t.primary) index.columns) ≡ false) club.tables table
+      clear.0
+      listed in
+      (λ i. (none i && agree index.order index.columns row index.columns new)
+      || list_any (shares (Some table.primary) table new row) is) ∙ unshared is clear.1
+
+pub or_none : (a b : Bool) → b ≡ false → (a || b) ≡ a
+or_none true b none = refl
+or_none false b none = none

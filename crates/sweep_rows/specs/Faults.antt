@@ -1,8 +1,0 @@
--- How a fault of a sweep is written.
-use Rattle.std.specs.Prelude.{ℕ, List, codes}
-use Rattle.sweep_rows.specs.declared.fault.SweepFault.{SweepFault}
-use Rattle.sweep_rows.specs.declared.fault.SweepFault.TheVariants as fault
-
-abbrev pub fault_text : SweepFault → List ℕ
-fault_text fault.Memory = codes "out of memory"
-fault_text fault.Unfit = codes "the rows are those of no club"
