@@ -231,20 +231,6 @@ begun import-csa fuji once.csa || bad=1
 both 0 'accepted game 13' import-csa once fuji anna bert once.csa
 both 0 'sound' verify
 
-# told FILE: all rows of all tables, as sqlite3 reads them.
-told() {
-    local table
-    for table in meta members events event_rules challenges moves games seen scores; do
-        if command -v sqlite3 > /dev/null 2>&1; then
-            sqlite3 "$1" "SELECT * FROM $table ORDER BY 1, 2"
-        else
-            python3 -c 'import sqlite3, sys
-for row in sqlite3.connect(sys.argv[1]).execute(sys.argv[2]): print(row)' "$1" "SELECT * FROM $table ORDER BY 1, 2"
-        fi
-        echo "$table"
-    done
-}
-
 # copies FROM TO: the file of a club, with what stands beside it.
 copies() {
     rm -f "$2" "$2-wal" "$2-shm" "$2-journal"
@@ -362,88 +348,12 @@ rm -f broken.db*
 says 3 'store 70 Foreign' --now 2000 broken.db verify
 
 moment=1000
-# refused_memory EACH WANTED WORD..: the words over before.db at that moment, with each so-manieth of their requests for memory
-# refused in turn, up to the last one; one lane of this for each processor. After a fault the tables are as before and what was
-# printed is a beginning of what is wanted, and the words can be given again (which is tried after every sixty-first); where the
-# program could do without that memory, the words are done whole.
-refused_memory() {
-    gcc -shared -fPIC -O1 -o refuse.so "$top/tests/refuse.c" -ldl || return 1
-    local each=$1 wanted=$2
-    shift 2
-    local lanes lane before after requests faults well=0 all=0 failed=0
-    lanes=$(nproc)
-    copies before.db after.db
-    "$top/build/club" --now "$moment" after.db "$@" > /dev/null || return 1
-    before=$(told before.db)
-    after=$(told after.db)
-    for lane in $(seq "$lanes"); do
-        rm -rf "lane$lane"
-        mkdir "lane$lane"
-        cp before.db* "lane$lane/"
-        (cd "lane$lane" && refused_in_lane $((1 + (lane - 1) * each)) $((lanes * each)) "$before" "$after" "$wanted" "$@" > told) &
-    done
-    for lane in $(seq "$lanes"); do
-        if ! wait -n; then well=1; fi
-    done
-    for lane in $(seq "$lanes"); do
-        grep -v '^[0-9]* [0-9]*$' "lane$lane/told"
-        read -r requests faults < <(grep '^[0-9]* [0-9]*$' "lane$lane/told")
-        all=$((all + ${requests:-0}))
-        failed=$((failed + ${faults:-0}))
-    done
-    echo "  $all requests, $failed faults"
-    [ "$well" -eq 0 ] && [ "$all" -gt $((1000 / each)) ] && [ "$failed" -gt $((1000 / each)) ]
-}
-
-# refused_in_lane FIRST STEP BEFORE AFTER WANTED WORD..: refuses the first request, and each so many further on.
-refused_in_lane() {
-    local said status number=$1 step=$2 before=$3 after=$4 wanted=$5 tried=0 faults=0
-    shift 5
-    while [ "$number" -lt 1000000 ]; do
-        copies before.db r.db
-        rm -f refused
-        said=$(REFUSE=$number LD_PRELOAD=../refuse.so "$top/build/club" --now "$moment" r.db "$@" 2>&1)
-        status=$?
-        if [ ! -e refused ]; then break; fi
-        tried=$((tried + 1))
-        case "$status:$said" in
-            3:*'store 75 Memory' | 3:*'store 73 Store')
-                faults=$((faults + 1))
-                if ! stands "$before"; then echo "  after $number was refused the tables are not those before" && return 1; fi
-                if [ "${wanted#"${said%store 7*}"}" = "$wanted" ] && [ -n "${said%store 7*}" ]; then
-                    echo "  refused $number: $said" && return 1
-                fi
-                if [ $((number % 61)) -eq 0 ]; then
-                    said=$("$top/build/club" --now "$moment" r.db "$@" 2>&1)
-                    if [ "$said" != "$wanted" ]; then echo "  after $number was refused: $said" && return 1; fi
-                fi
-                ;;
-            0:"$wanted")
-                copies r.db s.db
-                if [ "$(told s.db)" != "$after" ]; then echo "  done without $number, and the tables are not those after" && return 1; fi
-                ;;
-            *) echo "  refused $number: $status $said" && return 1 ;;
-        esac
-        number=$((number + step))
-    done
-    echo "$tried $faults"
-}
-
-# stands BEFORE: r.db has these tables: it is the file before, byte for byte, or sqlite3 reads the same rows.
-stands() {
-    if cmp -s before.db r.db && same_log; then return 0; fi
-    copies r.db s.db
-    [ "$(told s.db)" = "$1" ]
-}
-
-same_log() {
-    if [ -e before.db-wal ]; then cmp -s before.db-wal r.db-wal; else [ ! -s r.db-wal ]; fi
-}
-# refuses NAME EACH WANTED WORD..: says how refusing their memory went.
+# refuses NAME EACH WANTED WORD..: the words over before.db at that moment, with each so-manieth of their requests for memory
+# refused in turn, and how that went.
 refuses() {
     local name=$1
     shift
-    if refused_memory "$@"; then echo "ok $name with its memory refused in turn"; else echo "not ok $name with its memory refused in turn" && bad=1; fi
+    if python3 "$top/tests/refused.py" "$moment" "$@"; then echo "ok $name with its memory refused in turn"; else echo "not ok $name with its memory refused in turn" && bad=1; fi
 }
 if command -v gcc > /dev/null 2>&1; then
     refuses 'a move' 1 'accepted ply 2 19-23' move 1 2 19-23
