@@ -225,7 +225,8 @@ line_track-is start =
 
 pub draughts-tracks_tell_ends : TracksTellEnds draughts
 draughts-tracks_tell_ends ms first played stands =
-    ap (λ track. end_by track (last_position opening ms) (length ms) (times_stood opening ms)) (line_track-is opening ms)
+    ap (λ track. end_by track (last_position opening ms) (length ms) (times_stood opening ms))
+    (line_track-is opening ms)
     ∙ ends-by-tail opening ms
 
 pub draughts-numbers_give_tracks : NumbersGiveTracks draughts

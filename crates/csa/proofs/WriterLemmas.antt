@@ -38,7 +38,8 @@ entries-then p es e = entries-append p es (e ∷ [])
 -- the position after one entry more
 pub position-then : (p : ShogiPosition) (es : List (SMove × ℕ)) (e : SMove × ℕ)
     → last_position p (moves_of (es ++ e ∷ [])) ≡ play (last_position p (moves_of es)) e.0
-position-then p es e = ap (last_position p) (map-append (λ x. x.0) es (e ∷ [])) ∙ last_position-append play p (moves_of es) e.0
+position-then p es e = ap (last_position p) (map-append (λ x. x.0) es (e ∷ []))
+    ∙ last_position-append play p (moves_of es) e.0
 
 -- ---- what a writer has
 

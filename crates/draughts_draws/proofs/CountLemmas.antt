@@ -85,7 +85,8 @@ start-follows p counts last plies times tail seen =
       played = lines.played-none draughts_lines p;
       last = last;
       plies = plies;
-      times = times ∙ sym (lines.count_by-one (λ q. same_position q p) p ∙ ap (λ b. cond b 1 0) (same_position-itself p));
+      times = times
+          ∙ sym (lines.count_by-one (λ q. same_position q p) p ∙ ap (λ b. cond b 1 0) (same_position-itself p));
       tail = tail ∙ sym (tail-begins p);
       stood = λ q. ap (λ o. unwrap_or o 0) (seen q) ∙ found (same_position p q) 1 None
           ∙ sym (lines.count_by-one (λ r. same_position r q) p);
@@ -98,7 +99,8 @@ end-is start ms counts follows = (λ i. end_by (follows.tail i) (follows.last i)
 
 -- ---- a line that goes on
 
-module _ (start : Position) (ms : List DMove) (m : DMove) (counts : DrawCounts) (follows : Follows start ms counts) where
+module _ (start : Position) (ms : List DMove) (m : DMove) (counts : DrawCounts)
+    (follows : Follows start ms counts) where
   abbrev more : List DMove
   more = ms ++ m ∷ []
 

@@ -38,9 +38,11 @@ four : (a b : ℕ) (w x y z : Bool)
     → (((nat_eq a 3 && w) && (nat_eq b 1 && x)) || ((nat_eq b 3 && y) && (nat_eq a 1 && z))) ≡ true → a + b ≡ 4
 four a b w x y z e =
     elim (or-true ((nat_eq a 3 && w) && (nat_eq b 1 && x)) ((nat_eq b 3 && y) && (nat_eq a 1 && z)) e) [
-      | inl h ↦ let one : a ≡ 3 = number a 3 w (and_parts _ _ h).0 in let two : b ≡ 1 = number b 1 x (and_parts _ _ h).1 in
+      | inl h ↦ let one : a ≡ 3 = number a 3 w (and_parts _ _ h).0 in
+          let two : b ≡ 1 = number b 1 x (and_parts _ _ h).1 in
           omega (arith, one, two)
-      | inr h ↦ let one : b ≡ 3 = number b 3 y (and_parts _ _ h).0 in let two : a ≡ 1 = number a 1 z (and_parts _ _ h).1 in
+      | inr h ↦ let one : b ≡ 3 = number b 3 y (and_parts _ _ h).0 in
+          let two : a ≡ 1 = number a 1 z (and_parts _ _ h).1 in
           omega (arith, one, two)
     ]
 

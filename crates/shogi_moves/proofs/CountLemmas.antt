@@ -206,23 +206,24 @@ dropped-no_king in_hand.Pawn = refl
 
 -- a hand with so many of another kind
 abbrev IsCounted : HandKind → ℕ → Hand → HandKind → Type 0
-IsCounted other n hand kind = count_of kind (with_count other n hand) ≡ cond (same_kind other kind) n (count_of kind hand)
+IsCounted other n hand kind = count_of kind (with_count other n hand)
+    ≡ cond (same_kind other kind) n (count_of kind hand)
 
-counted : (kind other : HandKind) (n : ℕ) (hand : Hand) → IsCounted other n hand kind
-counted kind in_hand.Rook n hand = every-kind (IsCounted in_hand.Rook n hand) refl refl refl refl refl refl refl kind
-counted kind in_hand.Bishop n hand = every-kind (IsCounted in_hand.Bishop n hand) refl refl refl refl refl refl refl kind
-counted kind in_hand.Gold n hand = every-kind (IsCounted in_hand.Gold n hand) refl refl refl refl refl refl refl kind
-counted kind in_hand.Silver n hand = every-kind (IsCounted in_hand.Silver n hand) refl refl refl refl refl refl refl kind
-counted kind in_hand.Knight n hand = every-kind (IsCounted in_hand.Knight n hand) refl refl refl refl refl refl refl kind
-counted kind in_hand.Lance n hand = every-kind (IsCounted in_hand.Lance n hand) refl refl refl refl refl refl refl kind
-counted kind in_hand.Pawn n hand = every-kind (IsCounted in_hand.Pawn n hand) refl refl refl refl refl refl refl kind
+counted : (other : HandKind) (n : ℕ) (hand : Hand) (kind : HandKind) → IsCounted other n hand kind
+counted in_hand.Rook n hand = every-kind (IsCounted in_hand.Rook n hand) refl refl refl refl refl refl refl
+counted in_hand.Bishop n hand = every-kind (IsCounted in_hand.Bishop n hand) refl refl refl refl refl refl refl
+counted in_hand.Gold n hand = every-kind (IsCounted in_hand.Gold n hand) refl refl refl refl refl refl refl
+counted in_hand.Silver n hand = every-kind (IsCounted in_hand.Silver n hand) refl refl refl refl refl refl refl
+counted in_hand.Knight n hand = every-kind (IsCounted in_hand.Knight n hand) refl refl refl refl refl refl refl
+counted in_hand.Lance n hand = every-kind (IsCounted in_hand.Lance n hand) refl refl refl refl refl refl refl
+counted in_hand.Pawn n hand = every-kind (IsCounted in_hand.Pawn n hand) refl refl refl refl refl refl refl
 
 -- one more or one fewer of a kind in a hand
 more_of : (kind other : HandKind) (hand : Hand)
     → count_of kind (with_count other (count_of other hand + 1) hand)
     ≡ count_of kind hand + one_if (same_kind other kind)
 more_of kind other hand =
-    counted kind other (count_of other hand + 1) hand
+    counted other (count_of other hand + 1) hand kind
     ∙ elim (same_kind other kind) as (λ b. same_kind other kind ≡ b →
     cond b (count_of other hand + 1) (count_of kind hand) ≡ count_of kind hand + one_if b) [
       | true ↦ λ e. ap (λ k. count_of k hand + 1) (same_true the_type tt other kind e)
@@ -233,7 +234,7 @@ fewer_of : (kind other : HandKind) (hand : Hand) → 0 < count_of other hand
     → count_of kind (with_count other (count_of other hand - 1) hand) + one_if (same_kind other kind)
     ≡ count_of kind hand
 fewer_of kind other hand some =
-    ap (λ n. n + one_if (same_kind other kind)) (counted kind other (count_of other hand - 1) hand)
+    ap (λ n. n + one_if (same_kind other kind)) (counted other (count_of other hand - 1) hand kind)
     ∙ elim (same_kind other kind) as (λ b. same_kind other kind ≡ b →
     cond b (count_of other hand - 1) (count_of kind hand) + one_if b ≡ count_of kind hand) [
       | true ↦ λ e. let same : count_of other hand ≡ count_of kind hand = ap (λ k. count_of k hand)

@@ -1,7 +1,7 @@
 -- The computed end of a line is its only end.
 use Rattle.std.proofs.Common.{◌≡◌, ℕ, suc, ◌+◌, ◌-◌, ◌<◌, ◌≤◌, nat_eq, nat_lt, Bool, true, false, not, ◌||◌}
-use Rattle.std.proofs.Common.{cond, List, length, drop, get_or, Option, Some, None, refl, sym, ap, ◌∙◌, subst, arith, leb-true, le-leb, lt-ltb}
-use Rattle.std.proofs.Common.{eqb-true, eq-eqb, inl, inr}
+use Rattle.std.proofs.Common.{cond, List, length, drop, get_or, Option, Some, None, refl, sym, ap, ◌∙◌, subst, arith}
+use Rattle.std.proofs.Common.{leb-true, le-leb, lt-ltb, eqb-true, eq-eqb, inl, inr}
 use Rattle.std.specs.Prelude.{IsTrue, ◌↔◌, if◌then◌else◌}
 use Rattle.std.specs.List.{count_by}
 use Rattle.std.specs.Option.{option_map_or}

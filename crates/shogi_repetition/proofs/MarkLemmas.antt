@@ -100,7 +100,8 @@ start-follows p marks last plies stood tail seen =
       last = last;
       plies = plies;
       times = ap (λ s. s.times) stood
-          ∙ sym (lines.count_by-one (λ q. same_shogi_position q p) p ∙ ap (λ b. cond b 1 0) (same_shogi_position-itself p));
+          ∙ sym (lines.count_by-one (λ q. same_shogi_position q p) p
+          ∙ ap (λ b. cond b 1 0) (same_shogi_position-itself p));
       first = subst (λ s. FirstStands p [] s.first) (sym stood) (lines.first-of-none play p);
       tail = tail ∙ sym (tail-begins p);
       seen = λ q. subst (HasStood p [] q) (sym (seen q ∙ at-key p q _ _))

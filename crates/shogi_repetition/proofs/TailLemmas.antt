@@ -203,7 +203,8 @@ module _ (side : Side) where
       let all = led-many f xs in
       let cut : length (filter made xs) - length (filter made (drop f xs)) ≡ length (filter made (take f xs)) =
       omega (arith, all) in
-      sym ((λ i. drop (cut i) (led-parts f xs i)) ∙ drop-append_seam (filter made (take f xs)) (filter made (drop f xs)))
+      sym ((λ i. drop (cut i) (led-parts f xs i))
+      ∙ drop-append_seam (filter made (take f xs)) (filter made (drop f xs)))
 
   no-more : (f : ℕ) (xs : List ShogiPosition) → length (filter made (drop f xs)) ≤ length (filter made xs)
   no-more f xs = let all = led-many f xs in omega (arith, all)

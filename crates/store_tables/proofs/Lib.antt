@@ -5,9 +5,11 @@ pub mod ContentLemmas
 pub mod ExcludedLemmas
 pub mod IdLemmas
 pub mod KeyLemmas
+pub mod KeyMeanings
 pub mod MakeLemmas
 pub mod Meanings
 pub mod OrderLemmas
+pub mod OverLemmas
 pub mod Proved
 pub mod PutLemmas
 pub mod PutMeanings

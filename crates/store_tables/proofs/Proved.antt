@@ -9,14 +9,14 @@ pub use Rattle.store_tables.proofs.TellLemmas.{ids_of, apart_of, stored_at}
 pub use Rattle.store_tables.proofs.SchemaLemmas.{current_itself, first_within, first_of_club, at_schema}
 pub use Rattle.store_tables.proofs.SelectMeanings.{meta_read, members_read, events_read, challenges_read, moves_read}
 pub use Rattle.store_tables.proofs.SelectMeanings.{games_read, seen_read, scores_read, event_rules_read}
-pub use Rattle.store_tables.proofs.SelectMeanings.{members_by_name_finds, members_by_key_finds, events_by_name_finds}
-pub use Rattle.store_tables.proofs.SelectMeanings.{games_by_key_finds}
-pub use Rattle.store_tables.proofs.SelectMeanings.{challenges_by_number_finds, moves_by_ply_finds}
-pub use Rattle.store_tables.proofs.SelectMeanings.{seen_by_position_finds, scores_by_pair_finds}
-pub use Rattle.store_tables.proofs.SelectMeanings.{members_by_name_select, members_by_key_select, events_by_name_select}
-pub use Rattle.store_tables.proofs.SelectMeanings.{games_by_key_select}
-pub use Rattle.store_tables.proofs.SelectMeanings.{challenges_by_number_select, moves_by_ply_select}
-pub use Rattle.store_tables.proofs.SelectMeanings.{seen_by_position_select, scores_by_pair_select}
+pub use Rattle.store_tables.proofs.KeyMeanings.{members_by_name_finds, members_by_key_finds, events_by_name_finds}
+pub use Rattle.store_tables.proofs.KeyMeanings.{games_by_key_finds}
+pub use Rattle.store_tables.proofs.KeyMeanings.{challenges_by_number_finds, moves_by_ply_finds}
+pub use Rattle.store_tables.proofs.KeyMeanings.{seen_by_position_finds, scores_by_pair_finds}
+pub use Rattle.store_tables.proofs.KeyMeanings.{members_by_name_select, members_by_key_select, events_by_name_select}
+pub use Rattle.store_tables.proofs.KeyMeanings.{games_by_key_select}
+pub use Rattle.store_tables.proofs.KeyMeanings.{challenges_by_number_select, moves_by_ply_select}
+pub use Rattle.store_tables.proofs.KeyMeanings.{seen_by_position_select, scores_by_pair_select}
 -- Contents that are held alike, and tables of which no two rows have one key.
 pub use Rattle.store_tables.proofs.SameLemmas.{leaves_same, exactly_same}
 pub use Rattle.store_tables.proofs.UpsertLemmas.{same_rowid}
@@ -41,3 +41,7 @@ pub use Rattle.store_tables.proofs.MakeLemmas.{never_made, widens}
 pub use Rattle.store_tables.proofs.ApartLemmas.{each_shown}
 pub use Rattle.store_tables.proofs.OrderLemmas.{has_index, sorted_rows}
 pub use Rattle.store_tables.proofs.ReadLemmas.{has_map, has_mapped, has_turned}
+-- A club beside its neighbours.
+pub use Rattle.store_tables.proofs.OverLemmas.{over_changed, exactly_alike, leaves_alike, exactly_changed, leaves_changed}
+pub use Rattle.store_tables.proofs.OverLemmas.{beside_alone, alone_exactly, left_alone, alone_leaves, leaves_beside}
+pub use Rattle.store_tables.proofs.OverLemmas.{still_beside, rows_beside}

@@ -132,6 +132,7 @@ module _ (sql : List ℕ) (select : IsSelect sql) (params : Row) (old new : Stat
     may = select_keeps_may survives;
     was_open = λ clean here. (kept_open (either_way items r (ok clean) (err clean)) here).0;
     committed = λ clean here. (kept_open (either_way items r (ok clean) (err clean)) here).1;
+    kept = λ t. absurd (true≢false (sym t));
   }
 
 -- ---- one call after another
@@ -143,8 +144,8 @@ reads_nothing s =
       clean = omega arith;
       may = λ clean db h. h;
       was_open = λ clean h. h;
-      committed =
-          λ clean h. refl;
+      committed = λ clean h. refl;
+      kept = λ t. absurd (true≢false (sym t));
     }
 
 pub reads_then : (a b c : State) → OnlyReads a b → OnlyReads b c → OnlyReads a c
@@ -156,6 +157,7 @@ reads_then a b c one two =
       may = λ clean db h. one.may (before clean) db (two.may clean db h);
       was_open = λ clean h. one.was_open (before clean) (two.was_open clean h);
       committed = λ clean h. two.committed clean h ∙ one.committed (before clean) (two.was_open clean h);
+      kept = λ t. absurd (true≢false (sym t));
     }
 
 -- ---- calls that read
@@ -178,6 +180,7 @@ only_reading answered old new reads = record {
   may = reads.may;
   was_open = reads.was_open;
   committed = reads.committed;
+  kept = λ t. absurd (true≢false (sym t));
 }
 
 -- no call

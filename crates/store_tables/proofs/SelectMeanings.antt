@@ -85,7 +85,7 @@ meta_read others = record {
 
 -- ---- members
 
-abbrev members_columns : List Term
+abbrev pub members_columns : List Term
 members_columns = col 1 0 ∷ col 1 2 ∷ col 1 3 ∷ []
 
 members_all_is : (others : Others)
@@ -156,7 +156,7 @@ members_read others = record {
 
 -- ---- events
 
-abbrev events_columns : List Term
+abbrev pub events_columns : List Term
 events_columns = col 1 0 ∷ col 1 2 ∷ col 1 3 ∷ col 1 4 ∷ col 1 5 ∷ []
 
 events_all_is : (others : Others) → Selects (beside first_schema others) 4 1 t.events_all events_columns
@@ -225,7 +225,7 @@ events_read others = record {
 
 -- ---- challenges
 
-abbrev challenges_columns : List Term
+abbrev pub challenges_columns : List Term
 challenges_columns = col 1 1 ∷ col 1 2 ∷ col 1 3 ∷ col 1 4 ∷ col 1 5 ∷ col 1 6 ∷ col 1 7 ∷ []
 
 challenges_all_is : (others : Others)
@@ -300,7 +300,7 @@ challenges_read others = record {
 
 -- ---- moves
 
-abbrev moves_columns : List Term
+abbrev pub moves_columns : List Term
 moves_columns = col 1 1 ∷ col 1 2 ∷ col 1 3 ∷ col 1 4 ∷ col 1 5 ∷ col 1 6 ∷ []
 
 moves_all_is : (others : Others) → Selects (beside first_schema others) 8 2 t.moves_all moves_columns
@@ -368,7 +368,7 @@ moves_read others = record {
 
 -- ---- games
 
-abbrev games_columns : List Term
+abbrev pub games_columns : List Term
 games_columns = col 1 0 ∷ col 1 2 ∷ col 1 3 ∷ col 1 4 ∷ col 1 5 ∷ col 1 6 ∷ col 1 7 ∷ col 1 8 ∷ col 1 9 ∷ col 1 10
     ∷ col 1 11 ∷ col 1 12 ∷ col 1 13 ∷ col 1 14 ∷ col 1 15 ∷ col 1 16 ∷ col 1 17 ∷ []
 
@@ -442,7 +442,7 @@ games_read others = record {
 
 -- ---- seen
 
-abbrev seen_columns : List Term
+abbrev pub seen_columns : List Term
 seen_columns = col 1 1 ∷ col 1 2 ∷ col 1 3 ∷ col 1 4 ∷ []
 
 seen_all_is : (others : Others) → Selects (beside first_schema others) 12 2 t.seen_all seen_columns
@@ -510,7 +510,7 @@ seen_read others = record {
 
 -- ---- scores
 
-abbrev scores_columns : List Term
+abbrev pub scores_columns : List Term
 scores_columns = col 1 1 ∷ col 1 2 ∷ col 1 3 ∷ col 1 4 ∷ col 1 5 ∷ col 1 6 ∷ col 1 7 ∷ []
 
 scores_all_is : (others : Others) → Selects (beside first_schema others) 14 3 t.scores_all scores_columns
@@ -649,198 +649,3 @@ event_rules_read others = record {
   ids_is = event_rules_selects.1;
   group_is = event_rules_selects.2;
 }
-
--- ---- by a whole key, or by a column that is UNIQUE
-
-pub members_by_name_finds : (others : Others) (a : List ℕ)
-    → Finds (beside club_schema others) (members 1) 1 (1 ∷ []) (Null ∷ Text a ∷ []) (Text a ∷ [])
-    t.members_by_name (λ x y. Equal)
-unfolding understood everything first_key
-members_by_name_finds others a = record {
-  at = refl;
-  filter = op2 (Compare Eq Binary) (col 1 2) (col 0 0) ∷ [];
-  project = members_columns;
-  order = [];
-  names = codes "id" ∷ codes "name" ∷ codes "key" ∷ [];
-  command = refl;
-  plain = (refl, refl);
-  unlisted = refl;
-  overlaid = λ d. refl;
-  shows = λ r. refl;
-  picks = λ r. refl;
-  by = λ r s. refl;
-}
-
-pub members_by_name_select : IsSelect t.members_by_name
-unfolding understood everything
-members_by_name_select = refl
-
-pub members_by_key_finds : (others : Others) (a : List ℕ) →
-    Finds (beside club_schema others) (members 1) 1 (2 ∷ []) (Null ∷ Null ∷ Text a ∷ []) (Text a ∷ [])
-    t.members_by_key (λ x y. Equal)
-unfolding understood everything first_key
-members_by_key_finds others a = record {
-  at = refl;
-  filter = op2 (Compare Eq Binary) (col 1 3) (col 0 0) ∷ [];
-  project = members_columns;
-  order = [];
-  names = codes "id" ∷ codes "name" ∷ codes "key" ∷ [];
-  command = refl;
-  plain = (refl, refl);
-  unlisted = refl;
-  overlaid = λ d. refl;
-  shows = λ r. refl;
-  picks = λ r. refl;
-  by = λ r s. refl;
-}
-
-pub members_by_key_select : IsSelect t.members_by_key
-unfolding understood everything
-members_by_key_select = refl
-
-pub events_by_name_finds : (others : Others) (a : List ℕ) →
-    Finds (beside club_schema others) (events 4) 2 (1 ∷ []) (Null ∷ Text a ∷ []) (Text a ∷ [])
-    t.events_by_name (λ x y. Equal)
-unfolding understood everything first_key
-events_by_name_finds others a = record {
-  at = refl;
-  filter = op2 (Compare Eq Binary) (col 1 2) (col 0 0) ∷ [];
-  project = events_columns;
-  order = [];
-  names = codes "id" ∷ codes "name" ∷ codes "game" ∷ codes "budget" ∷ codes "increment" ∷ [];
-  command = refl;
-  plain = (refl, refl);
-  unlisted = refl;
-  overlaid = λ d. refl;
-  shows = λ r. refl;
-  picks = λ r. refl;
-  by = λ r s. refl;
-}
-
-pub events_by_name_select : IsSelect t.events_by_name
-unfolding understood everything
-events_by_name_select = refl
-
-pub games_by_key_finds : (others : Others) (a : List ℕ)
-    → Finds (beside club_schema others) (games 10) 5 (1 ∷ []) (Null ∷ Text a ∷ []) (Text a ∷ [])
-    t.games_by_key (λ x y. Equal)
-unfolding understood everything first_key
-games_by_key_finds others a = record {
-  at = refl;
-  filter = op2 (Compare Eq Binary) (col 1 2) (col 0 0) ∷ [];
-  project = games_columns;
-  order = [];
-  names = codes "id" ∷ codes "key" ∷ codes "event" ∷ codes "first" ∷ codes "second" ∷ codes "start" ∷ codes "since"
-      ∷ codes "plies" ∷ codes "left1" ∷ codes "left2" ∷ codes "offer_side" ∷ codes "offer_ply" ∷ codes "end"
-      ∷ codes "result" ∷ codes "position" ∷ codes "track_a" ∷ codes "track_b" ∷ [];
-  command = refl;
-  plain = (refl, refl);
-  unlisted = refl;
-  overlaid = λ d. refl;
-  shows = λ r. refl;
-  picks = λ r. refl;
-  by = λ r s. refl;
-}
-
-pub games_by_key_select : IsSelect t.games_by_key
-unfolding understood everything
-games_by_key_select = refl
-
-pub challenges_by_number_finds : (others : Others) (a : ℤ) (b : ℤ)
-    → Finds (beside club_schema others) (challenges 6) 3 (0 ∷ 1 ∷ []) (Int a ∷ Int b ∷ []) (Int a ∷ Int b ∷ [])
-    t.challenges_by_number
-    (λ x y. Equal)
-unfolding understood everything first_key
-challenges_by_number_finds others a b = record {
-  at = refl;
-  filter = op2 (Compare Eq Binary) (col 1 1) (col 0 0) ∷ op2 (Compare Eq Binary) (col 1 2) (col 0 1) ∷ [];
-  project = challenges_columns;
-  order = [];
-  names = codes "member" ∷ codes "number" ∷ codes "event" ∷ codes "other" ∷ codes "first" ∷ codes "state" ∷ codes
-      "game"
-      ∷ [];
-  command = refl;
-  plain = (refl, refl);
-  unlisted = refl;
-  overlaid = λ d. refl;
-  shows = λ r. refl;
-  picks = λ r. refl;
-  by = λ r s. refl;
-}
-
-pub challenges_by_number_select : IsSelect t.challenges_by_number
-unfolding understood everything
-challenges_by_number_select = refl
-
-pub moves_by_ply_finds : (others : Others) (a : ℤ) (b : ℤ)
-    → Finds (beside club_schema others) (moves 8) 4 (0 ∷ 1 ∷ []) (Int a ∷ Int b ∷ []) (Int a ∷ Int b ∷ [])
-    t.moves_by_ply (λ x y. Equal)
-unfolding understood everything first_key
-moves_by_ply_finds others a b = record {
-  at = refl;
-  filter = op2 (Compare Eq Binary) (col 1 1) (col 0 0) ∷ op2 (Compare Eq Binary) (col 1 2) (col 0 1) ∷ [];
-  project = moves_columns;
-  order = [];
-  names = codes "game" ∷ codes "ply" ∷ codes "text" ∷ codes "moment" ∷ codes "left" ∷ codes "position" ∷ [];
-  command = refl;
-  plain = (refl, refl);
-  unlisted = refl;
-  overlaid = λ d. refl;
-  shows = λ r. refl;
-  picks = λ r. refl;
-  by = λ r s. refl;
-}
-
-pub moves_by_ply_select : IsSelect t.moves_by_ply
-unfolding understood everything
-moves_by_ply_select = refl
-
-pub seen_by_position_finds : (others : Others) (a : ℤ) (b : List ℕ)
-    → Finds (beside club_schema others) (seen 12) 6 (0 ∷ 1 ∷ []) (Int a ∷ Text b ∷ []) (Int a ∷ Text b ∷ [])
-    t.seen_by_position
-    (λ x y. Equal)
-unfolding understood everything first_key
-seen_by_position_finds others a b = record {
-  at = refl;
-  filter = op2 (Compare Eq Binary) (col 1 1) (col 0 0) ∷ op2 (Compare Eq Binary) (col 1 2) (col 0 1) ∷ [];
-  project = seen_columns;
-  order = [];
-  names = codes "game" ∷ codes "position" ∷ codes "count" ∷ codes "first_ply" ∷ [];
-  command = refl;
-  plain = (refl, refl);
-  unlisted = refl;
-  overlaid = λ d. refl;
-  shows = λ r. refl;
-  picks = λ r. refl;
-  by = λ r s. refl;
-}
-
-pub seen_by_position_select : IsSelect t.seen_by_position
-unfolding understood everything
-seen_by_position_select = refl
-
-pub scores_by_pair_finds : (others : Others) (a : ℤ) (b : ℤ) (c : ℤ)
-    → Finds (beside club_schema others) (scores 14) 7 (0 ∷ 1 ∷ 2 ∷ []) (Int a ∷ Int b ∷ Int c ∷ [])
-    (Int a ∷ Int b ∷ Int c ∷ [])
-    t.scores_by_pair (λ x y. Equal)
-unfolding understood everything first_key
-scores_by_pair_finds others a b c = record {
-  at = refl;
-  filter = op2 (Compare Eq Binary) (col 1 1) (col 0 0) ∷ op2 (Compare Eq Binary) (col 1 2) (col 0 1)
-      ∷ op2 (Compare Eq Binary) (col 1 3) (col 0 2) ∷ [];
-  project = scores_columns;
-  order = [];
-  names = codes "event" ∷ codes "member" ∷ codes "opponent" ∷ codes "points" ∷ codes "wins" ∷ codes "draws"
-      ∷ codes "losses" ∷ [];
-  command = refl;
-  plain = (refl, refl);
-  unlisted = refl;
-  overlaid = λ d. refl;
-  shows = λ r. refl;
-  picks = λ r. refl;
-  by = λ r s. refl;
-}
-
-pub scores_by_pair_select : IsSelect t.scores_by_pair
-unfolding understood everything
-scores_by_pair_select = refl

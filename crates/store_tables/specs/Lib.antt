@@ -6,6 +6,7 @@ pub mod Club
 pub mod Content
 pub mod Contents
 pub mod Names
+pub mod Over
 pub mod Put
 pub mod Queries
 pub mod Reading

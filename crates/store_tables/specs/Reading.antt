@@ -61,15 +61,6 @@ IsNoInput e = (why : CompileError) → e ≢ SqlInputError why
 abbrev pub KeepsMay : State → State → Type 0
 KeepsMay old new = (db : Trees) → new.may_leave db → old.may_leave db
 
--- Whatever the schema and whatever the answer: the connection stays outside a transaction, doubt of the disk does not
--- shrink, a stop leaves nothing that it could not leave before, and what was committed is what was committed.
-pub record OnlyReads (old new : State) : Type 0 where
-  pub idle : old.in_transaction ≡ false → new.in_transaction ≡ false
-  pub clean : doubt old.is_clean ≤ doubt new.is_clean
-  pub may : HasCleanDisk new → KeepsMay old new
-  pub was_open : HasCleanDisk new → IsTrue new.is_open → IsTrue old.is_open
-  pub committed : HasCleanDisk new → IsTrue new.is_open → new.committed ≡ old.committed
-
 -- What the connection holds exactly, by whatever schema, it still holds exactly.
 abbrev pub KeepsContent : State → State → Type 0
 KeepsContent old new = (schema : Schema) (content : Content) → IsExactly schema content old
@@ -85,3 +76,7 @@ pub record Reads (answered : Bool) (old new : State) : Type 0 where
   pub was_open : HasCleanDisk new → IsTrue new.is_open → IsTrue old.is_open
   pub committed : HasCleanDisk new → IsTrue new.is_open → new.committed ≡ old.committed
   pub kept : IsTrue answered → HasCleanDisk new → KeepsContent old new
+
+-- the same of a call that may not have answered
+abbrev pub OnlyReads : State → State → Type 0
+OnlyReads = Reads false

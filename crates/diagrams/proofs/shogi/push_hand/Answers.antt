@@ -9,7 +9,8 @@ unfolding hand_text
 returns-in_ok-push_str c =
     let before = c.args.text.now.bytes.ok.0 in
     let after = c.push_kinds.new.text.bytes.ok.0 in
-    no-hand (32 ∷ 45 ∷ []) (string_bytes c.args.text.now) (kinds_text c.args.hand hand_kinds) _ c.in_ok-push_kinds.ensures _
+    no-hand (32 ∷ 45 ∷ []) (string_bytes c.args.text.now) (kinds_text c.args.hand hand_kinds) _
+    c.in_ok-push_kinds.ensures _
     (omega (arith, c.len.ensures, c.if-len-before.true, c.len-before.ensures, before, after))
     c.in_ok-push_str.ensures.bytes
 
@@ -18,5 +19,6 @@ unfolding hand_text
 returns-else-len-before c =
     let before = c.args.text.now.bytes.ok.0 in
     let after = c.push_kinds.new.text.bytes.ok.0 in
-    some-hand (32 ∷ 45 ∷ []) (string_bytes c.args.text.now) (kinds_text c.args.hand hand_kinds) _ c.in_ok-push_kinds.ensures
+    some-hand (32 ∷ 45 ∷ []) (string_bytes c.args.text.now) (kinds_text c.args.hand hand_kinds) _
+    c.in_ok-push_kinds.ensures
     (λ same. c.if-len-before.false (omega (arith, c.len.ensures, same, c.len-before.ensures, before, after)))
