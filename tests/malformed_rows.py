@@ -84,13 +84,14 @@ class Audit:
             moves.sort(key=lambda it: it["ply"] if type(it["ply"]) is int else 0)
 
     def verdicts(self):
-        """What verify may say: the first table that is wrong, or games sooner, where a row of theirs has another type."""
+        """What verify may say: the first table that is wrong, or games in place of the moves, where a row of games has
+        another type."""
         meta = self.rows["meta"]
         number = meta[0]["schema"] if [it["id"] for it in meta] == [1] else None
         if type(number) is int and number != 2:
             return ["store 70 Foreign" if number == 1 else f"store 71 Schema {number}"]
         wrong = [table for table in COLUMNS if self.is_wrong(table)]
-        sooner = ["games"] if "games" in wrong[1:] and not self.are_typed("games") else []
+        sooner = ["games"] if wrong[:1] == ["moves"] and not self.are_typed("games") else []
         return [f"store 72 Damaged {table}" for table in wrong[:1] + sooner] or ["sound"]
 
     def is_wrong(self, table):

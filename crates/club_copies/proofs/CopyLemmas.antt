@@ -6,14 +6,14 @@ use Rattle.sqlite_value.specs.declared.value.Value.TheVariants.{Int}
 use Rattle.sqlite_value.specs.Keys.{first_key}
 use Rattle.sqlite_value.proofs.OrderLemmas.{value_cmp_total}
 use Rattle.sqlite.specs.Order.{Row, column}
-use Rattle.sqlite.specs.Effect.{Database}
+use Rattle.sqlite.specs.State.{State}
 use Rattle.sqlite_rules.specs.Lists.{Has}
 use Rattle.store_tables.specs.Cells.{meta_cells}
 use Rattle.store_tables.specs.Changed.{changed, maybe_row}
 use Rattle.store_tables.specs.Changes.{HaveSame, AreSame, Alters}
 use Rattle.store_tables.specs.Content.{same_key}
 use Rattle.store_tables.specs.Contents.{Content, opening, opening_meta}
-use Rattle.store_tables.specs.Club.{Holds}
+use Rattle.store_tables.specs.Beside.{HasRows}
 use Rattle.store_tables.specs.Tables.{club_schema}
 use Rattle.store_tables.specs.declared.rows.Changes.{Changes}
 use Rattle.store_tables.specs.declared.rows.MetaRow.{MetaRow}
@@ -56,17 +56,17 @@ from_meta rows new first is id same one = record {
 }
 
 -- what is put is the content that was read
-pub copied : (rows : Changes) (content : Content) (db : Database) → Holds db content → AreAll rows content
+pub copied : (rows : Changes) (content : Content) (s : State) → HasRows content s → AreAll rows content
     → AreSame club_schema (changed rows opening) content
-copied rows content db k all = tables_altered rows opening content (record {
+copied rows content s k all = tables_altered rows opening content (record {
   meta =
-      from_meta rows (content 0) all.first all.is_first.0 all.is_first.1 all.meta (meta_keys db content k);
-  members = from_none (0 ∷ []) _ (content 1) all.members (member_keys db content k);
-  events = from_none (0 ∷ []) _ (content 4) all.events (event_keys db content k);
-  event_rules = from_none (0 ∷ []) _ (content 16) all.event_rules (event_rule_keys db content k);
-  challenges = from_none (0 ∷ 1 ∷ []) _ (content 6) all.challenges (challenge_keys db content k);
-  moves = from_none (0 ∷ 1 ∷ []) _ (content 8) all.moves (move_keys db content k);
-  games = from_none (0 ∷ []) _ (content 10) all.games (game_keys db content k);
-  seen = from_none (0 ∷ 1 ∷ []) _ (content 12) all.seen (seen_keys db content k);
-  scores = from_none (0 ∷ 1 ∷ 2 ∷ []) _ (content 14) all.scores (score_keys db content k);
+      from_meta rows (content 0) all.first all.is_first.0 all.is_first.1 all.meta (meta_keys content s k);
+  members = from_none (0 ∷ []) _ (content 1) all.members (member_keys content s k);
+  events = from_none (0 ∷ []) _ (content 4) all.events (event_keys content s k);
+  event_rules = from_none (0 ∷ []) _ (content 16) all.event_rules (event_rule_keys content s k);
+  challenges = from_none (0 ∷ 1 ∷ []) _ (content 6) all.challenges (challenge_keys content s k);
+  moves = from_none (0 ∷ 1 ∷ []) _ (content 8) all.moves (move_keys content s k);
+  games = from_none (0 ∷ []) _ (content 10) all.games (game_keys content s k);
+  seen = from_none (0 ∷ 1 ∷ []) _ (content 12) all.seen (seen_keys content s k);
+  scores = from_none (0 ∷ 1 ∷ 2 ∷ []) _ (content 14) all.scores (score_keys content s k);
 })

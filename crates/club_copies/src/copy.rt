@@ -4,10 +4,11 @@ ghost use Rattle.std.specs.Prelude.{◌≡◌, ◌≢◌, ◌≤◌, ◌⊎◌, 
 ghost use Rattle.sqlite.specs.State.{HasCleanDisk};
 ghost use Rattle.sqlite.specs.Held.{state};
 ghost use Rattle.sqlite_trees.specs.View.{doubt};
+ghost use Rattle.store_tables.specs.Beside.{HasRows, IsBeside};
 ghost use Rattle.store_tables.specs.Club.{IsExactly, Leaves};
 ghost use Rattle.store_tables.specs.Contents.{IsExactlyEmpty, IsEmpty};
 ghost use Rattle.store_tables.specs.Reading.{KeepsContent, KeepsMay, Reads};
-ghost use Rattle.store_tables.specs.Tables.{IsClubSchema};
+ghost use Rattle.store_tables.specs.Tables.{first_schema};
 
 use crate::fault::CopyFault;
 use crate::rows::read_rows;
@@ -40,14 +41,15 @@ pub fn copy_tables<S: Alter, T: Alter>(
     ensures idle { copy.new.in_transaction ≡ false }
     ensures clean { doubt (state T.Store copy.old).is_clean ≤ doubt (state T.Store copy.new).is_clean }
     ensures stored { HasCleanDisk (state S.Store club.new) → HasCleanDisk (state T.Store copy.new) →
-        OnOk result ((content : _) → IsExactly content (state S.Store club.old) →
+        OnOk result ((content : _) → HasRows content (state S.Store club.old) →
         IsExactlyEmpty (state T.Store copy.old) → IsExactly content (state T.Store copy.new)) }
     ensures fault { HasCleanDisk (state S.Store club.new) → HasCleanDisk (state T.Store copy.new) →
-        OnErr result ((content : _) → IsExactly content (state S.Store club.old) →
+        OnErr result ((content : _) → HasRows content (state S.Store club.old) →
         IsExactlyEmpty (state T.Store copy.old) → (db : _) → (state T.Store copy.new).may_leave db →
         IsEmpty db ⊎ Leaves content db) }
     ensures untouched { IfErr result (λ e. e ≢ CopyFault.Copy → copy.new ≡ copy.old) }
-    ensures stands { HasCleanDisk (state T.Store copy.new) → IsClubSchema (state T.Store copy.old).now.schema →
+    ensures stands { HasCleanDisk (state T.Store copy.new) →
+        IsBeside first_schema (state T.Store copy.old).now.schema →
         IfOk result (λ _. ⊥) × KeepsMay (state T.Store copy.old) (state T.Store copy.new) }
 {
     let rows = match read_rows(alloc, club) {

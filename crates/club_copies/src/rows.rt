@@ -5,7 +5,7 @@ ghost use Rattle.sqlite.specs.State.{HasCleanDisk};
 ghost use Rattle.sqlite.specs.Held.{state};
 ghost use Rattle.store_tables.specs.Cells.{meta_cells};
 ghost use Rattle.store_tables.specs.Changes.{HaveSame};
-ghost use Rattle.store_tables.specs.Club.{IsExactly};
+ghost use Rattle.store_tables.specs.Beside.{HasRows};
 ghost use Rattle.store_tables.specs.Reading.{Reads};
 ghost use Rattle.club_copies.specs.Copies.{AreAll, ArePeople, ArePlay};
 
@@ -58,7 +58,7 @@ fn only_row(rows: Vec<MetaRow>) -> Option<MetaRow>
 fn read_meta<S: Alter>(alloc: Global, conn: &mut Connection<S>) -> Result<MetaRow, CallFault>
     ensures reads { Reads (is_ok result) (state S.Store conn.old) (state S.Store conn.new) }
     ensures first { IfOk result (λ first. first.id ≡ pos 1) }
-    ensures rows { HasCleanDisk (state S.Store conn.new) → IfOk result (λ first. (content : _) → IsExactly content
+    ensures rows { HasCleanDisk (state S.Store conn.new) → IfOk result (λ first. (content : _) → HasRows content
         (state S.Store conn.old) → HaveSame (meta_cells first ∷ []) (content 0)) }
 {
     let rows = match list(alloc, conn) {
@@ -74,7 +74,7 @@ fn read_meta<S: Alter>(alloc: Global, conn: &mut Connection<S>) -> Result<MetaRo
 /// All rows of members, events, rules of events and challenges.
 fn read_people<S: Alter>(alloc: Global, conn: &mut Connection<S>) -> Result<People, CallFault>
     ensures reads { Reads (is_ok result) (state S.Store conn.old) (state S.Store conn.new) }
-    ensures rows { HasCleanDisk (state S.Store conn.new) → IfOk result (λ found. (content : _) → IsExactly content
+    ensures rows { HasCleanDisk (state S.Store conn.new) → IfOk result (λ found. (content : _) → HasRows content
         (state S.Store conn.old) → ArePeople found content) }
 {
     let members = match list(alloc, conn) {
@@ -104,7 +104,7 @@ fn read_people<S: Alter>(alloc: Global, conn: &mut Connection<S>) -> Result<Peop
 /// All rows of games, moves, positions and scores.
 fn read_play<S: Alter>(alloc: Global, conn: &mut Connection<S>) -> Result<Play, CallFault>
     ensures reads { Reads (is_ok result) (state S.Store conn.old) (state S.Store conn.new) }
-    ensures rows { HasCleanDisk (state S.Store conn.new) → IfOk result (λ found. (content : _) → IsExactly content
+    ensures rows { HasCleanDisk (state S.Store conn.new) → IfOk result (λ found. (content : _) → HasRows content
         (state S.Store conn.old) → ArePlay found content) }
 {
     let games = match list(alloc, conn) {
@@ -165,7 +165,7 @@ fn joined(meta: MetaRow, people: People, play: Play) -> Changes
 /// a club is a fault, as a value of another type than its column.
 pub fn read_rows<S: Alter>(alloc: Global, conn: &mut Connection<S>) -> Result<Changes, CallFault>
     ensures reads { Reads (is_ok result) (state S.Store conn.old) (state S.Store conn.new) }
-    ensures rows { HasCleanDisk (state S.Store conn.new) → IfOk result (λ found. (content : _) → IsExactly content
+    ensures rows { HasCleanDisk (state S.Store conn.new) → IfOk result (λ found. (content : _) → HasRows content
         (state S.Store conn.old) → AreAll found content) }
 {
     let meta = match read_meta(alloc, conn) {

@@ -4,8 +4,6 @@ use Rattle.std.specs.Prelude.{IfSome, option_map, option_and_then, if◌then◌e
 use Rattle.club_requests.specs.Limits.{last_moment}
 use Rattle.club_core.specs.State.{Command, Request, key_holder, withdraw_challenge, on_game as game_command}
 use Rattle.club_core.specs.Step.{GameCommand}
-use Rattle.club_rows.specs.Club.{ClubState}
-use Rattle.club_changes.specs.Steps.{club_next}
 use Rattle.http_head.specs.Request as head
 use Rattle.http_head.specs.Request.{Seen, unfinished, refused, whole}
 use Rattle.http_desk.specs.Routes.{Asked, members_page, game_view, legal_moves, question, on_game, challenge, withdraw}
@@ -14,7 +12,7 @@ use Rattle.http_desk.specs.Desk.{Due, serve, serve_asked, serve_known, serve_pag
 use Rattle.http_desk.specs.Desk.{state_behind}
 use Rattle.http_bodies.specs.Bodies.{json_of, challenge_with, challenge_in, challenge_of, answer_with, answer_in}
 use Rattle.http_bodies.specs.Bodies.{answer_of}
-use Rattle.club_desk.specs.Served.{served}
+use Rattle.club_desk.specs.Served.{Standing, next_of, served}
 use Rattle.club_desk.specs.Turns.{IsMembers, IsTurn}
 
 -- ---- what paths and bodies give are commands of members
@@ -49,11 +47,11 @@ answer_members challenger n body = given_by (answer_in challenger n) (λ d. answ
 
 -- ---- what is behind a request
 
-module _ (s : ClubState) (moment : ℕ) (within : moment ≤ last_moment) where
-  abbrev pub IsNext : ClubState → Type 0
-  IsNext t = (t ≡ s) ⊎ ((request : Request) × IsTurn request × (t ≡ club_next s request))
+module _ (s : Standing) (moment : ℕ) (within : moment ≤ last_moment) where
+  abbrev pub IsNext : Standing → Type 0
+  IsNext t = (t ≡ s) ⊎ ((request : Request) × IsTurn request × (t ≡ next_of s request))
 
-  if_next : (b : Bool) (one other : ClubState × Due) → IsNext one.0 → IsNext other.0
+  if_next : (b : Bool) (one other : Standing × Due) → IsNext one.0 → IsNext other.0
       → IsNext (if b then one else other).0
   if_next true one other first second = first
   if_next false one other first second = second

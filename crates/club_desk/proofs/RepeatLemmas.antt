@@ -17,7 +17,7 @@ use Rattle.store_tables.specs.declared.names.Version.TheVariants.{Current}
 use Rattle.http_desk.specs.Desk.{this, outcome_answer, serve}
 use Rattle.club_reads.specs.Keys.{holder_of}
 use Rattle.club_reads.proofs.Proved.{holder_named}
-use Rattle.club_desk.specs.Served.{served}
+use Rattle.club_desk.specs.Served.{beside_them, served}
 use Rattle.club_desk.specs.Repeats.{AnswersAlike, stands_at}
 
 fold_more : (s : ClubState) (first second : List Request) → club_fold (club_fold s first) second
@@ -70,8 +70,8 @@ stays : (s : ClubState) (request : Request) (reply : Reply) → club_step s requ
 stays s request reply is = ap (λ o. state_after s o) is
 
 pub answers_alike : AnswersAgain both_games → AnswersAlike
-answers_alike again before after later moment next request key number command reply between is_club asks taken leads
-    still =
+answers_alike again one other before after later moment next request key number command reply between is_club asks taken
+    leads still =
     let first : Request = record { who = key_holder key; command = command; moment = moment } in
     let second : Request = record { who = key_holder key; command = command; moment = next } in
     let folded = reached (stands_at after) (stands_at later) between refl leads in
@@ -85,12 +85,13 @@ answers_alike again before after later moment next request key number command re
     member before key command moment (accepted after reply) taken (λ e. cc) in
     let is_still : is_some (holder_of later key) ≡ true =
     member later key command next (repeated reply) repeats (λ e. cc) in
-    let gave = asks.is before moment was in
-    let gives = asks.is later next is_still in
-    let shown : (serve served before moment request).1 ≡ this (outcome_answer number (repeated reply)) =
+    let gave = asks.is (beside_them one before) moment was in
+    let gives = asks.is (beside_them other later) next is_still in
+    let shown : (serve served (beside_them one before) moment request).1
+    ≡ this (outcome_answer number (repeated reply)) =
     ap (λ p. p.1) gave ∙ ap this (due before first (accepted after reply) number taken) in
-    let shows : serve served later next request ≡ (later, this (outcome_answer number (repeated reply))) =
-    gives ∙ ap₂ (λ s d. (s, this d)) (stays later second reply repeats) (due later second (repeated reply) number
-    repeats)
-    in
-    shows ∙ ap (λ d. (later, d)) (sym shown)
+    let shows : serve served (beside_them other later) next request
+    ≡ (beside_them other later, this (outcome_answer number (repeated reply))) =
+    gives ∙ ap₂ (λ s d. (beside_them other s, this d)) (stays later second reply repeats)
+    (due later second (repeated reply) number repeats) in
+    shows ∙ ap (λ d. (beside_them other later, d)) (sym shown)

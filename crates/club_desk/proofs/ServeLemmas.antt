@@ -3,12 +3,12 @@ use Rattle.std.proofs.Common.{◌≡◌, ◌≤◌, Bool, true, false, Result, O
 use Rattle.std.proofs.Common.{◌⊎◌, inl, inr, true≢false}
 use Rattle.std.specs.Prelude.{IfOk, IfErr, OnOk, OnErr, is_ok}
 use Rattle.sqlite.specs.State.{State, HasCleanDisk}
-use Rattle.store_tables.specs.Club.{IsExactly}
-use Rattle.store_tables.specs.Tables.{club_schema}
+use Rattle.store_tables.specs.Over.{IsBesideThem}
 use Rattle.store_tables.specs.Reading.{KeepsContent, Reads}
+use Rattle.store_tables.proofs.Proved.{leaves_beside, still_beside}
 use Rattle.club_requests.specs.Limits.{last_moment}
 use Rattle.club_core.specs.State.{Request}
-use Rattle.club_rows.specs.Club.{ClubState, tables}
+use Rattle.club_rows.specs.Club.{tables}
 use Rattle.store.specs.declared.fault.StoreFault.{StoreFault}
 use Rattle.store.specs.declared.fault.StoreFault.TheVariants as club
 use Rattle.club_changes.specs.Steps.{KeepsClub, club_next}
@@ -16,13 +16,14 @@ use Rattle.http_desk.specs.declared.faults.ClubFault.{ClubFault}
 use Rattle.http_desk.specs.declared.faults.ClubFault.TheVariants.{Memory, Reopen}
 use Rattle.http_desk.specs.Served.{IsOfCall, Serves}
 use Rattle.club_desk.specs.Faults.{told, told_all}
+use Rattle.club_desk.specs.Served.{Standing, next_of}
 use Rattle.club_desk.specs.ServedStates.{IsServed, IsLeft, MayLeave, served_stays}
 
 true_false : (b : Bool) → b ≡ true → b ≡ false → ⊥
 true_false b is isnt = true≢false (sym is ∙ isnt)
 
 -- a club that is shut stands nowhere
-pub shut_left : (shut : Bool) (now : State) (s t : ClubState) → shut ≡ true → MayLeave now s t → IsLeft shut now s t
+pub shut_left : (shut : Bool) (now : State) (s t : Standing) → shut ≡ true → MayLeave now s t → IsLeft shut now s t
 shut_left shut now s t ends left = record { leaves = left; stands = λ ready. absurd (true_false shut ends ready) }
 
 pub if_ok : {A F : Type 0} (P Q : A → Type 0) (found : Result A F) → IfOk found P → ((a : A) → P a → Q a) → IfOk found Q
@@ -30,16 +31,21 @@ if_ok P Q (Ok a) is goes = goes a is
 if_ok P Q (Err fault) is goes = tt
 
 -- what a reading call leaves at a fault
-pub read_left : (answered old_shut new_shut : Bool) (old new : State) (s : ClubState) → new_shut ≡ true
+pub read_left : (answered old_shut new_shut : Bool) (old new : State) (s : Standing) → new_shut ≡ true
     → Reads answered old new → HasCleanDisk new → IsServed old_shut old s → IsLeft new_shut new s s
 read_left answered old_shut new_shut old new s ends reads clean served =
-    shut_left new_shut new s s ends (λ db left. inl (served.exactly.may_leave db (reads.may clean db left)))
+    shut_left new_shut new s s ends
+    (λ db left. inl (leaves_beside s.them (tables s.state) old served.exactly db (reads.may clean db left)))
 
 -- where a reading call leaves the club
-pub read_stands : (old_shut new_shut : Bool) (old new : State) (s : ClubState) → new_shut ≡ false → KeepsContent old new
+pub read_stands : (old_shut new_shut : Bool) (old new : State) (s : Standing) → new_shut ≡ false → KeepsContent old new
     → IsServed old_shut old s → IsServed new_shut new s
 read_stands old_shut new_shut old new s ready keeps served =
-    record { ready = ready; legal = served.legal; exactly = keeps club_schema (tables s) served.exactly }
+    record {
+      ready = ready;
+      legal = served.legal;
+      exactly = still_beside old new keeps s.them (tables s.state) served.exactly;
+    }
 
 -- what a call on an open club fails with
 abbrev pub IsNamed : StoreFault → Type 0
@@ -59,7 +65,7 @@ module _ {A : Type 0} where
       → told_all found ≡ Err fault
   told_shut fault found is shut = ap told_all shut ∙ ap Err (sym is)
 
-  read_answers : (old_shut new_shut : Bool) (old new : State) (s : ClubState) (IsRight : A → Type 0)
+  read_answers : (old_shut new_shut : Bool) (old new : State) (s : Standing) (IsRight : A → Type 0)
       (found : Result A StoreFault) → OnOk found (new_shut ≡ false) → OnErr found (new_shut ≡ true)
       → IfErr found (λ fault. old_shut ≡ false → IsNamed fault) → Reads (is_ok found) old new → IfOk found IsRight
       → HasCleanDisk new → IsServed old_shut old s
@@ -70,7 +76,7 @@ module _ {A : Type 0} where
       (told_of_call fault (named served.ready), read_left false old_shut new_shut old new s ends reads clean served)
 
   -- a call that only reads, at whatever it answers
-  pub read_serves : (old_shut new_shut : Bool) (old new : State) (s : ClubState) (IsRight : A → Type 0)
+  pub read_serves : (old_shut new_shut : Bool) (old new : State) (s : Standing) (IsRight : A → Type 0)
       (found : Result A StoreFault) (answer : Result A ClubFault) → answer ≡ told_all found
       → OnOk found (new_shut ≡ false) → OnErr found (new_shut ≡ true)
       → IfErr found (λ fault. old_shut ≡ false → IsNamed fault) → Reads (is_ok found) old new → IfOk found IsRight
@@ -83,44 +89,45 @@ module _ {A : Type 0} where
       (read_answers old_shut new_shut old new s IsRight found ready ends named reads right clean served)
 
   -- an answer that is made of what was read
-  pub made_serves : (old_shut new_shut : Bool) (old new : State) (s : ClubState) (IsRight : A → Type 0)
+  pub made_serves : (old_shut new_shut : Bool) (old new : State) (s : Standing) (IsRight : A → Type 0)
       (made : Result A ClubFault) → new_shut ≡ false → KeepsContent old new → IfOk made IsRight
       → IfErr made (λ fault. fault ≡ Memory) → IsServed old_shut old s
       → Serves (IsServed new_shut new) (IsLeft new_shut new) s s IsRight IsOfCall made
   made_serves old_shut new_shut old new s IsRight (Ok a) ready keeps right refused served =
-      (right, record { ready = ready; legal = served.legal; exactly = keeps club_schema (tables s) served.exactly })
+      (right, read_stands old_shut new_shut old new s ready keeps served)
   made_serves old_shut new_shut old new s IsRight (Err fault) ready keeps right refused served = (
     inr refused,
     served_stays new_shut new s s
-        (record { ready = ready; legal = served.legal; exactly = keeps club_schema (tables s) served.exactly }),
+        (read_stands old_shut new_shut old new s ready keeps served),
   )
 
-  apply_answers : (old_shut new_shut : Bool) (old new : State) (s : ClubState) (request : Request)
+  apply_answers : (old_shut new_shut : Bool) (old new : State) (s : Standing) (request : Request)
       (IsRight : A → Type 0) (found : Result A StoreFault) → KeepsClub → request.moment ≤ last_moment
       → OnOk found (new_shut ≡ false) → OnErr found (new_shut ≡ true)
       → IfErr found (λ fault. old_shut ≡ false → IsNamed fault) → IfOk found IsRight
-      → OnOk found (IsExactly (tables (club_next s request)) new) → OnErr found (MayLeave new s (club_next s request))
-      → IsServed old_shut old s → Serves (IsServed new_shut new) (IsLeft new_shut new) s (club_next s request) IsRight
+      → OnOk found (IsBesideThem s.them (tables (club_next s.state request)) new)
+      → OnErr found (MayLeave new s (next_of s request))
+      → IsServed old_shut old s → Serves (IsServed new_shut new) (IsLeft new_shut new) s (next_of s request) IsRight
       IsOfCall (told_all found)
   apply_answers old_shut new_shut old new s request IsRight (Ok a) keeps within ready ends named right steps left
       served =
-      (right, record { ready = ready; legal = keeps s request within served.legal; exactly = steps })
+      (right, record { ready = ready; legal = keeps s.state request within served.legal; exactly = steps })
   apply_answers old_shut new_shut old new s request IsRight (Err fault) keeps within ready ends named right steps left
       served =
-      (told_of_call fault (named served.ready), shut_left new_shut new s (club_next s request) ends left)
+      (told_of_call fault (named served.ready), shut_left new_shut new s (next_of s request) ends left)
 
   -- a command, at whatever it is answered
-  pub apply_serves : (old_shut new_shut : Bool) (old new : State) (s : ClubState) (request : Request)
+  pub apply_serves : (old_shut new_shut : Bool) (old new : State) (s : Standing) (request : Request)
       (IsRight : A → Type 0) (found : Result A StoreFault) (answer : Result A ClubFault) → answer ≡ told_all found
       → KeepsClub → request.moment ≤ last_moment → OnOk found (new_shut ≡ false) → OnErr found (new_shut ≡ true)
       → IfErr found (λ fault. old_shut ≡ false → IsNamed fault) → IfOk found IsRight
-      → OnOk found (IsExactly (tables (club_next s request)) new)
-      → OnErr found (MayLeave new s (club_next s request)) → IsServed old_shut old s
-      → Serves (IsServed new_shut new) (IsLeft new_shut new) s (club_next s request) IsRight IsOfCall answer
+      → OnOk found (IsBesideThem s.them (tables (club_next s.state request)) new)
+      → OnErr found (MayLeave new s (next_of s request)) → IsServed old_shut old s
+      → Serves (IsServed new_shut new) (IsLeft new_shut new) s (next_of s request) IsRight IsOfCall answer
   apply_serves old_shut new_shut old new s request IsRight found answer is keeps within ready ends named right steps
       left served =
       let P : Result A ClubFault → Type 0 = λ r.
-      Serves (IsServed new_shut new) (IsLeft new_shut new) s (club_next s request) IsRight IsOfCall r in
+      Serves (IsServed new_shut new) (IsLeft new_shut new) s (next_of s request) IsRight IsOfCall r in
       subst P (sym is)
       (apply_answers old_shut new_shut old new s request IsRight found keeps within ready ends named right steps left
       served)

@@ -5,15 +5,17 @@ use Rattle.std.proofs.Common.{append_assoc}
 use Rattle.std.proofs.lemmas.List.{append-nil}
 use Rattle.sqlite.specs.State.{State, HasCleanDisk}
 use Rattle.sqlite.specs.Tree.{Trees}
+use Rattle.store_tables.specs.Over.{Neighbours}
 use Rattle.store_tables.specs.Reading.{OnlyReads}
+use Rattle.store_tables.proofs.Proved.{leaves_beside}
 use Rattle.club_requests.specs.Limits.{last_moment}
 use Rattle.club_core.specs.Answer.{command_of}
 use Rattle.club_core.specs.State.{Request}
-use Rattle.club_rows.specs.Club.{ClubState}
+use Rattle.club_rows.specs.Club.{tables}
 use Rattle.store.specs.Histories.{Chapter, IsReachable, IsHistory, cut_session}
 use Rattle.club_changes.specs.Steps.{KeepsClub, club_next}
 use Rattle.store.proofs.Proved.{taken_session, one_leads, one_cut}
-use Rattle.club_desk.specs.Served.{served}
+use Rattle.club_desk.specs.Served.{Standing, beside_them, next_of, served}
 use Rattle.club_desk.specs.ServedStates.{IsServed, IsLeft, MayLeave}
 use Rattle.club_desk.specs.Repeats.{stands_at}
 use Rattle.club_desk.specs.Turns.{IsTurn, IsOrder, IsTurnOf, AreTurns, IsWhole, AreWhole, IsHistoryOn, IsReachableOn}
@@ -44,18 +46,20 @@ whole_more [] chapter whole is = (is, tt)
 whole_more (one ∷ turns) chapter whole is = (whole.0, whole_more turns chapter whole.1 is)
 
 -- where it began
-pub stands_first : (sessions : List Chapter) (now : State) → IsHistory sessions now → IsHistoryOn sessions now
-stands_first sessions now stands =
+pub stands_first : (them : Neighbours) (sessions : List Chapter) (now : State) → IsHistory them sessions now
+    → IsHistoryOn them sessions now
+stands_first them sessions now stands =
     record {
       turns = [];
       are_turns = tt;
       whole = tt;
-      stands = let P : List Chapter → Type 0 = λ xs. IsHistory xs now in
+      stands = let P : List Chapter → Type 0 = λ xs. IsHistory them xs now in
           subst P (sym (append-nil sessions)) stands;
     }
 
-pub stands_led : (sessions : List Chapter) (now : State) → IsHistoryOn sessions now → IsReachableOn sessions now
-stands_led sessions now on =
+pub stands_led : (them : Neighbours) (sessions : List Chapter) (now : State) → IsHistoryOn them sessions now
+    → IsReachableOn them sessions now
+stands_led them sessions now on =
     record {
       turns = on.turns;
       are_turns = on.are_turns;
@@ -66,26 +70,27 @@ stands_led sessions now on =
             legal = on.stands.legal;
             leads = on.stands.leads;
             leaves =
-                on.stands.exactly.may_leave db may;
+                leaves_beside them (tables on.stands.after) now on.stands.exactly db may;
           };
     }
 
 -- a call that only read leaves nothing else
-pub reads_led : (sessions : List Chapter) (old new : State) → OnlyReads old new → HasCleanDisk new
-    → ((db : Trees) → old.may_leave db → IsReachable sessions db) → IsReachableOn sessions new
-reads_led sessions old new reads clean led = record {
+pub reads_led : (them : Neighbours) (sessions : List Chapter) (old new : State) → OnlyReads old new → HasCleanDisk new
+    → ((db : Trees) → old.may_leave db → IsReachable them sessions db) → IsReachableOn them sessions new
+reads_led them sessions old new reads clean led = record {
   turns = [];
   are_turns = tt;
   led = λ db may.
-      let P : List Chapter → Type 0 = λ xs. IsReachable xs db in
+      let P : List Chapter → Type 0 = λ xs. IsReachable them xs db in
       subst P (sym (append-nil sessions)) (led db (reads.may clean db may));
 }
 
-module _ (keeps : KeepsClub) (sessions : List Chapter) (old : State) (on : IsHistoryOn sessions old) where
-  abbrev before : ClubState
-  before = on.stands.after
+module _ (keeps : KeepsClub) (them : Neighbours) (sessions : List Chapter) (old : State)
+    (on : IsHistoryOn them sessions old) where
+  abbrev before : Standing
+  before = beside_them them on.stands.after
 
-  stays : (shut : Bool) (now : State) → IsServed shut now before → IsHistoryOn sessions now
+  stays : (shut : Bool) (now : State) → IsServed shut now before → IsHistoryOn them sessions now
   stays shut now is =
       record {
         turns = on.turns;
@@ -93,7 +98,7 @@ module _ (keeps : KeepsClub) (sessions : List Chapter) (old : State) (on : IsHis
         whole = on.whole;
         stands = record {
           from = on.stands.from;
-          after = before;
+          after = on.stands.after;
           legal = is.legal;
           leads = on.stands.leads;
           exactly =
@@ -102,46 +107,46 @@ module _ (keeps : KeepsClub) (sessions : List Chapter) (old : State) (on : IsHis
       }
 
   goes : (shut : Bool) (now : State) (request : Request) → IsAsked request
-      → IsServed shut now (club_next before request) → IsHistoryOn sessions now
+      → IsServed shut now (next_of before request) → IsHistoryOn them sessions now
   goes shut now request turn is =
-      let one = taken_session before request in
-      let P : List Chapter → Type 0 = λ xs. IsHistory xs now in
+      let one = taken_session on.stands.after request in
+      let P : List Chapter → Type 0 = λ xs. IsHistory them xs now in
       record {
         turns = on.turns ++ one ∷ [];
         are_turns = turns_more on.turns one on.are_turns (request, turn, refl);
         whole = whole_more on.turns one on.whole refl;
         stands = subst P (append_assoc sessions on.turns (one ∷ [])) (record {
           from = on.stands.from;
-          after = club_next before request;
+          after = club_next on.stands.after request;
           legal = is.legal;
-          leads = one_leads on.stands.from before (sessions ++ on.turns) request on.stands.leads;
+          leads = one_leads on.stands.from on.stands.after (sessions ++ on.turns) request on.stands.leads;
           exactly = is.exactly;
         });
       }
 
-  next_stands : (shut : Bool) (now : State) (t : ClubState) → (t ≡ before)
-      ⊎ ((request : Request) × IsAsked request × (t ≡ club_next before request)) → IsServed shut now t
-      → IsHistoryOn sessions now
-  next_stands shut now t (inl same) is = stays shut now (let P : ClubState → Type 0 = λ u. IsServed shut now u in
+  next_stands : (shut : Bool) (now : State) (t : Standing) → (t ≡ before)
+      ⊎ ((request : Request) × IsAsked request × (t ≡ next_of before request)) → IsServed shut now t
+      → IsHistoryOn them sessions now
+  next_stands shut now t (inl same) is = stays shut now (let P : Standing → Type 0 = λ u. IsServed shut now u in
       subst P same is)
   next_stands shut now t (inr done) is = goes shut now done.0 done.1
-      (let P : ClubState → Type 0 = λ u. IsServed shut now u in subst P done.2 is)
+      (let P : Standing → Type 0 = λ u. IsServed shut now u in subst P done.2 is)
 
-  asked_next : (t : ClubState) → (t ≡ before)
-      ⊎ ((request : Request) × IsTurn request × (t ≡ club_next before request)) → (t ≡ before)
-      ⊎ ((request : Request) × IsAsked request × (t ≡ club_next before request))
+  asked_next : (t : Standing) → (t ≡ before)
+      ⊎ ((request : Request) × IsTurn request × (t ≡ next_of before request)) → (t ≡ before)
+      ⊎ ((request : Request) × IsAsked request × (t ≡ next_of before request))
   asked_next t (inl same) = inl same
   asked_next t (inr done) = inr (done.0, inl done.1, done.2)
 
   behind_seen : (moment : ℕ) (within : moment ≤ last_moment) (seen : Seen)
       → (state_behind served before moment seen ≡ before) ⊎ ((request : Request) × IsAsked request
-      × (state_behind served before moment seen ≡ club_next before request))
+      × (state_behind served before moment seen ≡ next_of before request))
   behind_seen moment within seen = asked_next _ (seen_next before moment within seen)
 
   -- what is behind an errand of the officer's
   behind_errand : (moment : ℕ) (within : moment ≤ last_moment) (given : Errand)
       → (state_after served before moment given ≡ before) ⊎ ((request : Request) × IsAsked request
-      × (state_after served before moment given ≡ club_next before request))
+      × (state_after served before moment given ≡ next_of before request))
   behind_errand moment within (errand.Question question) = inl refl
   behind_errand moment within (errand.Command command) =
       let is_order : IsOrder (order (command_of command) moment) =
@@ -150,7 +155,7 @@ module _ (keeps : KeepsClub) (sessions : List Chapter) (old : State) (on : IsHis
 
   -- no call has failed so far
   pub acted_stands : (shut : Bool) (now : State) (moment : ℕ) (bytes : List ℕ) → moment ≤ last_moment → shut ≡ false
-      → HasActed served (IsServed shut now) (IsLeft shut now) before moment bytes → IsHistoryOn sessions now
+      → HasActed served (IsServed shut now) (IsLeft shut now) before moment bytes → IsHistoryOn them sessions now
   acted_stands shut now moment bytes within ready (inl is) = stays shut now is
   acted_stands shut now moment bytes within ready (inr done) = elim done.2 [
     | inl is ↦ next_stands shut now _ (behind_seen moment within done.0) is
@@ -161,7 +166,7 @@ module _ (keeps : KeepsClub) (sessions : List Chapter) (old : State) (on : IsHis
   ]
 
   pub obeyed_stands : (shut : Bool) (now : State) (moment : ℕ) (given : Errand) → moment ≤ last_moment → shut ≡ false
-      → HasObeyed served (IsServed shut now) (IsLeft shut now) before moment given → IsHistoryOn sessions now
+      → HasObeyed served (IsServed shut now) (IsLeft shut now) before moment given → IsHistoryOn them sessions now
   obeyed_stands shut now moment given within ready (inl is) = stays shut now is
   obeyed_stands shut now moment given within ready (inr (inl is)) =
       next_stands shut now _ (behind_errand moment within given) is
@@ -170,82 +175,82 @@ module _ (keeps : KeepsClub) (sessions : List Chapter) (old : State) (on : IsHis
     | inr is ↦ next_stands shut now _ (behind_errand moment within given) is
   ]
 
-  stays_led : (now : State) → MayLeave now before before → IsReachableOn sessions now
+  stays_led : (now : State) → MayLeave now before before → IsReachableOn them sessions now
   stays_led now left =
       record {
         turns = on.turns;
         are_turns = on.are_turns;
         led = λ db may. record {
           from = on.stands.from;
-          after = stands_at before;
+          after = stands_at on.stands.after;
           legal = on.stands.legal;
           leads = on.stands.leads;
           leaves = elim (left db may) [ inl it ↦ it | inr it ↦ it ];
         };
       }
 
-  cut_led : (now : State) (request : Request) → IsAsked request → MayLeave now before (club_next before request)
-      → IsReachableOn sessions now
+  cut_led : (now : State) (request : Request) → IsAsked request → MayLeave now before (next_of before request)
+      → IsReachableOn them sessions now
   cut_led now request turn left =
       let one = cut_session request in
       record {
         turns = on.turns ++ one ∷ [];
         are_turns = turns_more on.turns one on.are_turns (request, turn, refl);
         led = λ db may.
-            let P : List Chapter → Type 0 = λ xs. IsReachable xs db in
+            let P : List Chapter → Type 0 = λ xs. IsReachable them xs db in
             subst P (append_assoc sessions on.turns (one ∷ []))
-            (one_cut on.stands.from before (sessions ++ on.turns) request db on.stands.leads on.stands.legal
-            (keeps before request (asked_within request turn) on.stands.legal) (left db may));
+            (one_cut on.stands.from them on.stands.after (sessions ++ on.turns) request db on.stands.leads
+            on.stands.legal (keeps on.stands.after request (asked_within request turn) on.stands.legal) (left db may));
       }
 
-  next_led : (now : State) (t : ClubState) → (t ≡ before)
-      ⊎ ((request : Request) × IsAsked request × (t ≡ club_next before request)) → MayLeave now before t
-      → IsReachableOn sessions now
-  next_led now t (inl same) left = stays_led now (let P : ClubState → Type 0 = λ u. MayLeave now before u in
+  next_led : (now : State) (t : Standing) → (t ≡ before)
+      ⊎ ((request : Request) × IsAsked request × (t ≡ next_of before request)) → MayLeave now before t
+      → IsReachableOn them sessions now
+  next_led now t (inl same) left = stays_led now (let P : Standing → Type 0 = λ u. MayLeave now before u in
       subst P same left)
-  next_led now t (inr done) left = cut_led now done.0 done.1 (let P : ClubState → Type 0 = λ u. MayLeave now before u in
+  next_led now t (inr done) left = cut_led now done.0 done.1 (let P : Standing → Type 0 = λ u. MayLeave now before u in
       subst P done.2 left)
 
   -- whether a call has failed or not
   pub acted_led : (shut : Bool) (now : State) (moment : ℕ) (bytes : List ℕ) → moment ≤ last_moment
-      → HasActed served (IsServed shut now) (IsLeft shut now) before moment bytes → IsReachableOn sessions now
-  acted_led shut now moment bytes within (inl is) = stands_led sessions now (stays shut now is)
+      → HasActed served (IsServed shut now) (IsLeft shut now) before moment bytes → IsReachableOn them sessions now
+  acted_led shut now moment bytes within (inl is) = stands_led them sessions now (stays shut now is)
   acted_led shut now moment bytes within (inr done) = elim done.2 [
-    | inl is ↦ stands_led sessions now (next_stands shut now _ (behind_seen moment within done.0) is)
+    | inl is ↦ stands_led them sessions now (next_stands shut now _ (behind_seen moment within done.0) is)
     | inr left ↦ next_led now _ (behind_seen moment within done.0) left.leaves
   ]
 
   pub obeyed_led : (shut : Bool) (now : State) (moment : ℕ) (given : Errand) → moment ≤ last_moment
-      → HasObeyed served (IsServed shut now) (IsLeft shut now) before moment given → IsReachableOn sessions now
-  obeyed_led shut now moment given within (inl is) = stands_led sessions now (stays shut now is)
+      → HasObeyed served (IsServed shut now) (IsLeft shut now) before moment given → IsReachableOn them sessions now
+  obeyed_led shut now moment given within (inl is) = stands_led them sessions now (stays shut now is)
   obeyed_led shut now moment given within (inr (inl is)) =
-      stands_led sessions now (next_stands shut now _ (behind_errand moment within given) is)
+      stands_led them sessions now (next_stands shut now _ (behind_errand moment within given) is)
   obeyed_led shut now moment given within (inr (inr left)) =
       next_led now _ (behind_errand moment within given) left.leaves
 
 -- a connection over the desk, or an order of the officer's, of whatever moment
-abbrev pub Acted : Bool → State → ClubState → Type 0
+abbrev pub Acted : Bool → State → Standing → Type 0
 Acted shut now s = HasServed served (IsServed shut now) (IsLeft shut now) s
 
-module _ (keeps : KeepsClub) (sessions : List Chapter) (old_shut : Bool) (old : State) (ready : old_shut ≡ false)
-    (on : IsHistoryOn sessions old) where
-  abbrev served_before : IsServed old_shut old on.stands.after
+module _ (keeps : KeepsClub) (them : Neighbours) (sessions : List Chapter) (old_shut : Bool) (old : State)
+    (ready : old_shut ≡ false) (on : IsHistoryOn them sessions old) where
+  abbrev served_before : IsServed old_shut old (beside_them them on.stands.after)
   served_before = record { ready = ready; legal = on.stands.legal; exactly = on.stands.exactly }
 
   pub turn_stands : (shut : Bool) (now : State) → shut ≡ false
-      → ((s : ClubState) → IsServed old_shut old s → Acted shut now s) → IsHistoryOn sessions now
+      → ((s : Standing) → IsServed old_shut old s → Acted shut now s) → IsHistoryOn them sessions now
   turn_stands shut now is_open acts =
-      let (moment, within, done) = acts on.stands.after served_before in
+      let (moment, within, done) = acts (beside_them them on.stands.after) served_before in
       elim done [
-        | inl acted ↦ acted_stands keeps sessions old on shut now moment acted.0 within is_open acted.1
-        | inr obeyed ↦ obeyed_stands keeps sessions old on shut now moment obeyed.0 within is_open obeyed.1
+        | inl acted ↦ acted_stands keeps them sessions old on shut now moment acted.0 within is_open acted.1
+        | inr obeyed ↦ obeyed_stands keeps them sessions old on shut now moment obeyed.0 within is_open obeyed.1
       ]
 
-  pub turn_led : (shut : Bool) (now : State) → ((s : ClubState) → IsServed old_shut old s → Acted shut now s)
-      → IsReachableOn sessions now
+  pub turn_led : (shut : Bool) (now : State) → ((s : Standing) → IsServed old_shut old s → Acted shut now s)
+      → IsReachableOn them sessions now
   turn_led shut now acts =
-      let (moment, within, done) = acts on.stands.after served_before in
+      let (moment, within, done) = acts (beside_them them on.stands.after) served_before in
       elim done [
-        | inl acted ↦ acted_led keeps sessions old on shut now moment acted.0 within acted.1
-        | inr obeyed ↦ obeyed_led keeps sessions old on shut now moment obeyed.0 within obeyed.1
+        | inl acted ↦ acted_led keeps them sessions old on shut now moment acted.0 within acted.1
+        | inr obeyed ↦ obeyed_led keeps them sessions old on shut now moment obeyed.0 within obeyed.1
       ]

@@ -6,29 +6,31 @@ use Rattle.club_rows.specs.Club.{ClubState, IsClub}
 use Rattle.club_laws.specs.Laws.{StillRepeats}
 use Rattle.club_changes.specs.Steps.{club_step}
 use Rattle.store.specs.Histories.{Chapter, Place, Reaches}
+use Rattle.store_tables.specs.Over.{Neighbours}
 use Rattle.store_tables.specs.declared.names.Version.TheVariants.{Current}
 use Rattle.http_head.specs.Request as head
 use Rattle.http_desk.specs.Desk.{serve, serve_command}
 use Rattle.club_reads.specs.Keys.{holder_of}
-use Rattle.club_desk.specs.Served.{served}
+use Rattle.club_desk.specs.Served.{Standing, beside_them, served}
 
 -- what it asks the club for: this command of the one who shows the key, about the game or the challenge of that number
 pub record AsksFor (request : head.Request) (key : List ℕ) (number : ℕ) (command : Command) : Type 0 where
-  pub is : (s : ClubState) (moment : ℕ) → is_some (holder_of s key) ≡ true
+  pub is : (s : Standing) (moment : ℕ) → is_some (holder_of s.state key) ≡ true
       → serve served s moment request ≡ serve_command served s moment key number (Some command)
 
 -- the state, in the last version
 abbrev pub stands_at : ClubState → Place
 stands_at s = record { version = Current; state = s }
 
--- Whatever sessions came between, with their ends and openings and upgrades, and whatever the moment is: it changes
--- nothing, and is
--- due the answer that it was given. An offer of a draw is so only as long as no move came since.
+-- Whatever sessions came between, with their ends and openings and upgrades, whatever the moment is, and whatever
+-- stands beside the club's tables: it changes nothing, and is due the answer that it was given. An offer of a draw is
+-- so only as long as no move came since.
 abbrev pub AnswersAlike : Type 0
 AnswersAlike =
-    (before after later : ClubState) (moment again : ℕ) (request : head.Request) (key : List ℕ) (number : ℕ)
-    (command : Command) (reply : Reply) (between : List Chapter) →
+    (one other : Neighbours) (before after later : ClubState) (moment again : ℕ) (request : head.Request)
+    (key : List ℕ) (number : ℕ) (command : Command) (reply : Reply) (between : List Chapter) →
     IsClub before → AsksFor request key number command →
     club_step before (record { who = key_holder key; command = command; moment = moment }) ≡ accepted after reply →
     Reaches (stands_at after) between (stands_at later) → StillRepeats later command →
-    serve served later again request ≡ (later, (serve served before moment request).1)
+    serve served (beside_them other later) again request
+    ≡ (beside_them other later, (serve served (beside_them one before) moment request).1)

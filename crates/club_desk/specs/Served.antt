@@ -1,9 +1,11 @@
 -- The club of a store, as the desk asks it.
 use Rattle.std.specs.Prelude.{◌≡◌, ℕ, List, Option, Some, None, Result, Ok, Err, string_bytes}
 use Rattle.std.specs.Option.{option_map}
+use Rattle.store_tables.specs.Over.{Neighbours}
 use Rattle.squares.specs.declared.sides.Side.{Side}
 use Rattle.squares.specs.declared.sides.Side.TheVariants.{First, Second}
 use Rattle.club_core.specs.Answer.{answered}
+use Rattle.club_core.specs.State.{Request}
 use Rattle.club_rows.specs.Club.{ClubState}
 use Rattle.club_views.specs.declared.viewed.ViewedGame.{ViewedGame}
 use Rattle.club_requests.specs.declared.refusals.Refusal.{Refusal}
@@ -46,12 +48,24 @@ abbrev pub written : Option Refusal → List ℕ → Result (List ℕ) Refusal
 written None bytes = Ok bytes
 written (Some refusal) bytes = Err refusal
 
-abbrev pub served : Club ClubState
+-- where a club stands: in a state, with its tables beside these neighbours
+pub record Standing : Type 0 where
+  pub them : Neighbours
+  pub state : ClubState
+
+abbrev pub beside_them : Neighbours → ClubState → Standing
+beside_them them s = record { them = them; state = s }
+
+-- a request leaves the neighbours as they are
+abbrev pub next_of : Standing → Request → Standing
+next_of s request = beside_them s.them (club_next s.state request)
+
+abbrev pub served : Club Standing
 served =
     record {
-      holder_of = holder_of;
-      IsGame = IsGame;
-      AreLegal = AreLegalRows;
-      IsShown = IsShown;
-      step = λ s request. (club_next s request, answered (club_step s request));
+      holder_of = λ s. holder_of s.state;
+      IsGame = λ s. IsGame s.state;
+      AreLegal = λ s. AreLegalRows s.state;
+      IsShown = λ s. IsShown s.state;
+      step = λ s request. (next_of s request, answered (club_step s.state request));
     }

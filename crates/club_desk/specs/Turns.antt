@@ -2,6 +2,7 @@
 use Rattle.std.specs.Prelude.{◌≡◌, ◌≤◌, ◌⊎◌, ℕ, true, List, [], ◌∷◌, ◌++◌, ⊤}
 use Rattle.sqlite.specs.Tree.{Trees}
 use Rattle.sqlite.specs.State.{State}
+use Rattle.store_tables.specs.Over.{Neighbours}
 use Rattle.club_requests.specs.Limits.{last_moment}
 use Rattle.club_core.specs.State.{Command, add_member, add_event, seat, import_record, on_game, sweep}
 use Rattle.club_core.specs.State.{open_challenge, withdraw_challenge, answer_challenge, Request, key_holder, officer}
@@ -54,14 +55,14 @@ AreWhole [] = ⊤
 AreWhole (chapter ∷ chapters) = IsWhole chapter × AreWhole chapters
 
 -- with turns added, none of which was cut off, the sessions lead to what stands
-pub record IsHistoryOn (sessions : List Chapter) (now : State) : Type 0 where
+pub record IsHistoryOn (them : Neighbours) (sessions : List Chapter) (now : State) : Type 0 where
   pub turns : List Chapter
   pub are_turns : AreTurns turns
   pub whole : AreWhole turns
-  pub stands : IsHistory (sessions ++ turns) now
+  pub stands : IsHistory them (sessions ++ turns) now
 
 -- with turns added, the sessions lead to whatever a stop leaves
-pub record IsReachableOn (sessions : List Chapter) (now : State) : Type 0 where
+pub record IsReachableOn (them : Neighbours) (sessions : List Chapter) (now : State) : Type 0 where
   pub turns : List Chapter
   pub are_turns : AreTurns turns
-  pub led : (db : Trees) → now.may_leave db → IsReachable (sessions ++ turns) db
+  pub led : (db : Trees) → now.may_leave db → IsReachable them (sessions ++ turns) db

@@ -24,12 +24,11 @@ impl<S: Alter> ServedClub for DeskClub<S> {
     ghost use Rattle.std.specs.Prelude.{◌≡◌, true};
     ghost use Rattle.sqlite.specs.Held.{state};
     ghost use Rattle.sqlite.specs.State.{HasCleanDisk};
-    ghost use Rattle.club_rows.specs.Club.{ClubState};
     ghost use Rattle.http_desk.specs.declared.faults.ClubFault.TheVariants.{Reopen};
-    ghost use Rattle.club_desk.specs.Served.{served};
+    ghost use Rattle.club_desk.specs.Served.{Standing, served};
     ghost use Rattle.club_desk.specs.ServedStates.{IsLeft, IsServed, served_stays, served_settled, left_wider};
 
-    ghost State = { ClubState };
+    ghost State = { Standing };
 
     ghost club = { served };
 

@@ -1,12 +1,13 @@
 //! A stretch of serving: a club is taken over, served and given up.
 
-ghost use Rattle.std.specs.Prelude.{◌≡◌, false, None, IfSome};
+ghost use Rattle.std.specs.Prelude.{◌≡◌, false, true, None, IfSome};
 ghost use Rattle.sqlite.specs.State.{HasCleanDisk, Opens, IsLive};
 ghost use Rattle.sqlite.specs.Held.{state};
-ghost use Rattle.store.specs.Histories.{IsReachable, IsHistory};
-ghost use Rattle.store_tables.specs.Club.{Leaves};
+ghost use Rattle.store.specs.Histories.{HasState, IsReachable, IsHistory};
 ghost use Rattle.store_tables.specs.Tables.{IsClubSchema};
-ghost use Rattle.club_rows.specs.Club.{ClubState, IsClub, tables};
+ghost use Rattle.store_tables.specs.declared.names.Version.TheVariants.{Current};
+ghost use Rattle.table_shapes.specs.Shapes.{is_of_club};
+ghost use Rattle.club_rows.specs.Club.{ClubState, IsClub};
 ghost use Rattle.club_opening.specs.Refused.{HoldClub};
 ghost use Rattle.club_desk.specs.ToldFault.{IfTaken, IsOfClub, IsTold, fault_behind};
 ghost use Rattle.club_desk.specs.Turns.{IsHistoryOn, IsReachableOn};
@@ -26,12 +27,12 @@ fn serve_open<S: Alter, V: Visits>(alloc: Global, club: &mut DeskClub<S>, visits
     ensures clean { HasCleanDisk (state S.Store club.new.club.connection) →
         HasCleanDisk (state S.Store club.old.club.connection) }
     ensures told { result ≡ club.new.club.needs_reopening }
-    ensures stands { result ≡ false → HasCleanDisk (state S.Store club.new.club.connection) → (sessions : _) →
-        IsHistory sessions (state S.Store club.old.club.connection) →
-        IsHistoryOn sessions (state S.Store club.new.club.connection) }
-    ensures led { HasCleanDisk (state S.Store club.new.club.connection) → (sessions : _) →
-        IsHistory sessions (state S.Store club.old.club.connection) →
-        IsReachableOn sessions (state S.Store club.new.club.connection) }
+    ensures stands { result ≡ false → HasCleanDisk (state S.Store club.new.club.connection) →
+        (them : _) (sessions : _) → IsHistory them sessions (state S.Store club.old.club.connection) →
+        IsHistoryOn them sessions (state S.Store club.new.club.connection) }
+    ensures led { HasCleanDisk (state S.Store club.new.club.connection) → (them : _) (sessions : _) →
+        IsHistory them sessions (state S.Store club.old.club.connection) →
+        IsReachableOn them sessions (state S.Store club.new.club.connection) }
 {
     requests_keep_clubs();
     for _ in 0..u64::MAX {
@@ -71,19 +72,21 @@ pub fn serve_club<S: Alter, V: Visits>(
     ensures idle { result.1.in_transaction ≡ false }
     ensures clean { HasCleanDisk (state S.Store result.1) → HasCleanDisk (state S.Store conn) }
     ensures led { HasCleanDisk (state S.Store result.1) → Opens (state S.Store conn) → IsLive (state S.Store conn) →
-        (sessions : _) → IsReachable sessions (state S.Store conn).committed.trees →
-        IsReachableOn sessions (state S.Store result.1) }
+        (them : _) (sessions : _) → IsReachable them sessions (state S.Store conn).committed.trees →
+        IsReachableOn them sessions (state S.Store result.1) }
     ensures stands { HasCleanDisk (state S.Store result.1) → Opens (state S.Store conn) →
         IsLive (state S.Store conn) → result.0 ≡ None →
-        (sessions : _) → IsReachable sessions (state S.Store conn).committed.trees →
-        IsHistoryOn sessions (state S.Store result.1) }
+        (them : _) (sessions : _) → IsReachable them sessions (state S.Store conn).committed.trees →
+        IsHistoryOn them sessions (state S.Store result.1) }
     ensures told { HasCleanDisk (state S.Store result.1) →
         IsTold (state S.Store conn) (state S.Store result.1) result.0 }
     ensures taken { HasCleanDisk (state S.Store result.1) → Opens (state S.Store conn) → IsLive (state S.Store conn) →
         IsClubSchema (state S.Store conn).now.schema →
         IfTaken result.0 (HoldClub (state S.Store conn).committed.trees) }
+    // By whatever texts its tables were made, those that were taken over answer as a club's.
+    ensures shape { IfTaken result.0 (is_of_club Current (state S.Store conn).now.schema ≡ true) }
     ensures good { HasCleanDisk (state S.Store result.1) → Opens (state S.Store conn) → IsLive (state S.Store conn) →
-        (s : ClubState) → IsClub s → Leaves (tables s) (state S.Store conn).committed.trees →
+        (s : ClubState) → IsClub s → HasState s (state S.Store conn).committed.trees →
         IfSome result.0 IsOfClub }
 {
     holds_exactly(&conn);

@@ -1,20 +1,23 @@
 -- What an opening finds in files, and what later ones find in them.
-use Rattle.std.specs.Prelude.{◌≡◌, ◌≢◌, ◌⊎◌, ⊤, Option, Some, None}
+use Rattle.std.specs.Prelude.{◌≡◌, ◌≢◌, ◌⊎◌, true, ⊤, Option, Some, None}
 use Rattle.sqlite_wal.specs.Recovery.{Image}
 use Rattle.sqlite.specs.Tree.{Trees}
 use Rattle.sqlite.specs.Effect.{Database}
 use Rattle.store_tables.specs.Contents as of_schema
 use Rattle.store_tables.specs.Contents.{Content}
-use Rattle.store_tables.specs.Club.{Leaves}
 use Rattle.store_tables.specs.Tables.{first_schema, schema_of}
 use Rattle.store_tables.specs.declared.names.Version.{Version}
 use Rattle.store_tables.specs.declared.names.Version.TheVariants.{First, Current}
-use Rattle.club_rows.specs.Club.{ClubState, IsClub, tables}
+use Rattle.club_rows.specs.Club.{ClubState, IsClub}
 use Rattle.club_rows.specs.FirstSchema.{IsFirstClub, first_tables}
 use Rattle.club_opening.specs.Blames.{Names}
 use Rattle.club_opening.specs.declared.fault.OpenFault.{OpenFault}
 use Rattle.club_opening.specs.declared.fault.OpenFault.TheVariants as opening
 use Rattle.sessions.specs.Finds.{IsFoundIn}
+use Rattle.sqlite_catalog.specs.Listing.{IsSound}
+use Rattle.sqlite.specs.Schema.{Schema}
+use Rattle.store.specs.Histories.{HasState}
+use Rattle.table_shapes.specs.Shapes.{is_of_club}
 use Rattle.club_opening.specs.Refused.{HoldClub}
 use Rattle.club_orders.specs.Report.{AreCarried, IsOfCopy, IsUpgraded}
 use Rattle.club_orders.specs.declared.report.Report.{Report}
@@ -23,10 +26,11 @@ use Rattle.http_desk.specs.declared.faults.ClubFault.{ClubFault}
 use Rattle.http_desk.specs.declared.faults.ClubFault.TheVariants.{Reopen}
 use Rattle.club_desk.specs.Faults.{told_of_opening}
 
--- The files are those of this legal state: whatever an opening finds in them has its tables.
+-- The files are those of this legal state: whatever an opening finds in them has its tables, alone or beside what other
+-- programs made, and these answer as a club's.
 pub record AreFilesOf (s : ClubState) (files : Image) : Type 0 where
   pub legal : IsClub s
-  pub finds : (found : Trees) → IsFoundIn files found → Leaves (tables s) found
+  pub finds : (found : Trees) → IsFoundIn files found → HasState s found
 
 -- The files are those of this legal state in schema 1.
 pub record AreFirstFilesOf (s : ClubState) (files : Image) : Type 0 where
@@ -42,6 +46,12 @@ pub record AreSound (files : Image) : Type 0 where
   pub found : Trees
   pub is_found : IsFoundIn files found
   pub legal : (version : Version) → HasTables version found → HoldClub found
+
+-- The tables that an opening found answer as those of a club, by whatever texts they were made.
+pub record AnswerAsClub (files : Image) : Type 0 where
+  pub found : Trees
+  pub is_found : IsFoundIn files found
+  pub shape : (schema : Schema) → IsSound schema found → is_of_club Current schema ≡ true
 
 -- Later openings find what an opening found, of whatever a stop leaves.
 pub record AreKept (files : Image) (MayLeave : Image → Type 0) : Type 0 where

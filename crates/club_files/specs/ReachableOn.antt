@@ -2,21 +2,22 @@
 use Rattle.std.specs.Prelude.{List, ◌++◌}
 use Rattle.sqlite_wal.specs.Recovery.{Image}
 use Rattle.sqlite.specs.Tree.{Trees}
+use Rattle.store_tables.specs.Over.{Neighbours}
 use Rattle.store.specs.Histories.{Chapter, IsReachable}
 use Rattle.sessions.specs.Finds.{IsFoundIn}
 use Rattle.club_desk.specs.Turns.{AreTurns, AreWhole}
 
 -- the sessions, with commands of members added, led to these tables
-pub record IsReachedBy (sessions : List Chapter) (found : Trees) : Type 0 where
+pub record IsReachedBy (them : Neighbours) (sessions : List Chapter) (found : Trees) : Type 0 where
   pub turns : List Chapter
   pub are_turns : AreTurns turns
-  pub led : IsReachable (sessions ++ turns) found
+  pub led : IsReachable them (sessions ++ turns) found
 
 -- whatever an opening finds in the files, they led to it
-abbrev pub AreReachableOn : List Chapter → Image → Type 0
-AreReachableOn sessions files = (found : Trees) → IsFoundIn files found → ∥ IsReachedBy sessions found ∥₁
+abbrev pub AreReachableOn : Neighbours → List Chapter → Image → Type 0
+AreReachableOn them sessions files = (found : Trees) → IsFoundIn files found → ∥ IsReachedBy them sessions found ∥₁
 
 -- the same, where none of these commands was cut off
-abbrev pub AreReachableWhole : List Chapter → Image → Type 0
-AreReachableWhole sessions files = (found : Trees) → IsFoundIn files found
-    → ∥ ((reached : IsReachedBy sessions found) × AreWhole reached.turns) ∥₁
+abbrev pub AreReachableWhole : Neighbours → List Chapter → Image → Type 0
+AreReachableWhole them sessions files = (found : Trees) → IsFoundIn files found
+    → ∥ ((reached : IsReachedBy them sessions found) × AreWhole reached.turns) ∥₁

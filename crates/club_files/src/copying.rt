@@ -7,6 +7,7 @@ ghost use Rattle.sqlite_trees.specs.View.{IsClean};
 ghost use Rattle.sqlite.specs.State.{HasCleanDisk};
 ghost use Rattle.sqlite.specs.Held.{state};
 ghost use Rattle.sqlite.specs.Files.{file_state};
+ghost use Rattle.store_tables.specs.Beside.{HasRows};
 ghost use Rattle.store_tables.specs.Club.{IsExactly};
 ghost use Rattle.store_tables.specs.Reading.{OnlyReads};
 ghost use Rattle.club_rows.specs.Club.{ClubState, tables};
@@ -88,9 +89,9 @@ fn copy_into<S: Alter, T: Start>(
     ensures reads { OnlyReads (state S.Store club.old) (state S.Store club.new) }
     ensures named { IsOfCopy result.report }
     ensures copied { HasCleanDisk (state S.Store club.new) → AreVoid (image_at T.Start) → (content : _) →
-        IsExactly content (state S.Store club.old) → result.report ≡ Copied → HasCopyOf content result.copy }
+        HasRows content (state S.Store club.old) → result.report ≡ Copied → HasCopyOf content result.copy }
     ensures cut_off { HasCleanDisk (state S.Store club.new) → AreVoid (image_at T.Start) → (content : _) →
-        IsExactly content (state S.Store club.old) → HasCopyOrNone content result.copy }
+        HasRows content (state S.Store club.old) → HasCopyOrNone content result.copy }
 {
     let mut copy = match open_new(rt, path, start) {
         Ok(copy) => copy,

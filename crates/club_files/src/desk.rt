@@ -11,7 +11,7 @@ ghost use Rattle.club_orders.specs.declared.report.Report.TheVariants.{InUse, No
 ghost use Rattle.club_rows.specs.Club.{ClubState};
 ghost use Rattle.http_desk.specs.declared.faults.ClubFault as desk_fault;
 ghost use Rattle.club_desk.specs.ToldFault.{IfTaken, IsOfClub};
-ghost use Rattle.club_files.specs.Found.{AreFilesOf, AreSound, IsToldOf};
+ghost use Rattle.club_files.specs.Found.{AnswerAsClub, AreFilesOf, AreSound, IsToldOf};
 ghost use Rattle.club_files.specs.ReachableOn.{AreReachableOn, AreReachableWhole};
 
 use crate::opening::{RepeatableStart, open_in_turn};
@@ -44,16 +44,19 @@ pub fn serve_files<S: RepeatableStart, V: Visits>(
     ensures unopened { result.1 ≡ None →
         ((result.0 ≡ Err InUse) ⊎ (result.0 ≡ Err NotOpened)) ⊎ (result.0 ≡ Err (Unopened Foreign)) }
     ensures led { IfSome result.1 (λ store. IsClean (store_view store) →
-        (sessions : _) → AreReachable sessions (image_at S.Start) →
-        (left : Image) → (store_state store).may_leave left → AreReachableOn sessions left) }
+        (them : _) (sessions : _) → AreReachable them sessions (image_at S.Start) →
+        (left : Image) → (store_state store).may_leave left → AreReachableOn them sessions left) }
     ensures whole { IfSome result.1 (λ store. IsClean (store_view store) → result.0 ≡ Ok None →
-        (sessions : _) → AreReachable sessions (image_at S.Start) →
-        (left : Image) → (store_state store).may_leave left → AreReachableWhole sessions left) }
+        (them : _) (sessions : _) → AreReachable them sessions (image_at S.Start) →
+        (left : Image) → (store_state store).may_leave left → AreReachableWhole them sessions left) }
     ensures told { IfSome result.1 (λ store. IsClean (store_view store) →
         (told : Option desk_fault.ClubFault) × (result.0 ≡ Ok told) ×
         IsToldOf (image_at S.Start) (store_state store).may_leave told) }
     ensures taken { IfSome result.1 (λ store. IsClean (store_view store) →
         IfOk result.0 (λ told. IfTaken told (AreSound (image_at S.Start)))) }
+    // By whatever texts its tables were made, those that were taken over answer as a club's.
+    ensures shape { IfSome result.1 (λ store. IsClean (store_view store) →
+        IfOk result.0 (λ told. IfTaken told (AnswerAsClub (image_at S.Start)))) }
     ensures good { IfSome result.1 (λ store. IsClean (store_view store) →
         (s : ClubState) → AreFilesOf s (image_at S.Start) → IfOk result.0 (λ told. IfSome told IsOfClub)) }
 {

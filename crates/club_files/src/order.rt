@@ -17,10 +17,10 @@ ghost use Rattle.club_files.specs.declared.places.Purpose.TheVariants.{Making};
 ghost use Rattle.club_orders.specs.Batches.{AnswersBatch};
 ghost use Rattle.club_orders.specs.Report.{given, Answers, IfRequest, IfAsk, IfBatch, IfVerify};
 ghost use Rattle.club_orders.specs.Report.{Shows, IsPassed, IsBegun, task_sessions};
-ghost use Rattle.club_orders.specs.Report.{IfUnopened, IsRepeated, OnlyUnopened, writes};
+ghost use Rattle.club_orders.specs.Report.{IfTaken, IfUnopened, IsRepeated, OnlyUnopened, writes};
 ghost use Rattle.club_orders.specs.Refused.{IfTakesOver, IfUpgrade, IsOlder};
 ghost use Rattle.club_files.specs.Found.{AreCarriedOver, AreFilesOf, AreFirstFilesOf, AreKept, AreNotUpgraded};
-ghost use Rattle.club_files.specs.Found.{AreRefused, AreSound};
+ghost use Rattle.club_files.specs.Found.{AnswerAsClub, AreRefused, AreSound};
 
 use crate::opening::{RepeatableStart, open_in_turn};
 use crate::places::Purpose;
@@ -49,10 +49,11 @@ fn purpose_of(task: &Task) -> Purpose
 /// the rows alone, and makes none. Gives what it came to, and the files where they were opened.
 ///
 /// Where sessions led to whatever an opening finds in the files, they lead, with this command or these orders as one
-/// more, to whatever an opening finds in them after it, of whatever a stop leaves. Where they were new, and a club was to be made, no
-/// session leads to that, or there is no table still. The answer is the machine's, what is shown is the club's, and a
-/// club's files are found sound. Files that are found sound are a club's; those that are not taken as a club's are
-/// blamed for it, and later openings find in them what this one found. Only a question writes to `out`.
+/// more, to whatever an opening finds in them after it, of whatever a stop leaves, beside the same tables of other
+/// programs. Where they were new, and a club was to be made, no session leads to that, or there is no table still. The
+/// answer is the machine's, what is shown is the club's, and a club's files are found sound. Files that are found sound
+/// are a club's; those that are not taken as a club's are blamed for it, and later openings find in them what this one
+/// found. Only a question writes to `out`.
 pub fn obey<S: RepeatableStart, W: Write>(
     rt: &HostRuntime,
     order: &Order,
@@ -82,6 +83,9 @@ pub fn obey<S: RepeatableStart, W: Write>(
         IfVerify order.entry.now.task (IsPassed result.0)) }
     ensures sound { IfSome result.1 (λ store. IsClean (store_view store) →
         IfVerify order.entry.now.task (result.0 ≡ Sound → AreSound (image_at S.Start))) }
+    // By whatever texts its tables were made, those that were taken over answer as a club's.
+    ensures shape { IfSome result.1 (λ store. IsClean (store_view store) →
+        IfTakesOver order.entry.now.task (IfTaken result.0 (AnswerAsClub (image_at S.Start)))) }
     ensures refuses { IfSome result.1 (λ store. IsClean (store_view store) →
         IfTakesOver order.entry.now.task (IfUnopened result.0
         (AreRefused (image_at S.Start) (store_state store).may_leave))) }
@@ -103,9 +107,9 @@ pub fn obey<S: RepeatableStart, W: Write>(
         AreKept (image_at S.Start) (store_state store).may_leave) }
     ensures silent { writes order.entry.now.task ≡ false → out.new ≡ out.old }
     ensures led { IfSome result.1 (λ store. IsClean (store_view store) →
-        (sessions : _) → AreReachable sessions (image_at S.Start) →
+        (them : _) (sessions : _) → AreReachable them sessions (image_at S.Start) →
         (left : Image) → (store_state store).may_leave left →
-        AreReachable (sessions ++ task_sessions order.entry.now.task moment result.0) left) }
+        AreReachable them (sessions ++ task_sessions order.entry.now.task moment result.0) left) }
 {
     let conn = match open_in_turn(rt, order.file.as_str(), purpose_of(&order.task), start) {
         Ok(conn) => conn,

@@ -1,25 +1,6 @@
 -- From what was read of a table to what a fault says of it, and to the content.
-use Rattle.std.proofs.Common.{
-  ◌≡◌,
-  ◌≢◌,
-  ◌⊎◌,
-  ℕ,
-  List,
-  [],
-  ◌∷◌,
-  inl,
-  inr,
-  refl,
-  subst,
-  sym,
-  ap,
-  ◌∙◌,
-  Some,
-  pos,
-  get_or,
-  slice_get,
-}
-use Rattle.std.proofs.Common.{map}
+use Rattle.std.proofs.Common.{◌≡◌, ◌⊎◌, ℕ, List, [], ◌∷◌, inl, inr, refl, subst, sym, ap, ◌∙◌, Some, pos, get_or, slice_get}
+use Rattle.std.proofs.Common.{map, true, false, true≢false}
 use Rattle.std.specs.List.{AllByRecursion}
 use Rattle.std.specs.List.Sorted.{IsPermutation, IsSorted}
 use Rattle.sqlite.specs.Order.{Row, column}
@@ -34,14 +15,12 @@ use Rattle.store_tables.specs.declared.rows.MetaRow.{MetaRow}
 use Rattle.sqlite_rules.specs.Lists.{Has}
 use Rattle.store_tables.specs.Content.{Keeps, AreApart, cells}
 use Rattle.store_tables.specs.Contents.{Content, Stores}
-use Rattle.store_tables.specs.Contents as of_schema
 use Rattle.store_tables.specs.Reading.{Tells, AreIds, by_columns}
 use Rattle.sqlite_trees.specs.View.{is_int}
 use Rattle.std.specs.Prelude.{IsTrue, ℤ}
 use Rattle.store_tables.specs.Rows.{HaveIds}
 use Rattle.store_tables.specs.declared.rows.Rows.{Rows}
-use Rattle.sqlite.specs.Schema.{Schema}
-use Rattle.store_tables.specs.Tables.{club_schema, first_schema, IsClubSchema, schema_of, schema_number, meta, members}
+use Rattle.store_tables.specs.Tables.{club_schema, first_schema, schema_of, schema_number, meta, members}
 use Rattle.store_tables.specs.Tables.{events, event_rules, games}
 use Rattle.store_tables.specs.declared.rows.EventRow.{EventRow}
 use Rattle.store_tables.specs.declared.rows.EventRuleRow.{EventRuleRow}
@@ -59,6 +38,9 @@ use Rattle.club_opening.specs.declared.fault.OpenFault.TheVariants as open_fault
 use Rattle.club_opening.specs.Blames.{AreRead, Blames, HasNumber, HasTypes, IsMetaRead, IsOneMeta, Names, NamesForeign}
 use Rattle.club_opening.specs.Blames.{AreRulesRead, IsNumberFrom, NamesSchema, NamesTable}
 use Rattle.club_opening.specs.Places.{NamesRows}
+use Rattle.club_opening.specs.Versions.{HasClubTables, HasTablesOf, HoldsRows}
+use Rattle.club_opening.proofs.StoredLemmas.{one_of}
+use Rattle.table_shapes.specs.Shapes.{is_of_club}
 use Rattle.store_sql.specs.Read.{IsReadAs}
 
 -- a fault of a table, as it is told
@@ -78,7 +60,7 @@ told_mistyped table t read_fault.Memory is = cc
 -- ---- the row of meta
 
 pub meta_stored : (version : Version) (db : Database) (content : Content)
-    → of_schema.Holds (schema_of version) db content → Stores (meta 0) db.trees content
+    → HoldsRows version content db → Stores (meta 0) db.trees content
 meta_stored First db content k = k.tables.0
 meta_stored Current db content k = k.tables.0
 
@@ -89,7 +71,7 @@ one_is_meta rows row at one =
     (record { width = refl; id = (pos 1, refl); schema = (one.schema, refl); last = (one.last, refl) })
 
 pub shown_one : (db : Database) (version : Version) (content : Content) (slice shown : List Row) (old new : State)
-    → slice ≡ shown → db ≡ old.now → Tells (meta 0) 1 shown old new → of_schema.Holds (schema_of version) db content
+    → slice ≡ shown → db ≡ old.now → Tells (meta 0) 1 shown old new → HoldsRows version content db
     → IsOneMeta (content 0) → IsOneMeta slice
 shown_one db version content slice shown old new is same tells k one =
     let stored : Stores (meta 0) db.trees content = meta_stored version db content k in
@@ -117,7 +99,7 @@ place_in definition place first current Current = current
 
 -- of a table that the schemas have at this place
 pub names : (t : Table) (definition : Definition) (place : ℕ) (IsTyped : Row → Type 0) (old : State) (e : OpenFault)
-    → ((version : Version) (content : Content) → of_schema.Holds (schema_of version) old.now content
+    → ((version : Version) (content : Content) → HoldsRows version content old.now
     → HasTypes t content
     → Stores definition old.now.trees content × AllByRecursion IsTyped (content definition.tree))
     → Blames t definition IsTyped old e → NamesTable old.now e
@@ -143,12 +125,13 @@ names_both t definition place IsTyped old e first current typed =
       typed content all,
     ))
 
-pub still : (old mid : State) → IsUnchanged old mid → IsClubSchema old.now.schema → IsClubSchema mid.now.schema
-still old mid same has = subst IsClubSchema (sym (ap (λ (d : Database). d.schema) same.0.now_is)) has
+pub still : (old mid : State) → IsUnchanged old mid → HasClubTables old.now.schema → HasClubTables mid.now.schema
+still old mid same has = subst HasClubTables (sym (ap (λ (d : Database). d.schema) same.0.now_is)) has
 
-pub still_of : (old mid : State) (schema : Schema) → IsUnchanged old mid → old.now.schema ≡ schema
-    → mid.now.schema ≡ schema
-still_of old mid schema same has = ap (λ (d : Database). d.schema) same.0.now_is ∙ has
+pub still_of : (old mid : State) (version : Version) → IsUnchanged old mid → HasTablesOf version old.now.schema
+    → HasTablesOf version mid.now.schema
+still_of old mid version same has =
+    subst (HasTablesOf version) (sym (ap (λ (d : Database). d.schema) same.0.now_is)) has
 
 pub read_after : (table : Definition) (count : ℕ) (rows : List Row) (old mid new : State) → IsUnchanged old mid
     → IsReadAs table count rows mid new → IsReadAs table count rows old new
@@ -213,14 +196,14 @@ has_number found old new read id version content k =
 -- a number beside the tables of another version
 pub names_foreign : (found : MetaRow) (old new : State) (version : Version)
     → IsReadAs (meta 0) 1 (meta_cells found ∷ []) old new → found.id ≡ pos 1
-    → found.schema ≡ pos (schema_number version) → old.now.schema ≢ schema_of version
+    → found.schema ≡ pos (schema_number version) → ¬ HasTablesOf version old.now.schema
     → NamesForeign old.now Foreign
 names_foreign found old new version read id number other = (
   refl,
   λ there content k one.
       let (last, has) = has_number found old new read id there content k in
-      other (k.schema ∙ ap schema_of (same_number there version found.schema last one.0
-      (subst (λ rows. Has rows (Int (pos 1) ∷ Int found.schema ∷ Int last ∷ [])) one.1 has) number)),
+      other (subst (λ v. HasTablesOf v old.now.schema) (same_number there version found.schema last one.1.0
+      (subst (λ rows. Has rows (Int (pos 1) ∷ Int found.schema ∷ Int last ∷ [])) one.1.1 has) number) k.schema),
 )
   where
     same_number : (v w : Version) (n last other : ℤ)
@@ -235,13 +218,23 @@ names_foreign found old new version read id number other = (
 
 -- tables of another version than `meta` tells
 pub foreign_named : (version : Version) (row : MetaRow) (old mid : State) → IsMetaRead version row old mid
-    → old.now.schema ≢ schema_of version → NamesForeign old.now Foreign
+    → ¬ HasTablesOf version old.now.schema → NamesForeign old.now Foreign
 foreign_named version row old mid (inl (read, id, number)) other =
     names_foreign row old mid version read id number other
 foreign_named version row old mid (inr (last, never, none)) other = (
   refl,
   λ there content k one.
-      none there content k (record { schema = pos (schema_number there); last = one.0; is = one.1 }),
+      none there content k (record { schema = pos (schema_number there); last = one.1.0; is = one.1.1 }),
+)
+
+-- tables that do not answer as those of a club of their version
+pub shape_named : (version : Version) (db : Database) → HasTablesOf version db.schema
+    → is_of_club version db.schema ≡ false → NamesForeign db Foreign
+shape_named version db has other = (
+  refl,
+  λ there content k one.
+      let same = one_of there version db.schema k.schema has in
+      true≢false (sym (subst (λ v. is_of_club v db.schema ≡ true) same one.0) ∙ other),
 )
 
 -- ---- the head

@@ -5,20 +5,16 @@ use Rattle.std.specs.Prelude.{slice_get}
 use Rattle.std.proofs.lemmas.Option.{slice_get_within}
 use Rattle.sqlite_value.specs.declared.value.Value.{Value}
 use Rattle.sqlite_value.specs.declared.value.Value.TheVariants.{Int}
-use Rattle.sqlite.specs.Effect.{Database}
 use Rattle.sqlite.specs.Order.{Row, column}
 use Rattle.sqlite.specs.State.{State}
-use Rattle.sqlite_catalog.specs.Listing.{IsSound}
 use Rattle.sqlite_rules.specs.Lists.{Has}
 use Rattle.sqlite_rules.proofs.ListLemmas.{all_has, has_got}
 use Rattle.store_tables.specs.Cells.{IsChallenge, challenge_cells, event_cells, game_cells, member_cells}
 use Rattle.store_tables.specs.Changes.{HaveSame}
 use Rattle.store_tables.specs.Content.{cells}
 use Rattle.store_tables.specs.Contents.{Content, Stores}
-use Rattle.store_tables.specs.Contents as of_schema
-use Rattle.store_tables.specs.Tables.{challenges, schema_of}
+use Rattle.store_tables.specs.Tables.{challenges}
 use Rattle.store_tables.specs.declared.names.Version.{Version}
-use Rattle.store_tables.specs.declared.names.Version.TheVariants.{First, Current}
 use Rattle.store_tables.specs.declared.rows.GameRecord.{GameRecord}
 use Rattle.store_tables.specs.declared.rows.Rows.{Rows}
 use Rattle.store_tables.proofs.Proved.{has_map, has_mapped}
@@ -38,9 +34,10 @@ use Rattle.club_audit.specs.ChallengeAudit.{AreChallenges, IsChallengeAmong, IsG
 use Rattle.club_audit.proofs.Proved.{numbered-length}
 use Rattle.club_changes.proofs.Proved.{challenges_typed, numbered_had, numbered_has}
 use Rattle.club_opening.specs.RightTables.{HasGame, HasId, HaveChallenges, IsChallengeIn}
+use Rattle.club_opening.specs.Versions.{HoldsRows}
 use Rattle.club_opening.proofs.OnceLemmas.{challenge_key, each_once}
 use Rattle.club_opening.proofs.RegisterLemmas.{keeps_same}
-use Rattle.club_opening.proofs.StoredLemmas.{AreUnique, current_unique, first_unique}
+use Rattle.club_opening.proofs.StoredLemmas.{unique_of}
 
 -- ---- ids
 
@@ -85,7 +82,7 @@ module _ {A : Type 0} (row : ℕ → A → Row) (first : (n : ℕ) (x : A) → c
 -- ---- games
 
 module _ (games : List GameRecord) (rows : List Row) (same : HaveSame rows (map game_cells games)) where
-  game_among : (id : ℕ) (p : Pairing) → HasGame rows id p → IsGameAmong games id p
+  pub game_among : (id : ℕ) (p : Pairing) → HasGame rows id p → IsGameAmong games id p
   game_among id p has =
       let (game, there, is) = has_mapped game_cells games has.row (same.there has.row has.there) in
       let (k, at) = index_of games game there in
@@ -101,7 +98,7 @@ module _ (games : List GameRecord) (rows : List Row) (same : HaveSame rows (map 
         };
       }
 
-  among_game : (id : ℕ) (p : Pairing) → IsGameAmong games id p → HasGame rows id p
+  pub among_game : (id : ℕ) (p : Pairing) → IsGameAmong games id p → HasGame rows id p
   among_game id p among = record {
     row = game_cells among.row;
     there = same.back (game_cells among.row)
@@ -126,7 +123,8 @@ module _ (content : Content) (rows : Rows) (ms : List Member) (are_ms : AreMembe
     (same_ms : HaveSame (content 1) (map member_cells rows.members.items))
     (same_es : HaveSame (content 4) (map event_cells rows.events.items))
     (same_cs : HaveSame (content 6) (map challenge_cells rows.challenges.items))
-    (same_games : HaveSame (content 10) (map game_cells rows.games.items)) where
+    (game_there : (id : ℕ) (p : Pairing) → HasGame (content 10) id p → IsGameAmong rows.games.items id p)
+    (game_back : (id : ℕ) (p : Pairing) → IsGameAmong rows.games.items id p → HasGame (content 10) id p) where
   member_ids : HaveSame (content 1) (numbered_from member_row 1 ms)
   member_ids = subst (HaveSame (content 1)) are_ms.rows_are same_ms
 
@@ -150,7 +148,7 @@ module _ (content : Content) (rows : Rows) (ms : List Member) (are_ms : AreMembe
         other = (other.0, let high = other.1 in omega (arith, high, member_count));
         apart = it.apart;
         event = (event.0, let high = event.1 in omega (arith, high, event_count));
-        game = λ id is. game_among rows.games.items (content 10) same_games id (pairing_for c) (it.game id is).1;
+        game = λ id is. game_there id (pairing_for c) (it.game id is).1;
       }
 
   challenge_in : (c : Challenge) → IsChallengeAmong rows c → HasShortGame c.standing → IsChallengeIn content c
@@ -168,7 +166,7 @@ module _ (content : Content) (rows : Rows) (ms : List Member) (are_ms : AreMembe
         (omega (arith, high, event_count));
     game = λ id is. (
       subst HasShortGame is short,
-      among_game rows.games.items (content 10) same_games id (pairing_for c) (it.game id is),
+      game_back id (pairing_for c) (it.game id is),
     );
   }
 
@@ -195,17 +193,9 @@ module _ (content : Content) (rows : Rows) (ms : List Member) (are_ms : AreMembe
     numbers = have.numbers;
   }
 
--- no two rows of a database have one key
-pub unique_of : (version : Version) (db : Database) (content : Content) → of_schema.Holds (schema_of version) db content
-    → AreUnique db.trees
-unique_of First db content holds =
-    first_unique db.trees (subst (λ schema. IsSound schema db.trees) holds.schema holds.sound)
-unique_of Current db content holds =
-    current_unique db.trees (subst (λ schema. IsSound schema db.trees) holds.schema holds.sound)
-
 -- rows of challenges that were read are those of the content, each once
 pub challenges_once : (version : Version) (content : Content) (rows : List Row) (old new : State)
-    → of_schema.Holds (schema_of version) old.now content → Stores (challenges 6) old.now.trees content
+    → HoldsRows version content old.now → Stores (challenges 6) old.now.trees content
     → (have : HaveChallenges content) → IsReadAs (challenges 6) 2 rows old new
     → AreEachOnce rows (map challenge_row have.challenges)
 challenges_once version content rows old new holds stored have read =

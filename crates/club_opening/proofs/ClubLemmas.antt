@@ -1,6 +1,6 @@
 -- From the rows that were read to the club that is stored so, and back.
 use Rattle.std.proofs.Common.{◌≡◌, ◌⊎◌, ℕ, ℤ, zero, suc, pos, ◌+◌, ◌<◌, List, [], ◌∷◌, length, map, refl, ap, ◌∙◌}
-use Rattle.std.proofs.Common.{Some, false, sym, subst, arith, get_or, inl, inr}
+use Rattle.std.proofs.Common.{Some, false, true, sym, subst, arith, get_or, inl, inr}
 use Rattle.std.specs.Prelude.{slice_get}
 use Rattle.std.proofs.lemmas.Option.{same_Some}
 use Rattle.sqlite_value.specs.declared.value.Value.TheVariants.{Int}
@@ -16,7 +16,7 @@ use Rattle.store_tables.specs.Cells.{game_cells}
 use Rattle.store_tables.specs.Content.{Keeps}
 use Rattle.store_tables.specs.Reading.{AreIds}
 use Rattle.store_tables.specs.Rows.{HaveIds}
-use Rattle.store_tables.specs.Tables.{club_schema, schema_number, schema_of, meta, members, events, event_rules, games}
+use Rattle.store_tables.specs.Tables.{club_schema, schema_number, meta, members, events, event_rules, games}
 use Rattle.store_tables.specs.declared.names.Table.{Table}
 use Rattle.store_tables.specs.declared.names.Table.TheVariants.{Members, Events, EventRules, Challenges, Moves}
 use Rattle.store_tables.specs.declared.names.Table.TheVariants.{Games, Seen, Scores, Meta}
@@ -33,7 +33,10 @@ use Rattle.club_rows.proofs.Proved.{members-typed, events-typed, moves-typed, ga
 use Rattle.club_changes.proofs.Proved.{challenges_typed, moved}
 use Rattle.club_opening.proofs.OnceLemmas.{challenges_are}
 use Rattle.club_opening.specs.Blames.{AreRead, AreRulesRead, HasTypes, IsNumberFrom, Names, undeclared_row}
-use Rattle.club_opening.specs.Versions.{HasEvents, HoldsClub}
+use Rattle.club_opening.specs.Versions.{HasClub, HasEvents, HasTablesOf, HoldsClub}
+use Rattle.table_shapes.specs.Shapes.{is_of_club}
+use Rattle.table_shapes.proofs.Proved.{club_is_of_club}
+use Rattle.store_tables.specs.Beside.{IsBeside}
 use Rattle.store_sql.specs.Read.{IsReadAs}
 use Rattle.club_opening.specs.Places.{IsRegisterOf, NamesRows}
 use Rattle.club_audit.specs.Audit.{AreEvents, AreMembers, AreRules}
@@ -46,8 +49,8 @@ use Rattle.store_tables.specs.declared.rows.MemberRow.{MemberRow}
 use Rattle.store_sql.specs.Read.{BeginWithPlaces}
 use Rattle.club_opening.specs.declared.fault.OpenFault.{OpenFault}
 use Rattle.club_opening.specs.declared.fault.OpenFault.TheVariants.{Damaged, Schema, Store, Memory}
-use Rattle.club_opening.proofs.StoredLemmas.{IsStored, club_of_version, one_version, rules_stored, schemas_differ}
-use Rattle.club_opening.proofs.StoredLemmas.{stored_of}
+use Rattle.club_opening.proofs.StoredLemmas.{IsStored, club_of_version, first_differs, one_of, rules_stored}
+use Rattle.club_opening.proofs.StoredLemmas.{rows_held, stored_of}
 
 -- ---- places
 
@@ -118,23 +121,51 @@ one_meta_row : (version : Version) (s : ClubState) → (last : ℤ)
 one_meta_row First s = (pos s.last, refl)
 one_meta_row Current s = (pos s.last, refl)
 
--- A database with the tables of a legal club is blamed for nothing, but for a version that is not taken.
+-- A database with the tables of a legal club, which answer as a club's, is blamed for nothing, but for a version that is
+-- not taken.
+pub good_at : (oldest version : Version) (s : ClubState) → IsClubOf version s → (db : Database)
+    → HasClub version db s → is_of_club version db.schema ≡ true → (fault : OpenFault) → Names oldest db fault
+    → (fault ≡ Store)
+    ⊎ ((fault ≡ Memory) ⊎ ((fault ≡ Schema (pos (schema_number version)))
+    × (¬ IsNumberFrom oldest (pos (schema_number version)))))
+good_at oldest version s club db holds shape fault (inl (inl store)) = inl store
+good_at oldest version s club db holds shape fault (inl (inr (inl memory))) = inr (inl memory)
+good_at oldest version s club db holds shape fault (inl (inr (inr (t, named, wrong)))) =
+    absurd (wrong version (tables_at version s) holds (typed_at version s (club_of_version version s club) t))
+good_at oldest version s club db holds shape fault (inr (inl (n, named, other, has))) =
+    let (last, at) = has version (tables_at version s) holds in
+    let is : n ≡ pos (schema_number version) = one_number version s n last at in
+    inr (inr (named ∙ ap Schema is, subst (λ k. ¬ IsNumberFrom oldest k) is other))
+good_at oldest version s club db holds shape fault (inr (inr (inl (named, none)))) =
+    absurd (none version (tables_at version s) holds (shape, one_meta_row version s))
+good_at oldest version s club db holds shape fault (inr (inr (inr (t, named, none)))) = absurd (none version s club holds)
+
+-- the tables of a club alone answer as a club's
 pub good_in : (oldest version : Version) (s : ClubState) → IsClubOf version s → (db : Database)
     → HoldsClub version db s → (fault : OpenFault) → Names oldest db fault
     → (fault ≡ Store)
     ⊎ ((fault ≡ Memory) ⊎ ((fault ≡ Schema (pos (schema_number version)))
     × (¬ IsNumberFrom oldest (pos (schema_number version)))))
-good_in oldest version s club db holds fault (inl (inl store)) = inl store
-good_in oldest version s club db holds fault (inl (inr (inl memory))) = inr (inl memory)
-good_in oldest version s club db holds fault (inl (inr (inr (t, named, wrong)))) =
-    absurd (wrong version (tables_at version s) holds (typed_at version s (club_of_version version s club) t))
-good_in oldest version s club db holds fault (inr (inl (n, named, other, has))) =
-    let (last, at) = has version (tables_at version s) holds in
-    let is : n ≡ pos (schema_number version) = one_number version s n last at in
-    inr (inr (named ∙ ap Schema is, subst (λ k. ¬ IsNumberFrom oldest k) is other))
-good_in oldest version s club db holds fault (inr (inr (inl (named, none)))) =
-    absurd (none version (tables_at version s) holds (one_meta_row version s))
-good_in oldest version s club db holds fault (inr (inr (inr (t, named, none)))) = absurd (none version s club holds)
+good_in oldest version s club db holds = good_at oldest version s club db (rows_held version db (tables_at version s) holds)
+    (ap (is_of_club version) holds.schema ∙ club_is_of_club version)
+
+-- of a version that is taken it is blamed for nothing
+pub good_taken : (oldest version : Version) (s : ClubState) → IsClubOf version s → (db : Database)
+    → HasClub version db s → is_of_club version db.schema ≡ true → (oldest ≡ Current → version ≡ Current)
+    → (fault : OpenFault) → Names oldest db fault → (fault ≡ Store) ⊎ (fault ≡ Memory)
+good_taken oldest version s club db holds shape taken fault blamed =
+    elim (good_at oldest version s club db holds shape fault blamed) [
+      | inl store ↦ inl store
+      | inr (inl memory) ↦ inr memory
+      | inr (inr (named, other)) ↦ absurd (other (number_from oldest version taken))
+    ]
+  where
+    number_from : (oldest version : Version) → (oldest ≡ Current → version ≡ Current)
+        → IsNumberFrom oldest (pos (schema_number version))
+    number_from First First taken = inl refl
+    number_from First Current taken = inr refl
+    number_from Current First taken = let no : First ≡ Current = taken refl in absurd cc
+    number_from Current Current taken = refl
 
 -- one of the last version is blamed for nothing
 pub good_fault : (s : ClubState) → IsClub s → (db : Database) → HoldsClub Current db s → (fault : OpenFault)
@@ -196,7 +227,7 @@ pub events_read : (s : ClubState) (rows : List EventRow) (old new : State) → I
     → IsReadAs (events 4) 1 (map event_cells rows) old new → map event_cells rows ≡ tables_of both_games s 4
 events_read s rows old new holds read = events_kept s rows old new holds.events.rows read
 
-pub rules_read : (s : ClubState) (rows : List EventRuleRow) (old new : State) → HoldsClub Current old.now s
+pub rules_read : (s : ClubState) (rows : List EventRuleRow) (old new : State) → HasClub Current old.now s
     → IsReadAs (event_rules 16) 1 (map event_rule_cells rows) old new
     → map event_rule_cells rows ≡ tables_of both_games s 16
 rules_read s rows old new holds read = rules_kept s rows old new (rules_stored old.now s holds).rows read
@@ -249,13 +280,13 @@ has_events rows old new read version s club holds =
 
 -- rules of events that are those of no club with these rows of events are blamed
 pub rules_blamed : (events_rows : List EventRow) (rows : List EventRuleRow) (old new : State)
-    → HasEvents events_rows old.now → old.now.schema ≡ club_schema
+    → HasEvents events_rows old.now → IsBeside club_schema old.now.schema
     → IsReadAs (event_rules 16) 1 (map event_rule_cells rows) old new → ¬ AreRules rows (length events_rows)
     → NamesRows old.now (Damaged EventRules)
 rules_blamed events_rows rows old new of has read none = (EventRules, refl, by_version)
   where
-    by_version : (version : Version) (s : ClubState) → IsClubOf version s → HoldsClub version old.now s → ⊥
-    by_version First s club holds = schemas_differ (sym holds.schema ∙ has)
+    by_version : (version : Version) (s : ClubState) → IsClubOf version s → HasClub version old.now s → ⊥
+    by_version First s club holds = first_differs old.now.schema holds.schema has
     by_version Current s club holds =
         none
         (rules-counted s.events events_rows rows (events_of s club events_rows (of Current s club holds))
@@ -318,7 +349,7 @@ undeclared_are es rows rules are same = record {
 
 -- the rules that were read of a club are those of its events
 rules_of : (version : Version) (s : ClubState) → IsClubOf version s → (events_rows : List EventRow)
-    (rules : List EventRuleRow) (old new : State) → HoldsClub version old.now s
+    (rules : List EventRuleRow) (old new : State) → HasClub version old.now s
     → map event_cells events_rows ≡ tables_of both_games s 4 → AreRulesRead version events_rows rules old new
     → map event_rule_cells rules ≡ numbered_from rule_row 1 s.events
 rules_of First s club events_rows rules old new holds events_are (same, are) =
@@ -327,7 +358,7 @@ rules_of Current s club events_rows rules old new holds events_are read = rules_
 
 -- the rows that were read of a legal club are its own
 pub club_read : (version : Version) (s : ClubState) → IsClubOf version s → (rows : Rows) (old new : State)
-    → HoldsClub version old.now s → AreRead version rows old new → HaveIds rows → IsRegisterOf s rows
+    → HasClub version old.now s → AreRead version rows old new → HaveIds rows → IsRegisterOf s rows
 club_read version s club rows old new holds read ids =
     let made = tables_of both_games s in
     let db = old.now.trees in
@@ -354,9 +385,9 @@ club_read version s club rows old new holds read ids =
 
 -- and those of a database of another version are of no club in this one
 pub club_read_as : (version other : Version) (s : ClubState) → IsClubOf other s → (rows : Rows) (old new : State)
-    → old.now.schema ≡ schema_of version → HoldsClub other old.now s → AreRead version rows old new → HaveIds rows
+    → HasTablesOf version old.now.schema → HasClub other old.now s → AreRead version rows old new → HaveIds rows
     → IsRegisterOf s rows
 club_read_as version other s club rows old new has holds read ids =
-    let same : other ≡ version = one_version other version old.now.schema holds.schema has in
+    let same : other ≡ version = one_of other version old.now.schema holds.schema has in
     club_read version s (subst (λ v. IsClubOf v s) same club) rows old new
-    (subst (λ v. HoldsClub v old.now s) same holds) read ids
+    (subst (λ v. HasClub v old.now s) same holds) read ids

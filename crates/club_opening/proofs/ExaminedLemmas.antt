@@ -45,7 +45,7 @@ use Rattle.club_opening.specs.declared.fault.OpenFault.{OpenFault}
 use Rattle.club_opening.specs.declared.fault.OpenFault.TheVariants.{Damaged}
 use Rattle.club_opening.proofs.BlameLemmas.{read_after}
 use Rattle.club_opening.proofs.GroupRows.{none_left, own_moves, own_seen, same_on, turned_same}
-use Rattle.club_opening.specs.Versions.{HoldsClub}
+use Rattle.club_opening.specs.Versions.{HasClub}
 use Rattle.club_opening.proofs.PastLemmas.{past_step}
 use Rattle.club_opening.specs.RightMoves.{GamesWrong, HasMovesOf, HaveMovesOf, MovesWrong, SeenWrong, beyond, id_at}
 use Rattle.club_opening.proofs.BeyondLemmas.{beyond_step, id_of_game, ids_apart, last_or, moves_gathered, none_beyond}
@@ -568,7 +568,7 @@ module _ (rows : Rows) (last : Option ℕ) (told : IsMomentOf rows.meta.last las
 
   -- where no table was wrong before and a row is left, no club has the tables
   left_blames : (o : Option Table) → o ≡ w → (0 < ms) ⊎ (0 < ss) → (version : Version) (s : ClubState)
-      → IsClubOf version s → IsRegisterOf s rows → ¬ HoldsClub version old.now s
+      → IsClubOf version s → IsRegisterOf s rows → ¬ HasClub version old.now s
   left_blames (Some t) is some version s of_version register holds =
       (was.blamed t (sym is)).2 version s of_version register holds
   left_blames None is (inl some) version s of_version register holds =

@@ -11,12 +11,12 @@ use Rattle.sqlite.specs.Table.{Table as Definition}
 use Rattle.sqlite.proofs.Callers.{unchanged_then}
 use Rattle.sqlite_rules.specs.Lists.{Has}
 use Rattle.sqlite_rules.proofs.ListLemmas.{all_has, has_got}
+use Rattle.store_tables.specs.Beside.{IsBeside}
 use Rattle.store_tables.specs.Cells.{IsChallenge, IsEvent, IsEventRule, IsGame, IsMember, IsMove, IsSeen, challenge_cells}
 use Rattle.store_tables.specs.Cells.{event_cells, event_rule_cells, game_cells, member_cells}
 use Rattle.store_tables.specs.Changes.{HaveSame}
 use Rattle.store_tables.specs.Content.{AreApart, Keeps}
 use Rattle.store_tables.specs.Contents.{Content, Stores}
-use Rattle.store_tables.specs.Contents as of_schema
 use Rattle.store_tables.specs.Tables.{club_schema, first_schema, schema_of, members, events, event_rules}
 use Rattle.store_tables.specs.Tables.{challenges, games, moves, seen}
 use Rattle.store_tables.specs.declared.names.Table.{Table}
@@ -47,33 +47,35 @@ use Rattle.club_audit.specs.GameAudit.{IsRightAt}
 use Rattle.club_audit.proofs.Proved.{rules-counted, ruled-of}
 use Rattle.club_changes.proofs.Proved.{challenges_typed, moved}
 use Rattle.club_opening.specs.Blames.{AreRead, AreRulesRead, Blames, HasTypes, HoldsNone, NamesSchema}
+use Rattle.club_opening.specs.Versions.{HasTablesOf, HoldsRows}
 use Rattle.club_opening.specs.Blames.{undeclared_row}
 use Rattle.club_opening.specs.RightTables.{AreOfClub, ArePlayed, AreScored, AreSeated, HasScores, HasTable}
 use Rattle.club_opening.specs.RightTables.{HaveChallenges, IsFirstIn, IsLater, IsOfPlay, IsRight, IsUnheld}
 use Rattle.club_opening.specs.RightTables.{IsUntyped, IsWrongOfPlay}
-use Rattle.club_opening.specs.RightTables.{NamesExamined, NamesFirst, NamesPlayed, NamesWrong, TellsEvents, rows_in}
+use Rattle.club_opening.specs.RightTables.{NamesChallenges, NamesExamined, NamesFirst, NamesPlayed, NamesWrong, TellsEvents, rows_in}
 use Rattle.club_opening.specs.declared.fault.OpenFault.{OpenFault}
 use Rattle.club_opening.specs.declared.fault.OpenFault.TheVariants.{Damaged, Foreign, Memory, Schema, Store}
 use Rattle.club_opening.proofs.BlameLemmas.{place_in, read_after}
-use Rattle.club_opening.proofs.ChallengedLemmas.{challenges_once, challenges_right, right_challenges}
+use Rattle.club_opening.proofs.ChallengedLemmas.{among_game, challenges_once, challenges_right, game_among}
+use Rattle.club_opening.proofs.ChallengedLemmas.{right_challenges}
 use Rattle.club_opening.proofs.ClubLemmas.{events_kept, events_of, members_kept, members_of, rules_kept, typed_at}
 use Rattle.club_opening.proofs.ClubLemmas.{undeclared_are}
 use Rattle.club_opening.specs.Examined.{moves_in, seen_in}
 use Rattle.club_opening.specs.RightMoves.{HaveGamesOf, HaveMoves, HaveMovesOf, HaveSeenOf, SeenWrong}
 use Rattle.club_opening.proofs.RegisterLemmas.{keeps_same, keeps_shown, none_declared}
-use Rattle.club_opening.proofs.StoredLemmas.{club_of_version, one_version, schemas_differ}
+use Rattle.club_opening.proofs.StoredLemmas.{club_of_version, first_differs, one_of}
 
 -- ---- tables that a database holds
 
 -- a table of both versions, by its place
 pub stores_of : (definition : Definition) (place : ℕ) → slice_get first_schema.tables place ≡ Some definition
     → slice_get club_schema.tables place ≡ Some definition → (version : Version) (db : Database) (content : Content)
-    → of_schema.Holds (schema_of version) db content → Stores definition db.trees content
+    → HoldsRows version content db → Stores definition db.trees content
 stores_of definition place first current version db content holds =
     all_has (λ d. Stores d db.trees content) (schema_of version).tables definition holds.tables
     (has_got (schema_of version).tables place definition (place_in definition place first current version))
 
-pub rules_in : (db : Database) (content : Content) → of_schema.Holds (schema_of Current) db content
+pub rules_in : (db : Database) (content : Content) → HoldsRows Current content db
     → Stores (event_rules 16) db.trees content
 rules_in db content holds = holds.tables.1.1.1.1.1.1.1.1.0
 
@@ -116,7 +118,7 @@ memory_wrong table db e memory t is = let both : ◌≡◌ {A = OpenFault} Memor
 -- where rows of other types than those of the columns are blamed, none is held that has them
 pub types_none : (table : Table) (definition : Definition) (IsTyped : Row → Type 0) (IsSo : Version → Content → Type 0)
     (old : State) (e : OpenFault)
-    → ((version : Version) (content : Content) → of_schema.Holds (schema_of version) old.now content
+    → ((version : Version) (content : Content) → HoldsRows version content old.now
     → IsSo version content
     → Stores definition old.now.trees content × AllByRecursion IsTyped (content definition.tree))
     → Blames table definition IsTyped old e → (t : Table) → e ≡ Damaged t → (t ≡ table) × HoldsNone old.now IsSo
@@ -147,14 +149,14 @@ event_types_wrong old e = types_none Events (events 4) IsEvent (IsRight Events) 
       (typed_at version club.state (club_of_version version club.state club.legal) Events),
 ))
 
-pub rule_types_wrong : (old : State) (e : OpenFault) → old.now.schema ≡ club_schema
+pub rule_types_wrong : (old : State) (e : OpenFault) → IsBeside club_schema old.now.schema
     → Blames EventRules (event_rules 16) IsEventRule old e → NamesWrong EventRules old.now e
 rule_types_wrong old e has = types_none EventRules (event_rules 16) IsEventRule (IsRight EventRules) old e by_version
   where
-    by_version : (version : Version) (content : Content) → of_schema.Holds (schema_of version) old.now content
+    by_version : (version : Version) (content : Content) → HoldsRows version content old.now
         → AreOfClub version EventRules content
         → Stores (event_rules 16) old.now.trees content × AllByRecursion IsEventRule (content 16)
-    by_version First content holds club = absurd (schemas_differ (sym holds.schema ∙ has))
+    by_version First content holds club = absurd (first_differs old.now.schema holds.schema has)
     by_version Current content holds club = (
       rules_in old.now content holds,
       types_same IsEventRule (content 16) (tables_at Current club.state 16)
@@ -169,12 +171,6 @@ challenge_types_wrong old e = types_none Challenges (challenges 6) IsChallenge (
       types_same IsChallenge (content 6) (map challenge_row have.challenges) have.same.there
           (challenges_typed have.challenges),
     ))
-
--- games that are blamed for their types are held in no content with these
-pub games_untyped : (old : State) (e : OpenFault) → Blames Games (games 10) IsGame old e → (t : Table) → e ≡ Damaged t
-    → (t ≡ Games) × HoldsNone old.now (λ version content. HasTypes Games content)
-games_untyped old e = types_none Games (games 10) IsGame (λ version content. HasTypes Games content) old e
-    (λ version content holds typed. (stores_of (games 10) 5 refl refl version old.now content holds, typed))
 
 -- ---- rows
 
@@ -205,8 +201,8 @@ events_wrong rows old new read none = named_wrong Events old.now (λ version con
 pub tells_events : (rows : List EventRow) (old new : State) → IsReadAs (events 4) 1 (map event_cells rows) old new
     → TellsEvents rows new.now
 tells_events rows old new read version content holds s same =
-    let here : of_schema.Holds (schema_of version) old.now content =
-    subst (λ (d : Database). of_schema.Holds (schema_of version) d content) read.same.0.now_is holds in
+    let here : HoldsRows version content old.now =
+    subst (λ (d : Database). HoldsRows version content d) read.same.0.now_is holds in
     events_kept s rows old new
     (keeps_same (events 4) old.now.trees (content 4) (tables_of both_games s 4) same
     (stores_of (events 4) 2 refl refl version old.now content here).rows)
@@ -214,14 +210,14 @@ tells_events rows old new read version content holds s same =
 
 -- rules of events that are those of no club with these rows of events are wrong
 pub rules_wrong : (events_rows : List EventRow) (rows : List EventRuleRow) (old new : State)
-    → TellsEvents events_rows old.now → old.now.schema ≡ club_schema
+    → TellsEvents events_rows old.now → IsBeside club_schema old.now.schema
     → IsReadAs (event_rules 16) 1 (map event_rule_cells rows) old new → ¬ AreRules rows (length events_rows)
     → NamesWrong EventRules old.now (Damaged EventRules)
 rules_wrong events_rows rows old new told has read none = named_wrong EventRules old.now by_version
   where
-    by_version : (version : Version) (content : Content) → of_schema.Holds (schema_of version) old.now content
+    by_version : (version : Version) (content : Content) → HoldsRows version content old.now
         → ¬ AreOfClub version EventRules content
-    by_version First content holds club = schemas_differ (sym holds.schema ∙ has)
+    by_version First content holds club = first_differs old.now.schema holds.schema has
     by_version Current content holds club =
         let s = club.state in
         let kept = keeps_same (event_rules 16) old.now.trees (content 16) (tables_of both_games s 16)
@@ -334,7 +330,7 @@ undeclared_shown : (es : List EventRow) → map event_rule_cells (undeclared_row
 undeclared_shown [] = refl
 undeclared_shown (e ∷ es) = ap (λ l. undeclared_row e ∷ l) (undeclared_shown es)
 
-module _ (version : Version) (content : Content) (db : Database) (holds : of_schema.Holds (schema_of version) db content)
+module _ (version : Version) (content : Content) (db : Database) (holds : HoldsRows version content db)
     (ms : List Member) (member_rows : List MemberRow) (are_ms : AreMembers ms member_rows)
     (kept_ms : Keeps (members 1) db.trees (map member_cells member_rows)) where
   same_members : (es : List Event) → HaveSame (content 1) (tables_at version (club_with ms es) 1)
@@ -381,7 +377,7 @@ module _ (version : Version) (content : Content) (db : Database) (holds : of_sch
 -- What was read of the people of a database.
 pub record ArePeople (version : Version) (member_rows : List MemberRow) (event_rows : List EventRow)
     (rule_rows : List EventRuleRow) (db : Database) : Type 0 where
-  pub schema : db.schema ≡ schema_of version
+  pub schema : HasTablesOf version db.schema
   pub ms : List Member
   pub members_are : AreMembers ms member_rows
   pub members_kept : Keeps (members 1) db.trees (map member_cells member_rows)
@@ -394,7 +390,7 @@ pub record ArePeople (version : Version) (member_rows : List MemberRow) (event_r
 
 people_at : (version : Version) (member_rows : List MemberRow) (event_rows : List EventRow)
     (rule_rows : List EventRuleRow) (db : Database) → ArePeople version member_rows event_rows rule_rows db
-    → (content : Content) → of_schema.Holds (schema_of version) db content → AreOfClub version EventRules content
+    → (content : Content) → HoldsRows version content db → AreOfClub version EventRules content
 people_at version member_rows event_rows rule_rows db it content holds =
     let made = ruled-of it.es event_rows rule_rows it.events_are it.rules_are in
     let s = club_with it.ms made.ruled in
@@ -410,7 +406,7 @@ people_at version member_rows event_rows rule_rows db it content holds =
           (λ two there. same_rules version refl there holds made.ruled made.rules_are) (omega arith) u low there;
     }
   where
-    same_rules : (v : Version) → v ≡ version → HasTable EventRules v → of_schema.Holds (schema_of v) db content
+    same_rules : (v : Version) → v ≡ version → HasTable EventRules v → HoldsRows v content db
         → (es : List Event) → map event_rule_cells rule_rows ≡ numbered_from rule_row 1 es
         → HaveSame (content 16) (tables_at v (club_with it.ms es) 16)
     same_rules First is there holds es are = absurd there
@@ -422,12 +418,12 @@ people_at version member_rows event_rows rule_rows db it content holds =
 -- in whatever content the database may hold
 pub people_right : (version : Version) (member_rows : List MemberRow) (event_rows : List EventRow)
     (rule_rows : List EventRuleRow) (db : Database) → ArePeople version member_rows event_rows rule_rows db
-    → (v : Version) (content : Content) → of_schema.Holds (schema_of v) db content → AreOfClub v EventRules content
+    → (v : Version) (content : Content) → HoldsRows v content db → AreOfClub v EventRules content
 people_right version member_rows event_rows rule_rows db it v content holds =
-    let same : version ≡ v = one_version version v db.schema it.schema holds.schema in
+    let same : version ≡ v = one_of version v db.schema it.schema holds.schema in
     subst (λ w. AreOfClub w EventRules content) same
     (people_at version member_rows event_rows rule_rows db it content
-    (subst (λ w. of_schema.Holds (schema_of w) db content) (sym same) holds))
+    (subst (λ w. HoldsRows w content db) (sym same) holds))
 
 -- ---- what is named
 
@@ -437,7 +433,7 @@ first_none db e none t is = absurd (none t is)
 
 -- one that names a wrong table, where those before it are right
 pub first_wrong : (table : Table) (db : Database) (e : OpenFault) → NamesWrong table db e
-    → ((version : Version) (content : Content) → of_schema.Holds (schema_of version) db content → (u : Table)
+    → ((version : Version) (content : Content) → HoldsRows version content db → (u : Table)
     → order u < order table → IsRight u version content) → NamesFirst db e
 first_wrong table db e wrong right t is version content holds =
     let (named, none) = wrong t is in
@@ -451,71 +447,80 @@ first_members db e wrong =
     first_wrong Members db e wrong (λ version content holds u low. absurd (omega (arith, low)))
 
 pub first_events : (db : Database) (e : OpenFault) → NamesWrong Events db e
-    → ((version : Version) (content : Content) → of_schema.Holds (schema_of version) db content
+    → ((version : Version) (content : Content) → HoldsRows version content db
     → AreOfClub version Members content) → NamesFirst db e
 first_events db e wrong right = first_wrong Events db e wrong (λ version content holds u low.
     people_upto version Members content (omega arith) (right version content holds) u (omega (arith, low)))
 
 pub first_rules : (db : Database) (e : OpenFault) → NamesWrong EventRules db e
-    → ((version : Version) (content : Content) → of_schema.Holds (schema_of version) db content
+    → ((version : Version) (content : Content) → HoldsRows version content db
     → AreOfClub version Events content) → NamesFirst db e
 first_rules db e wrong right = first_wrong EventRules db e wrong (λ version content holds u low.
     people_upto version Events content (omega arith) (right version content holds) u (omega (arith, low)))
 
 -- of the challenges, where those of people are right
 pub first_challenges : (db : Database) (e : OpenFault) → NamesWrong Challenges db e
-    → ((version : Version) (content : Content) → of_schema.Holds (schema_of version) db content
+    → ((version : Version) (content : Content) → HoldsRows version content db
     → AreOfClub version EventRules content) → NamesFirst db e
 first_challenges db e wrong right = first_wrong Challenges db e wrong (λ version content holds u low.
     people_upto version EventRules content (omega arith) (right version content holds) u (omega (arith, low)))
 
--- one that names the games for their types
-pub first_games : (db : Database) (e : OpenFault)
-    → ((t : Table) → e ≡ Damaged t → (t ≡ Games) × HoldsNone db (λ version content. HasTypes Games content))
-    → ((version : Version) (content : Content) → of_schema.Holds (schema_of version) db content
-    → AreOfClub version EventRules content) → NamesFirst db e
-first_games db e untyped right t is version content holds =
-    let (named, none) = untyped t is in
+-- one that names the games for their types, where the challenges are right by what is known of the games
+pub first_games : (db : Database) → HoldsNone db (λ version content. HasTypes Games content)
+    → ((version : Version) (content : Content) → HoldsRows version content db → AreOfClub version EventRules content)
+    → ((version : Version) (content : Content) → HoldsRows version content db → HaveChallenges content)
+    → NamesFirst db (Damaged Games)
+first_games db none right have t is version content holds =
     let absent = none version content holds in
-    subst (IsFirstIn version content) (sym named) (record {
+    subst (IsFirstIn version content) (damaged_same Games t is) (record {
       before = λ u low reached. right_upto version content (right version content holds) u (omega (arith, low))
-          (λ later. absurd (absent (reached later))) (λ later. absurd (absent (reached (omega (arith, later)))))
+          (λ later. have version content holds) (λ later. absurd (absent (reached later)))
           (λ later. absurd (omega (arith, low, later)));
       named = λ club. absent
           (types_same IsGame (content 10) (tables_at version club.state 10) (club.same Games tt (omega arith)).there
           (typed_at version club.state (club_of_version version club.state club.legal) Games));
     })
 
+-- one that names the challenges for what is known of the games
+pub first_known : (db : Database) (rows : Rows) (e : OpenFault) → NamesChallenges rows e
+    → ((version : Version) (content : Content) → HoldsRows version content db → AreOfClub version EventRules content)
+    → ((version : Version) (content : Content) → HoldsRows version content db → HaveChallenges content
+    → (cs : List Challenge) × AreChallenges cs rows) → NamesFirst db e
+first_known db rows e names right pass = first_challenges db e
+    (λ t is. let (named, none) = names t is in
+    (named, λ version content holds have. let (cs, are) = pass version content holds have in none cs are))
+    right
+
 -- one that names a table that was examined
 module _ (db : Database) (rows : Rows) (e : OpenFault)
-    (right : (version : Version) (content : Content) → of_schema.Holds (schema_of version) db content
+    (right : (version : Version) (content : Content) → HoldsRows version content db
     → AreOfClub version EventRules content)
-    (have : (version : Version) (content : Content) → of_schema.Holds (schema_of version) db content
+    (have : (version : Version) (content : Content) → HoldsRows version content db
     → (cs : List Challenge) → AreChallenges cs rows → HaveChallenges content)
-    (pass : (version : Version) (content : Content) → of_schema.Holds (schema_of version) db content
+    (pass : (version : Version) (content : Content) → HoldsRows version content db
     → HaveChallenges content → (cs : List Challenge) × AreChallenges cs rows)
-    (seen_of : (version : Version) (content : Content) → of_schema.Holds (schema_of version) db content
+    (seen_of : (version : Version) (content : Content) → HoldsRows version content db
     → (cs : List Challenge) → AreChallenges cs rows → ArePlayed rows db → AreOfClub version Seen content)
-    (scores_of : (version : Version) (content : Content) → of_schema.Holds (schema_of version) db content
+    (scores_of : (version : Version) (content : Content) → HoldsRows version content db
     → (cs : List Challenge) → AreChallenges cs rows → ArePlayed rows db → AreScored rows db
     → AreOfClub version Scores content)
-    (has : (version : Version) (content : Content) → of_schema.Holds (schema_of version) db content
+    (has : (version : Version) (content : Content) → HoldsRows version content db
     → AreOfClub version Scores content → HasScores rows content)
-    (whole : (version : Version) (content : Content) → of_schema.Holds (schema_of version) db content
+    (whole : (version : Version) (content : Content) → HoldsRows version content db
     → AreOfClub version Meta content → (t : Table) → e ≢ Damaged t)
-    (read_moves : (version : Version) (content : Content) → of_schema.Holds (schema_of version) db content
+    (read_moves : (version : Version) (content : Content) → HoldsRows version content db
     → HaveMoves version content → HaveMovesOf rows (moves_in db.trees))
-    (moves_of : (version : Version) (content : Content) → of_schema.Holds (schema_of version) db content
+    (moves_of : (version : Version) (content : Content) → HoldsRows version content db
     → HaveMovesOf rows (moves_in db.trees) → HaveMoves version content)
-    (read_games : (version : Version) (content : Content) → of_schema.Holds (schema_of version) db content
+    (read_games : (version : Version) (content : Content) → HoldsRows version content db
     → AreOfClub version Games content → HaveGamesOf rows (moves_in db.trees))
-    (games_of : (version : Version) (content : Content) → of_schema.Holds (schema_of version) db content
+    (games_of : (version : Version) (content : Content) → HoldsRows version content db
     → (cs : List Challenge) → AreChallenges cs rows → AreSeated rows db → AreOfClub version Games content)
-    (read_seen : (version : Version) (content : Content) → of_schema.Holds (schema_of version) db content
+    (read_seen : (version : Version) (content : Content) → HoldsRows version content db
     → AreOfClub version Seen content → HaveSeenOf rows (moves_in db.trees) (seen_in db.trees)) where
   -- where it is one of play
   play_first : (t : Table) → IsWrongOfPlay rows db t → (cs : List Challenge) → AreChallenges cs rows
-      → (version : Version) (content : Content) → of_schema.Holds (schema_of version) db content
+      → (version : Version) (content : Content) → HoldsRows version content db
       → IsFirstIn version content t
   play_first Members wrong cs are version content holds = absurd (let low = wrong.play.0 in omega (arith, low))
   play_first Events wrong cs are version content holds = absurd (let low = wrong.play.0 in omega (arith, low))
@@ -690,7 +695,7 @@ none_said Current event_rows rule_rows old new read is = let no : Current ≡ Fi
 
 -- what was read, table after table
 pub people_read : (version : Version) (member_rows : List MemberRow) (event_rows : List EventRow)
-    (rule_rows : List EventRuleRow) (old one two three four : State) → old.now.schema ≡ schema_of version
+    (rule_rows : List EventRuleRow) (old one two three four : State) → HasTablesOf version old.now.schema
     → IsUnchanged old one → IsReadAs (members 1) 1 (map member_cells member_rows) one two
     → IsReadAs (events 4) 1 (map event_cells event_rows) two three
     → AreRulesRead version event_rows rule_rows three four → (ms : List Member) → AreMembers ms member_rows
@@ -715,7 +720,7 @@ people_read version member_rows event_rows rule_rows old one two three four sche
     }
 
 -- and all together
-pub people_of_all : (version : Version) (rows : Rows) (old new : State) → old.now.schema ≡ schema_of version
+pub people_of_all : (version : Version) (rows : Rows) (old new : State) → HasTablesOf version old.now.schema
     → AreRead version rows old new → (ms : List Member) → AreMembers ms rows.members.items → (es : List Event)
     → AreEvents es rows.events.items → AreRules rows.event_rules.items (length rows.events.items)
     → ArePeople version rows.members.items rows.events.items rows.event_rules.items old.now
@@ -767,7 +772,7 @@ told_undamaged db e (inr (inr (n, named, none, has))) t is = schema_undamaged n 
 -- what the audit lets pass of the rows that were read is right in whatever content the database may hold, and back
 module _ (rows : Rows) (version : Version) (old new : State) (read : AreRead version rows old new) (ms : List Member)
     (are_ms : AreMembers ms rows.members.items) (es : List Event) (are_es : AreEvents es rows.events.items) (v : Version)
-    (content : Content) (holds : of_schema.Holds (schema_of v) old.now content) where
+    (content : Content) (holds : HoldsRows v content old.now) where
   stored_challenges : Stores (challenges 6) old.now.trees content
   stored_challenges = stores_of (challenges 6) 3 refl refl v old.now content holds
 
@@ -788,12 +793,14 @@ module _ (rows : Rows) (version : Version) (old new : State) (read : AreRead ver
       (stores_of (games 10) 5 refl refl v old.now content holds).rows read.games.keeps
 
   pub have_challenges : (cs : List Challenge) → AreChallenges cs rows → HaveChallenges content
-  have_challenges = challenges_right content rows ms are_ms es are_es same_ms same_es same_cs same_games
+  have_challenges = challenges_right content rows ms are_ms es are_es same_ms same_es same_cs
+      (game_among rows.games.items (content 10) same_games) (among_game rows.games.items (content 10) same_games)
 
   pub pass_challenges : HaveChallenges content → (cs : List Challenge) × AreChallenges cs rows
   pass_challenges have = (
     have.challenges,
-    right_challenges content rows ms are_ms es are_es same_ms same_es same_cs same_games have
+    right_challenges content rows ms are_ms es are_es same_ms same_es same_cs
+        (game_among rows.games.items (content 10) same_games) (among_game rows.games.items (content 10) same_games) have
         (challenges_once v content (map challenge_cells rows.challenges.items) old new holds stored_challenges have
         read.challenges),
   )

@@ -5,8 +5,7 @@ use Rattle.store_tables.specs.Cells.{event_cells, game_cells}
 use Rattle.store_tables.specs.Changes.{HaveSame}
 use Rattle.store_tables.specs.Content.{Keeps}
 use Rattle.store_tables.specs.Contents.{Content}
-use Rattle.store_tables.specs.Contents as of_schema
-use Rattle.store_tables.specs.Tables.{event_rules, events, games, members, moves, schema_of, seen}
+use Rattle.store_tables.specs.Tables.{event_rules, events, games, members, moves, seen}
 use Rattle.store_tables.specs.declared.names.Table.TheVariants.{Members, Events, EventRules, Games, Moves, Seen}
 use Rattle.store_tables.specs.declared.names.Version.{Version}
 use Rattle.store_tables.specs.declared.names.Version.TheVariants.{First, Current}
@@ -16,6 +15,7 @@ use Rattle.club_rows.specs.Club.{both_games}
 use Rattle.club_rows.specs.Tables.{event_row, numbered_from, row_of_game, tables_of}
 use Rattle.club_audit.specs.Audit.{AreRulesOf}
 use Rattle.club_opening.specs.Blames.{AreRead}
+use Rattle.club_opening.specs.Versions.{HasTablesOf, HoldsRows}
 use Rattle.club_opening.specs.Examined.{moves_in, seen_in}
 use Rattle.club_opening.specs.RightMoves.{HaveGamesOf, HaveSeenOf}
 use Rattle.club_opening.specs.RightTables.{AreOfClub}
@@ -24,12 +24,12 @@ use Rattle.club_opening.proofs.ClubLemmas.{row_id, rules_kept, undeclared_rules}
 use Rattle.club_opening.proofs.FirstLemmas.{events_at, kept_same, members_at, rules_in, stores_of}
 use Rattle.club_opening.proofs.PlayedLemmas.{rows_at, same_then}
 use Rattle.club_opening.proofs.RegisterLemmas.{keeps_same, keeps_shown}
-use Rattle.club_opening.proofs.StoredLemmas.{club_of_version, one_version}
+use Rattle.club_opening.proofs.StoredLemmas.{club_of_version, one_of}
 
 module _ (rows : Rows) (version : Version) (old new : State) (read : AreRead version rows old new)
-    (schema : old.now.schema ≡ schema_of version) (v : Version) (content : Content)
-    (holds : of_schema.Holds (schema_of v) old.now content) where
-  rules_told : (w : Version) → of_schema.Holds (schema_of w) old.now content → AreRead w rows old new
+    (schema : HasTablesOf version old.now.schema) (v : Version) (content : Content)
+    (holds : HoldsRows v content old.now) where
+  rules_told : (w : Version) → HoldsRows w content old.now → AreRead w rows old new
       → (club : AreOfClub w Games content)
       → map event_cells rows.events.items ≡ numbered_from event_row 1 club.state.events
       → AreRulesOf club.state.events rows.event_rules.items
@@ -45,7 +45,7 @@ module _ (rows : Rows) (version : Version) (old new : State) (read : AreRead ver
   games_told club =
       let s = club.state in
       let legal = club_of_version v s club.legal in
-      let same : version ≡ v = one_version version v old.now.schema schema holds.schema in
+      let same : version ≡ v = one_of version v old.now.schema schema holds.schema in
       let told : AreRead v rows old new = subst (λ w. AreRead w rows old new) same read in
       let kept_ms : Keeps (members 1) old.now.trees (tables_of both_games s 1) =
       keeps_same (members 1) old.now.trees (content 1) (tables_of both_games s 1)

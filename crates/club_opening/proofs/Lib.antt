@@ -6,6 +6,7 @@ pub mod ExaminedLemmas
 pub mod FirstLemmas
 pub mod GamesToldLemmas
 pub mod GroupRows
+pub mod KnownLemmas
 pub mod MoveOrderLemmas
 pub mod MovesReadLemmas
 pub mod MovesToldLemmas

@@ -15,7 +15,7 @@ use Rattle.sqlite_trees.proofs.ListLemmas.{ascending-filter}
 use Rattle.store_tables.specs.Cells.{IsMove, move_cells, seen_cells, game_cells}
 use Rattle.store_tables.specs.Changes.{HaveSame}
 use Rattle.store_tables.specs.Content.{AreApart, cells, same_key}
-use Rattle.store_tables.specs.Tables.{moves, schema_of, seen}
+use Rattle.store_tables.specs.Tables.{moves, seen}
 use Rattle.store_tables.specs.declared.names.Table.TheVariants.{Moves, Seen, Games}
 use Rattle.store_tables.specs.declared.rows.GameRecord.{GameRecord}
 use Rattle.store_tables.specs.declared.rows.MoveRow.{MoveRow}
@@ -33,6 +33,7 @@ use Rattle.club_rows.specs.Tables.{at_start, rows_of_seen, row_of_game, rows_of_
 use Rattle.club_audit.specs.Audit.{terms_told, AreAllOf, IsGameAt, HasPeople}
 use Rattle.club_audit.specs.GameAudit.{IsRightAt, IsRightOf}
 use Rattle.club_opening.specs.Examined.{moves_in, IsAfter}
+use Rattle.club_opening.specs.Versions.{HoldsRows}
 use Rattle.club_opening.specs.RightMoves.{HasItsMoves, HaveMovesOf, GamesWrong, HasMovesOf, HaveGamesOf, MovesWrong}
 use Rattle.club_opening.specs.RightMoves.{SeenWrong}
 use Rattle.club_opening.proofs.BeyondLemmas.{begun_is}
@@ -40,14 +41,13 @@ use Rattle.club_opening.proofs.GroupRows.{by_sorted, same_back, same_on, turned_
 use Rattle.club_opening.proofs.MoveOrderLemmas.{Apart, Before, apart_back, entries_rise, one_rising, rises}
 use Rattle.club_opening.proofs.MoveOrderLemmas.{stored_apart, game_rise}
 use Rattle.club_opening.proofs.StoredLemmas.{AreUnique}
-use Rattle.club_opening.proofs.ChallengedLemmas.{unique_of}
+use Rattle.club_opening.proofs.StoredLemmas.{unique_of}
 use Rattle.club_opening.proofs.FirstLemmas.{stores_of}
 use Rattle.club_opening.proofs.ExaminedLemmas.{after_precedes}
 use Rattle.club_rows.specs.EachOnce.{AreEachOnce}
 use Rattle.sqlite.specs.Effect.{Database}
 use Rattle.std.proofs.lemmas.Str.{IsUtf8-string_bytes}
 use Rattle.store_tables.specs.Contents.{Content}
-use Rattle.store_tables.specs.Contents as of_schema
 use Rattle.store_tables.specs.declared.names.Version.{Version}
 use Rattle.club_opening.proofs.PastLemmas.{table_group}
 use Rattle.club_changes.proofs.Proved.{moves_had}
@@ -226,7 +226,7 @@ module _ (rows : Rows) (place : ℕ) (game : GameRecord) (ms : List MoveRow) (ss
     (old mid : State) (read : AreReadOf (moves 8) 2 game.id (map move_cells ms) old mid) (wrong : Option Table)
     (first : (s : ClubState) → HasPeople s rows → IsFirstWrong (IsRightAt s rows place game ms ss last) wrong)
     (at : slice_get rows.games.items place ≡ Some game) where
-  has_game : (version : Version) (content : Content) → of_schema.Holds (schema_of version) old.now content
+  has_game : (version : Version) (content : Content) → HoldsRows version content old.now
       → (have : HaveGamesOf rows (moves_in old.now.trees)) → HasGameAt have.state place game ms
   has_game version content holds have =
       let s = have.state in

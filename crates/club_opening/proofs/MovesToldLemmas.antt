@@ -23,8 +23,7 @@ use Rattle.store_tables.specs.Cells.{IsMove, event_cells, event_rule_cells, game
 use Rattle.store_tables.specs.Changes.{HaveSame}
 use Rattle.store_tables.specs.Content.{same_key}
 use Rattle.store_tables.specs.Contents.{Content}
-use Rattle.store_tables.specs.Contents as of_schema
-use Rattle.store_tables.specs.Tables.{event_rules, events, games, moves, schema_of}
+use Rattle.store_tables.specs.Tables.{event_rules, events, games, moves}
 use Rattle.store_tables.specs.declared.names.Version.{Version}
 use Rattle.store_tables.specs.declared.names.Version.TheVariants.{First, Current}
 use Rattle.store_tables.specs.declared.rows.EventRow.{EventRow}
@@ -36,12 +35,13 @@ use Rattle.store_tables.specs.declared.rows.Rows.{Rows}
 use Rattle.store_tables.proofs.Proved.{has_map, has_mapped}
 use Rattle.store_sql.specs.Read.{beginning_with}
 use Rattle.club_opening.specs.Blames.{AreRead, undeclared_row}
+use Rattle.club_opening.specs.Versions.{HasTablesOf, HoldsRows}
 use Rattle.club_opening.specs.Examined.{moves_in}
 use Rattle.club_opening.specs.RightMoves.{DeclaresIn, HaveMoves, HaveMovesOf}
 use Rattle.club_opening.proofs.FirstLemmas.{kept_same, rules_in, stores_of, types_same}
 use Rattle.club_opening.proofs.GroupRows.{same_on}
 use Rattle.club_opening.proofs.RegisterLemmas.{keeps_shown}
-use Rattle.club_opening.proofs.StoredLemmas.{one_version}
+use Rattle.club_opening.proofs.StoredLemmas.{one_of}
 
 filtered_same : (test : Row → Bool) (xs ys : List Row) → HaveSame xs ys → HaveSame (filter test xs) (filter test ys)
 filtered_same test xs ys same = record {
@@ -131,8 +131,8 @@ none_placed rules es are zero rule at = cc
 none_placed rules es are (suc n) rule at = none_says rules es are n rule at
 
 module _ (rows : Rows) (version : Version) (old new : State) (read : AreRead version rows old new)
-    (schema : old.now.schema ≡ schema_of version) (s : ClubState) (people : HasPeople s rows) (v : Version)
-    (content : Content) (holds : of_schema.Holds (schema_of v) old.now content) where
+    (schema : HasTablesOf version old.now.schema) (s : ClubState) (people : HasPeople s rows) (v : Version)
+    (content : Content) (holds : HoldsRows v content old.now) where
   shown_same : HaveSame (content 8) (moves_in old.now.trees)
   shown_same = kept_same (moves 8) old.now (content 8) (moves_in old.now.trees)
       (stores_of (moves 8) 4 refl refl v old.now content holds).rows (keeps_shown (moves 8) old.now.trees)
@@ -145,7 +145,7 @@ module _ (rows : Rows) (version : Version) (old new : State) (read : AreRead ver
   events_same = kept_same (events 4) old.now (content 4) (map event_cells rows.events.items)
       (stores_of (events 4) 2 refl refl v old.now content holds).rows read.events.keeps
 
-  declared : (w : Version) → of_schema.Holds (schema_of w) old.now content → AreRead w rows old new
+  declared : (w : Version) → HoldsRows w content old.now → AreRead w rows old new
       → (game : GameRecord) (id : ℕ) (declares : Bool) → NamesRule rows game id declares
       → DeclaresIn w content (pos id) declares
   declared First held told game id declares ruled =
@@ -164,7 +164,7 @@ module _ (rows : Rows) (version : Version) (old new : State) (read : AreRead ver
 
   pub moves_told : HaveMoves v content → HaveMovesOf rows (moves_in old.now.trees)
   moves_told have =
-      let same : version ≡ v = one_version version v old.now.schema schema holds.schema in
+      let same : version ≡ v = one_of version v old.now.schema schema holds.schema in
       let told : AreRead v rows old new = subst (λ w. AreRead w rows old new) same read in
       record {
         typed = types_same IsMove (moves_in old.now.trees) (content 8) shown_same.back have.typed;
@@ -196,7 +196,7 @@ module _ (rows : Rows) (version : Version) (old new : State) (read : AreRead ver
       }
 
   -- the rules of the event at a place, by what the file says of it
-  ruled_back : (w : Version) → of_schema.Holds (schema_of w) old.now content → AreRead w rows old new
+  ruled_back : (w : Version) → HoldsRows w content old.now → AreRead w rows old new
       → (game : GameRecord) (n : ℕ) → game.event ≡ pos (suc n) → (event : EventRow)
       → slice_get rows.events.items n ≡ Some event → (declares : Bool) → DeclaresIn w content (pos (suc n)) declares
       → NamesRule rows game (suc n) declares
@@ -228,7 +228,7 @@ module _ (rows : Rows) (version : Version) (old new : State) (read : AreRead ver
   -- moves that are right for what was read are so in the file
   pub moves_back : HaveMovesOf rows (moves_in old.now.trees) → HaveMoves v content
   moves_back have =
-      let same : version ≡ v = one_version version v old.now.schema schema holds.schema in
+      let same : version ≡ v = one_of version v old.now.schema schema holds.schema in
       let told : AreRead v rows old new = subst (λ w. AreRead w rows old new) same read in
       record {
         typed = types_same IsMove (content 8) (moves_in old.now.trees) shown_same.there have.typed;

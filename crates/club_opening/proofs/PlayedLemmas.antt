@@ -13,7 +13,6 @@ use Rattle.store_tables.specs.Changes as changes
 use Rattle.store_tables.specs.Changes.{HaveSame}
 use Rattle.store_tables.specs.Content.{Keeps, cells}
 use Rattle.store_tables.specs.Contents.{Content, Stores}
-use Rattle.store_tables.specs.Contents as of_schema
 use Rattle.store_tables.specs.Tables.{challenges, event_rules, events, games, members, moves, schema_of, scores, seen}
 use Rattle.store_tables.specs.declared.names.Table.{Table}
 use Rattle.store_tables.specs.declared.names.Table.TheVariants.{Members, Events, EventRules, Challenges, Moves}
@@ -46,21 +45,22 @@ use Rattle.club_opening.specs.Places.{last_moment}
 use Rattle.club_opening.specs.RightTables.{AreOfClub, ArePlayed, AreScored, AreSeated, HasScores, HasTable, IsOfPlay}
 use Rattle.club_opening.specs.RightTables.{NamesScores}
 use Rattle.club_opening.specs.RightTables.{rows_in}
-use Rattle.club_opening.specs.Versions.{HoldsClub}
+use Rattle.club_opening.specs.Versions.{HasClub, HasTablesOf, HoldsRows}
 use Rattle.club_opening.specs.declared.fault.OpenFault.{OpenFault}
 use Rattle.club_opening.specs.declared.fault.OpenFault.TheVariants.{Damaged}
 use Rattle.store_tables.specs.Rows.{HaveIds}
-use Rattle.club_opening.proofs.ChallengedLemmas.{unique_of}
+use Rattle.club_opening.proofs.StoredLemmas.{unique_of}
 use Rattle.club_opening.proofs.ExaminedLemmas.{played_after}
-use Rattle.club_opening.proofs.ClubLemmas.{begin_places, good_in, ids_read, row_id}
-use Rattle.club_opening.proofs.FirstLemmas.{damaged_same, kept_rules, kept_same, memory_undamaged, none_said, of_either}
+use Rattle.club_opening.proofs.ClubLemmas.{begin_places, ids_read, row_id, typed_at}
+use Rattle.club_opening.proofs.FirstLemmas.{damaged_same, foreign_undamaged, kept_rules, kept_same, memory_undamaged}
+use Rattle.club_opening.proofs.FirstLemmas.{none_said, of_either}
 use Rattle.club_opening.proofs.FirstLemmas.{rules_in, schema_undamaged, store_undamaged, stores_of, types_none}
 use Rattle.club_opening.proofs.FirstLemmas.{types_same}
 use Rattle.club_opening.proofs.GroupRows.{seen_had}
 use Rattle.club_opening.proofs.OnceLemmas.{each_once, score_key}
 use Rattle.club_opening.proofs.PastLemmas.{table_gathered}
 use Rattle.club_opening.proofs.RegisterLemmas.{keeps_same, keeps_shown, none_declared, stored_same}
-use Rattle.club_opening.proofs.StoredLemmas.{club_of_version, one_version}
+use Rattle.club_opening.proofs.StoredLemmas.{club_of_version, one_of}
 
 -- ---- scores
 
@@ -215,8 +215,8 @@ module _ (rows : Rows) (version : Version) (old mid : State) (read : AreRead ver
       (moves_in old.now.trees) found.games
       (subst (λ n. length (past n (moves_in old.now.trees)) ≡ 0) (sym found.number_of) none) found.moves_are
 
-  module _ (content : Content) (holds : of_schema.Holds (schema_of version) old.now content) where
-    rules_same : (v : Version) → v ≡ version → HasTable EventRules v → of_schema.Holds (schema_of v) old.now content
+  module _ (content : Content) (holds : HoldsRows version content old.now) where
+    rules_same : (v : Version) → v ≡ version → HasTable EventRules v → HoldsRows v content old.now
         → HaveSame (content 16) (tables_of both_games all 16)
     rules_same First is there held = absurd there
     rules_same Current is there held =
@@ -325,13 +325,13 @@ module _ (rows : Rows) (version : Version) (old mid : State) (read : AreRead ver
       }
 
   -- in whatever content the database may hold
-  module _ (schema : old.now.schema ≡ schema_of version) (v : Version) (content : Content)
-      (holds : of_schema.Holds (schema_of v) old.now content) where
+  module _ (schema : HasTablesOf version old.now.schema) (v : Version) (content : Content)
+      (holds : HoldsRows v content old.now) where
     of_version : version ≡ v
-    of_version = one_version version v old.now.schema schema holds.schema
+    of_version = one_of version v old.now.schema schema holds.schema
 
-    here : of_schema.Holds (schema_of version) old.now content
-    here = subst (λ w. of_schema.Holds (schema_of w) old.now content) (sym of_version) holds
+    here : HoldsRows version content old.now
+    here = subst (λ w. HoldsRows w content old.now) (sym of_version) holds
 
     pub games_right : AreOfClub v Games content
     games_right = subst (λ w. AreOfClub w Games content) of_version (games_at content here)
@@ -349,7 +349,7 @@ module _ (rows : Rows) (version : Version) (old mid : State) (read : AreRead ver
 
 -- a club with the rows up to the scores has these games
 pub has_scores : (rows : Rows) (version : Version) (old mid : State) → AreRead version rows old mid → (v : Version)
-    (content : Content) → of_schema.Holds (schema_of v) old.now content → AreOfClub v Scores content
+    (content : Content) → HoldsRows v content old.now → AreOfClub v Scores content
     → HasScores rows content
 has_scores rows version old mid read v content holds club =
     let s = club.state in
@@ -366,21 +366,29 @@ has_scores rows version old mid read v content holds club =
       same = subst (HaveSame (content 14)) (rows_at v s Scores (omega arith) tt) (club.same Scores tt (omega arith));
     }
 
+-- no table of a database with the tables of a legal club is called damaged
+good_undamaged : (oldest version : Version) (s : ClubState) → IsClubOf version s → (db : Database) → HasClub version db s
+    → (e : OpenFault) → Names oldest db e → (t : Table) → e ≢ Damaged t
+good_undamaged oldest version s own db holds e (inl (inl store)) t is = store_undamaged e store t is
+good_undamaged oldest version s own db holds e (inl (inr (inl memory))) t is = memory_undamaged e memory t is
+good_undamaged oldest version s own db holds e (inl (inr (inr (u, named, wrong)))) t is =
+    wrong version (tables_at version s) holds (typed_at version s (club_of_version version s own) u)
+good_undamaged oldest version s own db holds e (inr (inl (n, named, other, has))) t is =
+    schema_undamaged n e named t is
+good_undamaged oldest version s own db holds e (inr (inr (inl (named, none)))) t is = foreign_undamaged e named t is
+good_undamaged oldest version s own db holds e (inr (inr (inr (u, named, none)))) t is = none version s own holds
+
 -- a club with all rows is what the database holds, and that is blamed for no table
 pub whole_unblamed : (oldest : Version) (old : State) (e : OpenFault) → Names oldest old.now e → (v : Version)
-    (content : Content) → of_schema.Holds (schema_of v) old.now content → AreOfClub v Meta content → (t : Table)
+    (content : Content) → HoldsRows v content old.now → AreOfClub v Meta content → (t : Table)
     → e ≢ Damaged t
 whole_unblamed oldest old e names v content holds club =
-    let all : HoldsClub v old.now club.state = record {
+    let all : HasClub v old.now club.state = record {
       schema = holds.schema;
       sound = holds.sound;
       tables = stored_same (schema_of v) old.now.trees content (tables_at v club.state) (same_all v club) holds.tables;
     } in
-    elim (good_in oldest v club.state club.legal old.now all e names) [
-      | inl store ↦ store_undamaged e store
-      | inr (inl memory) ↦ memory_undamaged e memory
-      | inr (inr (named, other)) ↦ schema_undamaged _ e named
-    ]
+    good_undamaged oldest v club.state club.legal old.now all e names
   where
     same_all : (v : Version) (club : AreOfClub v Meta content)
         → changes.AreSame (schema_of v) content (tables_at v club.state)

@@ -7,12 +7,11 @@ use Rattle.std.specs.List.{AllByRecursion}
 use Rattle.sqlite.specs.Schema.{Schema}
 use Rattle.std.proofs.lemmas.List.{take_all}
 use Rattle.sqlite_value.specs.declared.value.Value.TheVariants.{Int}
-use Rattle.sqlite.specs.Effect.{Database}
+use Rattle.sqlite.specs.Effect.{Database, IsDatabase}
 use Rattle.sqlite.specs.Order.{Row}
 use Rattle.sqlite.specs.State.{State, IsUnchanged}
 use Rattle.sqlite.specs.Table.{Table as Definition}
 use Rattle.sqlite.specs.Tree.{Trees}
-use Rattle.sqlite.proofs.Callers.{unchanged_then}
 use Rattle.store_tables.specs.Cells.{meta_cells, member_cells, event_cells, event_rule_cells, challenge_cells}
 use Rattle.store_tables.specs.Cells.{game_cells, score_cells}
 use Rattle.store_tables.specs.Changes as changes
@@ -35,7 +34,7 @@ use Rattle.club_rows.specs.Club.{both_games, ClubState, IsClub}
 use Rattle.club_rows.specs.FirstSchema.{IsClubOf, tables_at}
 use Rattle.club_rows.proofs.Proved.{declares-alike, same-pos}
 use Rattle.club_core.specs.LegalState.{Each}
-use Rattle.club_opening.specs.Versions.{IsExactlyClub, IsOpenedAt}
+use Rattle.club_opening.specs.Versions.{HasClub, HasTablesOf, IsExactlyClub, IsOpenedAt}
 use Rattle.club_rows.specs.EachOnce.{AreEachOnce}
 use Rattle.club_rows.specs.Scores.{scores_in}
 use Rattle.club_rows.specs.Tables.{declares_number, meta_row, numbered_from, rule_row, rows_of_moves, rows_of_seen}
@@ -130,26 +129,29 @@ stored_same schema db one other =
       apart = stores.apart;
     })
 
-exactly_at : (v : Version) (one other : Content) (s : State) → changes.AreSame (schema_of v) one other
-    → of_schema.IsExactly (schema_of v) one s → of_schema.IsExactly (schema_of v) other s
-exactly_at v one other s same k = record {
-  is_open = k.is_open;
-  idle = k.idle;
-  now = record {
-    schema = k.now.schema;
-    sound = k.now.sound;
-    tables = stored_same (schema_of v) s.now.trees one other same k.now.tables;
-  };
-  committed = k.committed;
-  may_leave = λ db h. let left = k.may_leave db h in
-      record { sound = left.sound; tables = stored_same (schema_of v) db one other same left.tables };
-}
+-- what a connection that was just opened has in its tables it leaves to a stop, where nothing was changed
+pub club_exactly : (version : Version) (s : ClubState) (old new : State) → IsOpenedAt version old
+    → HasClub version old.now s → IsUnchanged old new → KeepsMay old new → IsExactlyClub version s new
+club_exactly version s old new opened club unchanged may =
+    let same = unchanged.0 in
+    let content = tables_at version s in
+    let holds : of_schema.Holds (schema_of version) old.now content =
+    record { schema = opened.schema; sound = opened.sound; tables = club.tables } in
+    record {
+      is_open = same.is_open;
+      idle = same.mode ∙ opened.idle;
+      now = subst (λ (d : Database). of_schema.Holds (schema_of version) d content) (sym same.now_is) holds;
+      committed = same.committed_is ∙ opened.committed ∙ sym same.now_is;
+      may_leave = λ db left. subst (of_schema.Leaves (schema_of version) content)
+          (sym (opened.settled db (may db left) ∙ ap (λ (d : Database). d.trees) opened.committed))
+          (leaves_of (schema_of version) old.now content holds);
+    }
 
-module _ (version : Version) (rows : Rows) (last : Option ℕ) (old mid new : State) (opened : IsOpenedAt version old)
-    (read : AreRead version rows old mid)
+module _ (version : Version) (rows : Rows) (last : Option ℕ) (old mid new : State)
+    (has : HasTablesOf version old.now.schema) (sound : IsDatabase old.now) (read : AreRead version rows old mid)
     (one : IsReadAs (meta 0) 1 (meta_cells rows.meta ∷ []) old mid × (rows.meta.id ≡ pos 1)
     × (rows.meta.schema ≡ pos (schema_number version))) (play : IsPlayExamined rows last None mid new)
-    (scores : AreScoresExamined rows mid new) (may : KeepsMay old new) where
+    (scores : AreScoresExamined rows mid new) where
   mid_is : mid.now ≡ old.now
   mid_is = read.same.0.now_is
 
@@ -223,22 +225,6 @@ module _ (version : Version) (rows : Rows) (last : Option ℕ) (old mid new : St
         ),
       )
 
-  holds : of_schema.Holds (schema_of version) old.now content
-  holds = record { schema = opened.schema; sound = opened.sound; tables = all_of version refl }
-
-  exactly : of_schema.IsExactly (schema_of version) content new
-  exactly =
-      let same = (unchanged_then old mid new read.same scores.read.same).0 in
-      record {
-        is_open = same.is_open;
-        idle = same.mode ∙ opened.idle;
-        now = subst (λ (d : Database). of_schema.Holds (schema_of version) d content) (sym same.now_is) holds;
-        committed = same.committed_is ∙ opened.committed ∙ sym same.now_is;
-        may_leave = λ db left. subst (of_schema.Leaves (schema_of version) content)
-            (sym (opened.settled db (may db left) ∙ ap (λ (d : Database). d.trees) opened.committed))
-            (leaves_of (schema_of version) old.now content holds);
-      }
-
   -- ---- the club
 
   module _ (ms : List Member) (es : List Event) (cs : List Challenge) (n : ℕ)
@@ -256,7 +242,7 @@ module _ (version : Version) (rows : Rows) (last : Option ℕ) (old mid new : St
     of_rows = record { people = people; moment = is_last; within = within }
 
     -- the tables that were examined are those of a legal club
-    pub examined_club : (t : ClubState) × IsClubOf version t × IsRegisterOf t rows × IsExactlyClub version t new
+    pub examined_club : (t : ClubState) × IsClubOf version t × IsRegisterOf t rows × HasClub version old.now t
     examined_club =
         let s = known in
         let found = play.games.found refl s of_rows in
@@ -366,11 +352,13 @@ module _ (version : Version) (rows : Rows) (last : Option ℕ) (old mid new : St
         same_tables : (v : Version) → v ≡ version → (t : ClubState) → IsRegisterOf t rows
             → HaveSame (moves_in old.now.trees) (tables_of both_games t 8)
             → HaveSame (seen_in old.now.trees) (tables_of both_games t 12)
-            → HaveSame scores.rows_of (tables_of both_games t 14) → IsExactlyClub v t new
-        same_tables v is t register are_moves are_seen are_scores =
-            exactly_at v content (tables_at v t) new
-            (same_at v is t register are_moves are_seen are_scores)
-            (subst (λ w. of_schema.IsExactly (schema_of w) content new) (sym is) exactly)
+            → HaveSame scores.rows_of (tables_of both_games t 14) → HasClub v old.now t
+        same_tables v is t register are_moves are_seen are_scores = record {
+          schema = subst (λ w. HasTablesOf w old.now.schema) (sym is) has;
+          sound = sound;
+          tables = stored_same (schema_of v) old.now.trees content (tables_at v t)
+              (same_at v is t register are_moves are_seen are_scores) (all_of v is);
+        }
 
 -- the row of `meta` was read, where its moment is one
 pub meta_found : (version : Version) (rows : Rows) (old mid : State) (n : ℕ) → rows.meta.last ≡ pos n
@@ -384,7 +372,7 @@ meta_found version rows old mid n is (inr missing) = absurd (missing.1 n is)
 
 -- What a fault says of rows that were read, and of a database that did not change since, it says of the database.
 pub play_blamed : (oldest version : Version) (rows : Rows) (old mid later : State) (fault : OpenFault)
-    → old.now.schema ≡ schema_of version → AreRead version rows old mid
+    → HasTablesOf version old.now.schema → AreRead version rows old mid
     → IsUnchanged old later → NamesTable later.now fault ⊎ NamesPlay rows later.now fault → Names oldest old.now fault
 play_blamed oldest version rows old mid later fault has read same blamed = elim
     (blamed_before rows old later fault same blamed) [

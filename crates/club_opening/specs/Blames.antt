@@ -1,5 +1,5 @@
 -- What reading a table of a club's database tells, and what a fault says of its rows.
-use Rattle.std.specs.Prelude.{◌≡◌, ◌≢◌, ◌⊎◌, ℕ, ℤ, pos, List, [], ◌∷◌, map}
+use Rattle.std.specs.Prelude.{◌≡◌, ◌≢◌, ◌⊎◌, ℕ, ℤ, pos, true, List, [], ◌∷◌, map}
 use Rattle.std.specs.List.{AllByRecursion}
 use Rattle.sqlite.specs.Order.{Row}
 use Rattle.sqlite.specs.Table.{Table as Definition}
@@ -12,9 +12,8 @@ use Rattle.store_tables.specs.Cells.{event_rule_cells, IsEventRule}
 use Rattle.store_tables.specs.Cells.{IsMember, IsEvent, IsChallenge, IsMove, IsGame, IsSeen, IsScore}
 use Rattle.store_tables.specs.Content.{Keeps, AreApart}
 use Rattle.store_tables.specs.Contents.{Content}
-use Rattle.store_tables.specs.Contents as of_schema
 use Rattle.store_sql.specs.Read.{IsReadAs}
-use Rattle.store_tables.specs.Tables.{meta, members, events, event_rules, challenges, games, schema_of, schema_number}
+use Rattle.store_tables.specs.Tables.{meta, members, events, event_rules, challenges, games, schema_number}
 use Rattle.store_tables.specs.declared.rows.EventRow.{EventRow}
 use Rattle.store_tables.specs.declared.rows.EventRuleRow.{EventRuleRow}
 use Rattle.store_tables.specs.declared.rows.MetaRow.{MetaRow}
@@ -24,7 +23,9 @@ use Rattle.store_tables.specs.declared.names.Table.TheVariants.{Members, Events,
 use Rattle.store_tables.specs.declared.names.Table.TheVariants.{Games, Seen, Scores, Meta}
 use Rattle.store_tables.specs.declared.names.Version.{Version}
 use Rattle.store_tables.specs.declared.names.Version.TheVariants.{First, Current}
+use Rattle.table_shapes.specs.Shapes.{is_of_club}
 use Rattle.club_opening.specs.Places.{NamesRows}
+use Rattle.club_opening.specs.Versions.{HoldsRows}
 use Rattle.club_opening.specs.declared.fault.OpenFault.{OpenFault}
 use Rattle.club_opening.specs.declared.fault.OpenFault.TheVariants.{Foreign, Schema, Damaged, Store, Memory}
 
@@ -50,7 +51,7 @@ HasTypes Meta content = IsOneMeta (content 0)
 
 -- no content that the database may hold, in whatever version, is so
 abbrev pub HoldsNone : Database → (Version → Content → Type 0) → Type 0
-HoldsNone db IsSo = (version : Version) (content : Content) → of_schema.Holds (schema_of version) db content
+HoldsNone db IsSo = (version : Version) (content : Content) → HoldsRows version content db
     → ¬ IsSo version content
 
 -- This is the one row of `meta`, with the number of this version; or there is none, and then the version is the last,
@@ -103,7 +104,7 @@ NamesTable db fault = (fault ≡ Store)
 
 -- `meta` has this number
 abbrev pub HasNumber : Database → ℤ → Type 0
-HasNumber db n = (version : Version) (content : Content) → of_schema.Holds (schema_of version) db content
+HasNumber db n = (version : Version) (content : Content) → HoldsRows version content db
     → (last : ℤ) × Has (content 0) (Int (pos 1) ∷ Int n ∷ Int last ∷ [])
 
 -- the number is that of a version from this one on
@@ -115,11 +116,12 @@ IsNumberFrom Current n = n ≡ pos 2
 abbrev pub NamesSchema : Version → Database → OpenFault → Type 0
 NamesSchema oldest db fault = (n : ℤ) × (fault ≡ Schema n) × (¬ IsNumberFrom oldest n) × HasNumber db n
 
--- the database is called foreign, and the number in `meta`, if there is one, is not that of its tables
+-- The database is called foreign: the number in `meta`, if there is one, is not that of its tables, or they do not answer
+-- as a club's, which can only be where other programs made something of their own on them.
 abbrev pub NamesForeign : Database → OpenFault → Type 0
 NamesForeign db fault = (fault ≡ Foreign)
-    × HoldsNone db (λ version content. (last : ℤ)
-    × (content 0 ≡ (Int (pos 1) ∷ Int (pos (schema_number version)) ∷ Int last ∷ []) ∷ []))
+    × HoldsNone db (λ version content. (is_of_club version db.schema ≡ true) × ((last : ℤ)
+    × (content 0 ≡ (Int (pos 1) ∷ Int (pos (schema_number version)) ∷ Int last ∷ []) ∷ [])))
 
 -- what a fault says of a database with the tables of a club, of which versions from this one on are taken
 abbrev pub Names : Version → Database → OpenFault → Type 0

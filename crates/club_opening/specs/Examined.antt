@@ -47,7 +47,7 @@ use Rattle.club_core.specs.declared.challenges.Challenge.{Challenge}
 use Rattle.club_audit.specs.Standings.{AreGamesOf}
 use Rattle.club_opening.specs.Places.{IsRegisterOf, last_moment}
 use Rattle.club_opening.specs.RightMoves.{GamesWrong, HasMovesOf, HaveMovesOf, MovesWrong, SeenWrong, beyond}
-use Rattle.club_opening.specs.Versions.{HoldsClub}
+use Rattle.club_opening.specs.Versions.{HasClub}
 use Rattle.club_changes.specs.Steps.{HaveSame}
 use Rattle.club_opening.specs.declared.fault.OpenFault.{OpenFault}
 use Rattle.club_opening.specs.declared.fault.OpenFault.TheVariants.{Damaged}
@@ -97,7 +97,7 @@ pub record WereFound (s : ClubState) (rows : List GameRecord) (db : Trees) (coun
 -- A table is called damaged, and no legal club whose register these rows are has the tables of the database.
 abbrev pub NamesPlay : Rows → Database → OpenFault → Type 0
 NamesPlay rows db fault = (t : Table) × (fault ≡ Damaged t)
-    × ((version : Version) (s : ClubState) → IsClubOf version s → IsRegisterOf s rows → ¬ HoldsClub version db s)
+    × ((version : Version) (s : ClubState) → IsClubOf version s → IsRegisterOf s rows → ¬ HasClub version db s)
 
 -- the club has these members and events, and its last moment is this one
 pub record IsOf (s : ClubState) (rows : Rows) (last : Option ℕ) : Type 0 where

@@ -2,6 +2,7 @@ pub mod Blames
 pub mod Examined
 pub mod FaultText
 pub mod Faults
+pub mod KnownGames
 pub mod Places
 pub mod Versions
 pub mod Refused

@@ -8,8 +8,7 @@ use Rattle.store_tables.specs.Cells.{event_cells, game_cells}
 use Rattle.store_tables.specs.Changes.{HaveSame}
 use Rattle.store_tables.specs.Content.{Keeps}
 use Rattle.store_tables.specs.Contents.{Content}
-use Rattle.store_tables.specs.Contents as of_schema
-use Rattle.store_tables.specs.Tables.{schema_of, scores}
+use Rattle.store_tables.specs.Tables.{scores}
 use Rattle.store_tables.specs.declared.names.Table.{Table}
 use Rattle.store_tables.specs.declared.names.Table.TheVariants.{Members, Events, EventRules, Challenges, Moves}
 use Rattle.store_tables.specs.declared.names.Table.TheVariants.{Games, Seen, Scores, Meta}
@@ -35,6 +34,7 @@ use Rattle.club_audit.specs.FirstWrong.{order}
 use Rattle.club_opening.specs.Blames.{HasTypes, HoldsNone}
 use Rattle.club_opening.specs.Examined.{AreSeenOf, WerePlayed, moves_in, past, seen_in}
 use Rattle.club_opening.specs.Places.{last_moment}
+use Rattle.club_opening.specs.Versions.{HoldsRows}
 use Rattle.club_opening.specs.RightMoves.{GamesWrong, HaveMoves, HaveMovesOf, MovesWrong, SeenWrong}
 use Rattle.club_opening.specs.declared.fault.OpenFault.{OpenFault}
 use Rattle.club_opening.specs.declared.fault.OpenFault.TheVariants.{Damaged}
@@ -107,10 +107,10 @@ IsRight t version content = AreOfClub version t content
 abbrev pub IsOfPlay : Table → Type 0
 IsOfPlay t = (order Challenges < order t) × (order t < order Scores)
 
--- The other table was looked at before this one is named. Rows of games that have values of other types are found as
--- soon as the rules of events were looked at. Else the tables are looked at in their order.
+-- The other table was looked at before this one is named: the tables are looked at in their order. But the moves are not
+-- looked at where rows of games have values of other types, which are named once the challenges were judged.
 abbrev pub IsReached : Table → Table → Content → Type 0
-IsReached Games u content = order EventRules < order u → HasTypes Games content
+IsReached Games u content = order Challenges < order u → HasTypes Games content
 IsReached t u content = Unit {0}
 
 -- The named table is not right, and each before it is that was looked at.
@@ -121,7 +121,7 @@ pub record IsFirstIn (version : Version) (content : Content) (t : Table) : Type 
 -- A table that is called damaged is so, in whatever content the database may hold.
 abbrev pub NamesFirst : Database → OpenFault → Type 0
 NamesFirst db fault = (t : Table) → fault ≡ Damaged t → (version : Version) (content : Content)
-    → of_schema.Holds (schema_of version) db content → IsFirstIn version content t
+    → HoldsRows version content db → IsFirstIn version content t
 
 -- ---- one after another
 
@@ -213,5 +213,5 @@ NamesExamined rows db fault = (t : Table) → fault ≡ Damaged t
 
 -- these are the rows of the events of each club whose events the database may hold
 abbrev pub TellsEvents : List EventRow → Database → Type 0
-TellsEvents rows db = (version : Version) (content : Content) → of_schema.Holds (schema_of version) db content
+TellsEvents rows db = (version : Version) (content : Content) → HoldsRows version content db
     → (s : ClubState) → HaveSame (content 4) (tables s 4) → map event_cells rows ≡ numbered_from event_row 1 s.events

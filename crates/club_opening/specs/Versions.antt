@@ -1,21 +1,45 @@
 -- The tables of a club in a database, by the schema of a version.
-use Rattle.std.specs.Prelude.{◌≡◌, List, map}
-use Rattle.sqlite.specs.Effect.{Database}
+use Rattle.std.specs.Prelude.{◌≡◌, ◌⊎◌, List, map}
+use Rattle.sqlite.specs.Effect.{Database, IsDatabase}
+use Rattle.sqlite.specs.Schema.{Schema}
 use Rattle.sqlite.specs.State.{State}
+use Rattle.store_tables.specs.Beside.{IsBeside}
 use Rattle.store_tables.specs.Contents as of_schema
+use Rattle.store_tables.specs.Contents.{Content, AreStored}
 use Rattle.store_tables.specs.Cells.{event_cells}
-use Rattle.store_tables.specs.Tables.{schema_of}
+use Rattle.store_tables.specs.Tables.{club_schema, first_schema, schema_of}
 use Rattle.store_tables.specs.declared.rows.EventRow.{EventRow}
 use Rattle.store_tables.specs.declared.names.Version.{Version}
+use Rattle.store_tables.specs.declared.names.Version.TheVariants.{First, Current}
 use Rattle.club_rows.specs.Club.{ClubState}
 use Rattle.club_rows.specs.FirstSchema.{IsClubOf, tables_at}
 use Rattle.club_rows.specs.Tables.{event_row, numbered_from}
 
--- the database has the tables of this club, in this version
+-- the database has the tables of this club alone, in this version
 abbrev pub HoldsClub : Version → Database → ClubState → Type 0
 HoldsClub version db s = of_schema.Holds (schema_of version) db (tables_at version s)
 
--- the connection has them exactly, and leaves them to a stop
+-- The schema has the tables of this version: those of schema 1 alone, and those of schema 2 alone or beside what other
+-- programs made.
+abbrev pub HasTablesOf : Version → Schema → Type 0
+HasTablesOf First schema = schema ≡ first_schema
+HasTablesOf Current schema = IsBeside club_schema schema
+
+-- those of one of the versions
+abbrev pub HasClubTables : Schema → Type 0
+HasClubTables schema = HasTablesOf First schema ⊎ HasTablesOf Current schema
+
+-- the database has these rows in the tables of this version
+pub record HoldsRows (version : Version) (content : Content) (db : Database) : Type 0 where
+  pub schema : HasTablesOf version db.schema
+  pub sound : IsDatabase db
+  pub tables : AreStored (schema_of version) db.trees content
+
+-- The database has the tables of this club, in this version: in schema 2 alone or beside what other programs made.
+abbrev pub HasClub : Version → Database → ClubState → Type 0
+HasClub version db s = HoldsRows version (tables_at version s) db
+
+-- the connection has exactly those of this club alone, and leaves them to a stop
 abbrev pub IsExactlyClub : Version → ClubState → State → Type 0
 IsExactlyClub version s = of_schema.IsExactly (schema_of version) (tables_at version s)
 
@@ -25,9 +49,9 @@ IsOpenedAt version = of_schema.IsOpened (schema_of version)
 
 -- no legal club has the tables of the database, in whatever version
 abbrev pub IsNoClub : Database → Type 0
-IsNoClub db = (version : Version) (s : ClubState) → IsClubOf version s → ¬ HoldsClub version db s
+IsNoClub db = (version : Version) (s : ClubState) → IsClubOf version s → ¬ HasClub version db s
 
 -- these are the rows of the events of whatever club has its tables in the database
 abbrev pub HasEvents : List EventRow → Database → Type 0
-HasEvents rows db = (version : Version) (s : ClubState) → IsClubOf version s → HoldsClub version db s
+HasEvents rows db = (version : Version) (s : ClubState) → IsClubOf version s → HasClub version db s
     → map event_cells rows ≡ numbered_from event_row 1 s.events

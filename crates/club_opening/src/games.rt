@@ -9,7 +9,6 @@ ghost use Rattle.store_tables.specs.Reading.{Reads};
 ghost use Rattle.store_tables.specs.Cells.{seen_cells};
 ghost use Rattle.store_tables.specs.Content.{AreApart};
 ghost use Rattle.store_tables.specs.Tables as tables;
-ghost use Rattle.store_tables.specs.Tables.{IsClubSchema};
 ghost use Rattle.store_sql.specs.Read.{AreCounted, AreReadOf};
 ghost use Rattle.club_opening.specs.Blames.{Blames, NamesTable};
 ghost use Rattle.club_audit.specs.FirstWrong.{IsFirstWrong, order};
@@ -17,6 +16,7 @@ ghost use Rattle.club_audit.specs.GameAudit.{IsRightAt};
 ghost use Rattle.club_audit.specs.Audit.{AreApartGames, HasPeople};
 ghost use Rattle.club_opening.specs.Places.{IsMomentOf, IsNoRegister};
 ghost use Rattle.club_opening.specs.RightTables.{IsLater, IsUntyped, NamesPlayed};
+ghost use Rattle.club_opening.specs.Versions.{HasClubTables};
 ghost use Rattle.club_rows.specs.Club.{ClubState};
 ghost use Rattle.club_opening.specs.Examined.{AreGamesFound, IsAfter, IsGameFound, NamesPlay, moves_in, seen_in};
 
@@ -142,14 +142,14 @@ fn read_seen<S: Alter>(
 ) -> Result<Option<Vec<SeenRow>>, OpenFault>
     ensures reads { Reads (is_ok result) (state S.Store conn.old) (state S.Store conn.new) }
     ensures rows { HasCleanDisk (state S.Store conn.new) → IfOk result (λ o. IfSome o (λ found.
-        IsClubSchema (state S.Store conn.old).now.schema → AreReadOf (tables.seen 12) 2 game.now.id
+        HasClubTables (state S.Store conn.old).now.schema → AreReadOf (tables.seen 12) 2 game.now.id
         (map seen_cells found.items) (state S.Store conn.old) (state S.Store conn.new))) }
     ensures untyped { HasCleanDisk (state S.Store conn.new) → IfOk result (λ o. o ≡ None →
-        IsClubSchema (state S.Store conn.old).now.schema →
+        HasClubTables (state S.Store conn.old).now.schema →
         IsUnchanged (state S.Store conn.old) (state S.Store conn.new) ×
         IsUntyped Table.Seen (state S.Store conn.old).now) }
     ensures blames { HasCleanDisk (state S.Store conn.new) → IfErr result (λ e.
-        IsClubSchema (state S.Store conn.old).now.schema → (e ≡ OpenFault.Store) ⊎ (e ≡ OpenFault.Memory)) }
+        HasClubTables (state S.Store conn.old).now.schema → (e ≡ OpenFault.Store) ⊎ (e ≡ OpenFault.Memory)) }
 {
     let fault = match read_by_first::<SeenRow, S>(alloc, conn, &game.id) {
         Ok(found) => return Ok(Some(found)),
@@ -214,14 +214,14 @@ fn examine_game<S: Alter>(
     requires at { slice_get rows.now.games.items place ≡ Some game.now }
     ensures reads { Reads (is_ok result) (state S.Store conn.old) (state S.Store conn.new) }
     ensures found { HasCleanDisk (state S.Store conn.new) → IfOk result (λ found.
-        IsClubSchema (state S.Store conn.old).now.schema → IsGameFound rows.now last.now place game.now found.own.moves
+        HasClubTables (state S.Store conn.old).now.schema → IsGameFound rows.now last.now place game.now found.own.moves
         found.own.seen found.wrong (state S.Store conn.old) (state S.Store conn.new)) }
     ensures blames { HasCleanDisk (state S.Store conn.new) → IfErr result (λ e.
-        IsClubSchema (state S.Store conn.old).now.schema →
+        HasClubTables (state S.Store conn.old).now.schema →
         NamesTable (state S.Store conn.old).now e ⊎ NamesPlay rows.now (state S.Store conn.old).now e) }
     ensures later { IfOk result (λ found. (s : ClubState) → HasPeople s rows.now → IsLater found.wrong) }
     ensures later_fault { HasCleanDisk (state S.Store conn.new) → IfErr result (λ e.
-        IsClubSchema (state S.Store conn.old).now.schema →
+        HasClubTables (state S.Store conn.old).now.schema →
         NamesPlayed rows.now (state S.Store conn.old).now e) }
 {
     let moves = match read_of::<MoveRow, S>(alloc, conn, Table::Moves, game) {
@@ -268,20 +268,20 @@ pub(crate) fn examine_games<S: Alter>(
     requires known_seen { known ≢ Some Table.Seen }
     ensures reads { Reads (is_ok result) (state S.Store conn.old) (state S.Store conn.new) }
     ensures found { HasCleanDisk (state S.Store conn.new) → IfOk result (λ wrong.
-        IsClubSchema (state S.Store conn.old).now.schema → IsTrue (state S.Store conn.old).is_open →
+        HasClubTables (state S.Store conn.old).now.schema → IsTrue (state S.Store conn.old).is_open →
         all.moves ≡ length (moves_in (state S.Store conn.old).now.trees) →
         all.seen ≡ length (seen_in (state S.Store conn.old).now.trees) →
         AreGamesFound rows.now last wrong (state S.Store conn.old) (state S.Store conn.new)) }
     ensures known { IfOk result (λ wrong. wrong ≡ None → known ≡ None) }
     ensures known_after { IfOk result (λ wrong. (u : Table) → IsAfter u wrong → IsAfter u known) }
     ensures blames { HasCleanDisk (state S.Store conn.new) → IfErr result (λ e.
-        IsClubSchema (state S.Store conn.old).now.schema → IsTrue (state S.Store conn.old).is_open →
+        HasClubTables (state S.Store conn.old).now.schema → IsTrue (state S.Store conn.old).is_open →
         all.moves ≡ length (moves_in (state S.Store conn.old).now.trees) →
         all.seen ≡ length (seen_in (state S.Store conn.old).now.trees) →
         NamesTable (state S.Store conn.old).now e ⊎ NamesPlay rows.now (state S.Store conn.old).now e) }
     ensures later { IfOk result (λ wrong. (s : ClubState) → HasPeople s rows.now → IsLater known → IsLater wrong) }
     ensures later_fault { HasCleanDisk (state S.Store conn.new) → IfErr result (λ e.
-        IsClubSchema (state S.Store conn.old).now.schema → IsTrue (state S.Store conn.old).is_open →
+        HasClubTables (state S.Store conn.old).now.schema → IsTrue (state S.Store conn.old).is_open →
         all.moves ≡ length (moves_in (state S.Store conn.old).now.trees) →
         all.seen ≡ length (seen_in (state S.Store conn.old).now.trees) →
         NamesPlayed rows.now (state S.Store conn.old).now e) }

@@ -2,17 +2,20 @@
 
 ghost use Rattle.std.specs.Prelude.{◌≡◌, ◌≢◌, ◌⊎◌, true, None, Some, IfErr, IfOk, OnOk, is_ok};
 ghost use Rattle.sqlite.specs.State.{HasCleanDisk, IsUnchanged};
+ghost use Rattle.sqlite.specs.Effect.{IsDatabase};
 ghost use Rattle.sqlite.specs.Held.{state};
+ghost use Rattle.store_tables.specs.Beside.{IsBeside};
 ghost use Rattle.store_tables.specs.Club.{IsExactly, IsOpened};
-ghost use Rattle.store_tables.specs.Reading.{OnlyReads, Reads};
+ghost use Rattle.store_tables.specs.Reading.{Reads};
 ghost use Rattle.store_tables.specs.Rows.{HaveIds};
 ghost use Rattle.store_tables.specs.Tables.{club_schema, IsClubSchema, schema_of};
 ghost use Rattle.store_tables.specs.declared.names.Version.TheVariants.{Current};
 ghost use Rattle.table_shapes.specs.Shapes.{is_of_club};
 ghost use Rattle.club_opening.specs.Blames.{Names, NamesTable};
-ghost use Rattle.club_opening.specs.Versions.{HoldsClub, IsExactlyClub, IsOpenedAt};
+ghost use Rattle.club_opening.specs.Versions.{HasClub, HasClubTables, HasTablesOf, HoldsClub, HoldsRows};
+ghost use Rattle.club_opening.specs.Versions.{IsExactlyClub, IsOpenedAt};
 ghost use Rattle.club_opening.specs.Examined.{AreExamined, AreScoresExamined, IsAfter, IsPlayExamined, NamesPlay};
-ghost use Rattle.club_rows.specs.FirstSchema.{IsClubOf};
+ghost use Rattle.club_rows.specs.FirstSchema.{IsClubOf, tables_at};
 ghost use Rattle.club_rows.specs.Club.{ClubState, IsClub, tables};
 ghost use Rattle.club_audit.specs.Audit.{AreApartGames, HasPeople};
 ghost use Rattle.club_opening.specs.Places.{IsMomentOf, IsNoRegister, IsRegisterOf};
@@ -45,16 +48,16 @@ fn examine_play<S: Alter>(
     requires known_seen { known ≢ Some Table.Seen }
     ensures reads { Reads (is_ok result) (state S.Store conn.old) (state S.Store conn.new) }
     ensures found { HasCleanDisk (state S.Store conn.new) → IfOk result (λ wrong.
-        IsClubSchema (state S.Store conn.old).now.schema →
+        HasClubTables (state S.Store conn.old).now.schema →
         IsPlayExamined rows.now last wrong (state S.Store conn.old) (state S.Store conn.new)) }
     ensures known { IfOk result (λ wrong. wrong ≡ None → known ≡ None) }
     ensures known_after { IfOk result (λ wrong. (u : Table) → IsAfter u wrong → IsAfter u known) }
     ensures blames { HasCleanDisk (state S.Store conn.new) → IfErr result (λ e.
-        IsClubSchema (state S.Store conn.old).now.schema →
+        HasClubTables (state S.Store conn.old).now.schema →
         NamesTable (state S.Store conn.old).now e ⊎ NamesPlay rows.now (state S.Store conn.old).now e) }
     ensures later { IfOk result (λ wrong. (s : ClubState) → HasPeople s rows.now → IsLater known → IsLater wrong) }
     ensures later_fault { HasCleanDisk (state S.Store conn.new) → IfErr result (λ e.
-        IsClubSchema (state S.Store conn.old).now.schema →
+        HasClubTables (state S.Store conn.old).now.schema →
         NamesPlayed rows.now (state S.Store conn.old).now e) }
 {
     let moves = match count_of::<MoveRow, S>(alloc, conn, Table::Moves) {
@@ -79,13 +82,13 @@ fn examine_scores<S: Alter>(
 ) -> Result<(), OpenFault>
     ensures reads { Reads (is_ok result) (state S.Store conn.old) (state S.Store conn.new) }
     ensures found { HasCleanDisk (state S.Store conn.new) → OnOk result (
-        IsClubSchema (state S.Store conn.old).now.schema →
+        HasClubTables (state S.Store conn.old).now.schema →
         AreScoresExamined rows.now (state S.Store conn.old) (state S.Store conn.new)) }
     ensures blames { HasCleanDisk (state S.Store conn.new) → IfErr result (λ e.
-        IsClubSchema (state S.Store conn.old).now.schema →
+        HasClubTables (state S.Store conn.old).now.schema →
         NamesTable (state S.Store conn.old).now e ⊎ NamesPlay rows.now (state S.Store conn.old).now e) }
     ensures scores { HasCleanDisk (state S.Store conn.new) → IfErr result (λ e.
-        IsClubSchema (state S.Store conn.old).now.schema →
+        HasClubTables (state S.Store conn.old).now.schema →
         NamesScores rows.now (state S.Store conn.old).now e) }
 {
     let scores = match read::<ScoreRow, S>(alloc, conn, Table::Scores) {
@@ -114,10 +117,10 @@ fn before_scores(wrong: Option<Table>) -> Option<Table>
 
 /// Tests that the tables are those of a club of schema 2, or answer as they do, and changes nothing. Of wrong tables
 /// the first is named, in the order members, events, rules of events, challenges, moves, games, positions, scores,
-/// `meta`. But rows of games that have values of other types are found before the challenges are looked at. Schema 1 is
-/// refused by its number.
+/// `meta`. But rows of games that have values of other types are named once the challenges were looked at, before the
+/// moves. Schema 1 is refused by its number.
 pub fn examine<S: Alter>(alloc: Global, conn: &mut Connection<S>) -> Result<(), OpenFault>
-    ensures reads { OnlyReads (state S.Store conn.old) (state S.Store conn.new) }
+    ensures reads { Reads (is_ok result) (state S.Store conn.old) (state S.Store conn.new) }
     ensures found { HasCleanDisk (state S.Store conn.new) → OnOk result (IsOpened (state S.Store conn.old) → (s : _) ×
         IsClub s × IsExactly (tables s) (state S.Store conn.new)) }
     // By whatever texts its tables were made, they answer as those of a club.
@@ -126,10 +129,22 @@ pub fn examine<S: Alter>(alloc: Global, conn: &mut Connection<S>) -> Result<(), 
         IsClubSchema (state S.Store conn.old).now.schema →
         ((state S.Store conn.old).now.schema ≡ club_schema) ×
         IsUnchanged (state S.Store conn.old) (state S.Store conn.new)) }
+    // Where its tables stand beside what other programs made, nothing was changed; and they have the rows of a legal club.
+    ensures stays { HasCleanDisk (state S.Store conn.new) → OnOk result (
+        IsBeside club_schema (state S.Store conn.old).now.schema →
+        IsUnchanged (state S.Store conn.old) (state S.Store conn.new)) }
+    ensures held { HasCleanDisk (state S.Store conn.new) → OnOk result (
+        IsBeside club_schema (state S.Store conn.old).now.schema → IsDatabase (state S.Store conn.old).now →
+        (s : _) × IsClub s × HasClub Current (state S.Store conn.new).now s) }
     ensures blames { HasCleanDisk (state S.Store conn.new) → IfErr result (λ e.
         IsClubSchema (state S.Store conn.old).now.schema → Names Current (state S.Store conn.old).now e) }
     ensures first { HasCleanDisk (state S.Store conn.new) → IfErr result (λ e.
         IsClubSchema (state S.Store conn.old).now.schema → NamesFirst (state S.Store conn.old).now e) }
+    // A legal club, alone or beside what other programs made, is taken.
+    ensures good { HasCleanDisk (state S.Store conn.new) → IfErr result (λ e. (s : ClubState) → IsClub s →
+        HoldsRows Current (tables s) (state S.Store conn.old).now →
+        is_of_club Current (state S.Store conn.old).now.schema ≡ true →
+        (e ≡ OpenFault.Store) ⊎ (e ≡ OpenFault.Memory)) }
 {
     let _register = match examine_from(alloc, conn, Version::Current) {
         Ok(register) => register,
@@ -145,7 +160,7 @@ pub fn examine_from<S: Alter>(
     conn: &mut Connection<S>,
     oldest: Version,
 ) -> Result<Register, OpenFault>
-    ensures reads { OnlyReads (state S.Store conn.old) (state S.Store conn.new) }
+    ensures reads { Reads (is_ok result) (state S.Store conn.old) (state S.Store conn.new) }
     ensures taken { IfOk result (λ found. oldest ≡ Current → found.version ≡ Current) }
     ensures shape { IfOk result (λ found. is_of_club found.version (state S.Store conn.old).now.schema ≡ true) }
     ensures found { HasCleanDisk (state S.Store conn.new) → IfOk result (λ found.
@@ -157,10 +172,30 @@ pub fn examine_from<S: Alter>(
         IsClubSchema (state S.Store conn.old).now.schema →
         ((state S.Store conn.old).now.schema ≡ schema_of found.version) ×
         IsUnchanged (state S.Store conn.old) (state S.Store conn.new)) }
+    // Where the tables of a version stand, alone or beside what other programs made, nothing was changed; and they have
+    // the rows of a legal club, to which those that were read belong.
+    ensures stays { HasCleanDisk (state S.Store conn.new) → IfOk result (λ found.
+        HasClubTables (state S.Store conn.old).now.schema →
+        HasTablesOf found.version (state S.Store conn.old).now.schema ×
+        IsUnchanged (state S.Store conn.old) (state S.Store conn.new)) }
+    ensures held { HasCleanDisk (state S.Store conn.new) → IfOk result (λ found.
+        HasClubTables (state S.Store conn.old).now.schema → IsDatabase (state S.Store conn.old).now →
+        (s : _) × IsClubOf found.version s × IsRegisterOf s found.rows ×
+        HasClub found.version (state S.Store conn.new).now s) }
     ensures blames { HasCleanDisk (state S.Store conn.new) → IfErr result (λ e.
         IsClubSchema (state S.Store conn.old).now.schema → Names oldest (state S.Store conn.old).now e) }
     ensures first { HasCleanDisk (state S.Store conn.new) → IfErr result (λ e.
         IsClubSchema (state S.Store conn.old).now.schema → NamesFirst (state S.Store conn.old).now e) }
+    // A legal club of a version that is taken, alone or beside what other programs made, is found to be one.
+    ensures good { HasCleanDisk (state S.Store conn.new) → IfErr result (λ e. (version : _) (s : ClubState) →
+        IsClubOf version s → HoldsRows version (tables_at version s) (state S.Store conn.old).now →
+        is_of_club version (state S.Store conn.old).now.schema ≡ true →
+        (oldest ≡ Current → version ≡ Current) → (e ≡ OpenFault.Store) ⊎ (e ≡ OpenFault.Memory)) }
+    ensures newer { HasCleanDisk (state S.Store conn.new) → IfOk result (λ found.
+        IsBeside club_schema (state S.Store conn.old).now.schema → found.version ≡ Current) }
+    ensures standing { HasCleanDisk (state S.Store conn.new) → IfOk result (λ found. (version : _) (s : ClubState) →
+        IsClubOf version s → HoldsRows version (tables_at version s) (state S.Store conn.old).now →
+        found.version ≡ version) }
 {
     let found = match read_rows(alloc, conn, oldest) {
         Ok(found) => found,
@@ -180,13 +215,13 @@ fn examine_rows<S: Alter>(
 ) -> Result<(), OpenFault>
     ensures reads { Reads (is_ok result) (state S.Store conn.old) (state S.Store conn.new) }
     ensures found { HasCleanDisk (state S.Store conn.new) → OnOk result (
-        IsClubSchema (state S.Store conn.old).now.schema →
+        HasClubTables (state S.Store conn.old).now.schema →
         AreExamined rows.now (state S.Store conn.old) (state S.Store conn.new)) }
     ensures blames { HasCleanDisk (state S.Store conn.new) → IfErr result (λ e.
-        IsClubSchema (state S.Store conn.old).now.schema →
+        HasClubTables (state S.Store conn.old).now.schema →
         NamesTable (state S.Store conn.old).now e ⊎ NamesPlay rows.now (state S.Store conn.old).now e) }
     ensures examined { HasCleanDisk (state S.Store conn.new) → IfErr result (λ e.
-        IsClubSchema (state S.Store conn.old).now.schema → (s : ClubState) → HasPeople s rows.now →
+        HasClubTables (state S.Store conn.old).now.schema → (s : ClubState) → HasPeople s rows.now →
         HaveIds rows.now → NamesExamined rows.now (state S.Store conn.old).now e) }
 {
     let known = match audit(alloc, rows) {

@@ -1,29 +1,35 @@
 //! All rows of each table, as rows of its type.
 
 ghost use Rattle.std.specs.Prelude.{◌≡◌, ◌≢◌, ◌⊎◌, ℕ, pos, true, None, Some, IfSome, IfOk, IfErr, OnOk, IsTrue, List};
-ghost use Rattle.std.specs.Prelude.{[], ◌∷◌, is_ok, length, map};
+ghost use Rattle.std.specs.Prelude.{[], ◌∷◌, false, is_ok, length, map, All};
 ghost use Rattle.sqlite.specs.State.{HasCleanDisk, IsUnchanged};
 ghost use Rattle.sqlite.specs.Held.{state};
+ghost use Rattle.sqlite.specs.Order.{column};
+ghost use Rattle.sqlite_value.specs.Value.{owned};
 ghost use Rattle.club_audit.specs.Audit.{AreEvents, AreMembers, AreRules};
 ghost use Rattle.club_core.specs.Events.{Event};
 ghost use Rattle.club_core.specs.Members.{Member};
-ghost use Rattle.store_tables.specs.Cells.{meta_cells, member_cells, event_cells, event_rule_cells};
+ghost use Rattle.store_tables.specs.Cells.{meta_cells, member_cells, event_cells, event_rule_cells, game_cells, IsGame};
 ghost use Rattle.store_tables.specs.Beside.{IsBeside};
 ghost use Rattle.store_tables.specs.Reading.{IsNoInput, Reads};
-ghost use Rattle.store_tables.specs.Tables.{IsClubSchema, schema_of, schema_number, meta, members, events};
+ghost use Rattle.store_tables.specs.Tables.{schema_number, meta, members, events, games};
 ghost use Rattle.store_tables.specs.Tables.{first_schema};
 ghost use Rattle.store_tables.specs.declared.names.Version.TheVariants.{First, Current};
 ghost use Rattle.club_opening.specs.Blames.{IsMetaRead, IsOneMeta, HasTypes, HoldsNone, Blames, Names, NamesTable};
 ghost use Rattle.club_opening.specs.Blames.{AreRead, AreRulesRead, IsNumberFrom, NamesSchema, undeclared_row};
 ghost use Rattle.club_opening.specs.Places.{NamesRows};
-ghost use Rattle.club_opening.specs.RightTables.{NamesFirst, NamesWrong, TellsEvents};
-ghost use Rattle.club_opening.specs.Versions.{HasEvents};
+ghost use Rattle.club_opening.specs.RightTables.{IsUnheld, NamesFirst, NamesWrong, TellsEvents};
+ghost use Rattle.club_opening.specs.KnownGames.{AreGamesKnown, game_seat, known, row_seat};
+ghost use Rattle.club_opening.specs.Versions.{HasClubTables, HasEvents, HasTablesOf};
 ghost use Rattle.club_opening.specs.Faults.{told};
 ghost use Rattle.store_sql.specs.Read.{IsReadAs};
 ghost use Rattle.table_shapes.specs.Shapes.{is_of_club};
 
+use crate::audit::before_games;
 use crate::fault::OpenFault;
+use crate::games::count_of;
 use club_audit::{are_events, are_members, are_rules};
+use sqlite::types::ValueRef;
 use sqlite::{Alter, Connection, Error, Row};
 use std::alloc::Global;
 use store_sql::{
@@ -31,7 +37,7 @@ use store_sql::{
 };
 use store_tables::{
     ChallengeRow, EventRow, EventRuleRow, GameRecord, MemberRow, MetaRow, MoveRow, Rows, ScoreRow,
-    SeenRow, Table, TableRow, Unread, Version,
+    SeenRow, Table, TableRow, Unread, Version, parse_all,
 };
 use table_shapes::versions_of;
 
@@ -106,15 +112,15 @@ fn one_meta(shown: &[Row]) -> Result<Option<MetaRow>, OpenFault>
 fn read_meta<S: Alter>(conn: &mut Connection<S>) -> Result<Option<MetaRow>, OpenFault>
     ensures reads { Reads (is_ok result) (state S.Store conn.old) (state S.Store conn.new) }
     ensures some { HasCleanDisk (state S.Store conn.new) → IfOk result (λ o. IfSome o (λ found.
-        IsClubSchema (state S.Store conn.old).now.schema → IsReadAs (meta 0) 1 (meta_cells found ∷ [])
+        HasClubTables (state S.Store conn.old).now.schema → IsReadAs (meta 0) 1 (meta_cells found ∷ [])
         (state S.Store conn.old) (state S.Store conn.new) × (found.id ≡ pos 1))) }
     ensures none { HasCleanDisk (state S.Store conn.new) → IfOk result (λ o. o ≡ None →
         HoldsNone (state S.Store conn.old).now (λ _ content. HasTypes Table.Meta content)) }
     ensures same { HasCleanDisk (state S.Store conn.new) →
-        OnOk result (IsClubSchema (state S.Store conn.old).now.schema → IsUnchanged (state S.Store conn.old)
+        OnOk result (HasClubTables (state S.Store conn.old).now.schema → IsUnchanged (state S.Store conn.old)
         (state S.Store conn.new)) }
     ensures blames { HasCleanDisk (state S.Store conn.new) → IfErr result (λ e.
-        IsClubSchema (state S.Store conn.old).now.schema → (e ≡ OpenFault.Store) ⊎ (e ≡ OpenFault.Memory)) }
+        HasClubTables (state S.Store conn.old).now.schema → (e ≡ OpenFault.Store) ⊎ (e ≡ OpenFault.Memory)) }
 {
     let shown = match show_all::<MetaRow, S>(conn) {
         Ok(shown) => shown,
@@ -130,14 +136,14 @@ fn read_members<S: Alter>(
 ) -> Result<Vec<MemberRow>, OpenFault>
     ensures reads { Reads (is_ok result) (state S.Store conn.old) (state S.Store conn.new) }
     ensures rows { HasCleanDisk (state S.Store conn.new) → IfOk result (λ found.
-        IsClubSchema (state S.Store conn.old).now.schema → IsReadAs (members 1) 1 (map member_cells found.items)
+        HasClubTables (state S.Store conn.old).now.schema → IsReadAs (members 1) 1 (map member_cells found.items)
         (state S.Store conn.old) (state S.Store conn.new)) }
     ensures are { IfOk result (λ found. (ms : List Member) × AreMembers ms found.items) }
     ensures blames { HasCleanDisk (state S.Store conn.new) → IfErr result (λ e.
-        IsClubSchema (state S.Store conn.old).now.schema → NamesTable (state S.Store conn.old).now e ⊎ NamesRows
+        HasClubTables (state S.Store conn.old).now.schema → NamesTable (state S.Store conn.old).now e ⊎ NamesRows
         (state S.Store conn.old).now e) }
     ensures wrong { HasCleanDisk (state S.Store conn.new) → IfErr result (λ e.
-        IsClubSchema (state S.Store conn.old).now.schema → NamesWrong Table.Members (state S.Store conn.old).now e) }
+        HasClubTables (state S.Store conn.old).now.schema → NamesWrong Table.Members (state S.Store conn.old).now e) }
 {
     let members = match read::<MemberRow, S>(alloc, conn, Table::Members) {
         Ok(members) => members,
@@ -156,14 +162,14 @@ fn read_events<S: Alter>(
 ) -> Result<Vec<EventRow>, OpenFault>
     ensures reads { Reads (is_ok result) (state S.Store conn.old) (state S.Store conn.new) }
     ensures rows { HasCleanDisk (state S.Store conn.new) → IfOk result (λ found.
-        IsClubSchema (state S.Store conn.old).now.schema → IsReadAs (events 4) 1 (map event_cells found.items)
+        HasClubTables (state S.Store conn.old).now.schema → IsReadAs (events 4) 1 (map event_cells found.items)
         (state S.Store conn.old) (state S.Store conn.new)) }
     ensures are { IfOk result (λ found. (es : List Event) × AreEvents es found.items) }
     ensures blames { HasCleanDisk (state S.Store conn.new) → IfErr result (λ e.
-        IsClubSchema (state S.Store conn.old).now.schema → NamesTable (state S.Store conn.old).now e ⊎ NamesRows
+        HasClubTables (state S.Store conn.old).now.schema → NamesTable (state S.Store conn.old).now e ⊎ NamesRows
         (state S.Store conn.old).now e) }
     ensures wrong { HasCleanDisk (state S.Store conn.new) → IfErr result (λ e.
-        IsClubSchema (state S.Store conn.old).now.schema → NamesWrong Table.Events (state S.Store conn.old).now e) }
+        HasClubTables (state S.Store conn.old).now.schema → NamesWrong Table.Events (state S.Store conn.old).now e) }
 {
     let events = match read::<EventRow, S>(alloc, conn, Table::Events) {
         Ok(events) => events,
@@ -192,13 +198,13 @@ pub(crate) struct FileHead {
 fn read_version<S: Alter>(conn: &mut Connection<S>) -> Result<FileHead, OpenFault>
     ensures reads { Reads (is_ok result) (state S.Store conn.old) (state S.Store conn.new) }
     ensures found { HasCleanDisk (state S.Store conn.new) → IfOk result (λ told.
-        IsClubSchema (state S.Store conn.old).now.schema →
+        HasClubTables (state S.Store conn.old).now.schema →
         IsMetaRead told.version told.meta (state S.Store conn.old) (state S.Store conn.new)) }
     ensures same { HasCleanDisk (state S.Store conn.new) → OnOk result (
-        IsClubSchema (state S.Store conn.old).now.schema →
+        HasClubTables (state S.Store conn.old).now.schema →
         IsUnchanged (state S.Store conn.old) (state S.Store conn.new)) }
     ensures blames { HasCleanDisk (state S.Store conn.new) → IfErr result (λ e.
-        IsClubSchema (state S.Store conn.old).now.schema →
+        HasClubTables (state S.Store conn.old).now.schema →
         (e ≡ OpenFault.Store) ⊎ ((e ≡ OpenFault.Memory) ⊎ NamesSchema First (state S.Store conn.old).now e)) }
 {
     let found = match read_meta(conn) {
@@ -282,13 +288,13 @@ fn check_tables<S: Alter>(conn: &mut Connection<S>) -> Result<(), OpenFault>
 fn check_rules<S: Alter>(conn: &mut Connection<S>, version: Version) -> Result<(), OpenFault>
     ensures reads { Reads (is_ok result) (state S.Store conn.old) (state S.Store conn.new) }
     ensures same { HasCleanDisk (state S.Store conn.new) → OnOk result (
-        IsClubSchema (state S.Store conn.old).now.schema →
+        HasClubTables (state S.Store conn.old).now.schema →
         IsUnchanged (state S.Store conn.old) (state S.Store conn.new)) }
     ensures version { HasCleanDisk (state S.Store conn.new) → OnOk result (
-        IsClubSchema (state S.Store conn.old).now.schema →
-        (state S.Store conn.old).now.schema ≡ schema_of version) }
+        HasClubTables (state S.Store conn.old).now.schema →
+        HasTablesOf version (state S.Store conn.old).now.schema) }
     ensures blames { HasCleanDisk (state S.Store conn.new) → IfErr result (λ e. (e ≡ OpenFault.Store)
-        ⊎ ((e ≡ OpenFault.Foreign) × ((state S.Store conn.old).now.schema ≢ schema_of version))) }
+        ⊎ ((e ≡ OpenFault.Foreign) × (¬ HasTablesOf version (state S.Store conn.old).now.schema))) }
 {
     let there = match has_event_rules(conn) {
         Ok(there) => there,
@@ -392,16 +398,16 @@ fn read_rules<S: Alter>(
 ) -> Result<Vec<EventRuleRow>, OpenFault>
     ensures reads { Reads (is_ok result) (state S.Store conn.old) (state S.Store conn.new) }
     ensures rules { HasCleanDisk (state S.Store conn.new) → IfOk result (λ rules.
-        (state S.Store conn.old).now.schema ≡ schema_of version → IsTrue (state S.Store conn.old).is_open →
+        HasTablesOf version (state S.Store conn.old).now.schema → IsTrue (state S.Store conn.old).is_open →
         AreRulesRead version events.now rules.items (state S.Store conn.old) (state S.Store conn.new)) }
     ensures are { IfOk result (λ rules. (es : List Event) → AreEvents es events.now →
         AreRules rules.items (length events.now)) }
     ensures blames { HasCleanDisk (state S.Store conn.new) → IfErr result (λ e.
-        (state S.Store conn.old).now.schema ≡ schema_of version →
+        HasTablesOf version (state S.Store conn.old).now.schema →
         (es : List Event) → AreEvents es events.now → HasEvents events.now (state S.Store conn.old).now →
         NamesTable (state S.Store conn.old).now e ⊎ NamesRows (state S.Store conn.old).now e) }
     ensures wrong { HasCleanDisk (state S.Store conn.new) → IfErr result (λ e.
-        (state S.Store conn.old).now.schema ≡ schema_of version →
+        HasTablesOf version (state S.Store conn.old).now.schema →
         TellsEvents events.now (state S.Store conn.old).now →
         NamesWrong Table.EventRules (state S.Store conn.old).now e) }
 {
@@ -418,6 +424,129 @@ fn read_rules<S: Alter>(
     Ok(rules)
 }
 
+/// The whole number that a value is, or -1, which is no id.
+fn whole(value: ValueRef<'_>) -> i64
+    ensures { result ≡ known (owned value.entry) }
+{
+    match value {
+        ValueRef::Int(number) => number,
+        ValueRef::Null | ValueRef::Real(_) | ValueRef::Text(_) | ValueRef::Blob(_) => -1,
+    }
+}
+
+/// The whole number in a column, or -1.
+fn whole_at(row: &Row, at: usize) -> i64
+    ensures { result ≡ known (column row.now at) }
+{
+    match row.get_ref(at) {
+        Ok(value) => whole(value),
+        Err(_) => -1,
+    }
+}
+
+/// What is known of a game by a row that may have values of other types: its id, its event and its players.
+fn known_game(alloc: Global, row: &Row) -> GameRecord
+    ensures { game_seat result ≡ row_seat row.now }
+{
+    GameRecord {
+        id: whole_at(row, 0),
+        key: None,
+        event: whole_at(row, 2),
+        first: whole_at(row, 3),
+        second: whole_at(row, 4),
+        start: 0,
+        since: 0,
+        plies: 0,
+        left1: 0,
+        left2: 0,
+        offer_side: None,
+        offer_ply: None,
+        end: None,
+        result: None,
+        position: String::new(alloc),
+        track_a: 0,
+        track_b: 0,
+    }
+}
+
+/// What is known of each game.
+fn known_games(alloc: Global, shown: &[Row]) -> Result<Vec<GameRecord>, OpenFault>
+    ensures known { IfOk result (λ games. map game_seat games.items ≡ map row_seat shown.now) }
+    ensures memory { IfErr result (λ e. e ≡ OpenFault.Memory) }
+{
+    let mut games = Vec::new(alloc);
+    'rows: for row in shown {
+        if games.push(known_game(alloc, row)).is_err() {
+            return Err(OpenFault::Memory);
+        }
+    }
+    Ok(games)
+}
+
+/// The rows of games, and whether each value is of the type of its column. Where one is not, these rows have what is
+/// known of the games.
+#[derive(Drop)]
+pub(crate) struct GameRows {
+    games: Vec<GameRecord>,
+    are_typed: bool,
+}
+
+/// The rows of games that these values show.
+fn games_of(alloc: Global, shown: &[Row]) -> Result<GameRows, OpenFault>
+    ensures typed { IfOk result (λ found. found.are_typed ≡ true → shown.now ≡ map game_cells found.games.items) }
+    ensures known { IfOk result (λ found. found.are_typed ≡ false → (¬ All IsGame shown.now) ×
+        (map game_seat found.games.items ≡ map row_seat shown.now)) }
+    ensures memory { IfErr result (λ e. e ≡ OpenFault.Memory) }
+{
+    let why = match parse_all::<GameRecord>(alloc, shown) {
+        Ok(games) => {
+            return Ok(GameRows {
+                games,
+                are_typed: true,
+            });
+        }
+        Err(why) => why,
+    };
+    match why {
+        Unread::Mistyped => match known_games(alloc, shown) {
+            Ok(games) => Ok(GameRows {
+                games,
+                are_typed: false,
+            }),
+            Err(fault) => Err(fault),
+        },
+        Unread::Memory => Err(OpenFault::Memory),
+    }
+}
+
+/// All rows of games, or what is known of the games where a value is of another type than its column.
+fn read_games<S: Alter>(alloc: Global, conn: &mut Connection<S>) -> Result<GameRows, OpenFault>
+    ensures reads { Reads (is_ok result) (state S.Store conn.old) (state S.Store conn.new) }
+    ensures rows { HasCleanDisk (state S.Store conn.new) → IfOk result (λ found. found.are_typed ≡ true →
+        HasClubTables (state S.Store conn.old).now.schema → IsReadAs (games 10) 1
+        (map game_cells found.games.items) (state S.Store conn.old) (state S.Store conn.new)) }
+    ensures known { HasCleanDisk (state S.Store conn.new) → IfOk result (λ found. found.are_typed ≡ false →
+        HasClubTables (state S.Store conn.old).now.schema → AreGamesKnown found.games.items
+        (state S.Store conn.old) (state S.Store conn.new)) }
+    ensures blames { HasCleanDisk (state S.Store conn.new) → IfErr result (λ e.
+        HasClubTables (state S.Store conn.old).now.schema → NamesTable (state S.Store conn.old).now e) }
+    ensures torn { HasCleanDisk (state S.Store conn.new) → IfErr result (λ e. (t : Table) → e ≡ OpenFault.Damaged t →
+        HasClubTables (state S.Store conn.old).now.schema → IsUnheld (state S.Store conn.old).now) }
+{
+    match count_of::<GameRecord, S>(alloc, conn, Table::Games) {
+        Ok(_) => {}
+        Err(fault) => return Err(fault),
+    }
+    let shown = match show_all::<GameRecord, S>(conn) {
+        Ok(shown) => shown,
+        Err(error) => return Err(fault_of(error)),
+    };
+    match games_of(alloc, &shown) {
+        Ok(found) => Ok(found),
+        Err(fault) => Err(fault),
+    }
+}
+
 /// The rows of a club that are read whole, and the version of its tables.
 #[derive(Drop)]
 pub struct Register {
@@ -432,17 +561,17 @@ pub struct Register {
 fn read_head<S: Alter>(conn: &mut Connection<S>, oldest: Version) -> Result<FileHead, OpenFault>
     ensures reads { Reads (is_ok result) (state S.Store conn.old) (state S.Store conn.new) }
     ensures found { HasCleanDisk (state S.Store conn.new) → IfOk result (λ told.
-        IsClubSchema (state S.Store conn.old).now.schema →
-        ((state S.Store conn.old).now.schema ≡ schema_of told.version) ×
+        HasClubTables (state S.Store conn.old).now.schema →
+        (HasTablesOf told.version (state S.Store conn.old).now.schema) ×
         IsMetaRead told.version told.meta (state S.Store conn.old) (state S.Store conn.new)) }
     ensures same { HasCleanDisk (state S.Store conn.new) → OnOk result (
-        IsClubSchema (state S.Store conn.old).now.schema →
+        HasClubTables (state S.Store conn.old).now.schema →
         IsUnchanged (state S.Store conn.old) (state S.Store conn.new)) }
     ensures taken { IfOk result (λ told. oldest ≡ Current → told.version ≡ Current) }
     ensures blames { HasCleanDisk (state S.Store conn.new) → IfErr result (λ e.
-        IsClubSchema (state S.Store conn.old).now.schema → Names oldest (state S.Store conn.old).now e) }
+        HasClubTables (state S.Store conn.old).now.schema → Names oldest (state S.Store conn.old).now e) }
     ensures undamaged { HasCleanDisk (state S.Store conn.new) → IfErr result (λ e.
-        IsClubSchema (state S.Store conn.old).now.schema → (t : Table) → e ≢ OpenFault.Damaged t) }
+        HasClubTables (state S.Store conn.old).now.schema → (t : Table) → e ≢ OpenFault.Damaged t) }
 {
     let told = match read_version(conn) {
         Ok(told) => told,
@@ -472,17 +601,17 @@ fn read_shaped<S: Alter>(
     ensures reads { Reads (is_ok result) (state S.Store conn.old) (state S.Store conn.new) }
     ensures shape { IfOk result (λ told. is_of_club told.version (state S.Store conn.old).now.schema ≡ true) }
     ensures found { HasCleanDisk (state S.Store conn.new) → IfOk result (λ told.
-        IsClubSchema (state S.Store conn.old).now.schema →
-        ((state S.Store conn.old).now.schema ≡ schema_of told.version) ×
+        HasClubTables (state S.Store conn.old).now.schema →
+        (HasTablesOf told.version (state S.Store conn.old).now.schema) ×
         IsMetaRead told.version told.meta (state S.Store conn.old) (state S.Store conn.new)) }
     ensures same { HasCleanDisk (state S.Store conn.new) → OnOk result (
-        IsClubSchema (state S.Store conn.old).now.schema →
+        HasClubTables (state S.Store conn.old).now.schema →
         IsUnchanged (state S.Store conn.old) (state S.Store conn.new)) }
     ensures taken { IfOk result (λ told. oldest ≡ Current → told.version ≡ Current) }
     ensures blames { HasCleanDisk (state S.Store conn.new) → IfErr result (λ e.
-        IsClubSchema (state S.Store conn.old).now.schema → Names oldest (state S.Store conn.old).now e) }
+        HasClubTables (state S.Store conn.old).now.schema → Names oldest (state S.Store conn.old).now e) }
     ensures undamaged { HasCleanDisk (state S.Store conn.new) → IfErr result (λ e.
-        IsClubSchema (state S.Store conn.old).now.schema → (t : Table) → e ≢ OpenFault.Damaged t) }
+        HasClubTables (state S.Store conn.old).now.schema → (t : Table) → e ≢ OpenFault.Damaged t) }
 {
     let shapes = match versions_of(alloc, conn) {
         Ok(shapes) => shapes,
@@ -502,7 +631,8 @@ fn read_shaped<S: Alter>(
 
 /// All rows of a club but those of moves, positions and scores, and nothing changed, where its version is taken: from
 /// the oldest on. Tables that would not answer as a club's are refused before their rows are read. The members, the
-/// events and their rules are tested as they are read, so that of tables with wrong rows the first is named.
+/// events and their rules are tested as they are read, so that of tables with wrong rows the first is named; where a row
+/// of games has a value of another type, the challenges are tested before the games are named.
 pub(crate) fn read_rows<S: Alter>(
     alloc: Global,
     conn: &mut Connection<S>,
@@ -510,8 +640,8 @@ pub(crate) fn read_rows<S: Alter>(
 ) -> Result<Register, OpenFault>
     ensures reads { Reads (is_ok result) (state S.Store conn.old) (state S.Store conn.new) }
     ensures rows { HasCleanDisk (state S.Store conn.new) → IfOk result (λ found.
-        IsClubSchema (state S.Store conn.old).now.schema →
-        ((state S.Store conn.old).now.schema ≡ schema_of found.version) ×
+        HasClubTables (state S.Store conn.old).now.schema →
+        (HasTablesOf found.version (state S.Store conn.old).now.schema) ×
         AreRead found.version found.rows (state S.Store conn.old) (state S.Store conn.new)) }
     ensures shape { IfOk result (λ found. is_of_club found.version (state S.Store conn.old).now.schema ≡ true) }
     ensures taken { IfOk result (λ found. oldest ≡ Current → found.version ≡ Current) }
@@ -520,9 +650,9 @@ pub(crate) fn read_rows<S: Alter>(
     ensures rules { IfOk result (λ found. AreRules found.rows.event_rules.items
         (length found.rows.events.items)) }
     ensures blames { HasCleanDisk (state S.Store conn.new) → IfErr result (λ e.
-        IsClubSchema (state S.Store conn.old).now.schema → Names oldest (state S.Store conn.old).now e) }
+        HasClubTables (state S.Store conn.old).now.schema → Names oldest (state S.Store conn.old).now e) }
     ensures first { HasCleanDisk (state S.Store conn.new) → IfErr result (λ e.
-        IsClubSchema (state S.Store conn.old).now.schema → NamesFirst (state S.Store conn.old).now e) }
+        HasClubTables (state S.Store conn.old).now.schema → NamesFirst (state S.Store conn.old).now e) }
 {
     let FileHead { version, meta } = match read_shaped(alloc, conn, oldest) {
         Ok(told) => told,
@@ -544,19 +674,21 @@ pub(crate) fn read_rows<S: Alter>(
         Ok(challenges) => challenges,
         Err(fault) => return Err(fault),
     };
-    let games = match read::<GameRecord, S>(alloc, conn, Table::Games) {
-        Ok(games) => games,
+    let GameRows { games, are_typed } = match read_games(alloc, conn) {
+        Ok(found) => found,
         Err(fault) => return Err(fault),
     };
-    Ok(Register {
-        version,
-        rows: Rows {
-            meta,
-            members,
-            events,
-            event_rules,
-            challenges,
-            games,
-        },
-    })
+    let rows = Rows {
+        meta,
+        members,
+        events,
+        event_rules,
+        challenges,
+        games,
+    };
+    if are_typed {
+        Ok(Register { version, rows })
+    } else {
+        Err(before_games(alloc, &rows))
+    }
 }

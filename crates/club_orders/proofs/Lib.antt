@@ -1,7 +1,9 @@
 pub mod ExplainedLemmas
 pub mod GivingLemmas
 pub mod PrintedLemmas
+pub mod Proved
 pub mod QuestionLemmas
 pub mod RefusalLemmas
 pub mod SessionLemmas
+pub mod TakenLemmas
 pub mod WrittenLemmas

@@ -1,18 +1,44 @@
 -- What sessions led to, over a connection that was only read.
-use Rattle.std.proofs.Common.{List, [], ◌++◌, append-nil, sym, subst}
+use Rattle.std.proofs.Common.{List, [], ◌++◌, append-nil, sym, subst, inl}
 use Rattle.sqlite.specs.Tree.{Trees}
 use Rattle.sqlite.specs.State.{State}
-use Rattle.store_tables.specs.Contents.{Content}
-use Rattle.store_tables.specs.Club.{IsExactly}
-use Rattle.store.specs.Histories.{Chapter, IsReachable, IsHistory}
+use Rattle.store_tables.specs.Beside.{IsBeside}
+use Rattle.store_tables.specs.Over.{Neighbours}
+use Rattle.store_tables.specs.Reading.{KeepsContent}
+use Rattle.store_tables.specs.Tables.{first_schema}
+use Rattle.store_tables.specs.declared.names.Version.{Version}
+use Rattle.store_tables.specs.declared.names.Version.TheVariants.{First, Current}
+use Rattle.store_tables.proofs.Proved.{first_of_club, first_within, still_beside}
+use Rattle.club_rows.specs.Club.{ClubState, tables}
+use Rattle.club_rows.specs.FirstSchema.{IsFirstClub}
+use Rattle.club_opening.specs.Versions.{IsExactlyClub}
+use Rattle.store.specs.Histories.{Chapter, IsReachable, IsHistory, IsHistoryAt}
 
 -- with no session more
-pub led_still : (sessions : List Chapter) (db : Trees) → IsReachable sessions db → IsReachable (sessions ++ []) db
-led_still sessions db led = subst (λ xs. IsReachable xs db) (sym (append-nil sessions)) led
+pub led_still : (them : Neighbours) (sessions : List Chapter) (db : Trees) → IsReachable them sessions db
+    → IsReachable them (sessions ++ []) db
+led_still them sessions db led = subst (λ xs. IsReachable them xs db) (sym (append-nil sessions)) led
 
 -- where the tables stayed as they were
-pub stands_still : (sessions : List Chapter) (old new : State)
-    → ((content : Content) → IsExactly content old → IsExactly content new) → IsHistory sessions old
-    → IsHistory sessions new
-stands_still sessions old new same at =
-    record { from = at.from; after = at.after; legal = at.legal; leads = at.leads; exactly = same _ at.exactly }
+pub stands_still : (them : Neighbours) (sessions : List Chapter) (old new : State) → KeepsContent old new
+    → IsHistory them sessions old → IsHistory them sessions new
+stands_still them sessions old new kept at = record {
+  from = at.from;
+  after = at.after;
+  legal = at.legal;
+  leads = at.leads;
+  exactly = still_beside old new kept them (tables at.after) at.exactly;
+}
+
+-- tables that are not those of schema 1 stand where the sessions lead in schema 2
+pub newer_history : (version : Version) (them : Neighbours) (sessions : List Chapter) (s : State)
+    → ((c : ClubState) → IsFirstClub c → ¬ IsExactlyClub First c s) → IsHistoryAt version them sessions s
+    → IsHistory them sessions s
+newer_history First them sessions s newer at = absurd (newer at.after at.legal at.exactly.1)
+newer_history Current them sessions s newer at = at
+
+-- wherever sessions lead, the tables of schema 1 stand first
+pub stand_first : (version : Version) (them : Neighbours) (sessions : List Chapter) (s : State)
+    → IsHistoryAt version them sessions s → IsBeside first_schema s.now.schema
+stand_first First them sessions s at = first_of_club s.now.schema (inl at.exactly.1.now.schema)
+stand_first Current them sessions s at = first_within s.now.schema (them.made, at.exactly.exactly.now.schema)

@@ -1,7 +1,7 @@
 -- A batch: questions that are asked first, and orders that are given to a club in turn up to the first fault. What is
 -- printed of it, and what it is to the club.
 use Rattle.std.specs.Prelude.{◌≡◌, ◌⊎◌, ◌≤◌, ℕ, Bool, true, false, List, [], ◌∷◌, ◌++◌, length, map, take, decimal}
-use Rattle.std.specs.Prelude.{Option, Some, None, IsSome, IfSome, codes, ⊤}
+use Rattle.std.specs.Prelude.{Option, Some, None, IsSome, IfSome, codes}
 use Rattle.std.specs.List.{list_any}
 use Rattle.std.specs.Io.KnownBytes.{Appends}
 use Rattle.club_requests.specs.declared.answers.Outcome.{Outcome}
@@ -112,8 +112,8 @@ pub record AreGiven (s : ClubState) (batch : Batch) (batched : Batched) : Type 0
   pub whole : batched.fault ≡ None → length batched.outcomes.items ≡ length batch.requests.items
   pub fault : IfSome batched.fault (λ fault. (fault ≡ store_fault.Store) ⊎ (fault ≡ store_fault.Memory))
 
--- No question is refused, and the orders were given; or one is, and none was. Or a call of the database failed or memory
--- was refused before the first order.
+-- No question is refused, and the orders were given; or one is, and none was. Or a call of the database failed or
+-- memory was refused before the first order.
 abbrev pub AnswersBatch : ClubState → (moment : ℕ) → Batch → Report → Type 0
 AnswersBatch s moment batch (report.Batched batched) =
     AreAsked s moment batch.questions.items None × AreGiven s batch batched

@@ -1,5 +1,5 @@
 -- What a report is about, and what is printed of it where explanations are asked for.
-use Rattle.std.specs.Prelude.{◌≡◌, ℕ, ◌==◌, List, [], ◌++◌, take, Option, Some, None, Bool, true, false}
+use Rattle.std.specs.Prelude.{ℕ, ◌==◌, List, [], ◌++◌, take, Option, Some, None, Bool, true, false}
 use Rattle.std.specs.Prelude.{if◌then◌else◌, pos, negsuc, ℤ}
 use Rattle.std.specs.Io.KnownBytes.{Appends}
 use Rattle.club_questions.specs.declared.questions.Question.{Question}

@@ -14,8 +14,8 @@ use Rattle.club_opening.specs.declared.fault.OpenFault.TheVariants.{Schema, Stor
 use Rattle.club_words.specs.declared.words.Task.{Task}
 use Rattle.club_words.specs.declared.words.Task.TheVariants as task
 
--- The tables were not upgraded. An upgrade takes either version, and may have begun to write where a call of the database
--- failed.
+-- The tables were not upgraded. An upgrade takes either version, and may have begun to write where a call of the
+-- database failed.
 pub record IsUpgradeRefusal (old new : State) (fault : OpenFault) : Type 0 where
   pub blames : IsClubSchema old.now.schema → Names First old.now fault
   pub kept : fault ≢ Store → Opens old → IsKept old new

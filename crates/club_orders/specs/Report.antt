@@ -7,6 +7,7 @@ use Rattle.sqlite.specs.State.{State}
 use Rattle.store_tables.specs.Contents as of_schema
 use Rattle.store_tables.specs.Contents.{IsEmpty}
 use Rattle.store_tables.specs.Club.{Leaves}
+use Rattle.store_tables.specs.Over.{alone}
 use Rattle.store_tables.specs.Tables.{first_schema}
 use Rattle.club_requests.specs.declared.requests.Who.TheVariants.{Officer}
 use Rattle.club_requests.specs.declared.requests.Command.{Command}
@@ -224,6 +225,11 @@ abbrev pub IfUnopened : Report → (OpenFault → Type 0) → Type 0
 IfUnopened (Unopened fault) Holds = Holds fault
 IfUnopened _ Holds = ⊤
 
+-- the report is of a file that was taken as a club's
+abbrev pub IfTaken : Report → Type 0 → Type 0
+IfTaken (Unopened fault) Holds = ⊤
+IfTaken _ Holds = Holds
+
 -- the report is that the file was not taken as a club's, by such a fault
 abbrev pub OnlyUnopened : Report → (OpenFault → Type 0) → Type 0
 OnlyUnopened (Unopened fault) Holds = Holds fault
@@ -231,5 +237,5 @@ OnlyUnopened _ Holds = ⊥
 
 -- The club with nothing in it stands; or none was made, and there is still no table, or it stands nevertheless.
 abbrev pub IsBegun : Report → Trees → Type 0
-IsBegun Ready trees = IsReachable [] trees
-IsBegun _ trees = IsEmpty trees ⊎ IsReachable [] trees
+IsBegun Ready trees = IsReachable alone [] trees
+IsBegun _ trees = IsEmpty trees ⊎ IsReachable alone [] trees

@@ -1,18 +1,20 @@
 //! Orders that are given to a club in turn.
 
-ghost use Rattle.std.specs.Prelude.{◌≡◌, ◌≤◌, ◌⊎◌, ◌++◌, false, IfOk, IfErr, OnOk, is_ok};
+ghost use Rattle.std.specs.Prelude.{◌≡◌, ◌≤◌, ◌⊎◌, ◌++◌, false, true, IfOk, IfErr, OnOk, is_ok};
 ghost use Rattle.sqlite.specs.State.{HasCleanDisk, Opens, IsLive};
 ghost use Rattle.sqlite.specs.Held.{state};
 ghost use Rattle.sqlite_trees.specs.View.{doubt};
 ghost use Rattle.store_tables.specs.Beside.{HasRows};
-ghost use Rattle.store_tables.specs.Club.{IsExactly, Leaves};
+ghost use Rattle.store_tables.specs.Over.{IsBesideThem};
 ghost use Rattle.store_tables.specs.Reading.{Reads};
 ghost use Rattle.club_rows.specs.Club.{ClubState, IsClub, tables};
-ghost use Rattle.store.specs.Histories.{IsHistory, IsReachable};
+ghost use Rattle.store_tables.specs.declared.names.Version.TheVariants.{Current};
+ghost use Rattle.table_shapes.specs.Shapes.{is_of_club};
+ghost use Rattle.store.specs.Histories.{HasState, IsHistory, IsReachable};
 ghost use Rattle.club_opening.specs.Refused.{IsRefusal};
 ghost use Rattle.club_orders.specs.Batches.{batch_sessions, AnswersBatch, AreAsked, IsAsked};
 ghost use Rattle.club_orders.specs.Refused.{HasFirst, IsOlder};
-ghost use Rattle.club_orders.specs.Report.{IfUnopened, OnlyUnopened};
+ghost use Rattle.club_orders.specs.Report.{IfTaken, IfUnopened, OnlyUnopened};
 
 use crate::batched::Batched;
 use crate::report::Report;
@@ -81,12 +83,13 @@ fn give<S: Alter>(alloc: Global, club: &mut Club<S>, batch: &Batch, moment: Mome
     ensures taken { IfUnopened result (λ fault. ⊥) }
     ensures clean { doubt (state S.Store club.old.connection).is_clean ≤ doubt
         (state S.Store club.new.connection).is_clean }
-    ensures answer { HasCleanDisk (state S.Store club.new.connection) → (s : ClubState) → IsClub s →
-        IsExactly (tables s) (state S.Store club.old.connection) → AnswersBatch s moment batch.now result }
-    ensures led { HasCleanDisk (state S.Store club.new.connection) → (sessions : _) →
-        IsHistory sessions (state S.Store club.old.connection) →
+    ensures answer { HasCleanDisk (state S.Store club.new.connection) → (them : _) (s : ClubState) →
+        IsClub s → IsBesideThem them (tables s) (state S.Store club.old.connection) →
+        AnswersBatch s moment batch.now result }
+    ensures led { HasCleanDisk (state S.Store club.new.connection) → (them : _) (sessions : _) →
+        IsHistory them sessions (state S.Store club.old.connection) →
         (db : _) → (state S.Store club.new.connection).may_leave db →
-        IsReachable (sessions ++ batch_sessions batch.now.requests.items result) db }
+        IsReachable them (sessions ++ batch_sessions batch.now.requests.items result) db }
 {
     // The numbers come first, so that no outcome is lost for want of memory.
     let numbers = match Vec::from_slice(alloc, batch.numbers.as_slice()) {
@@ -117,16 +120,18 @@ pub(crate) fn give_batch<S: Alter>(
     ensures idle { result.1.in_transaction ≡ false }
     ensures clean { doubt (state S.Store conn).is_clean ≤ doubt (state S.Store result.1).is_clean }
     ensures answer { HasCleanDisk (state S.Store result.1) → Opens (state S.Store conn) → IsLive (state S.Store conn) →
-        (s : ClubState) → IsClub s → Leaves (tables s) (state S.Store conn).committed.trees →
+        (s : ClubState) → IsClub s → HasState s (state S.Store conn).committed.trees →
         AnswersBatch s moment batch.now result.0 }
+    // By whatever texts its tables were made, those that were taken over answer as a club's.
+    ensures shape { IfTaken result.0 (is_of_club Current (state S.Store conn).now.schema ≡ true) }
     ensures refuses { HasCleanDisk (state S.Store result.1) →
         IfUnopened result.0 (IsRefusal (state S.Store conn) (state S.Store result.1)) }
     ensures older { HasCleanDisk (state S.Store result.1) → Opens (state S.Store conn) → IsLive (state S.Store conn) →
         (s : ClubState) → HasFirst s (state S.Store conn).committed.trees → OnlyUnopened result.0 IsOlder }
     ensures led { HasCleanDisk (state S.Store result.1) → Opens (state S.Store conn) → IsLive (state S.Store conn) →
-        (sessions : _) → IsReachable sessions (state S.Store conn).committed.trees →
+        (them : _) (sessions : _) → IsReachable them sessions (state S.Store conn).committed.trees →
         (db : _) → (state S.Store result.1).may_leave db →
-        IsReachable (sessions ++ batch_sessions batch.now.requests.items result.0) db }
+        IsReachable them (sessions ++ batch_sessions batch.now.requests.items result.0) db }
 {
     holds_exactly(&conn);
     holds_what_sessions_left(&conn);

@@ -4,6 +4,7 @@ ghost use Rattle.std.specs.Prelude.{◌≡◌, ◌≤◌, ◌⊎◌, false};
 ghost use Rattle.sqlite.specs.State.{HasCleanDisk};
 ghost use Rattle.sqlite.specs.Held.{state};
 ghost use Rattle.sqlite_trees.specs.View.{doubt};
+ghost use Rattle.store_tables.specs.Beside.{HasRows};
 ghost use Rattle.store_tables.specs.Club.{IsExactly, Leaves};
 ghost use Rattle.store_tables.specs.Contents.{IsEmpty, IsExactlyEmpty};
 ghost use Rattle.store_tables.specs.Reading.{OnlyReads};
@@ -31,10 +32,10 @@ pub fn back_up<S: Alter, T: Alter>(
     ensures clean { doubt (state T.Store copy.old).is_clean ≤ doubt (state T.Store copy.new).is_clean }
     ensures named { IsOfCopy result }
     ensures copied { HasCleanDisk (state S.Store club.new) → HasCleanDisk (state T.Store copy.new) →
-        result ≡ Report.Copied → (content : _) → IsExactly content (state S.Store club.old) →
+        result ≡ Report.Copied → (content : _) → HasRows content (state S.Store club.old) →
         IsExactlyEmpty (state T.Store copy.old) → IsExactly content (state T.Store copy.new) }
     ensures cut_off { HasCleanDisk (state S.Store club.new) → HasCleanDisk (state T.Store copy.new) →
-        (content : _) → IsExactly content (state S.Store club.old) → IsExactlyEmpty (state T.Store copy.old) →
+        (content : _) → HasRows content (state S.Store club.old) → IsExactlyEmpty (state T.Store copy.old) →
         (db : _) → (state T.Store copy.new).may_leave db → IsEmpty db ⊎ Leaves content db }
     ensures goes_on { HasCleanDisk (state S.Store club.new) → result ≡ Report.Uncopied →
         KeepsContent (state S.Store club.old) (state S.Store club.new) }

@@ -5,16 +5,19 @@ ghost use Rattle.sqlite.specs.State.{HasCleanDisk, Opens, IsLive};
 ghost use Rattle.sqlite.specs.Held.{state};
 ghost use Rattle.sqlite_trees.specs.View.{doubt};
 ghost use Rattle.store_tables.specs.Contents.{IsEmpty};
-ghost use Rattle.store_tables.specs.Club.{Leaves, IsExactly, IsOpened};
+ghost use Rattle.store_tables.specs.Club.{IsExactly, IsOpened};
+ghost use Rattle.store_tables.specs.Reading.{KeepsContent};
 ghost use Rattle.store_tables.specs.Tables.{IsClubSchema};
+ghost use Rattle.store_tables.specs.declared.names.Version.TheVariants.{Current};
+ghost use Rattle.table_shapes.specs.Shapes.{is_of_club};
 ghost use Rattle.club_core.specs.Answer.{answered, outcome_of};
 ghost use Rattle.club_rows.specs.Club.{ClubState, IsClub, tables};
 ghost use Rattle.club_changes.specs.Steps.{club_step};
-ghost use Rattle.store.specs.Histories.{IsReachable, upgraded};
+ghost use Rattle.store.specs.Histories.{HasState, IsReachable, upgraded};
 ghost use Rattle.club_words.specs.declared.words.Task.TheVariants.{Init};
 ghost use Rattle.club_orders.specs.Batches.{AnswersBatch};
 ghost use Rattle.club_orders.specs.Report.{given, Answers, ask_report, IfRequest, IfAsk, IfBatch, IfVerify, IfUnopened};
-ghost use Rattle.club_orders.specs.Report.{IsCarriedOver, IsRepeated, OnlyUnopened, upgrade_of};
+ghost use Rattle.club_orders.specs.Report.{IfTaken, IsCarriedOver, IsRepeated, OnlyUnopened, upgrade_of};
 ghost use Rattle.club_orders.specs.Report.{Shows, IsPassed, IsBegun, request_sessions, task_sessions, writes};
 ghost use Rattle.club_opening.specs.Refused.{HoldClub, IsKept, IsRefusal};
 ghost use Rattle.club_orders.specs.Refused.{HasFirst, IfTakesOver, IfUpgrade, IsOlder, IsUpgradeRefusal};
@@ -46,8 +49,8 @@ fn init<S: Alter>(alloc: Global, conn: Connection<S>) -> (Report, Connection<S>)
     ensures spares { HasCleanDisk (state S.Store result.1) → Opens (state S.Store conn) →
         result.0 ≡ Report.Unopened OpenFault.Foreign → IsKept (state S.Store conn) (state S.Store result.1) }
     ensures led { HasCleanDisk (state S.Store result.1) → Opens (state S.Store conn) → IsLive (state S.Store conn) →
-        (sessions : _) → IsReachable sessions (state S.Store conn).committed.trees →
-        (db : _) → (state S.Store result.1).may_leave db → IsReachable sessions db }
+        (them : _) (sessions : _) → IsReachable them sessions (state S.Store conn).committed.trees →
+        (db : _) → (state S.Store result.1).may_leave db → IsReachable them sessions db }
 {
     holds_nothing(&conn);
     holds_what_sessions_left(&conn);
@@ -73,16 +76,18 @@ fn request<S: Alter>(
     ensures idle { result.1.in_transaction ≡ false }
     ensures clean { doubt (state S.Store conn).is_clean ≤ doubt (state S.Store result.1).is_clean }
     ensures answer { HasCleanDisk (state S.Store result.1) → Opens (state S.Store conn) → IsLive (state S.Store conn) →
-        (s : ClubState) → IsClub s → Leaves (tables s) (state S.Store conn).committed.trees →
+        (s : ClubState) → IsClub s → HasState s (state S.Store conn).committed.trees →
         Answers result.0 (λ outcome. outcome_of outcome ≡ answered (club_step s (given command.now moment))) }
+    // By whatever texts its tables were made, those that were taken over answer as a club's.
+    ensures shape { IfTaken result.0 (is_of_club Current (state S.Store conn).now.schema ≡ true) }
     ensures refuses { HasCleanDisk (state S.Store result.1) →
         IfUnopened result.0 (IsRefusal (state S.Store conn) (state S.Store result.1)) }
     ensures older { HasCleanDisk (state S.Store result.1) → Opens (state S.Store conn) → IsLive (state S.Store conn) →
         (s : ClubState) → HasFirst s (state S.Store conn).committed.trees → OnlyUnopened result.0 IsOlder }
     ensures led { HasCleanDisk (state S.Store result.1) → Opens (state S.Store conn) → IsLive (state S.Store conn) →
-        (sessions : _) → IsReachable sessions (state S.Store conn).committed.trees →
+        (them : _) (sessions : _) → IsReachable them sessions (state S.Store conn).committed.trees →
         (db : _) → (state S.Store result.1).may_leave db →
-        IsReachable (sessions ++ request_sessions (given command.now moment) result.0) db }
+        IsReachable them (sessions ++ request_sessions (given command.now moment) result.0) db }
 {
     holds_exactly(&conn);
     holds_what_sessions_left(&conn);
@@ -126,15 +131,17 @@ fn ask<S: Alter, W: Write>(
     ensures idle { result.1.in_transaction ≡ false }
     ensures clean { doubt (state S.Store conn).is_clean ≤ doubt (state S.Store result.1).is_clean }
     ensures asked { HasCleanDisk (state S.Store result.1) → Opens (state S.Store conn) → IsLive (state S.Store conn) →
-        (s : ClubState) → IsClub s → Leaves (tables s) (state S.Store conn).committed.trees →
+        (s : ClubState) → IsClub s → HasState s (state S.Store conn).committed.trees →
         Shows s moment question.now (W.contents out.old) (W.contents out.new) result.0 }
+    // By whatever texts its tables were made, those that were taken over answer as a club's.
+    ensures shape { IfTaken result.0 (is_of_club Current (state S.Store conn).now.schema ≡ true) }
     ensures refuses { HasCleanDisk (state S.Store result.1) →
         IfUnopened result.0 (IsRefusal (state S.Store conn) (state S.Store result.1)) }
     ensures older { HasCleanDisk (state S.Store result.1) → Opens (state S.Store conn) → IsLive (state S.Store conn) →
         (s : ClubState) → HasFirst s (state S.Store conn).committed.trees → OnlyUnopened result.0 IsOlder }
     ensures led { HasCleanDisk (state S.Store result.1) → Opens (state S.Store conn) → IsLive (state S.Store conn) →
-        (sessions : _) → IsReachable sessions (state S.Store conn).committed.trees →
-        (db : _) → (state S.Store result.1).may_leave db → IsReachable sessions db }
+        (them : _) (sessions : _) → IsReachable them sessions (state S.Store conn).committed.trees →
+        (db : _) → (state S.Store result.1).may_leave db → IsReachable them sessions db }
 {
     holds_exactly(&conn);
     holds_what_sessions_left(&conn);
@@ -156,13 +163,13 @@ fn carry<S: Alter>(alloc: Global, conn: Connection<S>) -> (Report, Connection<S>
         (s : ClubState) → HasFirst s (state S.Store conn).committed.trees →
         IsCarriedOver s result.0 (state S.Store result.1) }
     ensures repeats { HasCleanDisk (state S.Store result.1) → Opens (state S.Store conn) → IsLive (state S.Store conn) →
-        (s : ClubState) → IsClub s → Leaves (tables s) (state S.Store conn).committed.trees →
+        (s : ClubState) → IsClub s → HasState s (state S.Store conn).committed.trees →
         IsRepeated result.0 × IsKept (state S.Store conn) (state S.Store result.1) }
     ensures refuses { HasCleanDisk (state S.Store result.1) →
         IfUnopened result.0 (IsUpgradeRefusal (state S.Store conn) (state S.Store result.1)) }
     ensures led { HasCleanDisk (state S.Store result.1) → Opens (state S.Store conn) → IsLive (state S.Store conn) →
-        (chapters : _) → IsReachable chapters (state S.Store conn).committed.trees →
-        (db : _) → (state S.Store result.1).may_leave db → IsReachable (chapters ++ upgrade_of result.0 ∷ []) db }
+        (them : _) (chapters : _) → IsReachable them chapters (state S.Store conn).committed.trees →
+        (db : _) → (state S.Store result.1).may_leave db → IsReachable them (chapters ++ upgrade_of result.0 ∷ []) db }
 {
     holds_exactly(&conn);
     leaves_what_sessions_left(&conn);
@@ -194,7 +201,7 @@ pub fn verify<S: Alter>(alloc: Global, conn: Connection<S>) -> (Report, Connecti
     ensures idle { result.1.in_transaction ≡ false }
     ensures clean { doubt (state S.Store conn).is_clean ≤ doubt (state S.Store result.1).is_clean }
     ensures passes { HasCleanDisk (state S.Store result.1) → Opens (state S.Store conn) → IsLive (state S.Store conn) →
-        (s : ClubState) → IsClub s → Leaves (tables s) (state S.Store conn).committed.trees → IsPassed result.0 }
+        (s : ClubState) → IsClub s → HasState s (state S.Store conn).committed.trees → IsPassed result.0 }
     ensures sound { HasCleanDisk (state S.Store result.1) → IsOpened (state S.Store conn) → result.0 ≡ Report.Sound →
         (s : ClubState) × IsClub s × IsExactly (tables s) (state S.Store result.1) }
     ensures legal { HasCleanDisk (state S.Store result.1) → Opens (state S.Store conn) → IsLive (state S.Store conn) →
@@ -203,15 +210,17 @@ pub fn verify<S: Alter>(alloc: Global, conn: Connection<S>) -> (Report, Connecti
     ensures keeps { HasCleanDisk (state S.Store result.1) → Opens (state S.Store conn) →
         IsKept (state S.Store conn) (state S.Store result.1) }
     ensures named { result.0 ≢ Report.Sound → OnlyUnopened result.0 (λ fault. ⊤) }
-    ensures same { HasCleanDisk (state S.Store result.1) → result.0 ≡ Report.Sound → (content : _) →
-        IsExactly content (state S.Store conn) → IsExactly content (state S.Store result.1) }
+    ensures same { HasCleanDisk (state S.Store result.1) → result.0 ≡ Report.Sound →
+        KeepsContent (state S.Store conn) (state S.Store result.1) }
+    // By whatever texts its tables were made, those that were taken over answer as a club's.
+    ensures shape { IfTaken result.0 (is_of_club Current (state S.Store conn).now.schema ≡ true) }
     ensures refuses { HasCleanDisk (state S.Store result.1) →
         IfUnopened result.0 (IsRefusal (state S.Store conn) (state S.Store result.1)) }
     ensures older { HasCleanDisk (state S.Store result.1) → Opens (state S.Store conn) → IsLive (state S.Store conn) →
         (s : ClubState) → HasFirst s (state S.Store conn).committed.trees → OnlyUnopened result.0 IsOlder }
     ensures led { HasCleanDisk (state S.Store result.1) → Opens (state S.Store conn) → IsLive (state S.Store conn) →
-        (sessions : _) → IsReachable sessions (state S.Store conn).committed.trees →
-        (db : _) → (state S.Store result.1).may_leave db → IsReachable sessions db }
+        (them : _) (sessions : _) → IsReachable them sessions (state S.Store conn).committed.trees →
+        (db : _) → (state S.Store result.1).may_leave db → IsReachable them sessions db }
 {
     holds_exactly(&conn);
     holds_what_sessions_left(&conn);
@@ -227,13 +236,13 @@ pub fn verify<S: Alter>(alloc: Global, conn: Connection<S>) -> (Report, Connecti
 }
 
 /// Does what is asked for over a connection that was just opened, at that moment, and gives the connection back:
-/// makes a club, gives the club that stands there a command of the officer's, or orders in turn, asks it a question and writes what that
-/// is shown to `out`, tests that the rows are those of a club, or carries a club of schema 1 over to schema 2; every
-/// other word refuses schema 1 by its number. Of a backup it does what comes first, and tests the rows. The answer is
-/// the machine's. Sessions that led to what the opening found
-/// lead, with this request or these orders as one more, to whatever a stop leaves; where there was no table, and a club was to be made, none led to it, or there is no table
-/// still. Tables that are not taken as a club's are blamed for it, and stay as they were found; those that are found
-/// sound are a club's.
+/// makes a club, gives the club that stands there a command of the officer's, or orders in turn, asks it a question and
+/// writes what that is shown to `out`, tests that the rows are those of a club, or carries a club of schema 1 over to
+/// schema 2; every other word refuses schema 1 by its number. Of a backup it does what comes first, and tests the rows.
+/// The answer is the machine's. Sessions that led to what the opening found lead, with this request or these orders as
+/// one more, to whatever a stop leaves, beside the same tables of other programs; where there was no table, and a club
+/// was to be made, none led to it, or there is no table still. Tables that are not taken as a club's are blamed for it,
+/// and stay as they were found; those that are found sound are a club's.
 pub fn act<S: Alter, W: Write>(
     alloc: Global,
     conn: Connection<S>,
@@ -252,17 +261,17 @@ pub fn act<S: Alter, W: Write>(
         task.now ≡ Init → IsEmpty (state S.Store conn).committed.trees →
         IfUnopened result.0 (λ fault. fault ≡ OpenFault.Store) }
     ensures answer { HasCleanDisk (state S.Store result.1) → Opens (state S.Store conn) → IsLive (state S.Store conn) →
-        (s : ClubState) → IsClub s → Leaves (tables s) (state S.Store conn).committed.trees →
+        (s : ClubState) → IsClub s → HasState s (state S.Store conn).committed.trees →
         IfRequest task.now (λ command. Answers result.0 (λ outcome.
         outcome_of outcome ≡ answered (club_step s (given command moment)))) }
     ensures given { HasCleanDisk (state S.Store result.1) → Opens (state S.Store conn) → IsLive (state S.Store conn) →
-        (s : ClubState) → IsClub s → Leaves (tables s) (state S.Store conn).committed.trees →
+        (s : ClubState) → IsClub s → HasState s (state S.Store conn).committed.trees →
         IfBatch task.now (λ batch. AnswersBatch s moment batch result.0) }
     ensures asked { HasCleanDisk (state S.Store result.1) → Opens (state S.Store conn) → IsLive (state S.Store conn) →
-        (s : ClubState) → IsClub s → Leaves (tables s) (state S.Store conn).committed.trees →
+        (s : ClubState) → IsClub s → HasState s (state S.Store conn).committed.trees →
         IfAsk task.now (λ question. Shows s moment question (W.contents out.old) (W.contents out.new) result.0) }
     ensures passes { HasCleanDisk (state S.Store result.1) → Opens (state S.Store conn) → IsLive (state S.Store conn) →
-        (s : ClubState) → IsClub s → Leaves (tables s) (state S.Store conn).committed.trees →
+        (s : ClubState) → IsClub s → HasState s (state S.Store conn).committed.trees →
         IfVerify task.now (IsPassed result.0) }
     ensures sound { HasCleanDisk (state S.Store result.1) → IsOpened (state S.Store conn) →
         IfVerify task.now (result.0 ≡ Report.Sound →
@@ -270,6 +279,9 @@ pub fn act<S: Alter, W: Write>(
     ensures legal { HasCleanDisk (state S.Store result.1) → Opens (state S.Store conn) → IsLive (state S.Store conn) →
         IsClubSchema (state S.Store conn).now.schema → IfVerify task.now (result.0 ≡ Report.Sound →
         HoldClub (state S.Store conn).committed.trees) }
+    // By whatever texts its tables were made, those that were taken over answer as a club's.
+    ensures shape { IfTakesOver task.now (IfTaken result.0 (
+        is_of_club Current (state S.Store conn).now.schema ≡ true)) }
     ensures refuses { HasCleanDisk (state S.Store result.1) → IfTakesOver task.now (IfUnopened result.0
         (IsRefusal (state S.Store conn) (state S.Store result.1))) }
     ensures older { HasCleanDisk (state S.Store result.1) → Opens (state S.Store conn) → IsLive (state S.Store conn) →
@@ -279,7 +291,7 @@ pub fn act<S: Alter, W: Write>(
         (s : ClubState) → HasFirst s (state S.Store conn).committed.trees →
         IfUpgrade task.now (IsCarriedOver s result.0 (state S.Store result.1)) }
     ensures repeats { HasCleanDisk (state S.Store result.1) → Opens (state S.Store conn) → IsLive (state S.Store conn) →
-        (s : ClubState) → IsClub s → Leaves (tables s) (state S.Store conn).committed.trees →
+        (s : ClubState) → IsClub s → HasState s (state S.Store conn).committed.trees →
         IfUpgrade task.now (IsRepeated result.0 × IsKept (state S.Store conn) (state S.Store result.1)) }
     ensures withheld { HasCleanDisk (state S.Store result.1) → IfUpgrade task.now (IfUnopened result.0
         (IsUpgradeRefusal (state S.Store conn) (state S.Store result.1))) }
@@ -287,9 +299,9 @@ pub fn act<S: Alter, W: Write>(
         result.0 ≡ Report.Unopened OpenFault.Foreign → IsKept (state S.Store conn) (state S.Store result.1) }
     ensures silent { writes task.now ≡ false → out.new ≡ out.old }
     ensures led { HasCleanDisk (state S.Store result.1) → Opens (state S.Store conn) → IsLive (state S.Store conn) →
-        (sessions : _) → IsReachable sessions (state S.Store conn).committed.trees →
+        (them : _) (sessions : _) → IsReachable them sessions (state S.Store conn).committed.trees →
         (db : _) → (state S.Store result.1).may_leave db →
-        IsReachable (sessions ++ task_sessions task.now moment result.0) db }
+        IsReachable them (sessions ++ task_sessions task.now moment result.0) db }
 {
     match task {
         Task::Init => init(alloc, conn),

@@ -134,9 +134,10 @@ pub(crate) fn unprinted<E: Write>(err: &mut E, line: &str) -> u8
     FAULT
 }
 
-/// Prints a report: what was done to the standard output, a refusal or a fault to the standard error. What a question is
-/// shown stands there before, and nothing more is printed; the lines of a batch are printed by `print_batch`. Gives the status, which is that of a fault where the line
-/// could not be made or written. `line` is empty, and has the room that was set aside for it.
+/// Prints a report: what was done to the standard output, a refusal or a fault to the standard error. What a question
+/// is shown stands there before, and nothing more is printed; the lines of a batch are printed by `print_batch`. Gives
+/// the status, which is that of a fault where the line could not be made or written. `line` is empty, and has the room
+/// that was set aside for it.
 pub fn print<O: Write, E: Write>(line: String, report: &Report, out: &mut O, err: &mut E) -> u8
     requires { string_bytes line ≡ [] }
     ensures status { (result ≡ report_status report.now) ⊎ (result ≡ 3) }

@@ -4,6 +4,7 @@ use Rattle.sqlite_wal.specs.Recovery.{Image}
 use Rattle.sqlite.specs.Tree.{Trees}
 use Rattle.sqlite.specs.Files.{HoldsDatabase, AreFoundIn}
 use Rattle.store_tables.specs.Contents.{IsEmpty}
+use Rattle.store_tables.specs.Over.{Neighbours}
 use Rattle.store.specs.Histories.{Chapter, IsReachable}
 
 -- It is the database that the files hold, as `found` of `Connection::open` promises (field `holds` of `FindsIn`).
@@ -15,9 +16,9 @@ pub record IsFoundIn (files : Image) (found : Trees) : Type 0 where
   pub holds : Finds files found
   pub reads : AreFoundIn files found
 
--- whatever an opening finds in the files, the sessions and upgrades led to it
-abbrev pub AreReachable : List Chapter → Image → Type 0
-AreReachable chapters files = (found : Trees) → IsFoundIn files found → ∥ IsReachable chapters found ∥₁
+-- whatever an opening finds in the files, the sessions and upgrades led to it, beside these neighbours
+abbrev pub AreReachable : Neighbours → List Chapter → Image → Type 0
+AreReachable them chapters files = (found : Trees) → IsFoundIn files found → ∥ IsReachable them chapters found ∥₁
 
 -- whatever an opening finds in the files has no table
 abbrev pub AreVoid : Image → Type 0

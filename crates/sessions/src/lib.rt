@@ -7,11 +7,10 @@ ghost use Rattle.sqlite.specs.Files.{file_state, IsNothing};
 ghost use Rattle.sqlite_wal.specs.Recovery.{Image};
 ghost use Rattle.sqlite_store.specs.FileStore.{state as store_state, view as store_view};
 ghost use Rattle.sqlite_trees.specs.View.{IsClean, doubt};
-ghost use Rattle.store_tables.specs.Club.{Leaves};
 ghost use Rattle.club_core.specs.Answer.{answered, outcome_of, request_of};
-ghost use Rattle.club_rows.specs.Club.{ClubState, IsClub, tables};
+ghost use Rattle.club_rows.specs.Club.{ClubState, IsClub};
 ghost use Rattle.store.specs.Runs.{club_outcomes};
-ghost use Rattle.store.specs.Histories.{IsReachable, session_of};
+ghost use Rattle.store.specs.Histories.{HasState, IsReachable, session_of};
 ghost use Rattle.sessions.specs.Finds.{Finds, AreVoid};
 
 use club_requests::Request;
@@ -45,10 +44,10 @@ pub fn end<D: Disk + Drop>(club: Club<FileStore<D>>) -> FileStore<D>
     ensures member { IsClean (store_view result) → (left : _) → (store_state result).may_leave left → (found : _) →
         Finds left found →
         ∥ (file_state club.connection).may_leave found ∥₁ }
-    ensures history { IsClean (store_view result) → (sessions : _) →
-        ((db : _) → (file_state club.connection).may_leave db → IsReachable sessions db) →
+    ensures history { IsClean (store_view result) → (them : _) (sessions : _) →
+        ((db : _) → (file_state club.connection).may_leave db → IsReachable them sessions db) →
         (left : _) → (store_state result).may_leave left → (found : _) → Finds left found →
-        ∥ IsReachable sessions found ∥₁ }
+        ∥ IsReachable them sessions found ∥₁ }
 {
     let conn = club.into_connection();
     close(conn)
@@ -72,25 +71,27 @@ pub fn serve<D: Disk + Drop>(
     ensures whole { IfOk result (λ lived. lived.0.fault ≡ None → length lived.0.outcomes.items ≡ length requests.now) }
     ensures outcomes { IfOk result (λ lived. IsClean (store_view lived.1) → Opens (file_state conn) →
         IsLive (file_state conn) →
-        (s : ClubState) → IsClub s → Leaves (tables s) (file_state conn).committed.trees →
+        (s : ClubState) → IsClub s → HasState s (file_state conn).committed.trees →
         map outcome_of lived.0.outcomes.items ≡ map answered (club_outcomes s
         (map request_of (take (length lived.0.outcomes.items) requests.now)))) }
     ensures history { IfOk result (λ lived. IsClean (store_view lived.1) → Opens (file_state conn) →
         IsLive (file_state conn) →
-        (sessions : _) → ∥ IsReachable sessions (file_state conn).committed.trees ∥₁ →
+        (them : _) (sessions : _) →
+        ∥ IsReachable them sessions (file_state conn).committed.trees ∥₁ →
         (left : _) → (store_state lived.1).may_leave left → (found : _) → Finds left found →
-        ∥ IsReachable (sessions ++ session_of requests.now lived.0 ∷ []) found ∥₁) }
+        ∥ IsReachable them (sessions ++ session_of requests.now lived.0 ∷ []) found ∥₁) }
     ensures idle { IfErr result (λ unopened. unopened.conn.in_transaction ≡ false) }
     ensures known { IfErr result (λ unopened. doubt (file_state conn).is_clean ≤ doubt
         (file_state unopened.conn).is_clean) }
     ensures good { IfErr result (λ unopened. HasCleanDisk (file_state unopened.conn) → Opens (file_state conn) →
         IsLive (file_state conn) →
-        (s : ClubState) → IsClub s → Leaves (tables s) (file_state conn).committed.trees →
+        (s : ClubState) → IsClub s → HasState s (file_state conn).committed.trees →
         (unopened.fault ≡ OpenFault.Store) ⊎ (unopened.fault ≡ OpenFault.Memory)) }
     ensures kept { IfErr result (λ unopened. HasCleanDisk (file_state unopened.conn) → Opens (file_state conn) →
         IsLive (file_state conn) →
-        (sessions : _) → ∥ IsReachable sessions (file_state conn).committed.trees ∥₁ →
-        (db : _) → (file_state unopened.conn).may_leave db → ∥ IsReachable sessions db ∥₁) }
+        (them : _) (sessions : _) →
+        ∥ IsReachable them sessions (file_state conn).committed.trees ∥₁ →
+        (db : _) → (file_state unopened.conn).may_leave db → ∥ IsReachable them sessions db ∥₁) }
 {
     match resume(alloc, conn, requests) {
         Ok((run, club)) => Ok((run, end(club))),

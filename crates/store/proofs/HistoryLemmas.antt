@@ -1,5 +1,5 @@
 -- What sessions of a club lead to, counted by the requests that are accepted.
-use Rattle.store_tables.specs.Tables.{club_schema, IsClubSchema, schema_after, schema_of}
+use Rattle.store_tables.specs.Tables.{club_schema, first_schema, IsClubSchema, schema_after}
 use Rattle.std.proofs.Common.{◌≡◌, ◌⊎◌, ℕ, zero, suc, ◌+◌, ◌≤◌, Bool, true, false, List, [], ◌∷◌, ◌++◌, map, length}
 use Rattle.std.proofs.Common.{take, Option, Some, None, IsSome, IsTrue, is_none, refl, sym, ap, subst, ◌∙◌, inl, inr}
 use Rattle.std.proofs.Common.{arith}
@@ -17,8 +17,12 @@ use Rattle.club_requests.specs.Outcome.{Outcome, accepted, repeated, refused}
 use Rattle.club_core.specs.State.{Request, opening_state, is_accepted}
 use Rattle.club_laws.proofs.Proved.{folds-accepted}
 use Rattle.club_rows.specs.Club.{both_games, ClubState, IsClub, tables}
-use Rattle.store_tables.specs.Contents.{Content, IsEmpty, IsExactlyEmpty}
+use Rattle.store_tables.specs.Beside.{Others, beside}
+use Rattle.store_tables.specs.Contents.{AreStored, Content, IsEmpty, IsExactlyEmpty}
 use Rattle.store_tables.specs.Club.{IsExactly, Leaves}
+use Rattle.store_tables.specs.Over.{alone, IsBesideThem, LeavesBeside, Neighbours, over}
+use Rattle.store_tables.specs.Reading.{KeepsContent}
+use Rattle.store_tables.proofs.Proved.{beside_alone, leaves_beside, left_alone, still_beside}
 use Rattle.store.specs.declared.club.run.Run.{Run}
 use Rattle.store.specs.declared.fault.StoreFault.{StoreFault}
 use Rattle.club_changes.specs.Steps.{club_step, club_next}
@@ -26,11 +30,12 @@ use Rattle.store.specs.Runs.{club_fold, club_outcomes, club_accepted}
 use Rattle.store_sql.proofs.Proved.{opens_exactly, schema_once}
 use Rattle.store.specs.Histories.{Chapter, Leads, Place, SessionReaches, Reaches, IsReachable, IsHistory, IsHistoryAt}
 use Rattle.store.specs.Histories.{IsAfter, is_taken, opens_as, run_session, served, session_of, answered_session}
-use Rattle.store.specs.Histories.{Session, cut_session}
-use Rattle.club_rows.specs.FirstSchema.{tables_at}
-use Rattle.club_opening.proofs.Proved.{one_version, schema_known}
+use Rattle.store.specs.Histories.{IsExactlyAt, LeavesAt, Session, cut_session}
+use Rattle.club_rows.specs.FirstSchema.{first_tables}
+use Rattle.club_opening.specs.Versions.{HoldsRows}
+use Rattle.club_opening.proofs.Proved.{schema_known, schemas_differ}
 use Rattle.store_tables.specs.declared.names.Version.{Version}
-use Rattle.store_tables.specs.declared.names.Version.TheVariants.{Current}
+use Rattle.store_tables.specs.declared.names.Version.TheVariants.{First, Current}
 
 -- those of the first requests are the first of those
 first_accepted : (s : ClubState) (rs : List Request) (j : ℕ)
@@ -190,11 +195,13 @@ run_leads_further s rs run failed told =
     (further_leads s (take (length run.outcomes.items + 1) rs) run failed (told_up_to s rs run told))
 
 -- what a stop leaves is led to with this session added
-pub session_leads : (from : Version) (s : ClubState) (sessions : List Chapter) (rs : List given_request.Request)
-    (run : Run) (db : Trees) → Reaches (opens_as from) sessions (at_state s) → Told s rs run →
-    IsAfter s rs (length run.outcomes.items) db ⊎ (IsSome run.fault × IsAfter s rs (length run.outcomes.items + 1) db)
-    → IsReachable (sessions ++ session_of rs run ∷ []) db
-session_leads from s sessions rs run db led told left = elim left [
+pub session_leads : (from : Version) (them : Neighbours) (s : ClubState) (sessions : List Chapter)
+    (rs : List given_request.Request) (run : Run) (db : Trees) → Reaches (opens_as from) sessions (at_state s)
+    → Told s rs run →
+    IsAfter them s rs (length run.outcomes.items) db
+    ⊎ (IsSome run.fault × IsAfter them s rs (length run.outcomes.items + 1) db)
+    → IsReachable them (sessions ++ session_of rs run ∷ []) db
+session_leads from them s sessions rs run db led told left = elim left [
   | inl here ↦ record {
     from = from;
     after = at_state (club_fold s (map request_of (take (length run.outcomes.items) rs)));
@@ -214,12 +221,12 @@ session_leads from s sessions rs run db led told left = elim left [
 ]
 
 -- without a fault, the tables are led to with this session added
-pub session_stands : (from : Version) (s : ClubState) (sessions : List Chapter) (rs : List given_request.Request)
-    (run : Run) (now : State) → Reaches (opens_as from) sessions (at_state s) → Told s rs run
-    → length run.outcomes.items ≡ length rs →
-    IsClub (club_fold s (map request_of rs)) → IsExactly (tables (club_fold s (map request_of rs))) now
-    → IsHistory (sessions ++ session_of rs run ∷ []) now
-session_stands from s sessions rs run now led told whole legal exactly = record {
+pub session_stands : (from : Version) (them : Neighbours) (s : ClubState) (sessions : List Chapter)
+    (rs : List given_request.Request) (run : Run) (now : State) → Reaches (opens_as from) sessions (at_state s)
+    → Told s rs run → length run.outcomes.items ≡ length rs →
+    IsClub (club_fold s (map request_of rs)) → IsBesideThem them (tables (club_fold s (map request_of rs))) now
+    → IsHistory them (sessions ++ session_of rs run ∷ []) now
+session_stands from them s sessions rs run now led told whole legal exactly = record {
   from = from;
   after = club_fold s (map request_of rs);
   legal = legal;
@@ -241,12 +248,12 @@ one_counted : (s : ClubState) (r : Request) → (if is_accepted (club_step s r) 
 one_counted s r = elim (cases_Bool (is_accepted (club_step s r))) [ inl took ↦ rw took refl | inr left ↦ rw left refl ]
 
 -- a request that was answered leads, as a session of its own, to the state after it
-pub one_stands : (from : Version) (s : ClubState) (sessions : List Chapter) (r : Request)
+pub one_stands : (from : Version) (them : Neighbours) (s : ClubState) (sessions : List Chapter) (r : Request)
     (o : given_outcome.Outcome) (now : State) → Reaches (opens_as from) sessions (at_state s)
     → outcome_of o ≡ answered (club_step s r)
-    → IsClub (club_next s r) → IsExactly (tables (club_next s r)) now
-    → IsHistory (sessions ++ answered_session r o ∷ []) now
-one_stands from s sessions r o now led told legal exactly = record {
+    → IsClub (club_next s r) → IsBesideThem them (tables (club_next s r)) now
+    → IsHistory them (sessions ++ answered_session r o ∷ []) now
+one_stands from them s sessions r o now led told legal exactly = record {
   from = from;
   after = club_next s r;
   legal = legal;
@@ -271,11 +278,12 @@ one_leads from s sessions r led =
     (refl, leads_on s (r ∷ []) 1 _ true (one_counted s r))
 
 -- a request that a fault cut off leads to the state before it or to the one after
-pub one_cut : (from : Version) (s : ClubState) (sessions : List Chapter) (r : Request) (db : Trees)
+pub one_cut : (from : Version) (them : Neighbours) (s : ClubState) (sessions : List Chapter) (r : Request) (db : Trees)
     → Reaches (opens_as from) sessions (at_state s)
     → IsClub s → IsClub (club_next s r)
-    → Leaves (tables s) db ⊎ Leaves (tables (club_next s r)) db → IsReachable (sessions ++ cut_session r ∷ []) db
-one_cut from s sessions r db led before after (inl kept) = record {
+    → LeavesBeside them (tables s) db ⊎ LeavesBeside them (tables (club_next s r)) db
+    → IsReachable them (sessions ++ cut_session r ∷ []) db
+one_cut from them s sessions r db led before after (inl kept) = record {
   from = from;
   after = at_state s;
   legal = before;
@@ -283,7 +291,7 @@ one_cut from s sessions r db led before after (inl kept) = record {
       (refl, leads_on s (r ∷ []) 0 0 false refl);
   leaves = kept;
 }
-one_cut from s sessions r db led before after (inr changed) = record {
+one_cut from them s sessions r db led before after (inr changed) = record {
   from = from;
   after = at_state (club_next s r);
   legal = after;
@@ -311,79 +319,141 @@ opening_legal = record {
   challenge_numbers = λ i j x y at. absurd (let h = at in cc);
 }
 
-pub opening_led : (trees : Trees) → Leaves (tables opening_state) trees → IsReachable [] trees
-opening_led trees left =
-    record { from = Current; after = at_state opening_state; legal = opening_legal; leads = refl; leaves = left }
+pub opening_led : (trees : Trees) → Leaves (tables opening_state) trees → IsReachable alone [] trees
+opening_led trees left = record {
+  from = Current;
+  after = at_state opening_state;
+  legal = opening_legal;
+  leads = refl;
+  leaves = left_alone (tables opening_state) trees left;
+}
 
-pub opening_stands : (now : State) → IsExactly (tables opening_state) now → IsHistory [] now
-opening_stands now exactly =
-    record { from = Current; after = opening_state; legal = opening_legal; leads = refl; exactly = exactly }
+pub opening_stands : (now : State) → IsExactly (tables opening_state) now → IsHistory alone [] now
+opening_stands now exactly = record {
+  from = Current;
+  after = opening_state;
+  legal = opening_legal;
+  leads = refl;
+  exactly = beside_alone (tables opening_state) now exactly;
+}
 
-pub stops_led : (version : Version) (chapters : List Chapter) (now : State) → IsHistoryAt version chapters now
-    → (trees : Trees) → now.may_leave trees → IsReachable chapters trees
-stops_led version chapters now at trees left = record {
+-- what a stop leaves of a place in a history
+pub left_at : (version : Version) (them : Neighbours) (after : ClubState) (now : State)
+    → IsExactlyAt version them after now → (trees : Trees) → now.may_leave trees → LeavesAt version them after trees
+left_at First them after now k trees left = (k.0, k.1.may_leave trees left)
+left_at Current them after now k trees left = leaves_beside them (tables after) now k trees left
+
+pub stops_led : (version : Version) (them : Neighbours) (chapters : List Chapter) (now : State)
+    → IsHistoryAt version them chapters now → (trees : Trees) → now.may_leave trees → IsReachable them chapters trees
+stops_led version them chapters now at trees left = record {
   from = at.from;
   after = record { version = version; state = at.after };
   legal = at.legal;
   leads = at.leads;
-  leaves = at.exactly.may_leave trees left;
+  leaves = left_at version them at.after now at.exactly trees left;
 }
 
-pub opens_led : (chapters : List Chapter) (s : State) → Opens s → IsLive s
-    → ((db : Trees) → IsTrue s.is_open → s.may_leave db → db ≡ s.committed.trees)
-    → IsReachable chapters s.committed.trees → (version : Version) × IsHistoryAt version chapters s
-opens_led chapters s opens live settled led = (
-  led.after.version,
-  record {
-    from = led.from;
-    after = led.after.state;
-    legal = led.legal;
-    leads = led.leads;
-    exactly = opens_exactly (schema_of led.after.version) (tables_at led.after.version led.after.state) s opens live
-        settled led.leaves;
-  },
-)
+-- what a connection finds that was just opened, where a stop leaves what was committed
+module _ (s : State) (opens : Opens s) (live : IsLive s)
+    (settled : (db : Trees) → IsTrue s.is_open → s.may_leave db → db ≡ s.committed.trees) where
+  pub opens_beside : (them : Neighbours) (content : Content) → LeavesBeside them content s.committed.trees
+      → IsBesideThem them content s
+  opens_beside them content left = record {
+    clear = left.clear;
+    exactly = opens_exactly (beside club_schema them.made) (over content them.rows) s opens live settled left.leaves;
+  }
 
--- a history by tables of the last schema is one of the last version
-pub current_history : (version : Version) (chapters : List Chapter) (s : State) → IsHistoryAt version chapters s
-    → s.now.schema ≡ club_schema → IsHistory chapters s
-current_history version chapters s at has =
-    subst (λ v. IsHistoryAt v chapters s) (one_version version Current s.now.schema at.exactly.now.schema has) at
+  opens_at : (version : Version) (them : Neighbours) (after : ClubState)
+      → LeavesAt version them after s.committed.trees → IsExactlyAt version them after s
+  opens_at First them after left =
+      (left.0, opens_exactly first_schema (first_tables after) s opens live settled left.1)
+  opens_at Current them after left = opens_beside them (tables after) left
 
--- and so is one by tables that were taken
-pub current_taken : {Rest : Type 0} (chapters : List Chapter) (s : State)
-    → (IsClubSchema s.now.schema → (s.now.schema ≡ club_schema) × Rest)
-    → (version : Version) × IsHistoryAt version chapters s → IsHistory chapters s
-current_taken chapters s taken (version, at) =
-    current_history version chapters s at (taken (schema_known version s.now.schema at.exactly.now.schema)).0
-
--- a connection that opens on trees with no table is empty
-pub opens_empty : (s : State) → Opens s → IsLive s
-    → ((db : Trees) → IsTrue s.is_open → s.may_leave db → db ≡ s.committed.trees) → IsEmpty s.committed.trees
-    → IsExactlyEmpty s
-opens_empty s opens live settled empty =
-    let same : s.now.trees ≡ s.committed.trees = ap (λ d. d.trees) opens.clean in
-    let here : IsEmpty s.now.trees = subst IsEmpty (sym same) empty in
+  pub opens_led : (them : Neighbours) (chapters : List Chapter) → IsReachable them chapters s.committed.trees
+      → (version : Version) × IsHistoryAt version them chapters s
+  opens_led them chapters led = (
+    led.after.version,
     record {
-      is_open = opens.is_open;
-      idle = opens.autocommit;
-      now =
-          record {
-            schema_is = schema_once s.now.trees s.now.schema (schema_after 0) (live opens.is_open).0 here.sound;
-            sound = (live opens.is_open).0;
-            empty = tt;
-          };
-      may_leave = λ db left. subst IsEmpty (sym (settled db opens.is_open left)) empty;
-    }
+      from = led.from;
+      after = led.after.state;
+      legal = led.legal;
+      leads = led.leads;
+      exactly = opens_at led.after.version them led.after.state led.leaves;
+    },
+  )
+
+  -- a connection that opens on trees with no table is empty
+  pub opens_empty : IsEmpty s.committed.trees → IsExactlyEmpty s
+  opens_empty empty =
+      let same : s.now.trees ≡ s.committed.trees = ap (λ d. d.trees) opens.clean in
+      let here : IsEmpty s.now.trees = subst IsEmpty (sym same) empty in
+      record {
+        is_open = opens.is_open;
+        idle = opens.autocommit;
+        now =
+            record {
+              schema_is = schema_once s.now.trees s.now.schema (schema_after 0) (live opens.is_open).0 here.sound;
+              sound = (live opens.is_open).0;
+              empty = tt;
+            };
+        may_leave = λ db left. subst IsEmpty (sym (settled db opens.is_open left)) empty;
+      }
+
+-- a history whose tables were taken as those of the last schema, if they are a club's alone, is one of the last version
+pub current_taken : (them : Neighbours) (chapters : List Chapter) (s : State)
+    → (IsClubSchema s.now.schema → s.now.schema ≡ club_schema)
+    → (version : Version) × IsHistoryAt version them chapters s → IsHistory them chapters s
+current_taken them chapters s taken (First, at) =
+    let first : s.now.schema ≡ first_schema = at.exactly.1.now.schema in
+    absurd (schemas_differ (sym first ∙ taken (schema_known First s.now.schema first)))
+current_taken them chapters s taken (Current, at) = at
 
 -- what keeps the tables keeps where they stand
-pub still_stands : (chapters : List Chapter) (old new : State)
-    → ((content : Content) → IsExactly content old → IsExactly content new) → IsHistory chapters old
-    → IsHistory chapters new
-still_stands chapters old new same at = record {
+pub still_stands : (them : Neighbours) (chapters : List Chapter) (old new : State) → KeepsContent old new
+    → IsHistory them chapters old → IsHistory them chapters new
+still_stands them chapters old new kept at = record {
   from = at.from;
   after = at.after;
   legal = at.legal;
   leads = at.leads;
-  exactly = same (tables at.after) at.exactly;
+  exactly = still_beside old new kept them (tables at.after) at.exactly;
+}
+
+-- ---- the rows of a club among those of all tables
+
+club_stored : (content rest : Content) (others : Others) (trees : Trees)
+    → AreStored (beside club_schema others) trees (over content rest) → AreStored club_schema trees content
+club_stored content rest others trees t = (
+  record { rows = t.0.rows; apart = t.0.apart },
+  (
+    record { rows = t.1.0.rows; apart = t.1.0.apart },
+    (
+      record { rows = t.1.1.0.rows; apart = t.1.1.0.apart },
+      (
+        record { rows = t.1.1.1.0.rows; apart = t.1.1.1.0.apart },
+        (
+          record { rows = t.1.1.1.1.0.rows; apart = t.1.1.1.1.0.apart },
+          (
+            record { rows = t.1.1.1.1.1.0.rows; apart = t.1.1.1.1.1.0.apart },
+            (
+              record { rows = t.1.1.1.1.1.1.0.rows; apart = t.1.1.1.1.1.1.0.apart },
+              (
+                record { rows = t.1.1.1.1.1.1.1.0.rows; apart = t.1.1.1.1.1.1.1.0.apart },
+                (record { rows = t.1.1.1.1.1.1.1.1.0.rows; apart = t.1.1.1.1.1.1.1.1.0.apart }, tt),
+              ),
+            ),
+          ),
+        ),
+      ),
+    ),
+  ),
+)
+
+-- what an opening is told of a club beside its neighbours
+pub holds_beside : (them : Neighbours) (content : Content) (s : State) → IsBesideThem them content s
+    → HoldsRows Current content s.now
+holds_beside them content s k = record {
+  schema = (them.made, k.exactly.now.schema);
+  sound = k.exactly.now.sound;
+  tables = club_stored content them.rows them.made s.now.trees k.exactly.now.tables;
 }

@@ -4,7 +4,7 @@ use Rattle.std.proofs.Common.{sym, ap, subst, ◌∙◌, ◌⊎◌, inl, inr}
 use Rattle.std.proofs.lemmas.List.{take_more, take_all, map-append, length_push}
 use Rattle.sqlite.specs.State.{State}
 use Rattle.sqlite.specs.Tree.{Trees}
-use Rattle.store_tables.specs.Club.{IsExactly, Leaves}
+use Rattle.store_tables.specs.Over.{IsBesideThem, LeavesBeside, Neighbours}
 use Rattle.club_requests.specs.declared.requests.Request as given_request
 use Rattle.club_requests.specs.declared.answers.Outcome as given_outcome
 use Rattle.club_core.specs.Answer.{answered, outcome_of, request_of}
@@ -38,16 +38,18 @@ pub first_of-more : (rs : List given_request.Request) (k : ℕ) (r : given_reque
 first_of-more rs k r within is = ap (map request_of) (take_more rs k r within ∙ ap (λ x. take k rs ++ x ∷ []) (sym is))
     ∙ map-append request_of (take k rs) (r ∷ [])
 
--- So many requests were served: the club is legal, its tables are the state's, and the outcomes are the machine's.
-pub record Served (s : ClubState) (rs : List given_request.Request) (k : ℕ) (outcomes : List given_outcome.Outcome)
-    (now : State) : Type 0 where
+-- So many requests were served: the club is legal, its tables are the state's, beside their neighbours, and the
+-- outcomes are the machine's.
+pub record Served (them : Neighbours) (s : ClubState) (rs : List given_request.Request) (k : ℕ)
+    (outcomes : List given_outcome.Outcome) (now : State) : Type 0 where
   pub is_club : IsClub (club_fold s (first_of rs k))
-  pub exactly : IsExactly (tables (club_fold s (first_of rs k))) now
+  pub exactly : IsBesideThem them (tables (club_fold s (first_of rs k))) now
   pub answers : map outcome_of outcomes ≡ map answered (club_outcomes s (first_of rs k))
 
-pub served-none : (s : ClubState) (rs : List given_request.Request) (outcomes : List given_outcome.Outcome)
-    (now : State) → IsClub s → IsExactly (tables s) now → outcomes ≡ [] → Served s rs 0 outcomes now
-served-none s rs outcomes now is_club exactly none =
+pub served-none : (them : Neighbours) (s : ClubState) (rs : List given_request.Request)
+    (outcomes : List given_outcome.Outcome) (now : State) → IsClub s → IsBesideThem them (tables s) now
+    → outcomes ≡ [] → Served them s rs 0 outcomes now
+served-none them s rs outcomes now is_club exactly none =
     record { is_club = is_club; exactly = exactly; answers = ap (map outcome_of) none }
 
 -- the state after one more of the requests
@@ -57,20 +59,21 @@ next-state s rs k r within is = ap (club_fold s) (first_of-more rs k r within is
     ∙ fold-more s (first_of rs k) (request_of r)
 
 -- one more request is served
-pub served-next : (s : ClubState) (rs : List given_request.Request) (k : ℕ) (r : given_request.Request)
-    (outcomes more : List given_outcome.Outcome) (outcome : given_outcome.Outcome) (now new : State) →
-    k < length rs → r ≡ get_or rs k r → more ≡ outcomes ++ outcome ∷ [] → Served s rs k outcomes now →
+pub served-next : (them : Neighbours) (s : ClubState) (rs : List given_request.Request) (k : ℕ)
+    (r : given_request.Request) (outcomes more : List given_outcome.Outcome) (outcome : given_outcome.Outcome)
+    (now new : State) →
+    k < length rs → r ≡ get_or rs k r → more ≡ outcomes ++ outcome ∷ [] → Served them s rs k outcomes now →
     IsClub (club_next (club_fold s (first_of rs k)) (request_of r)) →
-    IsExactly (tables (club_next (club_fold s (first_of rs k)) (request_of r))) new →
+    IsBesideThem them (tables (club_next (club_fold s (first_of rs k)) (request_of r))) new →
     outcome_of outcome ≡ answered (club_step (club_fold s (first_of rs k)) (request_of r)) →
-    Served s rs (k + 1) more new
-served-next s rs k r outcomes more outcome now new within is pushed served legal exactly told =
+    Served them s rs (k + 1) more new
+served-next them s rs k r outcomes more outcome now new within is pushed served legal exactly told =
     let before = first_of rs k in
     let same : club_fold s (first_of rs (k + 1)) ≡ club_next (club_fold s before) (request_of r) =
     next-state s rs k r within is in
     record {
       is_club = subst IsClub (sym same) legal;
-      exactly = subst (λ (u : ClubState). IsExactly (tables u) new) (sym same) exactly;
+      exactly = subst (λ (u : ClubState). IsBesideThem them (tables u) new) (sym same) exactly;
       answers =
           ap (map outcome_of) pushed
           ∙ (map-append outcome_of outcomes (outcome ∷ [])
@@ -82,57 +85,61 @@ served-next s rs k r outcomes more outcome now new within is pushed served legal
     }
 
 -- the outcomes are those of as many requests
-pub served-outcomes : (s : ClubState) (rs : List given_request.Request) (k : ℕ) (outcomes : List given_outcome.Outcome)
-    (now : State) → length outcomes ≡ k → Served s rs k outcomes now →
+pub served-outcomes : (them : Neighbours) (s : ClubState) (rs : List given_request.Request) (k : ℕ)
+    (outcomes : List given_outcome.Outcome) (now : State) → length outcomes ≡ k → Served them s rs k outcomes now →
     map outcome_of outcomes ≡ map answered (club_outcomes s (first_of rs (length outcomes)))
-served-outcomes s rs k outcomes now count served = served.answers
+served-outcomes them s rs k outcomes now count served = served.answers
     ∙ ap (λ n. map answered (club_outcomes s (first_of rs n))) (sym count)
 
 -- what a stop leaves after so many outcomes, or after one request more
-abbrev pub LeavesBy : ClubState → List given_request.Request → ℕ → Trees → Type 0
-LeavesBy s rs n db = Leaves (tables (club_fold s (first_of rs n))) db
-    ⊎ Leaves (tables (club_fold s (first_of rs (n + 1)))) db
+abbrev pub LeavesBy : Neighbours → ClubState → List given_request.Request → ℕ → Trees → Type 0
+LeavesBy them s rs n db = LeavesBeside them (tables (club_fold s (first_of rs n))) db
+    ⊎ LeavesBeside them (tables (club_fold s (first_of rs (n + 1)))) db
 
-pub served-leaves : (s : ClubState) (rs : List given_request.Request) (k n : ℕ) (r : given_request.Request) (db : Trees)
-    → n ≡ k → k < length rs → r ≡ get_or rs k r →
-    Leaves (tables (club_fold s (first_of rs k))) db
-    ⊎ Leaves (tables (club_next (club_fold s (first_of rs k)) (request_of r))) db → LeavesBy s rs n db
-served-leaves s rs k n r db count within is left =
-    subst (λ m. LeavesBy s rs m db) (sym count)
+pub served-leaves : (them : Neighbours) (s : ClubState) (rs : List given_request.Request) (k n : ℕ)
+    (r : given_request.Request) (db : Trees) → n ≡ k → k < length rs → r ≡ get_or rs k r →
+    LeavesBeside them (tables (club_fold s (first_of rs k))) db
+    ⊎ LeavesBeside them (tables (club_next (club_fold s (first_of rs k)) (request_of r))) db → LeavesBy them s rs n db
+served-leaves them s rs k n r db count within is left =
+    subst (λ m. LeavesBy them s rs m db) (sym count)
     (elim left [
       | inl before ↦ inl before
-      | inr after ↦ inr (subst (λ (u : ClubState). Leaves (tables u) db) (sym (next-state s rs k r within is)) after)
+      | inr after ↦ inr
+          (subst (λ (u : ClubState). LeavesBeside them (tables u) db) (sym (next-state s rs k r within is)) after)
     ])
 
 -- all of the requests were served
-pub served-all : (s : ClubState) (rs : List given_request.Request) (k : ℕ) (outcomes : List given_outcome.Outcome)
-    (now : State) → length rs ≤ k → Served s rs k outcomes now
-    → IsExactly (tables (club_fold s (map request_of rs))) now
-served-all s rs k outcomes now all served =
-    subst (λ xs. IsExactly (tables (club_fold s (map request_of xs))) now) (take_all k rs all) served.exactly
+pub served-all : (them : Neighbours) (s : ClubState) (rs : List given_request.Request) (k : ℕ)
+    (outcomes : List given_outcome.Outcome) (now : State) → length rs ≤ k → Served them s rs k outcomes now
+    → IsBesideThem them (tables (club_fold s (map request_of rs))) now
+served-all them s rs k outcomes now all served =
+    subst (λ xs. IsBesideThem them (tables (club_fold s (map request_of xs))) now) (take_all k rs all) served.exactly
 
-pub legal-all : (s : ClubState) (rs : List given_request.Request) (k : ℕ) (outcomes : List given_outcome.Outcome)
-    (now : State) → length rs ≤ k → Served s rs k outcomes now → IsClub (club_fold s (map request_of rs))
-legal-all s rs k outcomes now all served =
+pub legal-all : (them : Neighbours) (s : ClubState) (rs : List given_request.Request) (k : ℕ)
+    (outcomes : List given_outcome.Outcome) (now : State) → length rs ≤ k → Served them s rs k outcomes now
+    → IsClub (club_fold s (map request_of rs))
+legal-all them s rs k outcomes now all served =
     subst (λ xs. IsClub (club_fold s (map request_of xs))) (take_all k rs all) served.is_club
 
 -- what a stop leaves of so many served requests is of a legal state
-pub after-served : (s : ClubState) (rs : List given_request.Request) (k n : ℕ) (db : Trees) → n ≡ k
-    → IsClub (club_fold s (first_of rs k)) → Leaves (tables (club_fold s (first_of rs k))) db → IsAfter s rs n db
-after-served s rs k n db count legal leaves =
-    subst (λ m. IsAfter s rs m db) (sym count) (record { legal = legal; leaves = leaves })
+pub after-served : (them : Neighbours) (s : ClubState) (rs : List given_request.Request) (k n : ℕ) (db : Trees)
+    → n ≡ k → IsClub (club_fold s (first_of rs k)) → LeavesBeside them (tables (club_fold s (first_of rs k))) db
+    → IsAfter them s rs n db
+after-served them s rs k n db count legal leaves =
+    subst (λ m. IsAfter them s rs m db) (sym count) (record { legal = legal; leaves = leaves })
 
 -- so is it of one request more
-pub after-next : (s : ClubState) (rs : List given_request.Request) (k n : ℕ) (r : given_request.Request) (db : Trees)
-    → n ≡ k → k < length rs → r ≡ get_or rs k r →
+pub after-next : (them : Neighbours) (s : ClubState) (rs : List given_request.Request) (k n : ℕ)
+    (r : given_request.Request) (db : Trees) → n ≡ k → k < length rs → r ≡ get_or rs k r →
     IsClub (club_next (club_fold s (first_of rs k)) (request_of r))
-    → Leaves (tables (club_next (club_fold s (first_of rs k)) (request_of r))) db → IsAfter s rs (n + 1) db
-after-next s rs k n r db count within is legal leaves =
+    → LeavesBeside them (tables (club_next (club_fold s (first_of rs k)) (request_of r))) db
+    → IsAfter them s rs (n + 1) db
+after-next them s rs k n r db count within is legal leaves =
     let same : club_fold s (first_of rs (k + 1)) ≡ club_next (club_fold s (first_of rs k)) (request_of r) =
     next-state s rs k r within is in
-    subst (λ m. IsAfter s rs (m + 1) db) (sym count)
+    subst (λ m. IsAfter them s rs (m + 1) db) (sym count)
     (record {
       legal = subst IsClub (sym same) legal;
       leaves =
-          subst (λ (u : ClubState). Leaves (tables u) db) (sym same) leaves;
+          subst (λ (u : ClubState). LeavesBeside them (tables u) db) (sym same) leaves;
     })

@@ -1,5 +1,5 @@
 -- From the tables of schema 1 to those of schema 2 with the same state.
-use Rattle.std.proofs.Common.{◌≡◌, ◌⊎◌, ◌+◌, ℕ, ℤ, pos, true, false, List, [], ◌∷◌, ◌++◌, map, refl, sym, ap, subst}
+use Rattle.std.proofs.Common.{◌≡◌, ◌⊎◌, ◌+◌, ℕ, pos, true, false, List, [], ◌∷◌, ◌++◌, map, refl, sym, ap, subst}
 use Rattle.std.proofs.Common.{◌∙◌}
 use Rattle.std.proofs.Common.{arith, inl, inr}
 use Rattle.std.specs.Prelude.{slice_get}
@@ -12,26 +12,26 @@ use Rattle.store_tables.specs.Changed.{widened}
 use Rattle.store_tables.specs.Changes.{Alters, HaveSame}
 use Rattle.store_tables.specs.Club.{IsExactly, Leaves}
 use Rattle.store_tables.specs.Content.{put}
-use Rattle.store_tables.specs.Contents as of_schema
 use Rattle.store_tables.specs.Contents.{put_each, put_in}
-use Rattle.store_tables.specs.Tables.{schema_number, schema_of}
+use Rattle.store_tables.specs.Beside.{IsBeside}
+use Rattle.store_tables.specs.Over.{alone, IsBesideThem, LeavesBeside, Neighbours}
+use Rattle.store_tables.specs.Tables.{club_schema}
 use Rattle.store_tables.specs.declared.names.Version.{Version}
 use Rattle.store_tables.specs.declared.names.Version.TheVariants.{First, Current}
 use Rattle.store_tables.specs.declared.rows.EventRuleRow.{EventRuleRow}
 use Rattle.store_tables.specs.declared.rows.MetaRow.{MetaRow}
 use Rattle.store_tables.specs.declared.rows.Rows.{Rows}
 use Rattle.sqlite.specs.declared.types.Value.TheVariants.{Int}
-use Rattle.club_opening.specs.Blames.{IsNumberFrom}
 use Rattle.club_opening.specs.Places.{IsRegisterOf}
-use Rattle.store_tables.proofs.Proved.{altered, each_at, same_by}
+use Rattle.store_tables.proofs.Proved.{altered, beside_alone, each_at, left_alone, same_by}
 use Rattle.club_changes.proofs.Proved.{ids_agree, ids_same, numbered_had}
 use Rattle.club_changes.specs.Steps.{AreSame}
 use Rattle.club_core.specs.Events.{Event}
 use Rattle.club_rows.specs.Club.{ClubState, tables}
-use Rattle.club_rows.specs.FirstSchema.{first_tables, tables_at}
+use Rattle.club_rows.specs.FirstSchema.{first_tables}
 use Rattle.club_rows.specs.Tables.{meta_row, numbered_from, rule_row}
 use Rattle.club_opening.proofs.Proved.{club_of_version}
-use Rattle.store.specs.Histories.{Chapter, IsHistory, IsHistoryAt, IsReachable, opens_as, upgraded}
+use Rattle.store.specs.Histories.{Chapter, IsHistory, IsHistoryAt, IsReachable, LeavesAt, opens_as, upgraded}
 use Rattle.store.proofs.HistoryLemmas.{at_state, leads_then}
 
 -- ---- the tables
@@ -128,18 +128,32 @@ register_widened s found rules meta register same cells =
     first_widened s rules meta (ap (map event_rule_cells) same ∙ register.rules)
     (cells ∙ ap (λ n. Int (pos 1) ∷ Int (pos 2) ∷ Int n ∷ []) register.last)
 
--- a number of either version is one from the first on
-pub from_first : (version : Version) → IsNumberFrom First (pos (schema_number version))
-from_first First = inl refl
-from_first Current = inr refl
-
 -- ---- histories
 
+pub not_newer : (found : Version) → found ≡ First → ¬ (found ≡ Current)
+not_newer found first current = absurd (let x = sym first ∙ current in cc)
+
+-- a history by tables that were found to be those of schema 1 is one of the first version
+pub first_history : (them : Neighbours) (chapters : List Chapter) (s : State) (found : Version) → found ≡ First
+    → (IsBeside club_schema s.now.schema → found ≡ Current)
+    → (version : Version) × IsHistoryAt version them chapters s → IsHistoryAt First them chapters s
+first_history them chapters s found first newer (First, at) = at
+first_history them chapters s found first newer (Current, at) =
+    absurd (not_newer found first (newer (them.made, at.exactly.exactly.now.schema)))
+
+-- what an upgrade makes of a club that stands alone
+module _ (them : Neighbours) (is : them ≡ alone) (s : ClubState) where
+  pub made_alone : (now : State) → IsExactly (tables s) now → IsBesideThem them (tables s) now
+  made_alone now k = subst (λ n. IsBesideThem n (tables s) now) (sym is) (beside_alone (tables s) now k)
+
+  pub made_left : (db : Trees) → Leaves (tables s) db → LeavesBeside them (tables s) db
+  made_left db left = subst (λ n. LeavesBeside n (tables s) db) (sym is) (left_alone (tables s) db left)
+
 -- an upgrade that was answered leads to the last version
-pub upgraded_stands : (version : Version) (chapters : List Chapter) (old new : State)
-    → (at : IsHistoryAt version chapters old) → IsExactly (tables at.after) new
-    → IsHistory (chapters ++ upgraded true ∷ []) new
-upgraded_stands version chapters old new at exactly = record {
+pub upgraded_stands : (version : Version) (them : Neighbours) (chapters : List Chapter) (old new : State)
+    → (at : IsHistoryAt version them chapters old) → IsBesideThem them (tables at.after) new
+    → IsHistory them (chapters ++ upgraded true ∷ []) new
+upgraded_stands version them chapters old new at exactly = record {
   from = at.from;
   after = at.after;
   legal = club_of_version version at.after at.legal;
@@ -149,11 +163,11 @@ upgraded_stands version chapters old new at exactly = record {
 }
 
 -- one that was cut off leads to it, or stays where it was
-pub upgraded_cut : (version : Version) (chapters : List Chapter) (old : State)
-    → (at : IsHistoryAt version chapters old) → (db : Trees)
-    → of_schema.Leaves (schema_of version) (tables_at version at.after) db ⊎ Leaves (tables at.after) db
-    → IsReachable (chapters ++ upgraded false ∷ []) db
-upgraded_cut version chapters old at db (inl before) = record {
+pub upgraded_cut : (version : Version) (them : Neighbours) (chapters : List Chapter) (old : State)
+    → (at : IsHistoryAt version them chapters old) → (db : Trees)
+    → LeavesAt version them at.after db ⊎ LeavesBeside them (tables at.after) db
+    → IsReachable them (chapters ++ upgraded false ∷ []) db
+upgraded_cut version them chapters old at db (inl before) = record {
   from = at.from;
   after = record { version = version; state = at.after };
   legal = at.legal;
@@ -161,7 +175,7 @@ upgraded_cut version chapters old at db (inl before) = record {
       (record { version = version; state = at.after }) chapters (upgraded false) at.leads (refl, inr (refl, refl));
   leaves = before;
 }
-upgraded_cut version chapters old at db (inr after) = record {
+upgraded_cut version them chapters old at db (inr after) = record {
   from = at.from;
   after = at_state at.after;
   legal = club_of_version version at.after at.legal;

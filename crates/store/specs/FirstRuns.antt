@@ -1,6 +1,6 @@
 -- What the program of schema 1 made of requests in turn. It gave no event declarations, and else did what this one
 -- does.
-use Rattle.std.specs.Prelude.{ℕ, false, if◌then◌else◌, List, [], ◌∷◌, map}
+use Rattle.std.specs.Prelude.{false, if◌then◌else◌, List, [], ◌∷◌, map}
 use Rattle.club_core.specs.Events.{Event}
 use Rattle.club_core.specs.State.{Request, is_accepted}
 use Rattle.club_rows.specs.Club.{ClubState}

@@ -6,8 +6,10 @@ use Rattle.std.specs.List.{count_by}
 use Rattle.sqlite.specs.Tree.{Trees}
 use Rattle.sqlite.specs.State.{State}
 use Rattle.store_tables.specs.Contents as of_schema
+use Rattle.store_tables.specs.Beside.{beside}
 use Rattle.store_tables.specs.Club.{Leaves}
-use Rattle.store_tables.specs.Tables.{schema_of}
+use Rattle.store_tables.specs.Over.{Neighbours, alone, IsBesideThem, LeavesBeside}
+use Rattle.store_tables.specs.Tables.{club_schema, first_schema}
 use Rattle.store_tables.specs.declared.names.Version.{Version}
 use Rattle.store_tables.specs.declared.names.Version.TheVariants.{First, Current}
 use Rattle.club_requests.specs.declared.requests.Request as given_request
@@ -15,8 +17,9 @@ use Rattle.club_requests.specs.declared.answers.Outcome as given_outcome
 use Rattle.club_core.specs.Answer.{outcome_of, request_of}
 use Rattle.club_core.specs.State.{Request, opening_state, is_accepted}
 use Rattle.club_rows.specs.Club.{ClubState, IsClub, tables}
-use Rattle.club_rows.specs.FirstSchema.{IsClubOf, tables_at}
+use Rattle.club_rows.specs.FirstSchema.{IsClubOf, first_tables}
 use Rattle.club_opening.specs.Versions.{IsExactlyClub}
+use Rattle.table_shapes.specs.Shapes.{is_of_club}
 use Rattle.store.specs.declared.club.run.Run.{Run}
 use Rattle.store.specs.FirstRuns.{first_accepted, first_fold}
 use Rattle.store.specs.Runs.{club_fold, club_accepted}
@@ -78,25 +81,41 @@ Reaches before (chapter ∷ chapters) after = (between : Place) × Leads before 
 abbrev pub opens_as : Version → Place
 opens_as version = record { version = version; state = opening_state }
 
+-- A later opening finds the tables of this state beside their neighbours. A club of schema 1 stands alone: the table
+-- that an upgrade makes would come after theirs.
+abbrev pub LeavesAt : Version → Neighbours → ClubState → Trees → Type 0
+LeavesAt First them s trees = (them ≡ alone) × of_schema.Leaves first_schema (first_tables s) trees
+LeavesAt Current them s trees = LeavesBeside them (tables s) trees
+
+-- the same of what an open connection holds, and of all that a stop may leave of it
+abbrev pub IsExactlyAt : Version → Neighbours → ClubState → State → Type 0
+IsExactlyAt First them s now = (them ≡ alone) × IsExactlyClub First s now
+IsExactlyAt Current them s now = IsBesideThem them (tables s) now
+
+-- The trees have the tables of this state, alone or beside what other programs made, and these answer as a club's.
+pub record HasState (s : ClubState) (trees : Trees) : Type 0 where
+  pub them : Neighbours
+  pub leaves : LeavesBeside them (tables s) trees
+  pub shape : is_of_club Current (beside club_schema them.made) ≡ true
+
 -- From the opening of a club, of whatever version, the chapters lead to a legal state whose tables these trees have,
--- for
--- any later opening.
-pub record IsReachable (chapters : List Chapter) (trees : Trees) : Type 0 where
+-- for any later opening, beside these neighbours.
+pub record IsReachable (them : Neighbours) (chapters : List Chapter) (trees : Trees) : Type 0 where
   pub from : Version
   pub after : Place
   pub legal : IsClubOf after.version after.state
   pub leads : Reaches (opens_as from) chapters after
-  pub leaves : of_schema.Leaves (schema_of after.version) (tables_at after.version after.state) trees
+  pub leaves : LeavesAt after.version them after.state trees
 
 -- the same of what an open connection holds, and of all that a stop may leave of it, by the tables of this version
-pub record IsHistoryAt (version : Version) (chapters : List Chapter) (now : State) : Type 0 where
+pub record IsHistoryAt (version : Version) (them : Neighbours) (chapters : List Chapter) (now : State) : Type 0 where
   pub from : Version
   pub after : ClubState
   pub legal : IsClubOf version after
   pub leads : Reaches (opens_as from) chapters (record { version = version; state = after })
-  pub exactly : IsExactlyClub version after now
+  pub exactly : IsExactlyAt version them after now
 
-abbrev pub IsHistory : List Chapter → State → Type 0
+abbrev pub IsHistory : Neighbours → List Chapter → State → Type 0
 IsHistory = IsHistoryAt Current
 
 -- an answer that the request is accepted
@@ -124,12 +143,12 @@ answered_session request outcome =
 abbrev pub cut_session : Request → Chapter
 cut_session request = served (record { requests = request ∷ []; returned = 0; is_whole = false })
 
--- the state after so many of the requests is legal, and these trees have its tables
-pub record IsAfter (before : ClubState) (requests : List given_request.Request) (count : ℕ) (trees : Trees) : Type 0
-  where
-    pub legal : IsClub (club_fold before (map request_of (take count requests)))
-    pub leaves : Leaves (tables (club_fold before (map request_of (take count requests)))) trees
+-- the state after so many of the requests is legal, and these trees have its tables, beside their neighbours
+pub record IsAfter (them : Neighbours) (before : ClubState) (requests : List given_request.Request) (count : ℕ)
+    (trees : Trees) : Type 0 where
+  pub legal : IsClub (club_fold before (map request_of (take count requests)))
+  pub leaves : LeavesBeside them (tables (club_fold before (map request_of (take count requests)))) trees
 
 -- what a history begins with: no session leads to the tables of a club with nothing in it
 abbrev pub BeginsAtOpening : Type 0
-BeginsAtOpening = (trees : Trees) → Leaves (tables opening_state) trees → IsReachable [] trees
+BeginsAtOpening = (trees : Trees) → Leaves (tables opening_state) trees → IsReachable alone [] trees

@@ -4,17 +4,18 @@ ghost use Rattle.std.specs.Prelude.{◌≡◌, ◌≢◌, ◌≤◌, ◌⊎◌, 
 ghost use Rattle.sqlite.specs.State.{HasCleanDisk, IsUnchanged};
 ghost use Rattle.sqlite.specs.Held.{state};
 ghost use Rattle.sqlite_trees.specs.View.{doubt};
-ghost use Rattle.store_tables.specs.Beside.{HasRows, TakesRows};
+ghost use Rattle.store_tables.specs.Beside.{HasRows, IsBeside, TakesRows};
 ghost use Rattle.store_tables.specs.Contents as of_schema;
 ghost use Rattle.store_tables.specs.Contents.{IsExactlyEmpty, IsEmpty};
 ghost use Rattle.store_tables.specs.Club.{IsExactly, IsOpened, Leaves};
-ghost use Rattle.store_tables.specs.Reading.{KeepsMay, OnlyReads};
-ghost use Rattle.store_tables.specs.Tables.{club_schema, IsClubSchema};
+ghost use Rattle.store_tables.specs.Over.{alone, IsBesideThem, LeavesBeside};
+ghost use Rattle.store_tables.specs.Reading.{KeepsContent, KeepsMay, OnlyReads, Reads};
+ghost use Rattle.store_tables.specs.Tables.{club_schema, first_schema, IsClubSchema};
 ghost use Rattle.store_tables.specs.declared.names.Version.TheVariants.{First, Current};
 ghost use Rattle.table_shapes.specs.Shapes.{is_of_club};
 ghost use Rattle.club_opening.specs.Blames.{Names};
 ghost use Rattle.club_opening.specs.RightTables.{NamesFirst};
-ghost use Rattle.club_opening.specs.Versions.{IsExactlyClub};
+ghost use Rattle.club_opening.specs.Versions.{HoldsRows, IsExactlyClub};
 ghost use Rattle.club_rows.specs.FirstSchema.{IsFirstClub};
 ghost use Rattle.store.specs.Histories.{IsReachable, IsHistory, answered_session, cut_session};
 ghost use Rattle.store_tables.specs.Changed.{changed};
@@ -81,7 +82,7 @@ pub fn create<S: Alter>(_alloc: Global, conn: Connection<S>) -> Result<Club<S>, 
     ensures stored { IfOk result (λ club. HasCleanDisk (state S.Store club.connection) → IsExactlyEmpty
         (state S.Store conn) → IsExactly (tables opening_state) (state S.Store club.connection)) }
     ensures fresh { IfOk result (λ club. HasCleanDisk (state S.Store club.connection) →
-        ¬ IsClubSchema (state S.Store conn).now.schema) }
+        ¬ IsBeside first_schema (state S.Store conn).now.schema) }
     ensures clean { IfOk result (λ club. doubt (state S.Store conn).is_clean ≤ doubt
         (state S.Store club.connection).is_clean) }
     ensures idle { IfErr result (λ u. u.conn.in_transaction ≡ false) }
@@ -91,11 +92,12 @@ pub fn create<S: Alter>(_alloc: Global, conn: Connection<S>) -> Result<Club<S>, 
     ensures fault { IfErr result (λ u. HasCleanDisk (state S.Store u.conn) → IsExactlyEmpty (state S.Store conn) →
         (db : _) → (state S.Store u.conn).may_leave db → IsEmpty db ⊎ Leaves (tables opening_state) db) }
     ensures begins { IfOk result (λ club. HasCleanDisk (state S.Store club.connection) → IsExactlyEmpty
-        (state S.Store conn) → IsHistory [] (state S.Store club.connection)) }
+        (state S.Store conn) → IsHistory alone [] (state S.Store club.connection)) }
     ensures cut_off { IfErr result (λ u. HasCleanDisk (state S.Store u.conn) → IsExactlyEmpty (state S.Store conn) →
-        (db : _) → (state S.Store u.conn).may_leave db → IsEmpty db ⊎ IsReachable [] db) }
+        (db : _) → (state S.Store u.conn).may_leave db → IsEmpty db ⊎ IsReachable alone [] db) }
     ensures stays { IfErr result (λ u. HasCleanDisk (state S.Store u.conn) →
-        IsClubSchema (state S.Store conn).now.schema → KeepsMay (state S.Store conn) (state S.Store u.conn)) }
+        IsBeside first_schema (state S.Store conn).now.schema →
+        KeepsMay (state S.Store conn) (state S.Store u.conn)) }
     ensures refused { IfErr result (λ u. HasCleanDisk (state S.Store u.conn) → u.fault ≡ OpenFault.Foreign → KeepsMay
         (state S.Store conn) (state S.Store u.conn)) }
     ensures known { IfErr result (λ u. doubt (state S.Store conn).is_clean ≤ doubt (state S.Store u.conn).is_clean) }
@@ -119,8 +121,6 @@ pub fn adopt<S: Alter>(alloc: Global, conn: Connection<S>) -> Result<Club<S>, Un
     ensures ready { IfOk result (λ club. club.needs_reopening ≡ false) }
     ensures found { IfOk result (λ club. HasCleanDisk (state S.Store club.connection) → IsOpened
         (state S.Store conn) → (s : _) × IsClub s × IsExactly (tables s) (state S.Store club.connection)) }
-    ensures same { IfOk result (λ club. HasCleanDisk (state S.Store club.connection) → (content : _) →
-        IsExactly content (state S.Store conn) → IsExactly content (state S.Store club.connection)) }
     ensures unchanged { IfOk result (λ club. HasCleanDisk (state S.Store club.connection) →
         IsClubSchema (state S.Store conn).now.schema →
         ((state S.Store conn).now.schema ≡ club_schema) × IsUnchanged (state S.Store conn)
@@ -130,7 +130,7 @@ pub fn adopt<S: Alter>(alloc: Global, conn: Connection<S>) -> Result<Club<S>, Un
     // By whatever texts its tables were made, they answer as those of a club.
     ensures shape { IfOk result (λ club. is_of_club Current (state S.Store conn).now.schema ≡ true) }
     // Whatever the tables are.
-    ensures kept { IfOk result (λ club. OnlyReads (state S.Store conn) (state S.Store club.connection)) }
+    ensures kept { IfOk result (λ club. Reads true (state S.Store conn) (state S.Store club.connection)) }
     ensures idle { IfErr result (λ u. u.conn.in_transaction ≡ false) }
     ensures blames { IfErr result (λ u. HasCleanDisk (state S.Store u.conn) →
         IsClubSchema (state S.Store conn).now.schema → Names Current (state S.Store conn).now u.fault) }
@@ -141,8 +141,11 @@ pub fn adopt<S: Alter>(alloc: Global, conn: Connection<S>) -> Result<Club<S>, Un
     ensures first { IfErr result (λ u. HasCleanDisk (state S.Store u.conn) → (s : _) → IsFirstClub s →
         IsExactlyClub First s (state S.Store conn) → (u.fault ≡ OpenFault.Schema (pos 1))
         ⊎ ((u.fault ≡ OpenFault.Store) ⊎ (u.fault ≡ OpenFault.Memory))) }
-    ensures good { IfErr result (λ u. HasCleanDisk (state S.Store u.conn) → (s : _) → IsClub s → IsExactly (tables s)
-        (state S.Store conn) → (u.fault ≡ OpenFault.Store) ⊎ (u.fault ≡ OpenFault.Memory)) }
+    // A legal club, alone or beside what other programs made, is taken.
+    ensures good { IfErr result (λ u. HasCleanDisk (state S.Store u.conn) → (s : _) → IsClub s →
+        HoldsRows Current (tables s) (state S.Store conn).now →
+        is_of_club Current (state S.Store conn).now.schema ≡ true →
+        (u.fault ≡ OpenFault.Store) ⊎ (u.fault ≡ OpenFault.Memory)) }
     ensures reads { IfErr result (λ u. OnlyReads (state S.Store conn) (state S.Store u.conn)) }
 {
     let mut conn = conn;
@@ -218,26 +221,25 @@ impl<S: Alter> Club<S> {
         ensures answer { HasCleanDisk (state S.Store self.new.connection) → IfOk result (λ outcome. (s : ClubState) →
             IsClub s → HasRows (tables s) (state S.Store self.old.connection) →
             outcome_of outcome ≡ answered (club_step s (request who.now command.now moment))) }
-        ensures step { HasCleanDisk (state S.Store self.new.connection) → OnOk result ((schema : _) →
-            TakesRows schema → (s : ClubState) → IsClub s →
-            of_schema.IsExactly schema (tables s) (state S.Store self.old.connection) → of_schema.IsExactly schema
+        ensures step { HasCleanDisk (state S.Store self.new.connection) → OnOk result ((them : _) (s : ClubState) →
+            IsClub s → IsBesideThem them (tables s) (state S.Store self.old.connection) → IsBesideThem them
             (tables (club_next s (request who.now command.now moment))) (state S.Store self.new.connection)) }
         ensures fault { HasCleanDisk (state S.Store self.new.connection) →
-            OnErr result (self.old.needs_reopening ≡ false → (schema : _) → TakesRows schema → (s : ClubState) →
-            IsClub s → of_schema.IsExactly schema (tables s) (state S.Store self.old.connection) →
-            (db : _) → (state S.Store self.new.connection).may_leave db → of_schema.Leaves schema (tables s) db ⊎
-            of_schema.Leaves schema (tables (club_next s (request who.now command.now moment))) db) }
-        ensures stands { HasCleanDisk (state S.Store self.new.connection) → IfOk result (λ outcome. (sessions : _) →
-            IsHistory sessions (state S.Store self.old.connection) →
-            IsHistory (sessions ++ answered_session (request who.now command.now moment) outcome ∷ [])
+            OnErr result (self.old.needs_reopening ≡ false → (them : _) (s : ClubState) → IsClub s →
+            IsBesideThem them (tables s) (state S.Store self.old.connection) →
+            (db : _) → (state S.Store self.new.connection).may_leave db → LeavesBeside them (tables s) db ⊎
+            LeavesBeside them (tables (club_next s (request who.now command.now moment))) db) }
+        ensures stands { HasCleanDisk (state S.Store self.new.connection) → IfOk result (λ outcome.
+            (them : _) (sessions : _) → IsHistory them sessions (state S.Store self.old.connection) →
+            IsHistory them (sessions ++ answered_session (request who.now command.now moment) outcome ∷ [])
             (state S.Store self.new.connection)) }
         ensures cut_off { HasCleanDisk (state S.Store self.new.connection) →
-            OnErr result (self.old.needs_reopening ≡ false → (sessions : _) → IsHistory sessions
+            OnErr result (self.old.needs_reopening ≡ false → (them : _) (sessions : _) → IsHistory them sessions
             (state S.Store self.old.connection) → (db : _) → (state S.Store self.new.connection).may_leave db →
-            IsReachable (sessions ++ cut_session (request who.now command.now moment) ∷ []) db) }
-        ensures unchanged { HasCleanDisk (state S.Store self.new.connection) →
-            IfOk result (λ outcome. ¬ IsAccepted outcome → (content : _) → IsExactly content
-            (state S.Store self.old.connection) → IsExactly content (state S.Store self.new.connection)) }
+            IsReachable them (sessions ++ cut_session (request who.now command.now moment) ∷ []) db) }
+        ensures unchanged { HasCleanDisk (state S.Store self.new.connection) → IfOk result (λ outcome.
+            ¬ IsAccepted outcome → KeepsContent (state S.Store self.old.connection)
+            (state S.Store self.new.connection)) }
     {
         if self.needs_reopening {
             return Err(StoreFault::Reopen);

@@ -8,19 +8,19 @@ ghost use Rattle.store.specs.Histories.{IsReachable, IsHistoryAt};
 use sqlite::{Alter, Connection};
 
 /// A law. Where a connection was just opened over the tables that sessions and upgrades lead to, it stands where they
-/// lead, by the tables of some version.
+/// lead, by the tables of some version, beside the same neighbours.
 pub fn holds_what_sessions_left<S: Alter>(conn: &Connection<S>)
-    ensures { Opens (state S.Store conn.now) → IsLive (state S.Store conn.now) → (chapters : _) → IsReachable chapters
-        (state S.Store conn.now).committed.trees →
-        (version : _) × IsHistoryAt version chapters (state S.Store conn.now) }
+    ensures { Opens (state S.Store conn.now) → IsLive (state S.Store conn.now) → (them : _) (chapters : _) →
+        IsReachable them chapters (state S.Store conn.now).committed.trees →
+        (version : _) × IsHistoryAt version them chapters (state S.Store conn.now) }
 {
     let _conn = conn;
 }
 
 /// A law. A stop between two chapters leaves tables that those so far lead to.
 pub fn leaves_what_sessions_left<S: Alter>(conn: &Connection<S>)
-    ensures { (version : _) (chapters : _) → IsHistoryAt version chapters (state S.Store conn.now) → (db : _) →
-        (state S.Store conn.now).may_leave db → IsReachable chapters db }
+    ensures { (version : _) (them : _) (chapters : _) → IsHistoryAt version them chapters (state S.Store conn.now) →
+        (db : _) → (state S.Store conn.now).may_leave db → IsReachable them chapters db }
 {
     let _conn = conn;
 }

@@ -8,13 +8,16 @@ ghost use Rattle.sqlite.specs.declared.types.Value.TheVariants.{Int};
 ghost use Rattle.store_tables.specs.Cells.{meta_cells};
 ghost use Rattle.store_tables.specs.Contents as of_schema;
 ghost use Rattle.store_tables.specs.Club.{IsExactly, Leaves};
+ghost use Rattle.store_tables.specs.Beside.{IsBeside};
+ghost use Rattle.store_tables.specs.Over.{IsBesideThem};
 ghost use Rattle.store_tables.specs.Reading.{KeepsMay, OnlyReads};
+ghost use Rattle.table_shapes.specs.Shapes.{is_of_club};
 ghost use Rattle.store_tables.specs.Tables.{club_schema, first_schema, IsClubSchema};
 ghost use Rattle.store_tables.specs.declared.names.Version.TheVariants.{First};
 ghost use Rattle.club_opening.specs.Blames.{Names};
-ghost use Rattle.club_opening.specs.Versions.{IsExactlyClub, IsOpenedAt};
+ghost use Rattle.club_opening.specs.Versions.{HoldsRows, IsExactlyClub, IsOpenedAt};
 ghost use Rattle.club_rows.specs.Club.{ClubState, IsClub, tables};
-ghost use Rattle.club_rows.specs.FirstSchema.{IsClubOf, IsFirstClub, first_tables};
+ghost use Rattle.club_rows.specs.FirstSchema.{IsClubOf, IsFirstClub, first_tables, tables_at};
 ghost use Rattle.store.specs.Histories.{IsHistory, IsReachable, upgraded};
 
 use crate::club::Unopened;
@@ -50,9 +53,9 @@ pub fn upgrade<S: Alter>(
     ensures done { IfOk result (λ done. HasCleanDisk (state S.Store done.0) → (s : ClubState) → IsFirstClub s →
         IsExactlyClub First s (state S.Store conn) →
         (done.1 ≡ Upgrade.Done) × IsExactly (tables s) (state S.Store done.0)) }
-    ensures already { IfOk result (λ done. HasCleanDisk (state S.Store done.0) → (s : ClubState) → IsClub s →
-        IsExactly (tables s) (state S.Store conn) →
-        (done.1 ≡ Upgrade.Already) × IsExactly (tables s) (state S.Store done.0)) }
+    ensures already { IfOk result (λ done. HasCleanDisk (state S.Store done.0) → (them : _) (s : ClubState) →
+        IsClub s → IsBesideThem them (tables s) (state S.Store conn) →
+        (done.1 ≡ Upgrade.Already) × IsBesideThem them (tables s) (state S.Store done.0)) }
     ensures unchanged { IfOk result (λ done. HasCleanDisk (state S.Store done.0) → done.1 ≡ Upgrade.Already →
         KeepsMay (state S.Store conn) (state S.Store done.0)) }
     ensures found { IfOk result (λ done. HasCleanDisk (state S.Store done.0) → (version : _) → IsOpenedAt version
@@ -63,18 +66,22 @@ pub fn upgrade<S: Alter>(
     ensures kept { IfErr result (λ u. u.fault ≢ OpenFault.Store →
         OnlyReads (state S.Store conn) (state S.Store u.conn)) }
     ensures stays { IfErr result (λ u. HasCleanDisk (state S.Store u.conn) →
-        (state S.Store conn).now.schema ≡ club_schema → OnlyReads (state S.Store conn) (state S.Store u.conn)) }
+        IsBeside club_schema (state S.Store conn).now.schema →
+        OnlyReads (state S.Store conn) (state S.Store u.conn)) }
     ensures good { IfErr result (λ u. HasCleanDisk (state S.Store u.conn) → (version : _) (s : ClubState) →
-        IsClubOf version s → IsExactlyClub version s (state S.Store conn) →
+        IsClubOf version s → HoldsRows version (tables_at version s) (state S.Store conn).now →
+        is_of_club version (state S.Store conn).now.schema ≡ true →
         (u.fault ≡ OpenFault.Store) ⊎ (u.fault ≡ OpenFault.Memory)) }
     ensures blames { IfErr result (λ u. HasCleanDisk (state S.Store u.conn) →
         IsClubSchema (state S.Store conn).now.schema → Names First (state S.Store conn).now u.fault) }
     ensures led { IfOk result (λ done. HasCleanDisk (state S.Store done.0) → Opens (state S.Store conn) →
-        IsLive (state S.Store conn) → (chapters : _) → IsReachable chapters (state S.Store conn).committed.trees →
-        IsHistory (chapters ++ upgraded true ∷ []) (state S.Store done.0)) }
+        IsLive (state S.Store conn) → (them : _) (chapters : _) →
+        IsReachable them chapters (state S.Store conn).committed.trees →
+        IsHistory them (chapters ++ upgraded true ∷ []) (state S.Store done.0)) }
     ensures cut_off { IfErr result (λ u. HasCleanDisk (state S.Store u.conn) → Opens (state S.Store conn) →
-        IsLive (state S.Store conn) → (chapters : _) → IsReachable chapters (state S.Store conn).committed.trees →
-        (db : _) → (state S.Store u.conn).may_leave db → IsReachable (chapters ++ upgraded false ∷ []) db) }
+        IsLive (state S.Store conn) → (them : _) (chapters : _) →
+        IsReachable them chapters (state S.Store conn).committed.trees →
+        (db : _) → (state S.Store u.conn).may_leave db → IsReachable them (chapters ++ upgraded false ∷ []) db) }
 {
     let mut conn = conn;
     let found = match examine_from(alloc, &mut conn, Version::First) {

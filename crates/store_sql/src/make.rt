@@ -5,7 +5,8 @@ ghost use Rattle.sqlite.specs.State.{ExecutesInside, HasCleanDisk, Survives};
 ghost use Rattle.sqlite.specs.Held.{state};
 ghost use Rattle.sqlite_trees.specs.View.{doubt};
 ghost use Rattle.store_tables.specs.Reading.{IsNoInput, KeepsMay};
-ghost use Rattle.store_tables.specs.Tables.{IsClubSchema, schema_after};
+ghost use Rattle.store_tables.specs.Beside.{IsBeside};
+ghost use Rattle.store_tables.specs.Tables.{first_schema, schema_after};
 ghost use Rattle.store_tables.specs.Contents.{AreMade, Ran, Makes, Fills, IsExactlyEmpty, IsEmpty, opening};
 ghost use Rattle.store_tables.specs.Club.{IsExactly, Leaves};
 
@@ -41,7 +42,7 @@ fn make_first<S: Alter>(tx: &mut Transaction<'_, S>) -> Result<(), Error>
         (state S.Store tx.old.conn.now).in_transaction → OnOk result (Makes 0 4 (state S.Store tx.old.conn.now)
         (state S.Store tx.new.conn.now)) }
     ensures refuses { HasCleanDisk (state S.Store tx.new.conn.now) → IsTrue
-        (state S.Store tx.old.conn.now).in_transaction → IsClubSchema (state S.Store tx.old.conn.now).now.schema →
+        (state S.Store tx.old.conn.now).in_transaction → IsBeside first_schema (state S.Store tx.old.conn.now).now.schema →
         IfOk result (λ _. ⊥) }
     // In an empty database.
     ensures known { HasCleanDisk (state S.Store tx.new.conn.now) → IsTrue
@@ -83,7 +84,7 @@ pub(crate) fn create_inside<S: Alter>(tx: &mut Transaction<'_, S>) -> Result<(),
         (state S.Store tx.old.conn.now).in_transaction → OnOk result (Fills (state S.Store tx.old.conn.now)
         (state S.Store tx.new.conn.now)) }
     ensures refuses { HasCleanDisk (state S.Store tx.new.conn.now) → IsTrue
-        (state S.Store tx.old.conn.now).in_transaction → IsClubSchema (state S.Store tx.old.conn.now).now.schema →
+        (state S.Store tx.old.conn.now).in_transaction → IsBeside first_schema (state S.Store tx.old.conn.now).now.schema →
         IfOk result (λ _. ⊥) }
     // In an empty database.
     ensures known { HasCleanDisk (state S.Store tx.new.conn.now) → IsTrue
@@ -111,7 +112,7 @@ pub fn create_tables<S: Alter>(conn: &mut Connection<S>) -> Result<(), Error>
         IsExactly opening (state S.Store conn.new)) }
     ensures fault { HasCleanDisk (state S.Store conn.new) → OnErr result (IsExactlyEmpty (state S.Store conn.old) →
         (db : _) → (state S.Store conn.new).may_leave db → IsEmpty db ⊎ Leaves opening db) }
-    ensures stands { HasCleanDisk (state S.Store conn.new) → IsClubSchema (state S.Store conn.old).now.schema →
+    ensures stands { HasCleanDisk (state S.Store conn.new) → IsBeside first_schema (state S.Store conn.old).now.schema →
         IfOk result (λ _. ⊥) × KeepsMay (state S.Store conn.old) (state S.Store conn.new) }
     ensures refused { HasCleanDisk (state S.Store conn.new) → IfErr result (λ e. IsNoInput e ⊎ KeepsMay
         (state S.Store conn.old) (state S.Store conn.new)) }
@@ -119,7 +120,7 @@ pub fn create_tables<S: Alter>(conn: &mut Connection<S>) -> Result<(), Error>
     ensures known { HasCleanDisk (state S.Store conn.new) → IsExactlyEmpty (state S.Store conn.old) →
         IfErr result IsNoInput }
     ensures survives { Survives (state S.Store conn.old) (state S.Store conn.new) (λ db. (IsExactlyEmpty
-        (state S.Store conn.old) → Leaves opening db) × (IsClubSchema (state S.Store conn.old).now.schema → ⊥)) }
+        (state S.Store conn.old) → Leaves opening db) × (IsBeside first_schema (state S.Store conn.old).now.schema → ⊥)) }
 {
     let mut tx = conn.transaction();
     create_inside(&mut tx)?;

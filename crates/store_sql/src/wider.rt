@@ -4,11 +4,12 @@ ghost use Rattle.std.specs.Prelude.{◌≡◌, ◌≤◌, ◌⊎◌, true, false
 ghost use Rattle.sqlite.specs.State.{HasCleanDisk, IsUnchanged, Survives};
 ghost use Rattle.sqlite.specs.Held.{state};
 ghost use Rattle.sqlite_trees.specs.View.{doubt};
+ghost use Rattle.store_tables.specs.Beside.{IsBeside};
 ghost use Rattle.store_tables.specs.Changed.{widened};
 ghost use Rattle.store_tables.specs.Contents as of_schema;
 ghost use Rattle.store_tables.specs.Club.{IsExactly, Leaves};
 ghost use Rattle.store_tables.specs.Reading.{Reads};
-ghost use Rattle.store_tables.specs.Tables.{club_schema, first_schema, IsClubSchema};
+ghost use Rattle.store_tables.specs.Tables.{club_schema, first_schema};
 ghost use Rattle.store_sql.specs.Widened.{WidensTo};
 
 use crate::fault::{ReadFault, is_refused};
@@ -68,11 +69,10 @@ pub fn widen<S: Alter>(
 /// first time.
 pub fn has_event_rules<S: Alter>(conn: &mut Connection<S>) -> Result<bool, ReadFault>
     ensures reads { Reads (is_ok result) (state S.Store conn.old) (state S.Store conn.new) }
-    ensures same { HasCleanDisk (state S.Store conn.new) → OnOk result (
-        IsClubSchema (state S.Store conn.old).now.schema →
-        IsUnchanged (state S.Store conn.old) (state S.Store conn.new)) }
+    ensures same { HasCleanDisk (state S.Store conn.new) → OnOk result (IsUnchanged (state S.Store conn.old)
+        (state S.Store conn.new)) }
     ensures stands { HasCleanDisk (state S.Store conn.new) → IfOk result (λ there.
-        (state S.Store conn.old).now.schema ≡ club_schema → there ≡ true) }
+        IsBeside club_schema (state S.Store conn.old).now.schema → there ≡ true) }
     ensures missing { HasCleanDisk (state S.Store conn.new) → IfOk result (λ there.
         (state S.Store conn.old).now.schema ≡ first_schema → there ≡ false) }
     ensures store { IfErr result (λ e. e ≡ ReadFault.Store) }

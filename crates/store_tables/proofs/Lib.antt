@@ -19,6 +19,7 @@ pub mod RowLemmas
 pub mod SameLemmas
 pub mod SchemaLemmas
 pub mod SelectMeanings
+pub mod StandingLemmas
 pub mod StepLemmas
 pub mod TellLemmas
 pub mod UpsertLemmas

@@ -1,6 +1,7 @@
 -- CREATE TABLE, one after the other.
 use Rattle.std.proofs.Common.{◌≡◌, ℕ, Bool, true, false, true≢false, List, [], Ok, Err, Result, None, refl, sym, ap}
 use Rattle.std.proofs.Common.{subst, ◌∙◌, inl, inr}
+use Rattle.std.specs.Prelude.{is_ok}
 use Rattle.sqlite.specs.Table.{Table}
 use Rattle.sqlite.specs.Schema.{Schema}
 use Rattle.sqlite.specs.Tree.{Trees}
@@ -21,10 +22,12 @@ use Rattle.sqlite.proofs.Callers.{IsPlain, command_of, statement_of, runs_as}
 use Rattle.store_tables.specs.Content.{AreApart}
 use Rattle.store_tables.specs.Contents.{Content, AreMade, Ran, Makes, Widens, Holds, Stores, nothing}
 use Rattle.store_tables.specs.Tables.{meta, members, events, challenges, moves, games, seen, scores, schema_after}
-use Rattle.store_tables.specs.Tables.{event_rules, club_schema, first_schema, IsClubSchema}
+use Rattle.store_tables.specs.Beside.{IsBeside}
+use Rattle.store_tables.specs.Tables.{event_rules, club_schema, first_schema}
 use Rattle.store_tables.specs.Texts as t
 use Rattle.store_tables.proofs.Meanings.{meta_make, members_make, events_make, challenges_make, moves_make, games_make}
 use Rattle.store_tables.proofs.Meanings.{seen_make, scores_make, event_rules_make}
+use Rattle.store_tables.proofs.StandingLemmas.{meta_stands}
 use Rattle.store_tables.proofs.UpsertLemmas.{went, same_value}
 
 module _ (schema : Schema) (sql : List ℕ) (made : Table) (command : command_of (understood schema sql) ≡ CreateTable)
@@ -306,28 +309,13 @@ widens old new sql text h =
 
 -- ---- where the tables of a club stand
 
-abbrev is_understood : Result Compiled CompileError → Bool
-is_understood (Ok c) = true
-is_understood (Err e) = false
-
-meta_stands : is_understood (understood club_schema t.meta_create) ≡ false
-unfolding understood everything
-meta_stands = refl
-
-meta_stood : is_understood (understood first_schema t.meta_create) ≡ false
-unfolding understood everything
-meta_stood = refl
-
--- there the first table is not made again
-pub never_made : (sql : List ℕ) (old new : State) → sql ≡ t.meta_create → IsClubSchema old.now.schema
+-- where the tables of a club stand, also beside others, the first is not made again
+pub never_made : (sql : List ℕ) (old new : State) → sql ≡ t.meta_create → IsBeside first_schema old.now.schema
     → ¬ Ran sql old new
 unfolding ExecutesIn
-never_made sql old new text has h =
+never_made sql old new text (others, is) h =
     let ran : Ran t.meta_create old new = subst (λ s. Ran s old new) text h in
-    let one : is_understood (understood old.now.schema t.meta_create) ≡ false =
-    elim has [
-      | inl first ↦ ap (λ s. is_understood (understood s t.meta_create)) first ∙ meta_stood
-      | inr current ↦ ap (λ s. is_understood (understood s t.meta_create)) current ∙ meta_stands
-    ] in
-    let some = ap is_understood ran.runs.0.1.is in
+    let one : is_ok (understood old.now.schema t.meta_create) ≡ false =
+    ap (λ s. is_ok (understood s t.meta_create)) is ∙ meta_stands others in
+    let some = ap is_ok ran.runs.0.1.is in
     absurd (true≢false (sym some ∙ one))

@@ -6,13 +6,13 @@ pub returns-in-Ok-clause-outcomes : goal.returns-in-Ok-clause-outcomes
 returns-in-Ok-clause-outcomes g c clean = c.in-Ok.ensures.outcomes (was_clean _ _ c.end.ensures.clean clean)
 
 pub returns-in-Ok-clause-history : goal.returns-in-Ok-clause-history
-returns-in-Ok-clause-history g c clean opens live sessions led left may found finds =
-    let served = c.in-Ok.ensures.history (was_clean _ _ c.end.ensures.clean clean) opens live sessions in
-    ∥∥₁_elim led squash₁ (λ before. c.end.ensures.history clean _ (served before) left may found finds)
+returns-in-Ok-clause-history g c clean opens live them sessions led left may found finds =
+    let served = c.in-Ok.ensures.history (was_clean _ _ c.end.ensures.clean clean) opens live them sessions in
+    ∥∥₁_elim led squash₁ (λ before. c.end.ensures.history clean them _ (served before) left may found finds)
 
 pub returns-in-Err-clause-kept : goal.returns-in-Err-clause-kept
-returns-in-Err-clause-kept g c clean opens live sessions led db left =
-    ∥∥₁_map led (λ before. c.in-Err.ensures.kept clean opens live sessions before db left)
+returns-in-Err-clause-kept g c clean opens live them sessions led db left =
+    ∥∥₁_map led (λ before. c.in-Err.ensures.kept clean opens live them sessions before db left)
 
 pub returns-in-Ok-clause-named : goal.returns-in-Ok-clause-named
 returns-in-Ok-clause-named g c = c.in-Ok.ensures.named

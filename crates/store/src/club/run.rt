@@ -5,9 +5,8 @@ ghost use Rattle.std.specs.Prelude.{OnOk, OnErr, [], map, length, take};
 ghost use Rattle.sqlite.specs.State.{HasCleanDisk};
 ghost use Rattle.sqlite.specs.Held.{state};
 ghost use Rattle.sqlite_trees.specs.View.{doubt};
-ghost use Rattle.store_tables.specs.Beside.{HasRows, TakesRows};
-ghost use Rattle.store_tables.specs.Contents as of_schema;
-ghost use Rattle.store_tables.specs.Club.{IsExactly, Leaves};
+ghost use Rattle.store_tables.specs.Beside.{HasRows};
+ghost use Rattle.store_tables.specs.Over.{IsBesideThem, LeavesBeside};
 ghost use Rattle.club_core.specs.Answer.{answered, outcome_of, request_of};
 ghost use Rattle.club_rows.specs.Club.{ClubState, IsClub, tables};
 ghost use Rattle.club_changes.specs.Steps.{club_step, club_next};
@@ -53,15 +52,14 @@ impl<S: Alter> Club<S> {
         ensures answer { HasCleanDisk (state S.Store self.new.connection) → IfOk result (λ outcome. (s : ClubState) →
             IsClub s → HasRows (tables s) (state S.Store self.old.connection) →
             outcome_of outcome ≡ answered (club_step s (request_of request.now))) }
-        ensures step { HasCleanDisk (state S.Store self.new.connection) → OnOk result ((schema : _) →
-            TakesRows schema → (s : ClubState) → IsClub s →
-            of_schema.IsExactly schema (tables s) (state S.Store self.old.connection) → of_schema.IsExactly schema
-            (tables (club_next s (request_of request.now))) (state S.Store self.new.connection)) }
+        ensures step { HasCleanDisk (state S.Store self.new.connection) → OnOk result ((them : _) (s : ClubState) →
+            IsClub s → IsBesideThem them (tables s) (state S.Store self.old.connection) →
+            IsBesideThem them (tables (club_next s (request_of request.now))) (state S.Store self.new.connection)) }
         ensures fault { HasCleanDisk (state S.Store self.new.connection) →
-            OnErr result (self.old.needs_reopening ≡ false → (schema : _) → TakesRows schema → (s : ClubState) →
-            IsClub s → of_schema.IsExactly schema (tables s) (state S.Store self.old.connection) →
-            (db : _) → (state S.Store self.new.connection).may_leave db → of_schema.Leaves schema (tables s) db ⊎
-            of_schema.Leaves schema (tables (club_next s (request_of request.now))) db) }
+            OnErr result (self.old.needs_reopening ≡ false → (them : _) (s : ClubState) → IsClub s →
+            IsBesideThem them (tables s) (state S.Store self.old.connection) →
+            (db : _) → (state S.Store self.new.connection).may_leave db → LeavesBeside them (tables s) db ⊎
+            LeavesBeside them (tables (club_next s (request_of request.now))) db) }
     {
         let _within = request.moment.seconds();
         self.apply(alloc, &request.who, &request.command, request.moment)
@@ -82,27 +80,31 @@ impl<S: Alter> Club<S> {
             (state S.Store self.new.connection).is_clean }
         ensures within { length result.outcomes.items ≤ length requests.now }
         ensures whole { result.fault ≡ None → length result.outcomes.items ≡ length requests.now }
-        ensures outcomes { HasCleanDisk (state S.Store self.new.connection) → (s : ClubState) → IsClub s →
-            IsExactly (tables s) (state S.Store self.old.connection) →
+        ensures outcomes { HasCleanDisk (state S.Store self.new.connection) → (them : _) (s : ClubState) → IsClub s →
+            IsBesideThem them (tables s) (state S.Store self.old.connection) →
             map outcome_of result.outcomes.items ≡ map answered
             (club_outcomes s (map request_of (take (length result.outcomes.items) requests.now))) }
-        ensures stored { HasCleanDisk (state S.Store self.new.connection) → result.fault ≡ None → (s : ClubState) →
-            IsClub s → IsExactly (tables s) (state S.Store self.old.connection) →
-            IsExactly (tables (club_fold s (map request_of requests.now))) (state S.Store self.new.connection) }
-        ensures legal { HasCleanDisk (state S.Store self.new.connection) → result.fault ≡ None → (s : ClubState) →
-            IsClub s → IsExactly (tables s) (state S.Store self.old.connection) →
+        ensures stored { HasCleanDisk (state S.Store self.new.connection) → result.fault ≡ None →
+            (them : _) (s : ClubState) → IsClub s →
+            IsBesideThem them (tables s) (state S.Store self.old.connection) → IsBesideThem them
+            (tables (club_fold s (map request_of requests.now))) (state S.Store self.new.connection) }
+        ensures legal { HasCleanDisk (state S.Store self.new.connection) → result.fault ≡ None →
+            (them : _) (s : ClubState) → IsClub s →
+            IsBesideThem them (tables s) (state S.Store self.old.connection) →
             IsClub (club_fold s (map request_of requests.now)) }
         ensures fault { HasCleanDisk (state S.Store self.new.connection) → IsSome result.fault →
-            self.old.needs_reopening ≡ false → (s : ClubState) → IsClub s → IsExactly (tables s)
-            (state S.Store self.old.connection) →
-            (db : _) → (state S.Store self.new.connection).may_leave db →
-            Leaves (tables (club_fold s (map request_of (take (length result.outcomes.items) requests.now)))) db
-            ⊎ Leaves (tables (club_fold s (map request_of (take (length result.outcomes.items + 1) requests.now)))) db }
+            self.old.needs_reopening ≡ false → (them : _) (s : ClubState) → IsClub s →
+            IsBesideThem them (tables s) (state S.Store self.old.connection) →
+            (db : _) → (state S.Store self.new.connection).may_leave db → LeavesBeside them
+            (tables (club_fold s (map request_of (take (length result.outcomes.items) requests.now)))) db
+            ⊎ LeavesBeside them
+            (tables (club_fold s (map request_of (take (length result.outcomes.items + 1) requests.now)))) db }
         ensures left { HasCleanDisk (state S.Store self.new.connection) → self.old.needs_reopening ≡ false →
-            (s : ClubState) → IsClub s → IsExactly (tables s) (state S.Store self.old.connection) →
+            (them : _) (s : ClubState) → IsClub s →
+            IsBesideThem them (tables s) (state S.Store self.old.connection) →
             (db : _) → (state S.Store self.new.connection).may_leave db →
-            IsAfter s requests.now (length result.outcomes.items) db
-            ⊎ (IsSome result.fault × IsAfter s requests.now (length result.outcomes.items + 1) db) }
+            IsAfter them s requests.now (length result.outcomes.items) db
+            ⊎ (IsSome result.fault × IsAfter them s requests.now (length result.outcomes.items + 1) db) }
     {
         if self.needs_reopening {
             return Run::ended(alloc, StoreFault::Reopen);

@@ -5,11 +5,11 @@ ghost use Rattle.std.specs.Prelude.{map, length, take};
 ghost use Rattle.sqlite.specs.State.{HasCleanDisk, Opens, IsLive};
 ghost use Rattle.sqlite.specs.Held.{state};
 ghost use Rattle.sqlite_trees.specs.View.{doubt};
-ghost use Rattle.store_tables.specs.Club.{IsExactly, Leaves};
+ghost use Rattle.store_tables.specs.Over.{IsBesideThem};
 ghost use Rattle.club_core.specs.Answer.{answered, outcome_of, request_of};
 ghost use Rattle.club_rows.specs.Club.{ClubState, IsClub, tables};
 ghost use Rattle.store.specs.Runs.{club_outcomes};
-ghost use Rattle.store.specs.Histories.{IsReachable, IsHistory, session_of};
+ghost use Rattle.store.specs.Histories.{HasState, IsReachable, IsHistory, session_of};
 
 use super::run::Run;
 use super::{Club, Unopened, adopt};
@@ -34,17 +34,17 @@ impl<S: Alter> Club<S> {
             (state S.Store self.new.connection).is_clean }
         ensures within { length result.outcomes.items ≤ length requests.now }
         ensures whole { result.fault ≡ None → length result.outcomes.items ≡ length requests.now }
-        ensures outcomes { HasCleanDisk (state S.Store self.new.connection) → (s : ClubState) → IsClub s →
-            IsExactly (tables s) (state S.Store self.old.connection) →
+        ensures outcomes { HasCleanDisk (state S.Store self.new.connection) → (them : _) (s : ClubState) → IsClub s →
+            IsBesideThem them (tables s) (state S.Store self.old.connection) →
             map outcome_of result.outcomes.items ≡ map answered
             (club_outcomes s (map request_of (take (length result.outcomes.items) requests.now))) }
         ensures history { HasCleanDisk (state S.Store self.new.connection) → self.old.needs_reopening ≡ false →
-            (sessions : _) → IsHistory sessions (state S.Store self.old.connection) →
+            (them : _) (sessions : _) → IsHistory them sessions (state S.Store self.old.connection) →
             (db : _) → (state S.Store self.new.connection).may_leave db →
-            IsReachable (sessions ++ session_of requests.now result ∷ []) db }
-        ensures stands { HasCleanDisk (state S.Store self.new.connection) → result.fault ≡ None → (sessions : _) →
-            IsHistory sessions (state S.Store self.old.connection) →
-            IsHistory (sessions ++ session_of requests.now result ∷ []) (state S.Store self.new.connection) }
+            IsReachable them (sessions ++ session_of requests.now result ∷ []) db }
+        ensures stands { HasCleanDisk (state S.Store self.new.connection) → result.fault ≡ None →
+            (them : _) (sessions : _) → IsHistory them sessions (state S.Store self.old.connection) →
+            IsHistory them (sessions ++ session_of requests.now result ∷ []) (state S.Store self.new.connection) }
     {
         self.run(alloc, requests)
     }
@@ -72,29 +72,30 @@ pub fn resume<S: Alter>(
         length resumed.0.outcomes.items ≡ length requests.now) }
     ensures outcomes { IfOk result (λ resumed. HasCleanDisk (state S.Store resumed.1.connection) → Opens
         (state S.Store conn) → IsLive (state S.Store conn) →
-        (s : ClubState) → IsClub s → Leaves (tables s) (state S.Store conn).committed.trees →
+        (s : ClubState) → IsClub s → HasState s (state S.Store conn).committed.trees →
         map outcome_of resumed.0.outcomes.items ≡ map answered
         (club_outcomes s (map request_of (take (length resumed.0.outcomes.items) requests.now)))) }
     ensures history { IfOk result (λ resumed. HasCleanDisk (state S.Store resumed.1.connection) → Opens
         (state S.Store conn) → IsLive (state S.Store conn) →
-        (sessions : _) → IsReachable sessions (state S.Store conn).committed.trees →
+        (them : _) (sessions : _) → IsReachable them sessions (state S.Store conn).committed.trees →
         (db : _) → (state S.Store resumed.1.connection).may_leave db →
-        IsReachable (sessions ++ session_of requests.now resumed.0 ∷ []) db) }
+        IsReachable them (sessions ++ session_of requests.now resumed.0 ∷ []) db) }
     ensures stands { IfOk result (λ resumed. HasCleanDisk (state S.Store resumed.1.connection) → Opens
         (state S.Store conn) → IsLive (state S.Store conn) → resumed.0.fault ≡ None →
-        (sessions : _) → IsReachable sessions (state S.Store conn).committed.trees →
-        IsHistory (sessions ++ session_of requests.now resumed.0 ∷ []) (state S.Store resumed.1.connection)) }
+        (them : _) (sessions : _) → IsReachable them sessions (state S.Store conn).committed.trees →
+        IsHistory them (sessions ++ session_of requests.now resumed.0 ∷ [])
+        (state S.Store resumed.1.connection)) }
     ensures idle { IfErr result (λ unopened. unopened.conn.in_transaction ≡ false) }
     ensures known { IfErr result (λ unopened. doubt (state S.Store conn).is_clean ≤ doubt
         (state S.Store unopened.conn).is_clean) }
     ensures good { IfErr result (λ unopened. HasCleanDisk (state S.Store unopened.conn) → Opens (state S.Store conn) →
         IsLive (state S.Store conn) →
-        (s : ClubState) → IsClub s → Leaves (tables s) (state S.Store conn).committed.trees →
+        (s : ClubState) → IsClub s → HasState s (state S.Store conn).committed.trees →
         (unopened.fault ≡ OpenFault.Store) ⊎ (unopened.fault ≡ OpenFault.Memory)) }
     ensures kept { IfErr result (λ unopened. HasCleanDisk (state S.Store unopened.conn) → Opens (state S.Store conn) →
         IsLive (state S.Store conn) →
-        (sessions : _) → IsReachable sessions (state S.Store conn).committed.trees →
-        (db : _) → (state S.Store unopened.conn).may_leave db → IsReachable sessions db) }
+        (them : _) (sessions : _) → IsReachable them sessions (state S.Store conn).committed.trees →
+        (db : _) → (state S.Store unopened.conn).may_leave db → IsReachable them sessions db) }
 {
     let mut club = match adopt(alloc, conn) {
         Ok(club) => club,

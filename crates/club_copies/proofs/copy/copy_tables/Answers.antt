@@ -8,14 +8,14 @@ use Rattle.club_copies.proofs.copy.copy_tables.Goals as goal
 
 pub returns-in-Ok-create_filled-clause-stored : goal.returns-in-Ok-create_filled-clause-stored
 returns-in-Ok-create_filled-clause-stored g c read clean content k empty =
-    let same = copied c.in-Ok.rows content (state g.S.Store c.args.club.now).now k.now (c.in-Ok.ensures.rows read content k)
+    let same = copied c.in-Ok.rows content (state g.S.Store c.args.club.now) k (c.in-Ok.ensures.rows read content k)
     in
     exactly_same (changed c.in-Ok.rows opening) content (state g.T.Store c.create_filled.new.conn) same
     ((rw c.in-Ok-create_filled.is at c.create_filled.ensures.stored clean) empty)
 
 pub returns-clause-fault : goal.returns-clause-fault
 returns-clause-fault g c read clean content k empty db left =
-    let same = copied c.in-Ok.rows content (state g.S.Store c.args.club.now).now k.now (c.in-Ok.ensures.rows read content k)
+    let same = copied c.in-Ok.rows content (state g.S.Store c.args.club.now) k (c.in-Ok.ensures.rows read content k)
     in
     elim ((rw c.in-Err-create_filled.is at c.create_filled.ensures.fault clean) empty db left) [
       | inl none ↦ inl none

@@ -1,51 +1,52 @@
-use Rattle.std.proofs.Common.{sym, subst, inr}
+use Rattle.std.proofs.Common.{◌≡◌, true, refl, sym, subst, inr}
 use Rattle.sqlite.specs.State.{HasCleanDisk}
 use Rattle.sqlite.specs.Held.{state}
-use Rattle.club_opening.proofs.Proved.{schema_known}
-use Rattle.store.proofs.Proved.{current_history, still_stands}
+use Rattle.table_shapes.specs.Shapes.{is_of_club}
 use Rattle.store_tables.specs.Club.{IsOpened}
+use Rattle.store_tables.specs.Over.{IsBesideThem}
+use Rattle.store_tables.specs.declared.names.Version.TheVariants.{Current}
+use Rattle.club_rows.specs.Club.{tables}
+use Rattle.store.proofs.Proved.{current_taken, holds_beside, still_stands}
 use Rattle.club_desk.specs.Turns.{IsHistoryOn, IsReachableOn}
 use Rattle.club_desk.proofs.ToldLemmas.{untaken, good_told, served_told, served_taken, served_good, none_failed, stood}
 use Rattle.club_desk.proofs.TurnLemmas.{reads_led}
 use Rattle.club_desk.proofs.serving.serve_club.Goals as goal
 
 pub returns-in-Err-clause-led : goal.returns-in-Err-clause-led
-returns-in-Err-clause-led g c clean opens live sessions led =
-    reads_led sessions (state g.S.Store c.args.conn) (state g.S.Store c.in-Err.unopened.conn) c.in-Err.ensures.reads
-    clean
-    (let (version, at) = c.holds_what_sessions_left.ensures opens live sessions led in
-    c.leaves_what_sessions_left.ensures version sessions at)
+returns-in-Err-clause-led g c clean opens live them sessions led =
+    reads_led them sessions (state g.S.Store c.args.conn) (state g.S.Store c.in-Err.unopened.conn)
+    c.in-Err.ensures.reads clean
+    (let (version, at) = c.holds_what_sessions_left.ensures opens live them sessions led in
+    c.leaves_what_sessions_left.ensures version them sessions at)
 
 pub returns-clause-led : goal.returns-clause-led
-returns-clause-led g c clean opens live sessions led =
+returns-clause-led g c clean opens live them sessions led =
     let same = c.into_connection.ensures.same in
     let after : HasCleanDisk (state g.S.Store c.serve_open-has_failed.new.club.club.connection) =
     subst (λ k. HasCleanDisk (state g.S.Store k)) same clean in
     let before = c.serve_open-has_failed.ensures.clean after in
-    let (version, at) = c.holds_what_sessions_left.ensures opens live sessions led in
-    let known = schema_known version (state g.S.Store c.args.conn).now.schema at.exactly.now.schema in
-    let stood = current_history version sessions (state g.S.Store c.args.conn) at
-    (c.in-Ok.ensures.unchanged before known).0 in
-    let stands = still_stands sessions (state g.S.Store c.args.conn) (state g.S.Store c.in-Ok.club.connection)
-    (c.in-Ok.ensures.same before) stood in
-    subst (λ k. IsReachableOn sessions (state g.S.Store k)) (sym same)
-    (c.serve_open-has_failed.ensures.led after sessions stands)
+    let stood = current_taken them sessions (state g.S.Store c.args.conn)
+    (λ known. (c.in-Ok.ensures.unchanged before known).0)
+    (c.holds_what_sessions_left.ensures opens live them sessions led) in
+    let stands = still_stands them sessions (state g.S.Store c.args.conn) (state g.S.Store c.in-Ok.club.connection)
+    (c.in-Ok.ensures.kept.kept refl before) stood in
+    subst (λ k. IsReachableOn them sessions (state g.S.Store k)) (sym same)
+    (c.serve_open-has_failed.ensures.led after them sessions stands)
 
 pub returns-clause-stands : goal.returns-clause-stands
-returns-clause-stands g c clean opens live none sessions led =
+returns-clause-stands g c clean opens live none them sessions led =
     let same = c.into_connection.ensures.same in
     let after : HasCleanDisk (state g.S.Store c.serve_open-has_failed.new.club.club.connection) =
     subst (λ k. HasCleanDisk (state g.S.Store k)) same clean in
     let before = c.serve_open-has_failed.ensures.clean after in
-    let (version, at) = c.holds_what_sessions_left.ensures opens live sessions led in
-    let known = schema_known version (state g.S.Store c.args.conn).now.schema at.exactly.now.schema in
-    let stood = current_history version sessions (state g.S.Store c.args.conn) at
-    (c.in-Ok.ensures.unchanged before known).0 in
-    let stands = still_stands sessions (state g.S.Store c.args.conn) (state g.S.Store c.in-Ok.club.connection)
-    (c.in-Ok.ensures.same before) stood in
+    let stood = current_taken them sessions (state g.S.Store c.args.conn)
+    (λ known. (c.in-Ok.ensures.unchanged before known).0)
+    (c.holds_what_sessions_left.ensures opens live them sessions led) in
+    let stands = still_stands them sessions (state g.S.Store c.args.conn) (state g.S.Store c.in-Ok.club.connection)
+    (c.in-Ok.ensures.kept.kept refl before) stood in
     let open_still = none_failed c.serve_open-has_failed.result c.fault_behind.result c.fault_behind.ensures none in
-    subst (λ k. IsHistoryOn sessions (state g.S.Store k)) (sym same)
-    (c.serve_open-has_failed.ensures.stands open_still after sessions stands)
+    subst (λ k. IsHistoryOn them sessions (state g.S.Store k)) (sym same)
+    (c.serve_open-has_failed.ensures.stands open_still after them sessions stands)
 
 pub returns-in-Err-clause-told : goal.returns-in-Err-clause-told
 returns-in-Err-clause-told g c clean = inr (
@@ -90,10 +91,23 @@ returns-clause-taken g c clean opens live has =
           stood s (state g.S.Store c.args.conn) (state g.S.Store c.in-Ok.club.connection) at shown.now_is opens.clean;
     })
 
+pub returns-in-Err-clause-shape : goal.returns-in-Err-clause-shape
+returns-in-Err-clause-shape g c = untaken _ c.in-Err.unopened.fault c.told_of_opening.result c.told_of_opening.ensures
+
+pub returns-clause-shape : goal.returns-clause-shape
+returns-clause-shape g c =
+    served_taken _ c.serve_open-has_failed.result c.fault_behind.result c.fault_behind.ensures c.in-Ok.ensures.shape
+
 pub returns-in-Err-clause-good : goal.returns-in-Err-clause-good
-returns-in-Err-clause-good g c clean opens live s is_club left =
+returns-in-Err-clause-good g c clean opens live s is_club has =
+    let was = state g.S.Store c.args.conn in
+    let found : IsBesideThem has.them (tables s) was = record {
+      clear = has.leaves.clear;
+      exactly = c.holds_exactly.ensures opens live _ _ has.leaves.leaves;
+    } in
     good_told c.in-Err.unopened.fault c.told_of_opening.result c.told_of_opening.ensures
-    (c.in-Err.ensures.good clean s is_club (c.holds_exactly.ensures opens live _ _ left))
+    (c.in-Err.ensures.good clean s is_club (holds_beside has.them (tables s) was found)
+    (subst (λ schema. is_of_club Current schema ≡ true) (sym found.exactly.now.schema) has.shape))
 
 pub returns-clause-good : goal.returns-clause-good
 returns-clause-good g c clean opens live s is_club left =

@@ -5,33 +5,33 @@ use Rattle.club_desk.proofs.serving.serve_open.Goals as goal
 
 pub loop-init : goal.loop-init
 loop-init g c =
-    record { ready = c.requires; clean = λ is. is; stands = λ clean sessions at. stands_first sessions _ at }
+    record { ready = c.requires; clean = λ is. is; stands = λ clean them sessions at. stands_first them sessions _ at }
 
 pub returns-then-not-goes_on-clause-led : goal.returns-then-not-goes_on-clause-led
-returns-then-not-goes_on-clause-led g c clean sessions at =
+returns-then-not-goes_on-clause-led g c clean them sessions at =
     let before = c.loop.invariant in
-    turn_led c.requests_keep_clubs.ensures sessions c.loop.club.club.needs_reopening
+    turn_led c.requests_keep_clubs.ensures them sessions c.loop.club.club.needs_reopening
     (state g.S.Store c.loop.club.club.connection) before.ready
-    (before.stands (c.serve_next-goes_on.ensures.clean clean) sessions at)
+    (before.stands (c.serve_next-goes_on.ensures.clean clean) them sessions at)
     c.serve_next-goes_on.new.club.club.needs_reopening (state g.S.Store c.serve_next-goes_on.new.club.club.connection)
     (c.serve_next-goes_on.ensures.acts clean)
 
 pub returns-then-not-goes_on-clause-stands : goal.returns-then-not-goes_on-clause-stands
-returns-then-not-goes_on-clause-stands g c open_still clean sessions at =
+returns-then-not-goes_on-clause-stands g c open_still clean them sessions at =
     let before = c.loop.invariant in
     let is_open : c.serve_next-goes_on.new.club.club.needs_reopening ≡ false = search rules in
-    turn_stands c.requests_keep_clubs.ensures sessions c.loop.club.club.needs_reopening
+    turn_stands c.requests_keep_clubs.ensures them sessions c.loop.club.club.needs_reopening
     (state g.S.Store c.loop.club.club.connection) before.ready
-    (before.stands (c.serve_next-goes_on.ensures.clean clean) sessions at)
+    (before.stands (c.serve_next-goes_on.ensures.clean clean) them sessions at)
     c.serve_next-goes_on.new.club.club.needs_reopening (state g.S.Store c.serve_next-goes_on.new.club.club.connection)
     is_open (c.serve_next-goes_on.ensures.acts clean)
 
 pub returns-then-needs_reopening-clause-led : goal.returns-then-needs_reopening-clause-led
-returns-then-needs_reopening-clause-led g c clean sessions at =
+returns-then-needs_reopening-clause-led g c clean them sessions at =
     let before = c.loop.invariant in
-    turn_led c.requests_keep_clubs.ensures sessions c.loop.club.club.needs_reopening
+    turn_led c.requests_keep_clubs.ensures them sessions c.loop.club.club.needs_reopening
     (state g.S.Store c.loop.club.club.connection) before.ready
-    (before.stands (c.serve_next-goes_on.ensures.clean clean) sessions at)
+    (before.stands (c.serve_next-goes_on.ensures.clean clean) them sessions at)
     c.serve_next-goes_on.new.club.club.needs_reopening (state g.S.Store c.serve_next-goes_on.new.club.club.connection)
     (c.serve_next-goes_on.ensures.acts clean)
 
@@ -42,17 +42,18 @@ loop-preserved g c =
     record {
       ready = is_open;
       clean = λ is. before.clean (c.serve_next-goes_on.ensures.clean is);
-      stands = λ clean sessions at.
-          turn_stands c.requests_keep_clubs.ensures sessions c.loop.club.club.needs_reopening
+      stands = λ clean them sessions at.
+          turn_stands c.requests_keep_clubs.ensures them sessions c.loop.club.club.needs_reopening
           (state g.S.Store c.loop.club.club.connection) before.ready
-          (before.stands (c.serve_next-goes_on.ensures.clean clean) sessions at)
+          (before.stands (c.serve_next-goes_on.ensures.clean clean) them sessions at)
           c.serve_next-goes_on.new.club.club.needs_reopening
           (state g.S.Store c.serve_next-goes_on.new.club.club.connection) is_open
           (c.serve_next-goes_on.ensures.acts clean);
     }
 
 pub returns-clause-led : goal.returns-clause-led
-returns-clause-led g c clean sessions at = stands_led sessions _ (c.loop.invariant.stands clean sessions at)
+returns-clause-led g c clean them sessions at =
+    stands_led them sessions _ (c.loop.invariant.stands clean them sessions at)
 
 pub returns-clause-stands : goal.returns-clause-stands
-returns-clause-stands g c open_still clean sessions at = c.loop.invariant.stands clean sessions at
+returns-clause-stands g c open_still clean them sessions at = c.loop.invariant.stands clean them sessions at

@@ -1,6 +1,7 @@
 use Rattle.std.proofs.Common.{◌≡◌, List, false}
 use Rattle.sqlite.specs.State.{HasCleanDisk}
 use Rattle.sqlite.specs.Held.{state}
+use Rattle.store_tables.specs.Over.{Neighbours}
 use Rattle.store.specs.Histories.{Chapter, IsHistory}
 use Rattle.club_desk.specs.Turns.{IsHistoryOn}
 use Rattle.club_desk.proofs.serving.serve_open.Given as goal
@@ -10,7 +11,7 @@ invariant-loop g l = record {
   ready : l.club.club.needs_reopening ≡ false;
   clean : HasCleanDisk (state g.S.Store l.club.club.connection)
       → HasCleanDisk (state g.S.Store l.fn.club.club.connection);
-  stands : HasCleanDisk (state g.S.Store l.club.club.connection) → (sessions : List Chapter)
-      → IsHistory sessions (state g.S.Store l.fn.club.club.connection)
-      → IsHistoryOn sessions (state g.S.Store l.club.club.connection);
+  stands : HasCleanDisk (state g.S.Store l.club.club.connection) → (them : Neighbours) (sessions : List Chapter)
+      → IsHistory them sessions (state g.S.Store l.fn.club.club.connection)
+      → IsHistoryOn them sessions (state g.S.Store l.club.club.connection);
 }

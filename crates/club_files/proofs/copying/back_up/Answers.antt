@@ -4,13 +4,13 @@ use Rattle.std.proofs.lemmas.Option.{none-some}
 use Rattle.sqlite_wal.specs.Files.{image_at}
 use Rattle.sqlite_store.specs.FileStore.{state as store_state}
 use Rattle.sqlite.specs.Files.{file_state}
-use Rattle.store_tables.specs.Tables.{club_schema, schema_of}
 use Rattle.club_rows.specs.Club.{tables}
 use Rattle.sessions.proofs.Proved.{was_clean}
 use Rattle.club_orders.specs.Report.{OnlyUnopened}
 use Rattle.club_orders.specs.Refused.{IsOlder}
-use Rattle.club_files.proofs.FoundLemmas.{if_unopened, kept_files, of_copy, of_copy_opened, passed, refused_files}
-use Rattle.club_files.proofs.FoundLemmas.{sound_files}
+use Rattle.club_orders.proofs.Proved.{still_there}
+use Rattle.club_files.proofs.FoundLemmas.{kept_files, refused_files, sound_files}
+use Rattle.club_files.proofs.TaskLemmas.{if_unopened, of_copy, of_copy_opened, passed}
 use Rattle.club_files.proofs.copying.back_up.Goals as goal
 
 pub returns-in-Sound-clause-kept : goal.returns-in-Sound-clause-kept
@@ -47,7 +47,7 @@ returns-in-Sound-clause-sound g c clean is =
     let before = was_clean _ _ c.verify-report.ensures.clean mid in
     let opened = c.in-Ok.ensures.opened before in
     sound_files (image_at g.S.Start) (file_state c.in-Ok.conn) (c.in-Ok.ensures.found before)
-    (λ version. c.holds_exactly.ensures opened.0 opened.1 (schema_of version))
+    (c.holds_exactly.ensures opened.0 opened.1)
     (λ schema. c.verify-report.ensures.legal mid opened.0 opened.1 schema c.in-Sound.is)
 
 pub returns-in-Sound-clause-copied : goal.returns-in-Sound-clause-copied
@@ -58,8 +58,9 @@ returns-in-Sound-clause-copied g c clean void s are =
     let opened = c.in-Ok.ensures.opened before in
     let here = c.in-Ok.ensures.found before in
     let found = are.finds _ (record { holds = here.holds; reads = here.reads }) in
-    c.copy_into-done.ensures.copied after void (tables s) (c.verify-report.ensures.same mid c.in-Sound.is (tables s)
-    (c.holds_exactly.ensures opened.0 opened.1 club_schema (tables s) found))
+    let rows = still_there s (file_state c.in-Ok.conn) (c.holds_exactly.ensures opened.0 opened.1) found
+    (file_state c.verify-report.result.1) (c.verify-report.ensures.same mid c.in-Sound.is) in
+    c.copy_into-done.ensures.copied after void (tables s) rows
 
 pub returns-in-Sound-clause-cut_off : goal.returns-in-Sound-clause-cut_off
 returns-in-Sound-clause-cut_off g c clean void s are =
@@ -69,8 +70,9 @@ returns-in-Sound-clause-cut_off g c clean void s are =
     let opened = c.in-Ok.ensures.opened before in
     let here = c.in-Ok.ensures.found before in
     let found = are.finds _ (record { holds = here.holds; reads = here.reads }) in
-    c.copy_into-done.ensures.cut_off after void (tables s) (c.verify-report.ensures.same mid c.in-Sound.is (tables s)
-    (c.holds_exactly.ensures opened.0 opened.1 club_schema (tables s) found))
+    let rows = still_there s (file_state c.in-Ok.conn) (c.holds_exactly.ensures opened.0 opened.1) found
+    (file_state c.verify-report.result.1) (c.verify-report.ensures.same mid c.in-Sound.is) in
+    c.copy_into-done.ensures.cut_off after void (tables s) rows
 
 pub returns-in_default : goal.returns-in_default
 returns-in_default g c = record {
@@ -80,7 +82,8 @@ returns-in_default g c = record {
       let before = was_clean _ _ c.verify-report.ensures.clean mid in
       let opened = c.in-Ok.ensures.opened before in
       kept_files (image_at g.S.Start) (file_state c.in-Ok.conn) (c.in-Ok.ensures.found before)
-      (file_state c.verify-report.result.1) (store_state c.close-in_default.result).may_leave (c.close-in_default.ensures.member clean)
+      (file_state c.verify-report.result.1) (store_state c.close-in_default.result).may_leave
+      (c.close-in_default.ensures.member clean)
       (c.verify-report.ensures.keeps mid opened.0);
   refuses = λ clean.
       let mid = was_clean _ _ c.close-in_default.ensures.clean clean in
@@ -88,8 +91,9 @@ returns-in_default g c = record {
       let opened = c.in-Ok.ensures.opened before in
       if_unopened _ _ c.verify-report.result.0 (λ fault refusal.
       refused_files (image_at g.S.Start) (file_state c.in-Ok.conn) (c.in-Ok.ensures.found before)
-      (file_state c.verify-report.result.1) (store_state c.close-in_default.result).may_leave (c.close-in_default.ensures.member clean)
-      opened.0 (λ version. c.holds_exactly.ensures opened.0 opened.1 (schema_of version)) fault refusal)
+      (file_state c.verify-report.result.1) (store_state c.close-in_default.result).may_leave
+      (c.close-in_default.ensures.member clean)
+      opened.0 (c.holds_exactly.ensures opened.0 opened.1) fault refusal)
       (c.verify-report.ensures.refuses mid);
   untaken = λ fault is. refl;
   older = λ clean s are.

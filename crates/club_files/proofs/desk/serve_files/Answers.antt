@@ -3,32 +3,33 @@ use Rattle.std.proofs.Math.Logic.{∥∥₁_elim, ∥∥₁_map}
 use Rattle.sqlite_wal.specs.Files.{image_at}
 use Rattle.sqlite_store.specs.FileStore.{state as store_state}
 use Rattle.sqlite.specs.Files.{file_state}
-use Rattle.store_tables.specs.Tables.{schema_of}
+use Rattle.store_tables.proofs.Proved.{leaves_beside}
 use Rattle.sessions.proofs.Proved.{was_clean}
-use Rattle.club_files.proofs.FoundLemmas.{taken_files, told_files}
+use Rattle.club_files.proofs.FoundLemmas.{shaped_files, taken_files, told_files}
+use Rattle.club_files.proofs.TaskLemmas.{if_taken}
 use Rattle.club_desk.specs.Repeats.{stands_at}
 use Rattle.club_files.proofs.desk.serve_files.Goals as goal
 
 pub returns-clause-led : goal.returns-clause-led
-returns-clause-led g c clean sessions led left may found finds =
+returns-clause-led g c clean them sessions led left may found finds =
     let after = was_clean _ _ c.close.ensures.clean clean in
     let before = c.serve_club-fault.ensures.clean after in
     let opened = c.in-Ok.ensures.opened before in
     let here = c.in-Ok.ensures.found before in
     ∥∥₁_elim (led _ (record { holds = here.holds; reads = here.reads })) squash₁ (λ was.
-    let on = c.serve_club-fault.ensures.led after opened.0 opened.1 sessions was in
+    let on = c.serve_club-fault.ensures.led after opened.0 opened.1 them sessions was in
     ∥∥₁_map (c.close.ensures.member clean left may found finds.holds)
     (λ now. record { turns = on.turns; are_turns = on.are_turns; led = on.led found now }))
 
 pub returns-clause-whole : goal.returns-clause-whole
-returns-clause-whole g c clean none sessions led left may found finds =
+returns-clause-whole g c clean none them sessions led left may found finds =
     let after = was_clean _ _ c.close.ensures.clean clean in
     let before = c.serve_club-fault.ensures.clean after in
     let opened = c.in-Ok.ensures.opened before in
     let here = c.in-Ok.ensures.found before in
     let nothing : c.serve_club-fault.result.0 ≡ None = cc in
     ∥∥₁_elim (led _ (record { holds = here.holds; reads = here.reads })) squash₁ (λ was.
-    let on = c.serve_club-fault.ensures.stands after opened.0 opened.1 nothing sessions was in
+    let on = c.serve_club-fault.ensures.stands after opened.0 opened.1 nothing them sessions was in
     ∥∥₁_map (c.close.ensures.member clean left may found finds.holds) (λ now. (
       record {
         turns = on.turns;
@@ -38,7 +39,7 @@ returns-clause-whole g c clean none sessions led left may found finds =
           after = stands_at on.stands.after;
           legal = on.stands.legal;
           leads = on.stands.leads;
-          leaves = on.stands.exactly.may_leave found now;
+          leaves = leaves_beside them _ _ on.stands.exactly found now;
         };
       },
       on.whole,
@@ -53,8 +54,7 @@ returns-clause-told g c clean =
       refl,
       told_files (image_at g.S.Start) (file_state c.in-Ok.conn) (c.in-Ok.ensures.found before)
           (file_state c.serve_club-fault.result.1) (store_state c.close.result).may_leave
-          (c.close.ensures.member clean) opened.0 (λ version. c.holds_exactly.ensures opened.0 opened.1
-          (schema_of version))
+          (c.close.ensures.member clean) opened.0 (c.holds_exactly.ensures opened.0 opened.1)
           c.serve_club-fault.result.0 (c.serve_club-fault.ensures.told after),
     )
 
@@ -64,8 +64,17 @@ returns-clause-taken g c clean =
     let before = c.serve_club-fault.ensures.clean after in
     let opened = c.in-Ok.ensures.opened before in
     taken_files (image_at g.S.Start) (file_state c.in-Ok.conn) (c.in-Ok.ensures.found before)
-    (λ version. c.holds_exactly.ensures opened.0 opened.1 (schema_of version)) c.serve_club-fault.result.0
+    (c.holds_exactly.ensures opened.0 opened.1) c.serve_club-fault.result.0
     (λ schema. c.serve_club-fault.ensures.taken after opened.0 opened.1 schema)
+
+pub returns-clause-shape : goal.returns-clause-shape
+returns-clause-shape g c clean =
+    let after = was_clean _ _ c.close.ensures.clean clean in
+    let before = c.serve_club-fault.ensures.clean after in
+    let opened = c.in-Ok.ensures.opened before in
+    if_taken c.serve_club-fault.result.0
+    (shaped_files (image_at g.S.Start) (file_state c.in-Ok.conn) (c.in-Ok.ensures.found before) opened.0 opened.1)
+    c.serve_club-fault.ensures.shape
 
 pub returns-clause-good : goal.returns-clause-good
 returns-clause-good g c clean s are =

@@ -2,11 +2,10 @@ use Rattle.std.proofs.Math.Logic.{∥∥₁_elim, ∥∥₁_map}
 use Rattle.sqlite_wal.specs.Files.{image_at}
 use Rattle.sqlite_store.specs.FileStore.{state as store_state}
 use Rattle.sqlite.specs.Files.{file_state}
-use Rattle.store_tables.specs.Tables.{schema_of}
 use Rattle.sessions.proofs.Proved.{was_clean}
-use Rattle.club_files.proofs.FoundLemmas.{if_verify, verify_under, if_takes_over, if_unopened}
-use Rattle.club_files.proofs.FoundLemmas.{carried_files, if_upgrade, kept_files, not_upgraded, refused_files}
+use Rattle.club_files.proofs.FoundLemmas.{carried_files, kept_files, not_upgraded, refused_files, shaped_files}
 use Rattle.club_files.proofs.FoundLemmas.{sound_files}
+use Rattle.club_files.proofs.TaskLemmas.{if_taken_over, if_takes_over, if_unopened, if_upgrade, if_verify, verify_under}
 use Rattle.club_files.proofs.order.obey.Goals as goal
 
 pub returns-clause-begun : goal.returns-clause-begun
@@ -38,14 +37,14 @@ returns-clause-given g c clean s are =
     (are.finds _ (record { holds = here.holds; reads = here.reads }))
 
 pub returns-clause-led : goal.returns-clause-led
-returns-clause-led g c clean sessions led left may found finds =
+returns-clause-led g c clean them sessions led left may found finds =
     let after = was_clean _ _ c.close.ensures.clean clean in
     let before = was_clean _ _ c.act-report.ensures.clean after in
     let opened = c.in-Ok.ensures.opened before in
     let here = c.in-Ok.ensures.found before in
     ∥∥₁_elim (led _ (record { holds = here.holds; reads = here.reads })) squash₁ (λ was.
     ∥∥₁_map (c.close.ensures.member clean left may found finds.holds)
-    (λ now. c.act-report.ensures.led after opened.0 opened.1 sessions was found now))
+    (λ now. c.act-report.ensures.led after opened.0 opened.1 them sessions was found now))
 
 pub returns-clause-passes : goal.returns-clause-passes
 returns-clause-passes g c clean s are =
@@ -72,8 +71,19 @@ returns-clause-sound g c clean =
     let opened = c.in-Ok.ensures.opened before in
     if_verify c.args.order.now.task (λ legal is.
     sound_files (image_at g.S.Start) (file_state c.in-Ok.conn) (c.in-Ok.ensures.found before)
-    (λ version. c.holds_exactly.ensures opened.0 opened.1 (schema_of version)) (λ schema. legal schema is))
+    (c.holds_exactly.ensures opened.0 opened.1) (λ schema. legal schema is))
     (verify_under _ _ c.args.order.now.task (λ schema. c.act-report.ensures.legal after opened.0 opened.1 schema))
+
+pub returns-clause-shape : goal.returns-clause-shape
+returns-clause-shape g c clean =
+    let after = was_clean _ _ c.close.ensures.clean clean in
+    let before = was_clean _ _ c.act-report.ensures.clean after in
+    let opened = c.in-Ok.ensures.opened before in
+    if_takes_over c.args.order.now.task (λ taken.
+    if_taken_over c.act-report.result.0 (λ shape.
+    shaped_files (image_at g.S.Start) (file_state c.in-Ok.conn) (c.in-Ok.ensures.found before) opened.0 opened.1 shape)
+    taken)
+    c.act-report.ensures.shape
 
 pub returns-clause-refuses : goal.returns-clause-refuses
 returns-clause-refuses g c clean =
@@ -84,7 +94,7 @@ returns-clause-refuses g c clean =
     if_unopened _ _ c.act-report.result.0 (λ fault refusal.
     refused_files (image_at g.S.Start) (file_state c.in-Ok.conn) (c.in-Ok.ensures.found before)
     (file_state c.act-report.result.1) (store_state c.close.result).may_leave (c.close.ensures.member clean) opened.0
-    (λ version. c.holds_exactly.ensures opened.0 opened.1 (schema_of version)) fault refusal)
+    (c.holds_exactly.ensures opened.0 opened.1) fault refusal)
     refused)
     (c.act-report.ensures.refuses after)
 
@@ -142,5 +152,5 @@ returns-clause-withheld g c clean =
     if_unopened _ _ c.act-report.result.0 (λ fault refusal.
     not_upgraded (image_at g.S.Start) (file_state c.in-Ok.conn) here (file_state c.act-report.result.1)
     (store_state c.close.result).may_leave (c.close.ensures.member clean) opened.0
-    (λ version. c.holds_exactly.ensures opened.0 opened.1 (schema_of version)) fault refusal) refused)
+    (c.holds_exactly.ensures opened.0 opened.1) fault refusal) refused)
     (c.act-report.ensures.withheld after)

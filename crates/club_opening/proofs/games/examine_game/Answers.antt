@@ -5,7 +5,8 @@ use Rattle.club_audit.specs.GameAudit.{IsRightAt}
 use Rattle.club_rows.specs.Club.{ClubState}
 use Rattle.sqlite.specs.Held.{state}
 use Rattle.sqlite.specs.State.{HasCleanDisk}
-use Rattle.store_tables.proofs.Proved.{first_of_club, read_then}
+use Rattle.club_opening.proofs.StoredLemmas.{first_beside}
+use Rattle.store_tables.proofs.Proved.{read_then}
 use Rattle.store_tables.specs.Cells.{IsMove}
 use Rattle.store_tables.specs.Tables.{moves}
 use Rattle.store_tables.specs.declared.names.Table.TheVariants.{Moves, Seen}
@@ -24,20 +25,20 @@ use Rattle.club_opening.proofs.games.examine_game.Goals as goal
 pub returns-in-Err-clause-later_fault : goal.returns-in-Err-clause-later_fault
 returns-in-Err-clause-later_fault g c clean has =
     moves_types_wrong c.args.rows.now (state g.S.Store c.args.conn.now) c.in-Err.fault
-    (c.in-Err.ensures.blames clean (first_of_club _ has))
+    (c.in-Err.ensures.blames clean (first_beside _ has))
 
 pub returns-in-Err-clause-blames : goal.returns-in-Err-clause-blames
 returns-in-Err-clause-blames g c clean has =
     inl
     (names_both Moves (moves 8) 4 IsMove (state g.S.Store c.args.conn.now) c.in-Err.fault refl refl (λ content all. all)
-    (c.in-Err.ensures.blames clean (first_of_club _ has)))
+    (c.in-Err.ensures.blames clean (first_beside _ has)))
 
 pub returns-in-Err-read_seen-clause-blames : goal.returns-in-Err-read_seen-clause-blames
 returns-in-Err-read_seen-clause-blames g c clean has =
     let s0 = state g.S.Store c.args.conn.now in
     let s1 = state g.S.Store c.read_of.new.conn in
     let early : HasCleanDisk s1 = omega (arith, c.read_seen.ensures.reads.clean) in
-    let one = c.in-Ok.ensures.rows early (first_of_club _ has) in
+    let one = c.in-Ok.ensures.rows early (first_beside _ has) in
     elim (c.in-Err-read_seen.ensures.blames clean (still s0 s1 one.same has)) [
       | inl store ↦ inl (inl store)
       | inr memory ↦ inl (inr (inl memory))
@@ -48,7 +49,7 @@ returns-in-Err-read_seen-clause-later_fault g c clean has t is =
     let s0 = state g.S.Store c.args.conn.now in
     let s1 = state g.S.Store c.read_of.new.conn in
     let early : HasCleanDisk s1 = omega (arith, c.read_seen.ensures.reads.clean) in
-    let one = c.in-Ok.ensures.rows early (first_of_club _ has) in
+    let one = c.in-Ok.ensures.rows early (first_beside _ has) in
     elim (c.in-Err-read_seen.ensures.blames clean (still s0 s1 one.same has)) [
       | inl store ↦ absurd (store_undamaged c.in-Err-read_seen.fault store t is)
       | inr memory ↦ absurd (memory_undamaged c.in-Err-read_seen.fault memory t is)
@@ -66,7 +67,7 @@ returns-in-Ok-found_of-clause-found g c clean has =
     let s1 = state g.S.Store c.read_of.new.conn in
     let s2 = state g.S.Store c.read_seen.new.conn in
     let early : HasCleanDisk s1 = omega (arith, c.read_seen.ensures.reads.clean) in
-    let one = c.in-Ok.ensures.rows early (first_of_club _ has) in
+    let one = c.in-Ok.ensures.rows early (first_beside _ has) in
     let two = (rw c.in-Some.is at (c.in-Ok-read_seen.ensures.rows clean)) (still s0 s1 one.same has) in
     let rows = c.args.rows.now in
     let game = c.args.game.now in
@@ -93,7 +94,7 @@ returns-in-Ok-found_of-2-clause-found g c clean has =
     let s1 = state g.S.Store c.read_of.new.conn in
     let s2 = state g.S.Store c.read_seen.new.conn in
     let early : HasCleanDisk s1 = omega (arith, c.read_seen.ensures.reads.clean) in
-    let one = c.in-Ok.ensures.rows early (first_of_club _ has) in
+    let one = c.in-Ok.ensures.rows early (first_beside _ has) in
     let (same, untyped) = c.in-Ok-read_seen.ensures.untyped clean c.in-None.is (still s0 s1 one.same has) in
     let rows = c.args.rows.now in
     let game = c.args.game.now in

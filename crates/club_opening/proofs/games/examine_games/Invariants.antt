@@ -3,7 +3,7 @@ use Rattle.sqlite.specs.State.{HasCleanDisk}
 use Rattle.sqlite.specs.Held.{state}
 use Rattle.store_tables.specs.Reading.{Reads}
 use Rattle.store_tables.specs.declared.names.Table.{Table}
-use Rattle.store_tables.specs.Tables.{IsClubSchema}
+use Rattle.club_opening.specs.Versions.{HasClubTables}
 use Rattle.club_audit.specs.Audit.{HasPeople}
 use Rattle.club_rows.specs.Club.{ClubState}
 use Rattle.club_opening.specs.RightTables.{IsLater}
@@ -18,7 +18,7 @@ invariant-loop-place g l = record {
   kept : IsKept l.fn.known l.wrong;
   later : (s : ClubState) → HasPeople s l.rows → IsLater l.fn.known → IsLater l.wrong;
   free : (u : Table) → IsAfter u l.wrong → IsAfter u l.fn.known;
-  left : HasCleanDisk (state g.S.Store l.conn) → IsClubSchema (state g.S.Store l.fn.conn).now.schema
+  left : HasCleanDisk (state g.S.Store l.conn) → HasClubTables (state g.S.Store l.fn.conn).now.schema
       → IsTrue (state g.S.Store l.fn.conn).is_open
       → l.fn.all.moves ≡ length (moves_in (state g.S.Store l.fn.conn).now.trees)
       → l.fn.all.seen ≡ length (seen_in (state g.S.Store l.fn.conn).now.trees)

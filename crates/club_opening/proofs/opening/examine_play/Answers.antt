@@ -1,7 +1,8 @@
 use Rattle.std.proofs.Common.{inl, refl, true, arith, subst}
 use Rattle.sqlite.specs.Held.{state}
 use Rattle.sqlite.specs.State.{HasCleanDisk}
-use Rattle.store_tables.proofs.Proved.{first_of_club, read_then}
+use Rattle.club_opening.proofs.StoredLemmas.{first_beside}
+use Rattle.store_tables.proofs.Proved.{read_then}
 use Rattle.club_opening.proofs.BlameLemmas.{names_both, still}
 use Rattle.club_opening.proofs.ExaminedLemmas.{blamed_before, both_same, moves_number, play_examined}
 use Rattle.club_opening.proofs.ExaminedLemmas.{seen_number}
@@ -22,8 +23,8 @@ returns-in-Ok-examine_games-clause-found g c clean has =
     let clean2 : HasCleanDisk s2 = omega (arith, c.examine_games.ensures.reads.clean) in
     let clean1 : HasCleanDisk s1 = omega (arith, c.count_of-2.ensures.reads.clean, c.examine_games.ensures.reads.clean)
     in
-    let moves = c.in-Ok.ensures.counted clean1 (first_of_club _ has) in
-    let seen = c.in-Ok-count_of.ensures.counted clean2 (first_of_club _ (still s0 s1 moves.same has)) in
+    let moves = c.in-Ok.ensures.counted clean1 (first_beside _ has) in
+    let seen = c.in-Ok-count_of.ensures.counted clean2 (first_beside _ (still s0 s1 moves.same has)) in
     let same = both_same s0 s1 s2 c.in-Ok.count c.in-Ok-count_of.count moves seen in
     play_examined s0 s1 s2 c.in-Ok.count c.in-Ok-count_of.count moves seen c.args.rows.now c.args.last
     c.in-Ok-examine_games.wrong s3
@@ -39,8 +40,8 @@ returns-in-Err-examine_games-clause-blames g c clean has =
     let clean2 : HasCleanDisk s2 = omega (arith, c.examine_games.ensures.reads.clean) in
     let clean1 : HasCleanDisk s1 = omega (arith, c.count_of-2.ensures.reads.clean, c.examine_games.ensures.reads.clean)
     in
-    let moves = c.in-Ok.ensures.counted clean1 (first_of_club _ has) in
-    let seen = c.in-Ok-count_of.ensures.counted clean2 (first_of_club _ (still s0 s1 moves.same has)) in
+    let moves = c.in-Ok.ensures.counted clean1 (first_beside _ has) in
+    let seen = c.in-Ok-count_of.ensures.counted clean2 (first_beside _ (still s0 s1 moves.same has)) in
     let same = both_same s0 s1 s2 c.in-Ok.count c.in-Ok-count_of.count moves seen in
     blamed_before c.args.rows.now s0 s2 c.in-Err-examine_games.fault same
     (c.in-Err-examine_games.ensures.blames clean (still s0 s2 same has) same.0.is_open
@@ -50,18 +51,18 @@ returns-in-Err-examine_games-clause-blames g c clean has =
 pub returns-in-Err-clause-later_fault : goal.returns-in-Err-clause-later_fault
 returns-in-Err-clause-later_fault g c clean has =
     moves_types_wrong c.args.rows.now (state g.S.Store c.args.conn.now) c.in-Err.fault
-    (c.in-Err.ensures.blames clean (first_of_club _ has))
+    (c.in-Err.ensures.blames clean (first_beside _ has))
 
 pub returns-in-Err-count_of-clause-later_fault : goal.returns-in-Err-count_of-clause-later_fault
 returns-in-Err-count_of-clause-later_fault g c clean has =
     let s0 = state g.S.Store c.args.conn.now in
     let s1 = state g.S.Store c.count_of.new.conn in
     let clean1 : HasCleanDisk s1 = omega (arith, c.count_of-2.ensures.reads.clean) in
-    let counted = c.in-Ok.ensures.counted clean1 (first_of_club _ has) in
+    let counted = c.in-Ok.ensures.counted clean1 (first_beside _ has) in
     subst (λ (d : Database). NamesPlayed c.args.rows.now d c.in-Err-count_of.fault) counted.same.0.now_is
     (seen_torn_wrong c.args.rows.now s1 c.in-Err-count_of.fault
-    (c.in-Err-count_of.ensures.blames clean (first_of_club _ (still s0 s1 counted.same has)))
-    (λ t is. c.in-Err-count_of.ensures.apart clean t is (first_of_club _ (still s0 s1 counted.same has))))
+    (c.in-Err-count_of.ensures.blames clean (first_beside _ (still s0 s1 counted.same has)))
+    (λ t is. c.in-Err-count_of.ensures.apart clean t is (first_beside _ (still s0 s1 counted.same has))))
 
 pub returns-in-Err-examine_games-clause-later_fault : goal.returns-in-Err-examine_games-clause-later_fault
 returns-in-Err-examine_games-clause-later_fault g c clean has =
@@ -71,8 +72,8 @@ returns-in-Err-examine_games-clause-later_fault g c clean has =
     let clean2 : HasCleanDisk s2 = omega (arith, c.examine_games.ensures.reads.clean) in
     let clean1 : HasCleanDisk s1 = omega (arith, c.count_of-2.ensures.reads.clean, c.examine_games.ensures.reads.clean)
     in
-    let moves = c.in-Ok.ensures.counted clean1 (first_of_club _ has) in
-    let seen = c.in-Ok-count_of.ensures.counted clean2 (first_of_club _ (still s0 s1 moves.same has)) in
+    let moves = c.in-Ok.ensures.counted clean1 (first_beside _ has) in
+    let seen = c.in-Ok-count_of.ensures.counted clean2 (first_beside _ (still s0 s1 moves.same has)) in
     let same = both_same s0 s1 s2 c.in-Ok.count c.in-Ok-count_of.count moves seen in
     subst (λ (d : Database). NamesPlayed c.args.rows.now d c.in-Err-examine_games.fault) same.0.now_is
     (c.in-Err-examine_games.ensures.later_fault clean (still s0 s2 same has) same.0.is_open
@@ -88,15 +89,15 @@ pub returns-in-Err-clause-blames : goal.returns-in-Err-clause-blames
 returns-in-Err-clause-blames g c clean has =
     inl
     (names_both Moves (moves 8) 4 IsMove (state g.S.Store c.args.conn.now) c.in-Err.fault refl refl (λ content all. all)
-    (c.in-Err.ensures.blames clean (first_of_club _ has)))
+    (c.in-Err.ensures.blames clean (first_beside _ has)))
 
 pub returns-in-Err-count_of-clause-blames : goal.returns-in-Err-count_of-clause-blames
 returns-in-Err-count_of-clause-blames g c clean has =
     let s0 = state g.S.Store c.args.conn.now in
     let s1 = state g.S.Store c.count_of.new.conn in
     let clean1 : HasCleanDisk s1 = omega (arith, c.count_of-2.ensures.reads.clean) in
-    let one = c.in-Ok.ensures.counted clean1 (first_of_club _ has) in
+    let one = c.in-Ok.ensures.counted clean1 (first_beside _ has) in
     blamed_before c.args.rows.now s0 s1 c.in-Err-count_of.fault one.same
     (inl
     (names_both Seen (seen 12) 6 IsSeen s1 c.in-Err-count_of.fault refl refl (λ content all. all)
-    (c.in-Err-count_of.ensures.blames clean (first_of_club _ (still s0 s1 one.same has)))))
+    (c.in-Err-count_of.ensures.blames clean (first_beside _ (still s0 s1 one.same has)))))

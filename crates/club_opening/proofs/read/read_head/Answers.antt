@@ -1,11 +1,12 @@
-use Rattle.std.proofs.Common.{true, ap, arith, inl, inr, subst, sym, ◌∙◌}
+use Rattle.std.proofs.Common.{true, ap, arith, inl, inr, subst, sym}
 use Rattle.sqlite.specs.Effect.{Database}
 use Rattle.sqlite.specs.Held.{state}
 use Rattle.sqlite.specs.State.{HasCleanDisk}
 use Rattle.sqlite.proofs.Callers.{unchanged_then}
-use Rattle.store_tables.proofs.Proved.{first_of_club, read_then}
-use Rattle.store_tables.specs.Tables.{schema_of}
+use Rattle.club_opening.proofs.StoredLemmas.{first_beside}
+use Rattle.store_tables.proofs.Proved.{read_then}
 use Rattle.club_opening.specs.Blames.{IsMetaRead, NamesForeign, NamesSchema}
+use Rattle.club_opening.specs.Versions.{HasTablesOf}
 use Rattle.club_opening.proofs.BlameLemmas.{foreign_named, meta_before, refused_named, still, still_of, told_blamed}
 use Rattle.club_opening.proofs.FirstLemmas.{foreign_undamaged, schema_undamaged, store_undamaged, told_undamaged}
 use Rattle.club_opening.proofs.read.read_head.Goals as goal
@@ -30,7 +31,7 @@ returns-in-Err-check_rules-clause-blames g c clean has =
           (inl
           (subst (NamesForeign s0.now) (sym foreign)
           (foreign_named told.version told.meta s0 s1 found
-          (λ is. other (still_of s0 s1 (schema_of told.version) same1 is))))))
+          (λ is. other (still_of s0 s1 told.version same1 is))))))
     ]
 
 pub returns-in-Some-clause-blames : goal.returns-in-Some-clause-blames
@@ -56,7 +57,7 @@ returns-in-Err-check_tables-clause-blames g c clean has =
     in
     let same1 = c.in-Ok.ensures.same clean1 has in
     let same2 = unchanged_then s0 s1 s2 same1 (c.in-Ok-check_rules.ensures.same clean2 (still s0 s1 same1 has)) in
-    inl (inl (c.in-Err-check_tables.ensures.blames clean (first_of_club _ (still s0 s2 same2 has))))
+    inl (inl (c.in-Err-check_tables.ensures.blames clean (first_beside _ (still s0 s2 same2 has))))
 
 pub returns-in-Ok-check_tables-clause-found : goal.returns-in-Ok-check_tables-clause-found
 returns-in-Ok-check_tables-clause-found g c clean has =
@@ -74,8 +75,8 @@ returns-in-Ok-check_tables-clause-found g c clean has =
     let rules_same = c.in-Ok-check_rules.ensures.same clean2 has1 in
     let version = c.in-Ok-check_rules.ensures.version clean2 has1 in
     let same2 = unchanged_then s0 s1 s2 same1 rules_same in
-    let tables_same = c.in-Ok-check_tables.ensures.same clean (first_of_club _ (still s0 s2 same2 has)) in (
-      ap (λ (d : Database). d.schema) (sym same1.0.now_is) ∙ version,
+    let tables_same = c.in-Ok-check_tables.ensures.same clean (first_beside _ (still s0 s2 same2 has)) in (
+      subst (HasTablesOf told.version) (ap (λ (d : Database). d.schema) same1.0.now_is) version,
       meta_before told.version told.meta s0 s1 s3 found (unchanged_then s1 s2 s3 rules_same tables_same),
     )
 
@@ -90,7 +91,7 @@ returns-in-Ok-check_tables-clause-same g c clean has =
     in
     let same1 = c.in-Ok.ensures.same clean1 has in
     let same2 = unchanged_then s0 s1 s2 same1 (c.in-Ok-check_rules.ensures.same clean2 (still s0 s1 same1 has)) in
-    unchanged_then s0 s2 s3 same2 (c.in-Ok-check_tables.ensures.same clean (first_of_club _ (still s0 s2 same2 has)))
+    unchanged_then s0 s2 s3 same2 (c.in-Ok-check_tables.ensures.same clean (first_beside _ (still s0 s2 same2 has)))
 
 pub returns-in-Ok-check_tables-clause-taken : goal.returns-in-Ok-check_tables-clause-taken
 returns-in-Ok-check_tables-clause-taken g c is = c.refused.ensures.none c.in-None.is is
@@ -119,7 +120,7 @@ returns-in-Err-check_tables-clause-undamaged g c clean has =
     in
     let same1 = c.in-Ok.ensures.same clean1 has in
     let same2 = unchanged_then s0 s1 s2 same1 (c.in-Ok-check_rules.ensures.same clean2 (still s0 s1 same1 has)) in
-    store_undamaged c.in-Err-check_tables.fault (c.in-Err-check_tables.ensures.blames clean (first_of_club _ (still s0 s2 same2 has)))
+    store_undamaged c.in-Err-check_tables.fault (c.in-Err-check_tables.ensures.blames clean (first_beside _ (still s0 s2 same2 has)))
 
 pub returns-in-Ok-check_tables-clause-reads : goal.returns-in-Ok-check_tables-clause-reads
 returns-in-Ok-check_tables-clause-reads g c =

@@ -3,52 +3,53 @@ use Rattle.club_audit.specs.Audit.{AreEvents, AreRules}
 use Rattle.sqlite.specs.Held.{state}
 use Rattle.sqlite.specs.State.{HasCleanDisk}
 use Rattle.sqlite.proofs.Callers.{unchanged_then}
-use Rattle.store_tables.proofs.Proved.{first_of_club, read_then}
-use Rattle.store_tables.specs.Cells.{IsChallenge, IsGame}
-use Rattle.store_tables.specs.Tables.{members, events, challenges, games, schema_of}
-use Rattle.store_tables.specs.declared.names.Table.TheVariants.{Challenges, Games}
+use Rattle.club_opening.proofs.StoredLemmas.{first_beside}
+use Rattle.store_tables.proofs.Proved.{read_failed, read_then}
+use Rattle.store_tables.specs.Cells.{IsChallenge}
+use Rattle.store_tables.specs.Tables.{members, events, challenges}
+use Rattle.store_tables.specs.declared.names.Table.TheVariants.{Challenges}
 use Rattle.club_opening.proofs.BlameLemmas.{meta_before, names_both, read_after, read_before, rows_blamed_before}
 use Rattle.club_opening.proofs.BlameLemmas.{rules_after, rules_unchanged, still, still_of}
-use Rattle.club_opening.specs.Blames.{AreRulesRead, HasTypes, HoldsNone}
+use Rattle.club_opening.specs.Blames.{AreRulesRead}
 use Rattle.club_opening.specs.Versions.{HasEvents}
 use Rattle.club_opening.proofs.ClubLemmas.{has_events}
 use Rattle.club_opening.proofs.FirstLemmas.{challenge_types_wrong, events_right, first_before, first_challenges}
-use Rattle.club_opening.proofs.FirstLemmas.{first_events, first_games, games_untyped}
+use Rattle.club_opening.proofs.FirstLemmas.{first_events, has_people}
+use Rattle.club_opening.proofs.KnownLemmas.{first_untyped, have_known, known_before, pass_known, untyped_blamed}
 use Rattle.club_opening.proofs.FirstLemmas.{first_members, first_none, first_rules, members_right, people_read}
 use Rattle.club_opening.proofs.FirstLemmas.{people_right, tells_events}
 use Rattle.club_opening.specs.RightTables.{NamesWrong, TellsEvents}
 use Rattle.sqlite.specs.Effect.{Database}
 use Rattle.store_sql.specs.Read.{IsReadAs}
-use Rattle.std.proofs.Common.{◌≡◌, map}
-use Rattle.club_opening.specs.declared.fault.OpenFault.TheVariants.{Damaged}
-use Rattle.store_tables.specs.declared.names.Table.{Table}
+use Rattle.std.proofs.Common.{map}
+use Rattle.store_tables.specs.declared.rows.Rows.{Rows}
 use Rattle.store_tables.specs.Cells.{event_cells}
 use Rattle.store_tables.specs.declared.names.Table.TheVariants.{Events, EventRules}
 use Rattle.club_opening.proofs.read.read_rows.Goals as goal
 
-pub returns-clause-rows : goal.returns-clause-rows
-returns-clause-rows g c clean has =
+pub returns-then-are_typed-clause-rows : goal.returns-then-are_typed-clause-rows
+returns-then-are_typed-clause-rows g c clean has =
     let s0 = state g.S.Store c.args.conn.now in
     let s1 = state g.S.Store c.read_shaped.new.conn in
     let s2 = state g.S.Store c.read_members.new.conn in
     let s3 = state g.S.Store c.read_events.new.conn in
     let s4 = state g.S.Store c.read_rules.new.conn in
     let s5 = state g.S.Store c.read.new.conn in
-    let s6 = state g.S.Store c.read-2.new.conn in
-    let clean5 : HasCleanDisk s5 = omega (arith, c.read-2.ensures.reads.clean) in
-    let clean4 : HasCleanDisk s4 = omega (arith, c.read.ensures.reads.clean, c.read-2.ensures.reads.clean) in
+    let s6 = state g.S.Store c.read_games.new.conn in
+    let clean5 : HasCleanDisk s5 = omega (arith, c.read_games.ensures.reads.clean) in
+    let clean4 : HasCleanDisk s4 = omega (arith, c.read.ensures.reads.clean, c.read_games.ensures.reads.clean) in
     let clean3 : HasCleanDisk s3 = omega (
       arith,
       c.read_rules.ensures.reads.clean,
       c.read.ensures.reads.clean,
-      c.read-2.ensures.reads.clean,
+      c.read_games.ensures.reads.clean,
     ) in
     let clean2 : HasCleanDisk s2 = omega (
       arith,
       c.read_events.ensures.reads.clean,
       c.read_rules.ensures.reads.clean,
       c.read.ensures.reads.clean,
-      c.read-2.ensures.reads.clean,
+      c.read_games.ensures.reads.clean,
     ) in
     let clean1 : HasCleanDisk s1 = omega (
       arith,
@@ -56,7 +57,7 @@ returns-clause-rows g c clean has =
       c.read_events.ensures.reads.clean,
       c.read_rules.ensures.reads.clean,
       c.read.ensures.reads.clean,
-      c.read-2.ensures.reads.clean,
+      c.read_games.ensures.reads.clean,
     ) in
     let version = c.in-Ok.told.version in
     let (schema, one) = c.in-Ok.ensures.found clean1 has in
@@ -65,13 +66,12 @@ returns-clause-rows g c clean has =
     let same2 = unchanged_then s0 s1 s2 same1 are_members.same in
     let are_events = c.in-Ok-read_events.ensures.rows clean3 (still s0 s2 same2 has) in
     let same3 = unchanged_then s0 s2 s3 same2 are_events.same in
-    let are_rules = c.in-Ok-read_rules.ensures.rules clean4 (still_of s0 s3
-    (schema_of version) same3 schema) are_events.same.0.is_open in
+    let are_rules = c.in-Ok-read_rules.ensures.rules clean4 (still_of s0 s3 version same3 schema) are_events.same.0.is_open in
     let rules_same = rules_unchanged version _ _ s3 s4 are_rules in
     let same4 = unchanged_then s0 s3 s4 same3 rules_same in
-    let are_challenges = c.in-Ok-read.ensures.rows clean5 (first_of_club _ (still s0 s4 same4 has)) in
+    let are_challenges = c.in-Ok-read.ensures.rows clean5 (first_beside _ (still s0 s4 same4 has)) in
     let same5 = unchanged_then s0 s4 s5 same4 are_challenges.same in
-    let are_games = c.in-Ok-read-2.ensures.rows clean (first_of_club _ (still s0 s5 same5 has)) in
+    let are_games = c.in-Ok-read_games.ensures.rows clean c.if-are_typed.true (still s0 s5 same5 has) in
     let after5 = are_games.same in
     let after4 = unchanged_then s4 s5 s6 are_challenges.same after5 in
     let after3 = unchanged_then s3 s4 s6 rules_same after4 in
@@ -142,7 +142,7 @@ returns-in-Err-read_rules-clause-blames g c clean has =
     let same3 = unchanged_then s0 s2 s3 same2 are_events.same in
     let (es, are) = c.in-Ok-read_events.ensures.are in
     rows_blamed_before c.args.oldest s0 s3 c.in-Err-read_rules.fault same3
-    (c.in-Err-read_rules.ensures.blames clean (still_of s0 s3 (schema_of version) same3 schema) es
+    (c.in-Err-read_rules.ensures.blames clean (still_of s0 s3 version same3 schema) es
     (subst (AreEvents es) (sym c.deref.ensures.value) are)
     (subst (λ l. HasEvents l s3.now) (sym c.deref.ensures.value) (has_events _ s2 s3 are_events)))
 
@@ -175,37 +175,36 @@ returns-in-Err-read-clause-blames g c clean has =
     let same2 = unchanged_then s0 s1 s2 same1 are_members.same in
     let are_events = c.in-Ok-read_events.ensures.rows clean3 (still s0 s2 same2 has) in
     let same3 = unchanged_then s0 s2 s3 same2 are_events.same in
-    let are_rules = c.in-Ok-read_rules.ensures.rules clean4 (still_of s0 s3
-    (schema_of version) same3 schema) are_events.same.0.is_open in
+    let are_rules = c.in-Ok-read_rules.ensures.rules clean4 (still_of s0 s3 version same3 schema) are_events.same.0.is_open in
     let rules_same = rules_unchanged version _ _ s3 s4 are_rules in
     let same4 = unchanged_then s0 s3 s4 same3 rules_same in
     rows_blamed_before c.args.oldest s0 s4 c.in-Err-read.fault same4
     (inl
     (names_both Challenges (challenges 6) 3 IsChallenge s4 c.in-Err-read.fault refl refl (λ content all. all)
-    (c.in-Err-read.ensures.blames clean (first_of_club _ (still s0 s4 same4 has)))))
+    (c.in-Err-read.ensures.blames clean (first_beside _ (still s0 s4 same4 has)))))
 
-pub returns-in-Err-read-2-clause-blames : goal.returns-in-Err-read-2-clause-blames
-returns-in-Err-read-2-clause-blames g c clean has =
+pub returns-in-Err-read_games-clause-blames : goal.returns-in-Err-read_games-clause-blames
+returns-in-Err-read_games-clause-blames g c clean has =
     let s0 = state g.S.Store c.args.conn.now in
     let s1 = state g.S.Store c.read_shaped.new.conn in
     let s2 = state g.S.Store c.read_members.new.conn in
     let s3 = state g.S.Store c.read_events.new.conn in
     let s4 = state g.S.Store c.read_rules.new.conn in
     let s5 = state g.S.Store c.read.new.conn in
-    let clean5 : HasCleanDisk s5 = omega (arith, c.read-2.ensures.reads.clean) in
-    let clean4 : HasCleanDisk s4 = omega (arith, c.read.ensures.reads.clean, c.read-2.ensures.reads.clean) in
+    let clean5 : HasCleanDisk s5 = omega (arith, c.read_games.ensures.reads.clean) in
+    let clean4 : HasCleanDisk s4 = omega (arith, c.read.ensures.reads.clean, c.read_games.ensures.reads.clean) in
     let clean3 : HasCleanDisk s3 = omega (
       arith,
       c.read_rules.ensures.reads.clean,
       c.read.ensures.reads.clean,
-      c.read-2.ensures.reads.clean,
+      c.read_games.ensures.reads.clean,
     ) in
     let clean2 : HasCleanDisk s2 = omega (
       arith,
       c.read_events.ensures.reads.clean,
       c.read_rules.ensures.reads.clean,
       c.read.ensures.reads.clean,
-      c.read-2.ensures.reads.clean,
+      c.read_games.ensures.reads.clean,
     ) in
     let clean1 : HasCleanDisk s1 = omega (
       arith,
@@ -213,7 +212,7 @@ returns-in-Err-read-2-clause-blames g c clean has =
       c.read_events.ensures.reads.clean,
       c.read_rules.ensures.reads.clean,
       c.read.ensures.reads.clean,
-      c.read-2.ensures.reads.clean,
+      c.read_games.ensures.reads.clean,
     ) in
     let version = c.in-Ok.told.version in
     let (schema, one) = c.in-Ok.ensures.found clean1 has in
@@ -222,19 +221,16 @@ returns-in-Err-read-2-clause-blames g c clean has =
     let same2 = unchanged_then s0 s1 s2 same1 are_members.same in
     let are_events = c.in-Ok-read_events.ensures.rows clean3 (still s0 s2 same2 has) in
     let same3 = unchanged_then s0 s2 s3 same2 are_events.same in
-    let are_rules = c.in-Ok-read_rules.ensures.rules clean4 (still_of s0 s3
-    (schema_of version) same3 schema) are_events.same.0.is_open in
+    let are_rules = c.in-Ok-read_rules.ensures.rules clean4 (still_of s0 s3 version same3 schema) are_events.same.0.is_open in
     let rules_same = rules_unchanged version _ _ s3 s4 are_rules in
     let same4 = unchanged_then s0 s3 s4 same3 rules_same in
-    let are_challenges = c.in-Ok-read.ensures.rows clean5 (first_of_club _ (still s0 s4 same4 has)) in
+    let are_challenges = c.in-Ok-read.ensures.rows clean5 (first_beside _ (still s0 s4 same4 has)) in
     let same5 = unchanged_then s0 s4 s5 same4 are_challenges.same in
-    rows_blamed_before c.args.oldest s0 s5 c.in-Err-read-2.fault same5
-    (inl
-    (names_both Games (games 10) 5 IsGame s5 c.in-Err-read-2.fault refl refl (λ content all. all)
-    (c.in-Err-read-2.ensures.blames clean (first_of_club _ (still s0 s5 same5 has)))))
+    rows_blamed_before c.args.oldest s0 s5 c.in-Err-read_games.fault same5
+    (inl (c.in-Err-read_games.ensures.blames clean (still s0 s5 same5 has)))
 
-pub returns-clause-rules : goal.returns-clause-rules
-returns-clause-rules g c =
+pub returns-then-are_typed-clause-rules : goal.returns-then-are_typed-clause-rules
+returns-then-are_typed-clause-rules g c =
     let (es, are) = c.in-Ok-read_events.ensures.are in
     subst (λ l. AreRules c.in-Ok-read_rules.rules.items (length l)) c.deref.ensures.value
     (c.in-Ok-read_rules.ensures.are es (subst (AreEvents es) (sym c.deref.ensures.value) are))
@@ -296,7 +292,7 @@ returns-in-Err-read_rules-clause-first g c clean has =
     let (ms, are_ms) = c.in-Ok-read_members.ensures.are in
     let (es, are_es) = c.in-Ok-read_events.ensures.are in
     let e = c.in-Err-read_rules.fault in
-    let wrong = c.in-Err-read_rules.ensures.wrong clean (still_of s0 s3 (schema_of version) same3 schema)
+    let wrong = c.in-Err-read_rules.ensures.wrong clean (still_of s0 s3 version same3 schema)
     (subst (λ l. TellsEvents l s3.now) (sym c.deref.ensures.value) (tells_events _ s2 s3 are_events)) in
     first_rules s0.now e
     (subst (λ (d : Database). NamesWrong EventRules d e) same3.0.now_is wrong)
@@ -322,8 +318,7 @@ returns-in-Err-read-clause-first g c clean has =
     let same2 = unchanged_then s0 s1 s2 same1 are_members.same in
     let are_events = c.in-Ok-read_events.ensures.rows clean3 (still s0 s2 same2 has) in
     let same3 = unchanged_then s0 s2 s3 same2 are_events.same in
-    let are_rules = c.in-Ok-read_rules.ensures.rules clean4 (still_of s0 s3
-    (schema_of version) same3 schema) are_events.same.0.is_open in
+    let are_rules = c.in-Ok-read_rules.ensures.rules clean4 (still_of s0 s3 version same3 schema) are_events.same.0.is_open in
     let same4 = unchanged_then s0 s3 s4 same3 (rules_unchanged version _ _ s3 s4 are_rules) in
     let (ms, are_ms) = c.in-Ok-read_members.ensures.are in
     let (es, are_es) = c.in-Ok-read_events.ensures.are in
@@ -332,26 +327,26 @@ returns-in-Err-read-clause-first g c clean has =
     let own_events = subst (λ l. IsReadAs (events 4) 1 (map event_cells l) s2 s3) (sym c.deref.ensures.value) are_events
     in
     let e = c.in-Err-read.fault in
-    let wrong = challenge_types_wrong s4 e (c.in-Err-read.ensures.blames clean (first_of_club _ (still s0 s4 same4 has))) in
+    let wrong = challenge_types_wrong s4 e (c.in-Err-read.ensures.blames clean (first_beside _ (still s0 s4 same4 has))) in
     first_challenges s0.now e
     (subst (λ (d : Database). NamesWrong Challenges d e) same4.0.now_is wrong)
     (people_right version c.in-Ok-read_members.members.items event_rows c.in-Ok-read_rules.rules.items s0.now
     (people_read version _ event_rows _ s0 s1 s2 s3 s4 schema same1 are_members own_events are_rules ms are_ms es own_es
     (c.in-Ok-read_rules.ensures.are es own_es)))
 
-pub returns-in-Err-read-2-clause-first : goal.returns-in-Err-read-2-clause-first
-returns-in-Err-read-2-clause-first g c clean has =
+pub returns-in-Err-read_games-clause-first : goal.returns-in-Err-read_games-clause-first
+returns-in-Err-read_games-clause-first g c clean has =
     let s0 = state g.S.Store c.args.conn.now in
     let s1 = state g.S.Store c.read_shaped.new.conn in
     let s2 = state g.S.Store c.read_members.new.conn in
     let s3 = state g.S.Store c.read_events.new.conn in
     let s4 = state g.S.Store c.read_rules.new.conn in
     let s5 = state g.S.Store c.read.new.conn in
-    let clean5 : HasCleanDisk s5 = omega (arith, c.read-2.ensures.reads.clean) in
-    let clean4 : HasCleanDisk s4 = omega (arith, c.read.ensures.reads.clean, c.read-2.ensures.reads.clean) in
-    let clean3 : HasCleanDisk s3 = omega (arith, c.read_rules.ensures.reads.clean, c.read.ensures.reads.clean, c.read-2.ensures.reads.clean) in
-    let clean2 : HasCleanDisk s2 = omega (arith, c.read_events.ensures.reads.clean, c.read_rules.ensures.reads.clean, c.read.ensures.reads.clean, c.read-2.ensures.reads.clean) in
-    let clean1 : HasCleanDisk s1 = omega (arith, c.read_members.ensures.reads.clean, c.read_events.ensures.reads.clean, c.read_rules.ensures.reads.clean, c.read.ensures.reads.clean, c.read-2.ensures.reads.clean) in
+    let clean5 : HasCleanDisk s5 = omega (arith, c.read_games.ensures.reads.clean) in
+    let clean4 : HasCleanDisk s4 = omega (arith, c.read.ensures.reads.clean, c.read_games.ensures.reads.clean) in
+    let clean3 : HasCleanDisk s3 = omega (arith, c.read_rules.ensures.reads.clean, c.read.ensures.reads.clean, c.read_games.ensures.reads.clean) in
+    let clean2 : HasCleanDisk s2 = omega (arith, c.read_events.ensures.reads.clean, c.read_rules.ensures.reads.clean, c.read.ensures.reads.clean, c.read_games.ensures.reads.clean) in
+    let clean1 : HasCleanDisk s1 = omega (arith, c.read_members.ensures.reads.clean, c.read_events.ensures.reads.clean, c.read_rules.ensures.reads.clean, c.read.ensures.reads.clean, c.read_games.ensures.reads.clean) in
     let version = c.in-Ok.told.version in
     let (schema, one) = c.in-Ok.ensures.found clean1 has in
     let same1 = c.in-Ok.ensures.same clean1 has in
@@ -359,8 +354,7 @@ returns-in-Err-read-2-clause-first g c clean has =
     let same2 = unchanged_then s0 s1 s2 same1 are_members.same in
     let are_events = c.in-Ok-read_events.ensures.rows clean3 (still s0 s2 same2 has) in
     let same3 = unchanged_then s0 s2 s3 same2 are_events.same in
-    let are_rules = c.in-Ok-read_rules.ensures.rules clean4 (still_of s0 s3
-    (schema_of version) same3 schema) are_events.same.0.is_open in
+    let are_rules = c.in-Ok-read_rules.ensures.rules clean4 (still_of s0 s3 version same3 schema) are_events.same.0.is_open in
     let same4 = unchanged_then s0 s3 s4 same3 (rules_unchanged version _ _ s3 s4 are_rules) in
     let (ms, are_ms) = c.in-Ok-read_members.ensures.are in
     let (es, are_es) = c.in-Ok-read_events.ensures.are in
@@ -368,21 +362,114 @@ returns-in-Err-read-2-clause-first g c clean has =
     let own_es = subst (AreEvents es) (sym c.deref.ensures.value) are_es in
     let own_events = subst (λ l. IsReadAs (events 4) 1 (map event_cells l) s2 s3) (sym c.deref.ensures.value) are_events
     in
-    let are_challenges = c.in-Ok-read.ensures.rows clean5 (first_of_club _ (still s0 s4 same4 has)) in
+    let are_challenges = c.in-Ok-read.ensures.rows clean5 (first_beside _ (still s0 s4 same4 has)) in
     let same5 = unchanged_then s0 s4 s5 same4 are_challenges.same in
-    let e = c.in-Err-read-2.fault in
-    let untyped = games_untyped s5 e (c.in-Err-read-2.ensures.blames clean (first_of_club _ (still s0 s5 same5 has))) in
-    first_games s0.now e
-    (subst (λ (d : Database). (t : Table) → e ≡ Damaged t
-    → (t ≡ Games) × HoldsNone d (λ version content. HasTypes Games content)) same5.0.now_is untyped)
+    first_before s0 s5 c.in-Err-read_games.fault same5 (λ t is version content holds.
+    absurd (c.in-Err-read_games.ensures.torn clean t is (still s0 s5 same5 has) version content holds tt))
+
+-- ---- games that have values of other types
+
+pub returns-else-are_typed-clause-blames : goal.returns-else-are_typed-clause-blames
+returns-else-are_typed-clause-blames g c clean has =
+    let s0 = state g.S.Store c.args.conn.now in
+    let s1 = state g.S.Store c.read_shaped.new.conn in
+    let s2 = state g.S.Store c.read_members.new.conn in
+    let s3 = state g.S.Store c.read_events.new.conn in
+    let s4 = state g.S.Store c.read_rules.new.conn in
+    let s5 = state g.S.Store c.read.new.conn in
+    let clean5 : HasCleanDisk s5 = omega (arith, c.read_games.ensures.reads.clean) in
+    let clean4 : HasCleanDisk s4 = omega (arith, c.read.ensures.reads.clean, c.read_games.ensures.reads.clean) in
+    let clean3 : HasCleanDisk s3 = omega (arith, c.read_rules.ensures.reads.clean, c.read.ensures.reads.clean, c.read_games.ensures.reads.clean) in
+    let clean2 : HasCleanDisk s2 = omega (arith, c.read_events.ensures.reads.clean, c.read_rules.ensures.reads.clean, c.read.ensures.reads.clean, c.read_games.ensures.reads.clean) in
+    let clean1 : HasCleanDisk s1 = omega (arith, c.read_members.ensures.reads.clean, c.read_events.ensures.reads.clean, c.read_rules.ensures.reads.clean, c.read.ensures.reads.clean, c.read_games.ensures.reads.clean) in
+    let version = c.in-Ok.told.version in
+    let (schema, one) = c.in-Ok.ensures.found clean1 has in
+    let same1 = c.in-Ok.ensures.same clean1 has in
+    let are_members = c.in-Ok-read_members.ensures.rows clean2 (still s0 s1 same1 has) in
+    let same2 = unchanged_then s0 s1 s2 same1 are_members.same in
+    let are_events = c.in-Ok-read_events.ensures.rows clean3 (still s0 s2 same2 has) in
+    let same3 = unchanged_then s0 s2 s3 same2 are_events.same in
+    let are_rules = c.in-Ok-read_rules.ensures.rules clean4 (still_of s0 s3 version same3 schema) are_events.same.0.is_open in
+    let same4 = unchanged_then s0 s3 s4 same3 (rules_unchanged version _ _ s3 s4 are_rules) in
+    let (ms, are_ms) = c.in-Ok-read_members.ensures.are in
+    let (es, are_es) = c.in-Ok-read_events.ensures.are in
+    let event_rows = c.deref.result.now in
+    let own_es = subst (AreEvents es) (sym c.deref.ensures.value) are_es in
+    let own_events = subst (λ l. IsReadAs (events 4) 1 (map event_cells l) s2 s3) (sym c.deref.ensures.value) are_events
+    in
+    let are_challenges = c.in-Ok-read.ensures.rows clean5 (first_beside _ (still s0 s4 same4 has)) in
+    let same5 = unchanged_then s0 s4 s5 same4 are_challenges.same in
+    let known = known_before _ s0 s5 _ same5
+    (c.in-Ok-read_games.ensures.known clean c.if-are_typed.false (still s0 s5 same5 has)) in
+    untyped_blamed c.args.oldest _ s0.now c.before_games.result known.untyped c.before_games.ensures
+
+pub returns-else-are_typed-clause-first : goal.returns-else-are_typed-clause-first
+returns-else-are_typed-clause-first g c clean has =
+    let s0 = state g.S.Store c.args.conn.now in
+    let s1 = state g.S.Store c.read_shaped.new.conn in
+    let s2 = state g.S.Store c.read_members.new.conn in
+    let s3 = state g.S.Store c.read_events.new.conn in
+    let s4 = state g.S.Store c.read_rules.new.conn in
+    let s5 = state g.S.Store c.read.new.conn in
+    let clean5 : HasCleanDisk s5 = omega (arith, c.read_games.ensures.reads.clean) in
+    let clean4 : HasCleanDisk s4 = omega (arith, c.read.ensures.reads.clean, c.read_games.ensures.reads.clean) in
+    let clean3 : HasCleanDisk s3 = omega (arith, c.read_rules.ensures.reads.clean, c.read.ensures.reads.clean, c.read_games.ensures.reads.clean) in
+    let clean2 : HasCleanDisk s2 = omega (arith, c.read_events.ensures.reads.clean, c.read_rules.ensures.reads.clean, c.read.ensures.reads.clean, c.read_games.ensures.reads.clean) in
+    let clean1 : HasCleanDisk s1 = omega (arith, c.read_members.ensures.reads.clean, c.read_events.ensures.reads.clean, c.read_rules.ensures.reads.clean, c.read.ensures.reads.clean, c.read_games.ensures.reads.clean) in
+    let version = c.in-Ok.told.version in
+    let (schema, one) = c.in-Ok.ensures.found clean1 has in
+    let same1 = c.in-Ok.ensures.same clean1 has in
+    let are_members = c.in-Ok-read_members.ensures.rows clean2 (still s0 s1 same1 has) in
+    let same2 = unchanged_then s0 s1 s2 same1 are_members.same in
+    let are_events = c.in-Ok-read_events.ensures.rows clean3 (still s0 s2 same2 has) in
+    let same3 = unchanged_then s0 s2 s3 same2 are_events.same in
+    let are_rules = c.in-Ok-read_rules.ensures.rules clean4 (still_of s0 s3 version same3 schema) are_events.same.0.is_open in
+    let same4 = unchanged_then s0 s3 s4 same3 (rules_unchanged version _ _ s3 s4 are_rules) in
+    let (ms, are_ms) = c.in-Ok-read_members.ensures.are in
+    let (es, are_es) = c.in-Ok-read_events.ensures.are in
+    let event_rows = c.deref.result.now in
+    let own_es = subst (AreEvents es) (sym c.deref.ensures.value) are_es in
+    let own_events = subst (λ l. IsReadAs (events 4) 1 (map event_cells l) s2 s3) (sym c.deref.ensures.value) are_events
+    in
+    let are_challenges = c.in-Ok-read.ensures.rows clean5 (first_beside _ (still s0 s4 same4 has)) in
+    let same5 = unchanged_then s0 s4 s5 same4 are_challenges.same in
+    let known = known_before _ s0 s5 _ same5
+    (c.in-Ok-read_games.ensures.known clean c.if-are_typed.false (still s0 s5 same5 has)) in
+    let rows : Rows = record {
+      meta = c.in-Ok.told.meta;
+      members = c.in-Ok-read_members.members;
+      events = c.in-Ok-read_events.events;
+      event_rules = c.in-Ok-read_rules.rules;
+      challenges = c.in-Ok-read.challenges;
+      games = c.in-Ok-read_games.found.games;
+    } in
+    let own_rules = c.in-Ok-read_rules.ensures.are es own_es in
+    let (s, people) = has_people rows ms are_ms es are_es
+    (subst (λ l. AreRules c.in-Ok-read_rules.rules.items (length l)) c.deref.ensures.value own_rules) in
+    let members_kept = (read_after (members 1) 1 _ s0 s1 s2 same1 are_members).keeps in
+    let events_kept = (read_after (events 4) 1 _ s0 s2 s3 same2 are_events).keeps in
+    let challenges_read = read_after (challenges 6) 2 _ s0 s4 s5 same4 are_challenges in
+    first_untyped rows s0.now c.before_games.result known.untyped
     (people_right version c.in-Ok-read_members.members.items event_rows c.in-Ok-read_rules.rules.items s0.now
     (people_read version _ event_rows _ s0 s1 s2 s3 s4 schema same1 are_members own_events are_rules ms are_ms es own_es
-    (c.in-Ok-read_rules.ensures.are es own_es)))
+    own_rules))
+    (have_known rows s0 s5 ms are_ms es are_es members_kept events_kept challenges_read known.shown known.keeps
+    known.seats)
+    (pass_known rows s0 s5 ms are_ms es are_es members_kept events_kept challenges_read known.shown known.keeps
+    known.seats) s people c.before_games.ensures
 
-pub returns-clause-reads : goal.returns-clause-reads
-returns-clause-reads g c =
+pub returns-then-are_typed-clause-reads : goal.returns-then-are_typed-clause-reads
+returns-then-are_typed-clause-reads g c =
     read_then true _ _ _ c.in-Ok.ensures.reads
     (read_then true _ _ _ c.in-Ok-read_members.ensures.reads
     (read_then true _ _ _ c.in-Ok-read_events.ensures.reads
     (read_then true _ _ _ c.in-Ok-read_rules.ensures.reads
-    (read_then true _ _ _ c.in-Ok-read.ensures.reads c.in-Ok-read-2.ensures.reads))))
+    (read_then true _ _ _ c.in-Ok-read.ensures.reads c.in-Ok-read_games.ensures.reads))))
+
+pub returns-else-are_typed-clause-reads : goal.returns-else-are_typed-clause-reads
+returns-else-are_typed-clause-reads g c =
+    read_failed true _ _ (read_then true _ _ _ c.in-Ok.ensures.reads
+    (read_then true _ _ _ c.in-Ok-read_members.ensures.reads
+    (read_then true _ _ _ c.in-Ok-read_events.ensures.reads
+    (read_then true _ _ _ c.in-Ok-read_rules.ensures.reads
+    (read_then true _ _ _ c.in-Ok-read.ensures.reads c.in-Ok-read_games.ensures.reads)))))

@@ -1,11 +1,11 @@
-use Rattle.std.proofs.Common.{◌≡◌, inl, ap, inr, subst, sym, ◌∙◌}
+use Rattle.std.proofs.Common.{inl, inr, subst, sym}
 use Rattle.std.proofs.lemmas.Result.{IfErr-weaker, IfOk-weaker}
 use Rattle.std.specs.Prelude.{length}
 use Rattle.sqlite.specs.Held.{state}
-use Rattle.store_tables.specs.Beside.{no_others}
-use Rattle.store_tables.specs.Tables.{schema_of}
+use Rattle.store_tables.specs.Beside.{IsBeside}
 use Rattle.club_audit.specs.Audit.{AreRules}
 use Rattle.club_opening.proofs.ClubLemmas.{rules_blamed, undeclared_are}
+use Rattle.club_opening.specs.Versions.{HoldsRows}
 use Rattle.store_tables.specs.declared.names.Table.TheVariants.{EventRules}
 use Rattle.club_opening.proofs.FirstLemmas.{memory_wrong, rule_types_wrong, rules_in, rules_wrong}
 use Rattle.club_opening.specs.Blames.{AreRulesRead, Blames, HasTypes, NamesTable}
@@ -13,24 +13,23 @@ use Rattle.std.specs.List.{AllByRecursion}
 use Rattle.sqlite.specs.State.{State}
 use Rattle.store_tables.specs.Cells.{IsEventRule}
 use Rattle.store_tables.specs.Contents.{Content, Stores}
-use Rattle.store_tables.specs.Contents as of_schema
 use Rattle.store_tables.specs.Tables.{club_schema, event_rules}
 use Rattle.store_tables.specs.declared.names.Version.{Version}
 use Rattle.store_tables.specs.declared.names.Version.TheVariants.{First, Current}
 use Rattle.club_opening.specs.declared.fault.OpenFault.{OpenFault}
 use Rattle.club_opening.proofs.BlameLemmas.{names}
-use Rattle.club_opening.proofs.StoredLemmas.{schemas_differ}
+use Rattle.club_opening.proofs.StoredLemmas.{first_differs}
 use Rattle.club_opening.proofs.read.read_rules.Goals as goal
 
 -- rules of events that are blamed for their types, of a database of schema 2
-rule_types_named : (old : State) (e : OpenFault) → old.now.schema ≡ club_schema
+rule_types_named : (old : State) (e : OpenFault) → IsBeside club_schema old.now.schema
     → Blames EventRules (event_rules 16) IsEventRule old e → NamesTable old.now e
 rule_types_named old e has = names EventRules (event_rules 16) 0 IsEventRule old e by_version
   where
-    by_version : (version : Version) (content : Content) → of_schema.Holds (schema_of version) old.now content
+    by_version : (version : Version) (content : Content) → HoldsRows version content old.now
         → HasTypes EventRules content
         → Stores (event_rules 16) old.now.trees content × AllByRecursion IsEventRule (content 16)
-    by_version First content holds typed = absurd (schemas_differ (sym holds.schema ∙ has))
+    by_version First content holds typed = absurd (first_differs old.now.schema holds.schema has)
     by_version Current content holds typed = (rules_in old.now content holds, typed)
 
 pub returns-in-First-clause-are : goal.returns-in-First-clause-are
@@ -40,10 +39,10 @@ returns-in-First-clause-are g c =
 
 pub returns-then-not-are_rules-clause-blames : goal.returns-then-not-are_rules-clause-blames
 returns-then-not-are_rules-clause-blames g c clean has es are of =
-    let schema = has ∙ ap schema_of c.in-Current.is in
+    let schema = rw c.in-Current.is at has in
     inr
     (rules_blamed c.args.events.now c.in-Ok.rules.items (state g.S.Store c.args.conn.now)
-    (state g.S.Store c.read.new.conn) of schema (c.in-Ok.ensures.rows clean (no_others, schema))
+    (state g.S.Store c.read.new.conn) of schema (c.in-Ok.ensures.rows clean schema)
     (λ ruled.
     let yes = c.are_rules.ensures.complete
     (subst (λ l. AreRules l (length c.args.events.now)) (sym c.deref.ensures.value) ruled) in
@@ -57,14 +56,14 @@ returns-in-First-clause-wrong g c clean =
 
 pub returns-in-Err-clause-wrong : goal.returns-in-Err-clause-wrong
 returns-in-Err-clause-wrong g c clean has told =
-    let schema = has ∙ ap schema_of c.in-Current.is in
-    rule_types_wrong (state g.S.Store c.args.conn.now) c.in-Err.fault schema (c.in-Err.ensures.blames clean (no_others, schema))
+    let schema = rw c.in-Current.is at has in
+    rule_types_wrong (state g.S.Store c.args.conn.now) c.in-Err.fault schema (c.in-Err.ensures.blames clean schema)
 
 pub returns-then-not-are_rules-clause-wrong : goal.returns-then-not-are_rules-clause-wrong
 returns-then-not-are_rules-clause-wrong g c clean has told =
-    let schema = has ∙ ap schema_of c.in-Current.is in
+    let schema = rw c.in-Current.is at has in
     rules_wrong c.args.events.now c.in-Ok.rules.items (state g.S.Store c.args.conn.now)
-    (state g.S.Store c.read.new.conn) told schema (c.in-Ok.ensures.rows clean (no_others, schema))
+    (state g.S.Store c.read.new.conn) told schema (c.in-Ok.ensures.rows clean schema)
     (λ ruled.
     let yes = c.are_rules.ensures.complete
     (subst (λ l. AreRules l (length c.args.events.now)) (sym c.deref.ensures.value) ruled) in
@@ -75,9 +74,9 @@ pub returns-clause-rules : goal.returns-clause-rules
 returns-clause-rules g c clean has is_open =
     subst
     (λ v. AreRulesRead v c.args.events.now c.in-Ok.rules.items (state g.S.Store c.args.conn.now) (state g.S.Store c.read.new.conn))
-    (sym c.in-Current.is) (c.in-Ok.ensures.rows clean (no_others, has ∙ ap schema_of c.in-Current.is))
+    (sym c.in-Current.is) (c.in-Ok.ensures.rows clean (rw c.in-Current.is at has))
 
 pub returns-in-Err-clause-blames : goal.returns-in-Err-clause-blames
 returns-in-Err-clause-blames g c clean has es are of =
-    let schema = has ∙ ap schema_of c.in-Current.is in
-    inl (rule_types_named (state g.S.Store c.args.conn.now) c.in-Err.fault schema (c.in-Err.ensures.blames clean (no_others, schema)))
+    let schema = rw c.in-Current.is at has in
+    inl (rule_types_named (state g.S.Store c.args.conn.now) c.in-Err.fault schema (c.in-Err.ensures.blames clean schema))

@@ -1,6 +1,7 @@
-use Rattle.std.proofs.Common.{◌≡◌, ap, sym, true, true≢false, ◌∙◌}
-use Rattle.table_shapes.proofs.Proved.{club_is_of_club}
+use Rattle.std.proofs.Common.{◌≡◌, false, inl, inr, sym, ◌∙◌}
+use Rattle.sqlite.specs.Held.{state}
 use Rattle.table_shapes.specs.Shapes.{is_of_club}
+use Rattle.club_opening.proofs.BlameLemmas.{shape_named}
 use Rattle.club_opening.proofs.read.read_shaped.Goals as goal
 
 pub returns-then-fits-clause-shape : goal.returns-then-fits-clause-shape
@@ -9,8 +10,8 @@ returns-then-fits-clause-shape g c =
 
 pub returns-else-fits-clause-blames : goal.returns-else-fits-clause-blames
 returns-else-fits-clause-blames g c clean has =
-    let (schema, found) = c.in-Ok-read_head.ensures.found clean has in
     let version = c.in-Ok-read_head.told.version in
-    let fits : c.has-fits.result ≡ true = c.has-fits.ensures ∙ c.in-Ok.ensures version
-    ∙ ap (is_of_club version) schema ∙ club_is_of_club version in
-    absurd (true≢false (sym fits ∙ c.if-fits.false))
+    let db = (state g.S.Store c.args.conn.now).now in
+    let other : is_of_club version db.schema ≡ false =
+    sym (c.in-Ok.ensures version) ∙ sym c.has-fits.ensures ∙ c.if-fits.false in
+    inr (inr (inl (shape_named version db (c.in-Ok-read_head.ensures.found clean has).0 other)))

@@ -2,6 +2,7 @@ use Rattle.std.proofs.Common.{sym, subst}
 use Rattle.sqlite.specs.Held.{state}
 use Rattle.club_orders.specs.Report.{IsCarriedOver, IsRepeated}
 use Rattle.club_orders.proofs.RefusalLemmas.{taken_over}
+use Rattle.club_orders.proofs.TakenLemmas.{is_taken, is_taken_first, stand_beside, stands_beside}
 use Rattle.store_tables.specs.declared.names.Version.TheVariants.{First, Current}
 use Rattle.club_orders.proofs.doing.carry.Goals as goal
 
@@ -9,11 +10,13 @@ pub returns-in-Ok-clause-carries : goal.returns-in-Ok-clause-carries
 returns-in-Ok-clause-carries g c clean opens live s (club, left) =
     let (done, exactly) = c.in-Ok.ensures.done clean s club (c.holds_exactly.ensures opens live _ _ left) in
     let is = c.carried.ensures.done done in
-    subst (λ r. IsCarriedOver s r (state g.S.Store c.in-Ok.conn)) (sym is) (record { answer = tt; leaves = λ db may. exactly.may_leave db may })
+    subst (λ r. IsCarriedOver s r (state g.S.Store c.in-Ok.conn)) (sym is)
+    (record { answer = tt; leaves = λ db may. exactly.may_leave db may })
 
 pub returns-in-Ok-clause-repeats : goal.returns-in-Ok-clause-repeats
 returns-in-Ok-clause-repeats g c clean opens live s club left =
-    let (done, exactly) = c.in-Ok.ensures.already clean s club (c.holds_exactly.ensures opens live _ _ left) in
+    let (done, exactly) = c.in-Ok.ensures.already clean left.them s club
+    (stands_beside s _ (c.holds_exactly.ensures opens live) left) in
     let is = c.carried.ensures.already done in (
       subst IsRepeated (sym is) tt,
       λ db may. g.met.S.Store.settled c.args.conn.store db opens.is_open (c.in-Ok.ensures.unchanged clean done db may),
@@ -23,24 +26,24 @@ pub returns-in-Ok-clause-refuses : goal.returns-in-Ok-clause-refuses
 returns-in-Ok-clause-refuses g c clean = taken_over _ c.carried.result c.carried.ensures.taken
 
 pub returns-in-Ok-clause-led : goal.returns-in-Ok-clause-led
-returns-in-Ok-clause-led g c clean opens live chapters led db left =
-    let at = c.in-Ok.ensures.led clean opens live chapters led in
-    rw c.carried.ensures.either (c.leaves_what_sessions_left-in-Ok.ensures Current _ at db left)
+returns-in-Ok-clause-led g c clean opens live them chapters led db left =
+    let at = c.in-Ok.ensures.led clean opens live them chapters led in
+    rw c.carried.ensures.either (c.leaves_what_sessions_left-in-Ok.ensures Current them _ at db left)
 
 pub returns-in-Err-clause-carries : goal.returns-in-Err-clause-carries
 returns-in-Err-clause-carries g c clean opens live s (club, left) =
     let exactly = c.holds_exactly.ensures opens live _ _ left in
     record {
-      answer = c.in-Err.ensures.good clean First s club exactly;
+      answer = is_taken_first s _ _ exactly (c.in-Err.ensures.good clean First s club);
       leaves = λ db may. c.in-Err.ensures.fault clean s club exactly db may;
     }
 
 pub returns-in-Err-clause-repeats : goal.returns-in-Err-clause-repeats
 returns-in-Err-clause-repeats g c clean opens live s club left =
-    let exactly = c.holds_exactly.ensures opens live _ _ left in (
-      c.in-Err.ensures.good clean Current s club exactly,
+    let exact = c.holds_exactly.ensures opens live in (
+      is_taken s _ exact left _ (c.in-Err.ensures.good clean Current s club),
       λ db may. g.met.S.Store.settled c.args.conn.store db opens.is_open
-          ((c.in-Err.ensures.stays clean exactly.now.schema).may clean db may),
+          ((c.in-Err.ensures.stays clean (stand_beside s _ exact left)).may clean db may),
     )
 
 pub returns-in-Err-clause-refuses : goal.returns-in-Err-clause-refuses
@@ -52,5 +55,5 @@ returns-in-Err-clause-refuses g c clean =
     }
 
 pub returns-in-Err-clause-led : goal.returns-in-Err-clause-led
-returns-in-Err-clause-led g c clean opens live chapters led db left =
-    c.in-Err.ensures.cut_off clean opens live chapters led db left
+returns-in-Err-clause-led g c clean opens live them chapters led db left =
+    c.in-Err.ensures.cut_off clean opens live them chapters led db left

@@ -4,7 +4,8 @@ use Rattle.store.specs.Histories.{IsHistory}
 use Rattle.sqlite.specs.Held.{state}
 use Rattle.club_opening.specs.declared.fault.OpenFault.TheVariants.{Foreign}
 use Rattle.store_tables.specs.declared.names.Version.TheVariants.{Current}
-use Rattle.club_opening.proofs.Proved.{schema_known}
+use Rattle.store_tables.specs.Over.{alone}
+use Rattle.club_orders.proofs.SessionLemmas.{stand_first}
 use Rattle.club_orders.proofs.doing.init.Goals as goal
 
 pub returns-in-Ok-clause-begun : goal.returns-in-Ok-clause-begun
@@ -12,25 +13,25 @@ returns-in-Ok-clause-begun g c clean opens live empty db left =
     let same = c.into_connection-conn.ensures.same in
     let made = c.in-Ok.ensures.begins (subst (λ h. HasCleanDisk (state g.S.Store h)) same clean)
     (c.holds_nothing.ensures opens live empty) in
-    c.leaves_what_sessions_left-in-Ok.ensures Current [] (subst (λ h. IsHistory [] (state g.S.Store h))
+    c.leaves_what_sessions_left-in-Ok.ensures Current alone [] (subst (λ h. IsHistory alone [] (state g.S.Store h))
     (sym same) made) db left
 
 pub returns-in-Ok-clause-led : goal.returns-in-Ok-clause-led
-returns-in-Ok-clause-led g c clean opens live sessions led db left =
+returns-in-Ok-clause-led g c clean opens live them sessions led db left =
     let same = c.into_connection-conn.ensures.same in
-    let (version, at) = c.holds_what_sessions_left.ensures opens live sessions led in
+    let (version, at) = c.holds_what_sessions_left.ensures opens live them sessions led in
     absurd (c.in-Ok.ensures.fresh (subst (λ h. HasCleanDisk (state g.S.Store h)) same clean)
-    (schema_known version _ at.exactly.now.schema))
+    (stand_first version them sessions _ at))
 
 pub returns-in-Err-clause-begun : goal.returns-in-Err-clause-begun
 returns-in-Err-clause-begun g c clean opens live empty db left =
     c.in-Err.ensures.cut_off clean (c.holds_nothing.ensures opens live empty) db left
 
 pub returns-in-Err-clause-led : goal.returns-in-Err-clause-led
-returns-in-Err-clause-led g c clean opens live sessions led db left =
-    let (version, at) = c.holds_what_sessions_left.ensures opens live sessions led in
-    c.leaves_what_sessions_left.ensures version sessions at db
-    (c.in-Err.ensures.stays clean (schema_known version _ at.exactly.now.schema) db left)
+returns-in-Err-clause-led g c clean opens live them sessions led db left =
+    let (version, at) = c.holds_what_sessions_left.ensures opens live them sessions led in
+    c.leaves_what_sessions_left.ensures version them sessions at db
+    (c.in-Err.ensures.stays clean (stand_first version them sessions _ at) db left)
 
 pub returns-in-Err-clause-spares : goal.returns-in-Err-clause-spares
 returns-in-Err-clause-spares g c clean opens is db left =

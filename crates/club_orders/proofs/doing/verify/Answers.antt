@@ -3,11 +3,11 @@ use Rattle.sqlite.specs.State.{HasCleanDisk}
 use Rattle.sqlite.specs.Held.{state}
 use Rattle.club_rows.specs.Club.{tables}
 use Rattle.store_tables.specs.Club.{IsExactly, IsOpened}
+use Rattle.store_tables.specs.Reading.{KeepsContent}
 use Rattle.store.specs.Histories.{IsHistory}
-use Rattle.club_orders.proofs.SessionLemmas.{stands_still}
+use Rattle.club_orders.proofs.SessionLemmas.{newer_history, stands_still}
 use Rattle.club_orders.proofs.RefusalLemmas.{stood}
-use Rattle.store.proofs.Proved.{current_history}
-use Rattle.club_opening.proofs.Proved.{schema_known}
+use Rattle.club_orders.proofs.TakenLemmas.{is_taken}
 use Rattle.store_tables.specs.declared.names.Version.TheVariants.{Current}
 use Rattle.club_orders.proofs.doing.verify.Goals as goal
 
@@ -19,25 +19,24 @@ returns-in-Ok-clause-sound g c clean opened is =
     (s, is_club, subst (λ h. IsExactly (tables s) (state g.S.Store h)) (sym same) at)
 
 pub returns-in-Ok-clause-led : goal.returns-in-Ok-clause-led
-returns-in-Ok-clause-led g c clean opens live sessions led db left =
+returns-in-Ok-clause-led g c clean opens live them sessions led db left =
     let same = c.into_connection-conn.ensures.same in
     let taken = subst (λ h. HasCleanDisk (state g.S.Store h)) same clean in
     let was = state g.S.Store c.args.conn in
-    let (version, found) = c.holds_what_sessions_left.ensures opens live sessions led in
-    let known = schema_known version was.now.schema found.exactly.now.schema in
-    let at = stands_still sessions _ _ (c.in-Ok.ensures.same taken)
-    (current_history version sessions was found (c.in-Ok.ensures.unchanged taken known).0) in
-    c.leaves_what_sessions_left-in-Ok.ensures Current sessions
-    (subst (λ h. IsHistory sessions (state g.S.Store h)) (sym same) at) db left
+    let (version, found) = c.holds_what_sessions_left.ensures opens live them sessions led in
+    let at = stands_still them sessions _ _ (c.in-Ok.ensures.kept.kept refl taken)
+    (newer_history version them sessions was (c.in-Ok.ensures.older taken) found) in
+    c.leaves_what_sessions_left-in-Ok.ensures Current them sessions
+    (subst (λ h. IsHistory them sessions (state g.S.Store h)) (sym same) at) db left
 
 pub returns-in-Err-clause-passes : goal.returns-in-Err-clause-passes
 returns-in-Err-clause-passes g c clean opens live s is_club left =
-    c.in-Err.ensures.good clean s is_club (c.holds_exactly.ensures opens live _ _ left)
+    is_taken s _ (c.holds_exactly.ensures opens live) left _ (c.in-Err.ensures.good clean s is_club)
 
 pub returns-in-Err-clause-led : goal.returns-in-Err-clause-led
-returns-in-Err-clause-led g c clean opens live sessions led db left =
-    let (version, at) = c.holds_what_sessions_left.ensures opens live sessions led in
-    c.leaves_what_sessions_left.ensures version sessions at db (c.in-Err.ensures.reads.may clean db left)
+returns-in-Err-clause-led g c clean opens live them sessions led db left =
+    let (version, at) = c.holds_what_sessions_left.ensures opens live them sessions led in
+    c.leaves_what_sessions_left.ensures version them sessions at db (c.in-Err.ensures.reads.may clean db left)
 
 pub returns-in-Err-clause-refuses : goal.returns-in-Err-clause-refuses
 returns-in-Err-clause-refuses g c clean =
@@ -94,7 +93,8 @@ pub returns-in-Ok-clause-named : goal.returns-in-Ok-clause-named
 returns-in-Ok-clause-named g c not = absurd (not refl)
 
 pub returns-in-Ok-clause-same : goal.returns-in-Ok-clause-same
-returns-in-Ok-clause-same g c clean is content at =
+returns-in-Ok-clause-same g c clean is =
     let same = c.into_connection-conn.ensures.same in
     let taken = subst (λ h. HasCleanDisk (state g.S.Store h)) same clean in
-    subst (λ h. IsExactly content (state g.S.Store h)) (sym same) (c.in-Ok.ensures.same taken content at)
+    subst (λ h. KeepsContent (state g.S.Store c.args.conn) (state g.S.Store h)) (sym same)
+    (c.in-Ok.ensures.kept.kept refl taken)

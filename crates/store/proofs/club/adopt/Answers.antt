@@ -1,16 +1,11 @@
-use Rattle.std.proofs.Common.{inl, inr, refl, sym, subst, ◌∙◌}
+use Rattle.std.proofs.Common.{inl, inr, sym, ◌∙◌}
 use Rattle.sqlite.specs.Held.{state}
-use Rattle.store_tables.specs.Tables.{club_schema}
 use Rattle.store_tables.specs.declared.names.Version.TheVariants.{First, Current}
-use Rattle.store_tables.proofs.Proved.{unchanged_exactly}
-use Rattle.club_opening.proofs.Proved.{good_fault, good_in, schema_known, schemas_differ}
+use Rattle.club_opening.proofs.Proved.{good_in, schema_known, schemas_differ}
 use Rattle.store.proofs.club.adopt.Goals as goal
 
 pub returns-in-Err-clause-good : goal.returns-in-Err-clause-good
-returns-in-Err-clause-good g c = λ clean s club exactly.
-    let old = state g.S.Store c.args.conn in
-    good_fault s club old.now exactly.now c.in-Err.fault
-    (c.in-Err.ensures.blames clean (schema_known Current old.now.schema exactly.now.schema))
+returns-in-Err-clause-good g c = λ clean s club holds shape. c.in-Err.ensures.good clean s club holds shape
 
 pub returns-in-Ok-clause-older : goal.returns-in-Ok-clause-older
 returns-in-Ok-clause-older g c = λ clean s club exactly.
@@ -28,13 +23,8 @@ returns-in-Err-clause-first g c = λ clean s club exactly.
       | inr (inr (named, other)) ↦ inl named
     ]
 
-pub returns-in-Ok-clause-same : goal.returns-in-Ok-clause-same
-returns-in-Ok-clause-same g c = λ clean content exactly.
-    let old = state g.S.Store c.args.conn in
-    let new = state g.S.Store c.examine.new.conn in
-    let (schema, same) = c.in-Ok.ensures.same clean (schema_known Current old.now.schema exactly.now.schema) in
-    unchanged_exactly club_schema content old new exactly same
-    (λ db left. exactly.may_leave db (c.in-Ok.ensures.reads.may clean db left))
+pub returns-in-Ok-clause-kept : goal.returns-in-Ok-clause-kept
+returns-in-Ok-clause-kept g c = c.in-Ok.ensures.reads
 
 pub returns-in-Ok-clause-unchanged : goal.returns-in-Ok-clause-unchanged
 returns-in-Ok-clause-unchanged g c = λ clean known.

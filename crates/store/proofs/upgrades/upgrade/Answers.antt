@@ -1,16 +1,16 @@
 use Rattle.std.proofs.Common.{ap, arith, inl, inr, refl, subst, sym, ◌∙◌}
 use Rattle.sqlite.specs.Held.{state}
 use Rattle.sqlite.specs.State.{HasCleanDisk}
-use Rattle.store_tables.specs.Tables.{club_schema, first_schema, schema_of}
+use Rattle.store_tables.specs.Tables.{first_schema, schema_of}
 use Rattle.store_tables.specs.declared.names.Version.TheVariants.{First, Current}
-use Rattle.store_tables.proofs.Proved.{unchanged_exactly, exactly_same, leaves_same}
+use Rattle.store_tables.proofs.Proved.{exactly_same, leaves_same, still_beside}
 use Rattle.club_rows.specs.Club.{tables}
 use Rattle.club_rows.specs.FirstSchema.{first_tables}
 use Rattle.club_opening.specs.Versions.{IsExactlyClub}
-use Rattle.club_opening.proofs.Proved.{good_in, one_version, schema_known, schemas_differ}
-use Rattle.store.specs.Histories.{IsHistoryAt}
-use Rattle.store.proofs.HistoryLemmas.{opens_led}
-use Rattle.store.proofs.UpgradeLemmas.{from_first, register_widened, upgraded_cut, upgraded_stands}
+use Rattle.club_opening.proofs.Proved.{schema_known, schemas_differ}
+use Rattle.store.proofs.HistoryLemmas.{current_taken, left_at, opens_led}
+use Rattle.store.proofs.UpgradeLemmas.{first_history, made_alone, made_left, not_newer, register_widened, upgraded_cut}
+use Rattle.store.proofs.UpgradeLemmas.{upgraded_stands}
 use Rattle.store.proofs.upgrades.upgrade.Goals as goal
 
 -- ---- schema 2
@@ -22,14 +22,10 @@ returns-in-Current-clause-done g c clean s first exactly =
     absurd (schemas_differ (sym exactly.now.schema ∙ schema ∙ ap schema_of c.in-Current.is))
 
 pub returns-in-Current-clause-already : goal.returns-in-Current-clause-already
-returns-in-Current-clause-already g c clean s club exactly =
+returns-in-Current-clause-already g c clean them s club exactly =
     let s0 = state g.S.Store c.args.conn in
     let s1 = state g.S.Store c.examine_from.new.conn in
-    let (schema, same) = c.in-Ok.ensures.same clean (schema_known Current s0.now.schema exactly.now.schema) in (
-      refl,
-      unchanged_exactly club_schema (tables s) s0 s1 exactly same
-          (λ db may. exactly.may_leave db (c.in-Ok.ensures.reads.may clean db may)),
-    )
+    (refl, still_beside s0 s1 (c.in-Ok.ensures.reads.kept refl clean) them (tables s) exactly)
 
 pub returns-in-Current-clause-unchanged : goal.returns-in-Current-clause-unchanged
 returns-in-Current-clause-unchanged g c clean is = c.in-Ok.ensures.reads.may clean
@@ -42,18 +38,15 @@ returns-in-Current-clause-found g c clean version opened =
     (s, club, subst (λ v. IsExactlyClub v s s1) current exactly)
 
 pub returns-in-Current-clause-led : goal.returns-in-Current-clause-led
-returns-in-Current-clause-led g c clean opens live chapters led =
+returns-in-Current-clause-led g c clean opens live them chapters led =
     let s0 = state g.S.Store c.args.conn in
     let s1 = state g.S.Store c.examine_from.new.conn in
-    let (version, at) = opens_led chapters s0 opens live
-    (λ d shown stays. g.met.S.Store.settled c.args.conn.store d shown stays) led in
-    let (schema, same) = c.in-Ok.ensures.same clean (schema_known version s0.now.schema at.exactly.now.schema) in
-    let current = one_version version Current s0.now.schema at.exactly.now.schema
-    (schema ∙ ap schema_of c.in-Current.is) in
-    let last = subst (λ v. IsHistoryAt v chapters s0) current at in
-    upgraded_stands Current chapters s0 s1 last
-    (unchanged_exactly club_schema (tables last.after) s0 s1 last.exactly same
-    (λ db may. last.exactly.may_leave db (c.in-Ok.ensures.reads.may clean db may)))
+    let at = opens_led s0 opens live
+    (λ d shown stays. g.met.S.Store.settled c.args.conn.store d shown stays) them chapters led in
+    let last = current_taken them chapters s0
+    (λ known. (c.in-Ok.ensures.same clean known).0 ∙ ap schema_of c.in-Current.is) at in
+    upgraded_stands Current them chapters s0 s1 last
+    (still_beside s0 s1 (c.in-Ok.ensures.reads.kept refl clean) them (tables last.after) last.exactly)
 
 -- ---- schema 1
 
@@ -63,10 +56,8 @@ returns-in-Ok-widen-clause-done g c clean s first exactly =
     let s1 = state g.S.Store c.examine_from.new.conn in
     let s2 = state g.S.Store c.widen.new.conn in
     let clean1 : HasCleanDisk s1 = omega (arith, c.widen.ensures.clean, clean) in
-    let (schema, same) = c.in-Ok.ensures.same clean1 (schema_known First s0.now.schema exactly.now.schema) in
     let register = c.in-Ok.ensures.rows clean1 First s first exactly.now in
-    let here = unchanged_exactly first_schema (first_tables s) s0 s1 exactly same
-    (λ db may. exactly.may_leave db (c.in-Ok.ensures.reads.may clean1 db may)) in
+    let here = c.in-Ok.ensures.reads.kept refl clean1 first_schema (first_tables s) exactly in
     let made = c.in-Ok-widen.ensures.stored clean (first_tables s) refl here in (
       refl,
       exactly_same _ (tables s) s2
@@ -74,12 +65,10 @@ returns-in-Ok-widen-clause-done g c clean s first exactly =
     )
 
 pub returns-in-Ok-widen-clause-already : goal.returns-in-Ok-widen-clause-already
-returns-in-Ok-widen-clause-already g c clean s club exactly =
-    let s0 = state g.S.Store c.args.conn in
-    let s1 = state g.S.Store c.examine_from.new.conn in
-    let clean1 : HasCleanDisk s1 = omega (arith, c.widen.ensures.clean, clean) in
-    let (schema, same) = c.in-Ok.ensures.same clean1 (schema_known Current s0.now.schema exactly.now.schema) in
-    absurd (schemas_differ (sym (schema ∙ ap schema_of c.in-First.is) ∙ exactly.now.schema))
+returns-in-Ok-widen-clause-already g c clean them s club exactly =
+    let clean1 : HasCleanDisk (state g.S.Store c.examine_from.new.conn) = omega (arith, c.widen.ensures.clean, clean) in
+    absurd (not_newer c.in-Ok.found.version c.in-First.is
+    (c.in-Ok.ensures.newer clean1 (them.made, exactly.exactly.now.schema)))
 
 pub returns-in-Ok-widen-clause-found : goal.returns-in-Ok-widen-clause-found
 returns-in-Ok-widen-clause-found g c clean version opened =
@@ -97,26 +86,22 @@ returns-in-Ok-widen-clause-found g c clean version opened =
     )
 
 pub returns-in-Ok-widen-clause-led : goal.returns-in-Ok-widen-clause-led
-returns-in-Ok-widen-clause-led g c clean opens live chapters led =
+returns-in-Ok-widen-clause-led g c clean opens live them chapters led =
     let s0 = state g.S.Store c.args.conn in
     let s1 = state g.S.Store c.examine_from.new.conn in
     let s2 = state g.S.Store c.widen.new.conn in
     let clean1 : HasCleanDisk s1 = omega (arith, c.widen.ensures.clean, clean) in
-    let (version, at) = opens_led chapters s0 opens live
-    (λ d shown stays. g.met.S.Store.settled c.args.conn.store d shown stays) led in
-    let (schema, same) = c.in-Ok.ensures.same clean1 (schema_known version s0.now.schema at.exactly.now.schema) in
-    let is_first = one_version version First s0.now.schema at.exactly.now.schema
-    (schema ∙ ap schema_of c.in-First.is) in
-    let first = subst (λ v. IsHistoryAt v chapters s0) is_first at in
+    let first = first_history them chapters s0 c.in-Ok.found.version c.in-First.is (c.in-Ok.ensures.newer clean1)
+    (opens_led s0 opens live (λ d shown stays. g.met.S.Store.settled c.args.conn.store d shown stays) them chapters led)
+    in
     let s = first.after in
-    let exactly = first.exactly in
+    let exactly = first.exactly.1 in
     let register = c.in-Ok.ensures.rows clean1 First s first.legal exactly.now in
-    let here = unchanged_exactly first_schema (first_tables s) s0 s1 exactly same
-    (λ db may. exactly.may_leave db (c.in-Ok.ensures.reads.may clean1 db may)) in
+    let here = c.in-Ok.ensures.reads.kept refl clean1 first_schema (first_tables s) exactly in
     let made = c.in-Ok-widen.ensures.stored clean (first_tables s) refl here in
-    upgraded_stands First chapters s0 s2 first
-    (exactly_same _ (tables s) s2 (register_widened s c.in-Ok.found.rows _ _ register c.deref.ensures.value
-    c.of_current-meta.ensures) made)
+    upgraded_stands First them chapters s0 s2 first
+    (made_alone them first.exactly.0 s s2 (exactly_same _ (tables s) s2
+    (register_widened s c.in-Ok.found.rows _ _ register c.deref.ensures.value c.of_current-meta.ensures) made))
 
 -- ---- faults
 
@@ -125,31 +110,23 @@ returns-in-Err-clause-fault g c clean s first exactly db may =
     inl (exactly.may_leave db (c.in-Err.ensures.reads.may clean db may))
 
 pub returns-in-Err-clause-good : goal.returns-in-Err-clause-good
-returns-in-Err-clause-good g c clean version s club exactly =
-    let s0 = state g.S.Store c.args.conn in
-    elim (good_in First version s club s0.now exactly.now c.in-Err.fault
-    (c.in-Err.ensures.blames clean (schema_known version s0.now.schema exactly.now.schema))) [
-      | inl store ↦ inl store
-      | inr (inl memory) ↦ inr memory
-      | inr (inr (named, other)) ↦ absurd (other (from_first version))
-    ]
+returns-in-Err-clause-good g c clean version s club holds shape =
+    c.in-Err.ensures.good clean version s club holds shape (λ is. absurd (not_newer First refl is))
 
 pub returns-in-Err-clause-cut_off : goal.returns-in-Err-clause-cut_off
-returns-in-Err-clause-cut_off g c clean opens live chapters led db may =
+returns-in-Err-clause-cut_off g c clean opens live them chapters led db may =
     let s0 = state g.S.Store c.args.conn in
-    let (version, at) = opens_led chapters s0 opens live
-    (λ d shown stays. g.met.S.Store.settled c.args.conn.store d shown stays) led in
-    upgraded_cut version chapters s0 at db (inl (at.exactly.may_leave db (c.in-Err.ensures.reads.may clean db may)))
+    let (version, at) = opens_led s0 opens live
+    (λ d shown stays. g.met.S.Store.settled c.args.conn.store d shown stays) them chapters led in
+    upgraded_cut version them chapters s0 at db
+    (inl (left_at version them at.after s0 at.exactly db (c.in-Err.ensures.reads.may clean db may)))
 
 pub returns-clause-fault : goal.returns-clause-fault
 returns-clause-fault g c clean s first exactly db may =
-    let s0 = state g.S.Store c.args.conn in
     let s1 = state g.S.Store c.examine_from.new.conn in
     let clean1 : HasCleanDisk s1 = omega (arith, c.widen.ensures.clean, clean) in
-    let (schema, same) = c.in-Ok.ensures.same clean1 (schema_known First s0.now.schema exactly.now.schema) in
     let register = c.in-Ok.ensures.rows clean1 First s first exactly.now in
-    let here = unchanged_exactly first_schema (first_tables s) s0 s1 exactly same
-    (λ db may. exactly.may_leave db (c.in-Ok.ensures.reads.may clean1 db may)) in
+    let here = c.in-Ok.ensures.reads.kept refl clean1 first_schema (first_tables s) exactly in
     elim (c.in-Err-widen.ensures.fault clean (first_tables s) refl here db may) [
       | inl before ↦ inl before
       | inr after ↦ inr
@@ -157,26 +134,28 @@ returns-clause-fault g c clean s first exactly db may =
           c.of_current-meta.ensures) after)
     ]
 
+pub returns-clause-stays : goal.returns-clause-stays
+returns-clause-stays g c clean beside =
+    let clean1 : HasCleanDisk (state g.S.Store c.examine_from.new.conn) = omega (arith, c.widen.ensures.clean, clean) in
+    absurd (not_newer c.in-Ok.found.version c.in-First.is (c.in-Ok.ensures.newer clean1 beside))
+
 pub returns-clause-cut_off : goal.returns-clause-cut_off
-returns-clause-cut_off g c clean opens live chapters led db may =
+returns-clause-cut_off g c clean opens live them chapters led db may =
     let s0 = state g.S.Store c.args.conn in
     let s1 = state g.S.Store c.examine_from.new.conn in
     let clean1 : HasCleanDisk s1 = omega (arith, c.widen.ensures.clean, clean) in
-    let (version, at) = opens_led chapters s0 opens live
-    (λ d shown stays. g.met.S.Store.settled c.args.conn.store d shown stays) led in
-    let (schema, same) = c.in-Ok.ensures.same clean1 (schema_known version s0.now.schema at.exactly.now.schema) in
-    let is_first = one_version version First s0.now.schema at.exactly.now.schema
-    (schema ∙ ap schema_of c.in-First.is) in
-    let first = subst (λ v. IsHistoryAt v chapters s0) is_first at in
+    let first = first_history them chapters s0 c.in-Ok.found.version c.in-First.is (c.in-Ok.ensures.newer clean1)
+    (opens_led s0 opens live (λ d shown stays. g.met.S.Store.settled c.args.conn.store d shown stays) them chapters led)
+    in
     let s = first.after in
-    let exactly = first.exactly in
+    let exactly = first.exactly.1 in
     let register = c.in-Ok.ensures.rows clean1 First s first.legal exactly.now in
-    let here = unchanged_exactly first_schema (first_tables s) s0 s1 exactly same
-    (λ db may. exactly.may_leave db (c.in-Ok.ensures.reads.may clean1 db may)) in
-    upgraded_cut First chapters s0 first db
+    let here = c.in-Ok.ensures.reads.kept refl clean1 first_schema (first_tables s) exactly in
+    upgraded_cut First them chapters s0 first db
     (elim (c.in-Err-widen.ensures.fault clean (first_tables s) refl here db may) [
-      | inl before ↦ inl before
-      | inr after ↦ inr
-          (leaves_same _ (tables s) db (register_widened s c.in-Ok.found.rows _ _ register c.deref.ensures.value
-          c.of_current-meta.ensures) after)
+      | inl before ↦ inl (first.exactly.0, before)
+      | inr after ↦
+          inr
+          (made_left them first.exactly.0 s db (leaves_same _ (tables s) db
+          (register_widened s c.in-Ok.found.rows _ _ register c.deref.ensures.value c.of_current-meta.ensures) after))
     ])

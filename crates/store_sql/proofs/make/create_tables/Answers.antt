@@ -1,4 +1,4 @@
-use Rattle.std.proofs.Common.{◌≡◌, arith, rules, sym, subst}
+use Rattle.std.proofs.Common.{◌≡◌, arith, rules, sym, subst, inl, inr}
 use Rattle.sqlite.specs.Tree.{Trees}
 use Rattle.sqlite.specs.Held.{state}
 use Rattle.sqlite.specs.State.{HasCleanDisk, Survives}
@@ -6,8 +6,10 @@ use Rattle.sqlite.proofs.StateLemmas.{survives_then}
 use Rattle.sqlite.proofs.Callers.{survives_begin}
 use Rattle.store_tables.specs.Contents.{IsExactlyEmpty, opening}
 use Rattle.store_tables.specs.Club.{IsExactly, Leaves}
-use Rattle.store_tables.specs.Tables.{club_schema, IsClubSchema}
+use Rattle.store_tables.specs.Beside.{IsBeside}
+use Rattle.store_tables.specs.Tables.{club_schema, first_schema}
 use Rattle.store_tables.proofs.Proved.{commits, leaves_of}
+use Rattle.store_sql.proofs.SelectLemmas.{always_err}
 use Rattle.store_sql.proofs.make.create_tables.Goals as goal
 
 pub returns-clause-stored : goal.returns-clause-stored
@@ -29,7 +31,7 @@ returns-in_err-commit-clause-survives g c =
     let last = c.create_inside.new.tx.conn.now in
     let begun = c.transaction-tx.ensures.begun in
     let P = λ (trees : Trees). (IsExactlyEmpty (state g.S.Store old) → Leaves opening trees)
-    × (IsClubSchema (state g.S.Store old).now.schema → ⊥) in
+    × (IsBeside first_schema (state g.S.Store old).now.schema → ⊥) in
     let whole = survives_then (state g.S.Store old) (state g.S.Store last) (state g.S.Store c.commit.new.self.0) _ _ P
     (λ _ db none. absurd none)
     (λ clean db is. (
@@ -46,13 +48,19 @@ returns-in_err-commit-clause-survives g c =
     let same : c.commit.new.self.0 ≡ c.conn-2-1.given.0 = search rules in
     subst (λ h. Survives (state g.S.Store old) (state g.S.Store h) P) same whole
 
+pub returns-in_err-commit-clause-fault : goal.returns-in_err-commit-clause-fault
+returns-in_err-commit-clause-fault g c clean =
+    always_err c.from_residual-in_err-commit.result _ (λ k db left.
+    elim ((returns-in_err-commit-clause-survives g c).crash clean db left)
+    [ inl was ↦ inl (k.may_leave db was) | inr made ↦ inr (made.0 k) ])
+
 pub returns-clause-survives : goal.returns-clause-survives
 returns-clause-survives g c =
     let old = c.args.conn.now in
     let last = c.create_inside.new.tx.conn.now in
     let begun = c.transaction-tx.ensures.begun in
     let P = λ (trees : Trees). (IsExactlyEmpty (state g.S.Store old) → Leaves opening trees)
-    × (IsClubSchema (state g.S.Store old).now.schema → ⊥) in
+    × (IsBeside first_schema (state g.S.Store old).now.schema → ⊥) in
     let whole = survives_then (state g.S.Store old) (state g.S.Store last) (state g.S.Store c.commit.new.self.0) _ _ P
     (λ _ db none. absurd none)
     (λ clean db is. (

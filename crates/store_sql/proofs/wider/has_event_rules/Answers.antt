@@ -1,6 +1,6 @@
 use Rattle.std.proofs.Common.{◌≡◌, pos, rules, subst, sym}
 use Rattle.sqlite.specs.Held.{state}
-use Rattle.store_tables.specs.Beside.{no_others}
+use Rattle.store_tables.specs.Beside.{beside, no_others}
 use Rattle.store_tables.specs.Queries.{IsSelect}
 use Rattle.store_tables.specs.Tables.{club_schema, event_rules}
 use Rattle.store_tables.specs.Texts.{event_rules_all, event_rules_by_first, event_rules_ids}
@@ -19,7 +19,7 @@ returns-in-Ok-clause-reads g c =
     c.query_all.ensures.mode c.query_all.ensures.survives c.query_all.ensures.ok c.query_all.ensures.err)
 
 pub returns-in-Ok-clause-same : goal.returns-in-Ok-clause-same
-returns-in-Ok-clause-same g c clean known =
+returns-in-Ok-clause-same g c clean =
     let text : c.by_first.result.now ≡ event_rules_by_first = c.by_first.ensures in
     select_unchanged c.by_first.result.now (subst IsSelect (sym text) (event_rules_read no_others).group_is) _
     (state g.S.Store c.args.conn.now) (state g.S.Store c.query_all.new.self) c.in-Ok.field-0.items
@@ -49,16 +49,16 @@ returns-then-is_refused-clause-reads g c =
 
 pub returns-then-is_refused-clause-stands : goal.returns-then-is_refused-clause-stands
 returns-then-is_refused-clause-stands g c clean has =
-    let other = group_known club_schema (event_rules 16) 1 event_rules_all event_rules_ids event_rules_by_first
-    (event_rules_read no_others) c.by_first.result.now _ (state g.S.Store c.args.conn.now)
+    let other = group_known (beside club_schema has.0) (event_rules 16) 1 event_rules_all event_rules_ids
+    event_rules_by_first (event_rules_read has.0) c.by_first.result.now _ (state g.S.Store c.args.conn.now)
     (state g.S.Store c.query_all.new.self)
-    c.by_first.ensures (pos 0) (search rules) c.in-Err.error (c.in-Err.ensures.err clean) has in
+    c.by_first.ensures (pos 0) (search rules) c.in-Err.error (c.in-Err.ensures.err clean) has.1 in
     let no = c.is_refused.ensures.known other in
     let yes = c.if-is_refused.true in
     absurd cc
 
 pub returns-then-is_refused-clause-same : goal.returns-then-is_refused-clause-same
-returns-then-is_refused-clause-same g c clean known =
+returns-then-is_refused-clause-same g c clean =
     let text : c.by_first.result.now ≡ event_rules_by_first = c.by_first.ensures in
     let select = subst IsSelect (sym text) (event_rules_read no_others).group_is in
     refused_unchanged c.by_first.result.now _ (state g.S.Store c.args.conn.now) (state g.S.Store c.query_all.new.self)

@@ -2,8 +2,7 @@ use Rattle.std.proofs.Common.{◌≡◌, ap, ◌∙◌, arith}
 use Rattle.sqlite.specs.Held.{state}
 use Rattle.club_core.specs.Answer.{answered, outcome_of}
 use Rattle.club_changes.specs.Steps.{request, club_step}
-use Rattle.store_tables.specs.Tables.{club_schema}
-use Rattle.store_tables.proofs.Proved.{has_rows, takes_itself}
+use Rattle.store_tables.proofs.Proved.{rows_beside}
 use Rattle.club_desk.proofs.ServeLemmas.{told_shut, apply_serves, if_ok, on_ok, on_err}
 use Rattle.club_desk.proofs.desk_club.DeskClubServedClub.apply.Goals as goal
 
@@ -17,14 +16,14 @@ returns-clause-serves g c clean s served =
     let asked = request c.args.who.now c.args.command.now c.args.moment in
     apply_serves c.args.self.now.club.needs_reopening c.apply.new.self.needs_reopening
     (state g.S.Store c.args.self.now.club.connection) (state g.S.Store c.apply.new.self.connection) s asked
-    (λ outcome. outcome_of outcome ≡ answered (club_step s asked))
+    (λ outcome. outcome_of outcome ≡ answered (club_step s.state asked))
     c.apply.result c.told_all.result c.told_all.ensures c.requests_keep_clubs.ensures
     (omega (arith, c.seconds-within.ensures.value, c.seconds-within.ensures.range))
     c.apply.ensures.goes_on c.apply.ensures.ends c.apply.ensures.named
     (if_ok _ _ c.apply.result (c.apply.ensures.answer clean)
-    (λ outcome is. is s served.legal (has_rows _ _ served.exactly)))
+    (λ outcome is. is s.state served.legal (rows_beside _ _ _ served.exactly)))
     (on_ok c.apply.result (c.apply.ensures.step clean)
-    (λ is. is club_schema takes_itself s served.legal served.exactly))
+    (λ is. is s.them s.state served.legal served.exactly))
     (on_err c.apply.result (c.apply.ensures.fault clean)
-    (λ left. left served.ready club_schema takes_itself s served.legal served.exactly))
+    (λ left. left served.ready s.them s.state served.legal served.exactly))
     served

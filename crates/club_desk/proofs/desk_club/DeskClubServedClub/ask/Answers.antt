@@ -1,15 +1,15 @@
 use Rattle.std.proofs.Common.{ap, Err, refl}
 use Rattle.sqlite.specs.Held.{state}
-use Rattle.store_tables.proofs.Proved.{has_rows}
+use Rattle.store_tables.proofs.Proved.{rows_beside}
 use Rattle.club_desk.proofs.AskLemmas.{asking_left, asking_shown}
 use Rattle.club_desk.proofs.ServeLemmas.{read_stands}
 use Rattle.club_desk.proofs.desk_club.DeskClubServedClub.ask.Goals as goal
 
 pub returns-in-Ok-clause-serves : goal.returns-in-Ok-clause-serves
 returns-in-Ok-clause-serves g c clean s served = (
-  asking_shown s c.args.moment c.args.question.now c.in-Ok.refusal c.new-bytes.result.items c.ask.new.writer.items
+  asking_shown s.state c.args.moment c.args.question.now c.in-Ok.refusal c.new-bytes.result.items c.ask.new.writer.items
       c.answered.result c.new-bytes.ensures.items c.answered.ensures
-      (c.in-Ok.ensures.shown clean s served.legal (has_rows _ _ served.exactly)),
+      (c.in-Ok.ensures.shown clean s.state served.legal (rows_beside _ _ _ served.exactly)),
   read_stands c.args.self.now.club.needs_reopening c.ask.new.self.needs_reopening
       (state g.S.Store c.args.self.now.club.connection) (state g.S.Store c.ask.new.self.connection) s
       c.in-Ok.ensures.goes_on (c.in-Ok.ensures.reads.kept refl clean) served,

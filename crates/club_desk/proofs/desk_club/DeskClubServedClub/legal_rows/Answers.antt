@@ -2,7 +2,7 @@ use Rattle.std.proofs.Common.{ap, ◌∙◌}
 use Rattle.sqlite.specs.Held.{state}
 use Rattle.club_changes.specs.Stored.{AreLegalRows}
 use Rattle.http_bodies.specs.ShownViews.{rows_view}
-use Rattle.store_tables.proofs.Proved.{has_rows}
+use Rattle.store_tables.proofs.Proved.{rows_beside}
 use Rattle.club_desk.proofs.ServeLemmas.{told_shut, read_serves, if_ok}
 use Rattle.club_desk.proofs.desk_club.DeskClubServedClub.legal_rows.Goals as goal
 
@@ -15,9 +15,9 @@ pub returns-clause-serves : goal.returns-clause-serves
 returns-clause-serves g c clean s served =
     read_serves c.args.self.now.club.needs_reopening c.legal_rows.new.self.needs_reopening
     (state g.S.Store c.args.self.now.club.connection) (state g.S.Store c.legal_rows.new.self.connection) s
-    (λ rows. AreLegalRows s c.args.game (rows_view rows))
+    (λ rows. AreLegalRows s.state c.args.game (rows_view rows))
     c.legal_rows.result c.told_all.result c.told_all.ensures c.legal_rows.ensures.goes_on c.legal_rows.ensures.ends
     c.legal_rows.ensures.named c.legal_rows.ensures.reads
     (if_ok _ _ c.legal_rows.result (c.legal_rows.ensures.rows clean)
-    (λ rows are. are s served.legal (has_rows _ _ served.exactly)))
+    (λ rows are. are s.state served.legal (rows_beside _ _ _ served.exactly)))
     clean served

@@ -1,0 +1,234 @@
+-- Challenges are judged alike by the games of a content and by what is known of them.
+use Rattle.std.proofs.Common.{◌≡◌, ℕ, zero, suc, pos, List, [], ◌∷◌, map, Some, refl, ap, sym, subst, ◌∙◌}
+use Rattle.std.proofs.Common.{◌⊎◌, inl, inr}
+use Rattle.std.specs.Prelude.{slice_get, All}
+use Rattle.sqlite_value.specs.declared.value.Value.{Value}
+use Rattle.sqlite_value.specs.declared.value.Value.TheVariants.{Null, Int, Real, Text, Blob}
+use Rattle.sqlite.specs.Order.{Row, column}
+use Rattle.sqlite.specs.Effect.{Database}
+use Rattle.sqlite.specs.State.{State, IsUnchanged}
+use Rattle.sqlite.proofs.Callers.{unchanged_then}
+use Rattle.sqlite_rules.specs.Lists.{Has}
+use Rattle.store_tables.specs.Cells.{IsGame, challenge_cells, event_cells, member_cells}
+use Rattle.store_tables.specs.Changes.{HaveSame}
+use Rattle.store_tables.specs.Content.{AreApart, Keeps}
+use Rattle.store_tables.specs.Contents.{Content}
+use Rattle.store_tables.specs.Reading.{Tells}
+use Rattle.store_tables.proofs.Proved.{all_alike}
+use Rattle.store_tables.specs.Tables.{challenges, events, games, members}
+use Rattle.store_tables.specs.declared.names.Table.TheVariants.{EventRules, Games}
+use Rattle.store_tables.specs.declared.names.Version.{Version}
+use Rattle.store_tables.specs.declared.rows.GameRecord.{GameRecord}
+use Rattle.store_tables.specs.declared.rows.Rows.{Rows}
+use Rattle.store_sql.specs.Read.{AreCounted, IsReadAs}
+use Rattle.club_audit.specs.Audit.{AreEvents, AreMembers, HasPeople}
+use Rattle.club_audit.specs.ChallengeAudit.{AreChallenges, IsGameAmong}
+use Rattle.club_core.specs.declared.challenges.Challenge.{Challenge}
+use Rattle.club_core.specs.Events.{Event}
+use Rattle.club_core.specs.Members.{Member}
+use Rattle.club_core.specs.Seats.{Pairing}
+use Rattle.club_rows.specs.Club.{ClubState}
+use Rattle.club_rows.specs.FirstSchema.{tables_at}
+use Rattle.club_rows.specs.Tables.{number}
+use Rattle.club_opening.specs.Blames.{Names}
+use Rattle.club_opening.specs.KnownGames.{AreGamesKnown, game_seat, known, row_seat}
+use Rattle.club_opening.specs.RightTables.{AreOfClub, HasGame, HaveChallenges, IsUntyped, NamesChallenges, NamesFirst}
+use Rattle.club_opening.specs.Places.{BlamesRows}
+use Rattle.club_opening.specs.Versions.{HoldsRows}
+use Rattle.club_opening.proofs.ChallengedLemmas.{challenges_once, challenges_right, right_challenges}
+use Rattle.club_opening.proofs.FirstLemmas.{first_games, first_known, kept_same, stores_of}
+use Rattle.club_opening.proofs.BlameLemmas.{read_after}
+use Rattle.club_opening.proofs.ClubLemmas.{typed_at}
+use Rattle.club_opening.proofs.StoredLemmas.{club_of_version}
+use Rattle.club_opening.specs.declared.fault.OpenFault.{OpenFault}
+use Rattle.club_opening.specs.declared.fault.OpenFault.TheVariants.{Damaged}
+
+-- only the number itself is known to be it
+known_number : (v : Value) (n : ℕ) → known v ≡ pos n → v ≡ number n
+known_number (Int m) n is = ap Int is
+known_number Null n is = cc
+known_number (Real x) n is = cc
+known_number (Text t) n is = cc
+known_number (Blob b) n is = cc
+
+-- equal lists of four
+module _ (game : GameRecord) (row : Row) (is : game_seat game ≡ row_seat row) where
+  id_known : game.id ≡ known (column row 0)
+  id_known = cc
+
+  event_known : game.event ≡ known (column row 2)
+  event_known = cc
+
+  first_player : game.first ≡ known (column row 3)
+  first_player = cc
+
+  second_player : game.second ≡ known (column row 4)
+  second_player = cc
+
+-- the game that is known of a row, and the row of a game
+game_of : (games : List GameRecord) (rows : List Row) → map game_seat games ≡ map row_seat rows → (row : Row) → Has rows row
+    → (k : ℕ) × (game : GameRecord) × (slice_get games k ≡ Some game) × (game_seat game ≡ row_seat row)
+game_of [] [] same row has = absurd has
+game_of [] (r ∷ rows) same row has = cc
+game_of (g ∷ games) [] same row has = cc
+game_of (g ∷ games) (r ∷ rows) same row (inl is) =
+    let first : game_seat g ≡ row_seat r = cc in (0, g, refl, first ∙ ap row_seat (sym is))
+game_of (g ∷ games) (r ∷ rows) same row (inr has) =
+    let rest : map game_seat games ≡ map row_seat rows = cc in
+    let (k, game, at, is) = game_of games rows rest row has in
+    (suc k, game, at, is)
+
+row_of : (games : List GameRecord) (rows : List Row) → map game_seat games ≡ map row_seat rows → (k : ℕ)
+    (game : GameRecord) → slice_get games k ≡ Some game
+    → (row : Row) × Has rows row × (game_seat game ≡ row_seat row)
+row_of [] rows same k game at = cc
+row_of (g ∷ games) [] same k game at = cc
+row_of (g ∷ games) (r ∷ rows) same zero game at =
+    let first : game_seat g ≡ row_seat r = cc in
+    let is : g ≡ game = cc in
+    (r, inl refl, ap game_seat (sym is) ∙ first)
+row_of (g ∷ games) (r ∷ rows) same (suc k) game at =
+    let rest : map game_seat games ≡ map row_seat rows = cc in
+    let (row, has, is) = row_of games rows rest k game at in
+    (row, inr has, is)
+
+module _ (games : List GameRecord) (rows shown : List Row) (same : HaveSame rows shown)
+    (seats : map game_seat games ≡ map row_seat shown) where
+  known_among : (id : ℕ) (p : Pairing) → HasGame rows id p → IsGameAmong games id p
+  known_among id p has =
+      let (k, game, at, is) = game_of games shown seats has.row (same.there has.row has.there) in
+      record {
+        place = k;
+        row = game;
+        at = at;
+        id_is = id_known game has.row is ∙ ap known has.id_is;
+        of = record {
+          event = event_known game has.row is ∙ ap known has.event_is;
+          first = first_player game has.row is ∙ ap known has.first_is;
+          second = second_player game has.row is ∙ ap known has.second_is;
+        };
+      }
+
+  among_known : (id : ℕ) (p : Pairing) → IsGameAmong games id p → HasGame rows id p
+  among_known id p among =
+      let game = among.row in
+      let (row, has, is) = row_of games shown seats among.place game among.at in
+      record {
+        row = row;
+        there = same.back row has;
+        id_is = known_number (column row 0) id (sym (id_known game row is) ∙ among.id_is);
+        event_is = known_number (column row 2) p.event (sym (event_known game row is) ∙ among.of.event);
+        first_is = known_number (column row 3) p.first (sym (first_player game row is) ∙ among.of.first);
+        second_is = known_number (column row 4) p.second (sym (second_player game row is) ∙ among.of.second);
+      }
+
+-- what the audit lets pass of the rows that were read and of what is known of the games is right in whatever content the
+-- database may hold, and back
+module _ (rows : Rows) (old two : State) (ms : List Member) (are_ms : AreMembers ms rows.members.items)
+    (es : List Event) (are_es : AreEvents es rows.events.items)
+    (kept_ms : Keeps (members 1) old.now.trees (map member_cells rows.members.items))
+    (kept_es : Keeps (events 4) old.now.trees (map event_cells rows.events.items))
+    (read_cs : IsReadAs (challenges 6) 2 (map challenge_cells rows.challenges.items) old two)
+    (shown : List Row) (kept_games : Keeps (games 10) old.now.trees shown)
+    (seats : map game_seat rows.games.items ≡ map row_seat shown) (v : Version) (content : Content)
+    (holds : HoldsRows v content old.now) where
+  same_ms : HaveSame (content 1) (map member_cells rows.members.items)
+  same_ms = kept_same (members 1) old.now (content 1) (map member_cells rows.members.items)
+      (stores_of (members 1) 1 refl refl v old.now content holds).rows kept_ms
+
+  same_es : HaveSame (content 4) (map event_cells rows.events.items)
+  same_es = kept_same (events 4) old.now (content 4) (map event_cells rows.events.items)
+      (stores_of (events 4) 2 refl refl v old.now content holds).rows kept_es
+
+  same_cs : HaveSame (content 6) (map challenge_cells rows.challenges.items)
+  same_cs = kept_same (challenges 6) old.now (content 6) (map challenge_cells rows.challenges.items)
+      (stores_of (challenges 6) 3 refl refl v old.now content holds).rows read_cs.keeps
+
+  same_games : HaveSame (content 10) shown
+  same_games = kept_same (games 10) old.now (content 10) shown
+      (stores_of (games 10) 5 refl refl v old.now content holds).rows kept_games
+
+  pub have_known : (cs : List Challenge) → AreChallenges cs rows → HaveChallenges content
+  have_known = challenges_right content rows ms are_ms es are_es same_ms same_es same_cs
+      (known_among rows.games.items (content 10) shown same_games seats)
+      (among_known rows.games.items (content 10) shown same_games seats)
+
+  pub pass_known : HaveChallenges content → (cs : List Challenge) × AreChallenges cs rows
+  pass_known have = (
+    have.challenges,
+    right_challenges content rows ms are_ms es are_es same_ms same_es same_cs
+        (known_among rows.games.items (content 10) shown same_games seats)
+        (among_known rows.games.items (content 10) shown same_games seats) have
+        (challenges_once v content (map challenge_cells rows.challenges.items) old two holds
+        (stores_of (challenges 6) 3 refl refl v old.now content holds) have read_cs),
+  )
+
+-- ---- what was shown
+
+module _ (old mid new : State) (count : ℕ) (shown : List Row) (counted : AreCounted 10 count old mid)
+    (tells : Tells (games 10) 1 shown mid new) where
+  kept_shown : Keeps (games 10) old.now.trees shown
+  kept_shown = subst (λ (d : Database). Keeps (games 10) d.trees shown) counted.same.0.now_is tells.keeps
+
+  -- rows of games that have the types of their columns were read
+  pub read_shown : (slice rows : List Row) → slice ≡ shown → slice ≡ rows → IsReadAs (games 10) 1 rows old new
+  read_shown slice rows is same = subst (λ l. IsReadAs (games 10) 1 l old new) (sym is ∙ same)
+      (read_after (games 10) 1 shown old mid new counted.same (record {
+        keeps = tells.keeps;
+        once = tells.once;
+        apart = subst (λ (d : Database). AreApart (d.trees 10)) (sym counted.same.0.now_is) counted.apart;
+        sorted = tells.sorted;
+        same = tells.same;
+      }))
+
+  -- of others their ids, events and players are known
+  pub known_shown : (slice : List Row) (known_rows : List GameRecord) → slice ≡ shown → ¬ All IsGame slice
+      → map game_seat known_rows ≡ map row_seat slice → AreGamesKnown known_rows old new
+  known_shown slice known_rows is other seats = record {
+    shown = shown;
+    keeps = kept_shown;
+    seats = seats ∙ ap (map row_seat) is;
+    untyped = λ version content holds typed. other (subst (All IsGame) (sym is)
+        (all_alike (games 10) old.now.trees IsGame shown (content 10) kept_shown
+        (stores_of (games 10) 5 refl refl version old.now content holds).rows typed));
+    same = unchanged_then old mid new counted.same tells.same;
+  }
+
+-- a database that did not change has the same games
+pub known_before : (known_rows : List GameRecord) (old mid new : State) → IsUnchanged old mid
+    → AreGamesKnown known_rows mid new → AreGamesKnown known_rows old new
+known_before known_rows old mid new same it = record {
+  shown = it.shown;
+  keeps = subst (λ (d : Database). Keeps (games 10) d.trees it.shown) same.0.now_is it.keeps;
+  seats = it.seats;
+  untyped = subst (IsUntyped Games) same.0.now_is it.untyped;
+  same = unchanged_then old mid new same it.same;
+}
+
+-- what is named where games are untyped, of a legal club
+pub untyped_blamed : (oldest : Version) (rows : Rows) (db : Database) (e : OpenFault) → IsUntyped Games db
+    → ((e ≡ Damaged Games) × ((cs : List Challenge) × AreChallenges cs rows))
+    ⊎ (BlamesRows rows e × ((s : ClubState) → HasPeople s rows → NamesChallenges rows e)) → Names oldest db e
+untyped_blamed oldest rows db e untyped (inl (named, right)) = inl (inr (inr (Games, named, untyped)))
+untyped_blamed oldest rows db e untyped (inr (inl memory, wrong)) = inl (inr (inl memory))
+untyped_blamed oldest rows db e untyped (inr (inr (t, named, none), wrong)) = inr (inr (inr (
+  t,
+  named,
+  λ version s own holds.
+      untyped version (tables_at version s) holds (typed_at version s (club_of_version version s own) Games),
+)))
+
+-- and of which table it is said
+pub first_untyped : (rows : Rows) (db : Database) (e : OpenFault) → IsUntyped Games db
+    → ((version : Version) (content : Content) → HoldsRows version content db → AreOfClub version EventRules content)
+    → ((version : Version) (content : Content) → HoldsRows version content db → (cs : List Challenge)
+    → AreChallenges cs rows → HaveChallenges content)
+    → ((version : Version) (content : Content) → HoldsRows version content db → HaveChallenges content
+    → (cs : List Challenge) × AreChallenges cs rows) → (s : ClubState) → HasPeople s rows
+    → ((e ≡ Damaged Games) × ((cs : List Challenge) × AreChallenges cs rows))
+    ⊎ (BlamesRows rows e × ((s : ClubState) → HasPeople s rows → NamesChallenges rows e)) → NamesFirst db e
+first_untyped rows db e untyped right have pass s people (inl (named, (cs, are))) =
+    subst (NamesFirst db) (sym named)
+    (first_games db untyped right (λ version content holds. have version content holds cs are))
+first_untyped rows db e untyped right have pass s people (inr (blamed, wrong)) =
+    first_known db rows e (wrong s people) right pass

@@ -1,0 +1,91 @@
+-- A club that an opening found, alone or beside what other programs made.
+use Rattle.std.proofs.Common.{◌≡◌, true, ap, ◌∙◌}
+use Rattle.sqlite.specs.State.{State}
+use Rattle.store_tables.specs.Beside.{HasRows, IsBeside}
+use Rattle.store_tables.specs.Contents as of_schema
+use Rattle.store_tables.specs.Contents.{Content}
+use Rattle.store_tables.specs.Over.{Neighbours, IsBesideThem}
+use Rattle.store_tables.specs.Reading.{KeepsContent}
+use Rattle.store_tables.specs.Tables.{club_schema}
+use Rattle.store_tables.specs.declared.names.Version.TheVariants.{First, Current}
+use Rattle.store_tables.proofs.Proved.{rows_beside, still_beside}
+use Rattle.sqlite.specs.Schema.{Schema}
+use Rattle.table_shapes.specs.Shapes.{is_of_club}
+use Rattle.table_shapes.proofs.Proved.{club_is_of_club}
+use Rattle.club_rows.specs.Club.{ClubState, tables}
+use Rattle.club_rows.specs.FirstSchema.{first_tables}
+use Rattle.club_opening.specs.Versions.{HoldsRows, IsExactlyClub}
+use Rattle.club_orders.specs.declared.report.Report.{Report}
+use Rattle.club_orders.specs.declared.report.Report.TheVariants.{Unopened}
+use Rattle.club_orders.specs.Report.{IfTaken}
+use Rattle.store.specs.Histories.{HasState}
+
+-- what a later opening would find the connection holds exactly
+abbrev pub IsExact : State → Type 0
+IsExact s = (schema : Schema) (content : Content) → of_schema.Leaves schema content s.committed.trees
+    → of_schema.IsExactly schema content s
+
+held_rows : (them : Neighbours) (content : Content) (s : State) → IsBesideThem them content s
+    → HoldsRows Current content s.now
+held_rows them content s at =
+    let t = at.exactly.now.tables in
+    record {
+      schema = (them.made, at.exactly.now.schema);
+      sound = at.exactly.now.sound;
+      tables = (
+        record { rows = t.0.rows; apart = t.0.apart },
+        (
+          record { rows = t.1.0.rows; apart = t.1.0.apart },
+          (
+            record { rows = t.1.1.0.rows; apart = t.1.1.0.apart },
+            (
+              record { rows = t.1.1.1.0.rows; apart = t.1.1.1.0.apart },
+              (
+                record { rows = t.1.1.1.1.0.rows; apart = t.1.1.1.1.0.apart },
+                (
+                  record { rows = t.1.1.1.1.1.0.rows; apart = t.1.1.1.1.1.0.apart },
+                  (
+                    record { rows = t.1.1.1.1.1.1.0.rows; apart = t.1.1.1.1.1.1.0.apart },
+                    (
+                      record { rows = t.1.1.1.1.1.1.1.0.rows; apart = t.1.1.1.1.1.1.1.0.apart },
+                      (record { rows = t.1.1.1.1.1.1.1.1.0.rows; apart = t.1.1.1.1.1.1.1.1.0.apart }, tt),
+                    ),
+                  ),
+                ),
+              ),
+            ),
+          ),
+        ),
+      );
+    }
+
+module _ (club : ClubState) (s : State) (exact : IsExact s) (has : HasState club s.committed.trees) where
+  pub stands_beside : IsBesideThem has.them (tables club) s
+  stands_beside = record { clear = has.leaves.clear; exactly = exact _ _ has.leaves.leaves }
+
+  -- what a taker of such clubs promises
+  pub is_taken : (P : Type 0)
+      → (HoldsRows Current (tables club) s.now → is_of_club Current s.now.schema ≡ true → P) → P
+  is_taken P takes =
+      let at = stands_beside in
+      takes (held_rows has.them (tables club) s at) (ap (is_of_club Current) at.exactly.now.schema ∙ has.shape)
+
+  pub stand_beside : IsBeside club_schema s.now.schema
+  stand_beside = (has.them.made, stands_beside.exactly.now.schema)
+
+  -- a call that answered left the rows
+  pub still_there : (new : State) → KeepsContent s new → HasRows (tables club) new
+  still_there new kept =
+      rows_beside has.them (tables club) new (still_beside s new kept has.them (tables club) stands_beside)
+
+-- the same of a club of schema 1
+pub is_taken_first : (club : ClubState) (s : State) (P : Type 0) → IsExactlyClub First club s
+    → (HoldsRows First (first_tables club) s.now → is_of_club First s.now.schema ≡ true → P) → P
+is_taken_first club s P at takes =
+    takes (record { schema = at.now.schema; sound = at.now.sound; tables = at.now.tables })
+    (ap (is_of_club First) at.now.schema ∙ club_is_of_club First)
+
+-- what was taken over is told of whatever report that it was
+pub taken_so : (P : Type 0) (report : Report) → P → IfTaken report P
+taken_so P (Unopened fault) is = tt
+taken_so P _ is = is
