@@ -8,7 +8,8 @@ use Rattle.club_views.specs.Exported.{IsExported, IsWrittenSome}
 use Rattle.club_questions.specs.declared.questions.Question.{Question}
 use Rattle.club_questions.specs.declared.questions.Question.TheVariants.{LegalMoves, CrossTable, Record, Members}
 use Rattle.club_questions.specs.declared.questions.Question.TheVariants.{Events, Games, Mine, Inviting, EventGames}
-use Rattle.club_questions.specs.declared.questions.Question.TheVariants.{ClockOf, Board, EventRecords}
+use Rattle.club_questions.specs.declared.questions.Question.TheVariants.{ClockOf, GameBody, MovesBody, Board}
+use Rattle.club_questions.specs.declared.questions.Question.TheVariants.{EventRecords}
 use Rattle.club_rules.specs.declared.names.GameKind.{GameKind}
 use Rattle.club_answers.specs.Found.{AsksRecords, IsFound, IsFoundAs}
 use Rattle.club_answers.specs.EventRecords.{BeginsRecords, AreRecords, ids_in}
@@ -50,6 +51,8 @@ text_begun s moment (Mine key) text before now is some = (text, is, some)
 text_begun s moment (Inviting key) text before now is some = (text, is, some)
 text_begun s moment (EventGames name) text before now is some = (text, is, some)
 text_begun s moment (ClockOf game) text before now is some = (text, is, some)
+text_begun s moment (GameBody game) text before now is some = (text, is, some)
+text_begun s moment (MovesBody game) text before now is some = (text, is, some)
 text_begun s moment (Board game letters) text before now is some = (text, is, some)
 text_begun s moment (EventRecords name) text before now (there, are) some =
     (there, records_begun s _ _ text before now are some)

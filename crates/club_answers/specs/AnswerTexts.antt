@@ -14,7 +14,7 @@ use Rattle.club_questions.specs.declared.questions.Question.{Question}
 use Rattle.club_questions.specs.declared.questions.Question.TheVariants.{LegalMoves, CrossTable, Record}
 use Rattle.club_questions.specs.declared.questions.Question.TheVariants.{Members, Events, Games}
 use Rattle.club_questions.specs.declared.questions.Question.TheVariants.{Mine, Inviting, EventGames, ClockOf}
-use Rattle.club_questions.specs.declared.questions.Question.TheVariants.{Board, EventRecords}
+use Rattle.club_questions.specs.declared.questions.Question.TheVariants.{Board, EventRecords, GameBody, MovesBody}
 use Rattle.club_lists.specs.Lines.{member_lines, event_lines, AreGameLines}
 use Rattle.club_lists.specs.Listing.{listing_refusal}
 use Rattle.club_lists.specs.Clock.{clock_text}
@@ -23,6 +23,7 @@ use Rattle.club_core.specs.declared.challenges.Challenge.{Challenge}
 use Rattle.club_core.specs.Events.{event_kind, has_event_name}
 use Rattle.std.specs.List.{list_any}
 use Rattle.club_answers.specs.Boards.{IsBoardText}
+use Rattle.club_answers.specs.GameBodies.{IsGameBody, IsMovesBody}
 use Rattle.club_answers.specs.Challenges.{AreChallengesOf}
 use Rattle.club_answers.specs.EventRecords.{AreEventRecords, BeginsRecords, ids_in}
 use Rattle.club_answers.specs.Games.{moment_in, told_games, told_of}
@@ -128,6 +129,8 @@ IsText s moment (Mine key) text = IsMineText s moment (string_bytes key) text
 IsText s moment (Inviting key) text = IsInvitingText s (string_bytes key) text
 IsText s moment (EventGames name) text = IsEventGamesText s (string_bytes name) text
 IsText s moment (ClockOf game) text = IsClockText s moment game text
+IsText s moment (GameBody game) text = IsGameBody s game text
+IsText s moment (MovesBody game) text = IsMovesBody s game text
 IsText s moment (Board game letters) text = IsBoardText s moment game letters text
 IsText s moment (EventRecords name) text = IsRecordsText s (string_bytes name) text
 
@@ -143,6 +146,8 @@ IsRefused s (Mine key) refusal = IsNoKey s (string_bytes key) refusal
 IsRefused s (Inviting key) refusal = IsNoKey s (string_bytes key) refusal
 IsRefused s (EventGames name) refusal = IsNoEventNamed s (string_bytes name) refusal
 IsRefused s (ClockOf game) refusal = IsNoGame s game refusal
+IsRefused s (GameBody game) refusal = IsNoGame s game refusal
+IsRefused s (MovesBody game) refusal = IsNoGame s game refusal
 IsRefused s (Board game letters) refusal = IsNoGame s game refusal
 IsRefused s (EventRecords name) refusal = IsNoEventNamed s (string_bytes name) refusal
 

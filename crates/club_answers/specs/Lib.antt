@@ -3,6 +3,7 @@ pub mod Boards
 pub mod Challenges
 pub mod EventRecords
 pub mod Found
+pub mod GameBodies
 pub mod Games
 pub mod Overdue
 pub mod Records

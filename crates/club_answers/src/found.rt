@@ -11,6 +11,7 @@ ghost use Rattle.club_answers.specs.Found.{IsFound, IsFoundAs};
 ghost use Rattle.club_answers.specs.AnswerTexts.{lined, IsLegalText, IsNoGame, IsTableText, IsNoEvent, IsMembersText};
 
 use crate::boards::board;
+use crate::bodies::{game_body, moves_body};
 use crate::lists::of_lists;
 use crate::shows::{clock, mine};
 use clocks::Moment;
@@ -114,6 +115,8 @@ pub(crate) fn find_shown<S: Alter>(
         Question::Inviting(_) => of_lists(alloc, conn, question, moment),
         Question::EventGames(_) => of_lists(alloc, conn, question, moment),
         Question::ClockOf(game) => clock(alloc, conn, *game, moment),
+        Question::GameBody(game) => game_body(alloc, conn, *game),
+        Question::MovesBody(game) => moves_body(alloc, conn, *game),
         Question::Board { game, letters } => board(alloc, conn, *game, *letters, moment),
         Question::EventRecords(_) => of_lists(alloc, conn, question, moment),
     }

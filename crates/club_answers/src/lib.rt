@@ -4,6 +4,7 @@
 
 mod answers;
 mod boards;
+mod bodies;
 mod challenges;
 mod found;
 mod games;

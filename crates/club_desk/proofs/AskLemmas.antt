@@ -17,7 +17,7 @@ use Rattle.http_bodies.specs.ShownViews.{shown_view}
 use Rattle.http_desk.specs.declared.faults.ClubFault.{ClubFault}
 use Rattle.http_desk.specs.Served.{IsOfCall}
 use Rattle.club_desk.specs.Faults.{told_asking}
-use Rattle.club_desk.specs.Served.{Standing, written}
+use Rattle.club_desk.specs.Served.{DeskState, written}
 use Rattle.club_desk.specs.ServedStates.{IsServed, IsLeft, served_stays}
 use Rattle.club_desk.proofs.ServeLemmas.{read_left, read_stands}
 
@@ -37,7 +37,7 @@ asking_shown s moment question refusal before now shown nothing same has =
     subst (IsShown s moment question) (sym same) (written_shown s moment question refusal before now nothing has)
 
 -- a writer that fails is told as memory that was refused, and the club goes on
-pub asking_left : (old_shut new_shut : Bool) (old new : State) (s : Standing) (fault : AskFault) (answer : ClubFault)
+pub asking_left : (old_shut new_shut : Bool) (old new : State) (s : DeskState) (fault : AskFault) (answer : ClubFault)
     → answer ≡ told_asking fault → (fault ≡ asking.Output → new_shut ≡ false)
     → (fault ≡ asking.Output) ⊎ (new_shut ≡ true)
     → (fault ≡ asking.Output) ⊎ ((fault ≡ asking.Club club.Store) ⊎ (fault ≡ asking.Club club.Memory))

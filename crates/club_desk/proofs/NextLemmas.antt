@@ -6,13 +6,13 @@ use Rattle.club_core.specs.State.{Command, Request, key_holder, withdraw_challen
 use Rattle.club_core.specs.Step.{GameCommand}
 use Rattle.http_head.specs.Request as head
 use Rattle.http_head.specs.Request.{Seen, unfinished, refused, whole}
-use Rattle.http_desk.specs.Routes.{Asked, members_page, game_view, legal_moves, question, on_game, challenge, withdraw}
+use Rattle.http_desk.specs.Routes.{Asked, members_page, question, on_game, challenge, withdraw}
 use Rattle.http_desk.specs.Routes.{answer, asked_of}
 use Rattle.http_desk.specs.Desk.{Due, serve, serve_asked, serve_known, serve_page, serve_command, command_given}
 use Rattle.http_desk.specs.Desk.{state_behind}
 use Rattle.http_bodies.specs.Bodies.{json_of, challenge_with, challenge_in, challenge_of, answer_with, answer_in}
 use Rattle.http_bodies.specs.Bodies.{answer_of}
-use Rattle.club_desk.specs.Served.{Standing, next_of, served}
+use Rattle.club_desk.specs.Served.{DeskState, next_of, served}
 use Rattle.club_desk.specs.Turns.{IsMembers, IsTurn}
 
 -- ---- what paths and bodies give are commands of members
@@ -47,11 +47,11 @@ answer_members challenger n body = given_by (answer_in challenger n) (λ d. answ
 
 -- ---- what is behind a request
 
-module _ (s : Standing) (moment : ℕ) (within : moment ≤ last_moment) where
-  abbrev pub IsNext : Standing → Type 0
+module _ (s : DeskState) (moment : ℕ) (within : moment ≤ last_moment) where
+  abbrev pub IsNext : DeskState → Type 0
   IsNext t = (t ≡ s) ⊎ ((request : Request) × IsTurn request × (t ≡ next_of s request))
 
-  if_next : (b : Bool) (one other : Standing × Due) → IsNext one.0 → IsNext other.0
+  if_next : (b : Bool) (one other : DeskState × Due) → IsNext one.0 → IsNext other.0
       → IsNext (if b then one else other).0
   if_next true one other first second = first
   if_next false one other first second = second
@@ -68,8 +68,6 @@ module _ (s : Standing) (moment : ℕ) (within : moment ≤ last_moment) where
 
   page_next : (key body : List ℕ) (asked : Asked) → IsNext (serve_page served s moment key body asked).0
   page_next key body members_page = inl refl
-  page_next key body (game_view id) = inl refl
-  page_next key body (legal_moves id) = inl refl
   page_next key body (question asking) = inl refl
   page_next key body (on_game id turn) = command_next key id _ (turn_members id (command_given turn body))
   page_next key body (challenge n) = command_next key n _ (opening_members n body)

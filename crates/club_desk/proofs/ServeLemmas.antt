@@ -16,14 +16,14 @@ use Rattle.http_desk.specs.declared.faults.ClubFault.{ClubFault}
 use Rattle.http_desk.specs.declared.faults.ClubFault.TheVariants.{Memory, Reopen}
 use Rattle.http_desk.specs.Served.{IsOfCall, Serves}
 use Rattle.club_desk.specs.Faults.{told, told_all}
-use Rattle.club_desk.specs.Served.{Standing, next_of}
+use Rattle.club_desk.specs.Served.{DeskState, next_of}
 use Rattle.club_desk.specs.ServedStates.{IsServed, IsLeft, MayLeave, served_stays}
 
 true_false : (b : Bool) → b ≡ true → b ≡ false → ⊥
 true_false b is isnt = true≢false (sym is ∙ isnt)
 
 -- a club that is shut stands nowhere
-pub shut_left : (shut : Bool) (now : State) (s t : Standing) → shut ≡ true → MayLeave now s t → IsLeft shut now s t
+pub shut_left : (shut : Bool) (now : State) (s t : DeskState) → shut ≡ true → MayLeave now s t → IsLeft shut now s t
 shut_left shut now s t ends left = record { leaves = left; stands = λ ready. absurd (true_false shut ends ready) }
 
 pub if_ok : {A F : Type 0} (P Q : A → Type 0) (found : Result A F) → IfOk found P → ((a : A) → P a → Q a) → IfOk found Q
@@ -31,14 +31,14 @@ if_ok P Q (Ok a) is goes = goes a is
 if_ok P Q (Err fault) is goes = tt
 
 -- what a reading call leaves at a fault
-pub read_left : (answered old_shut new_shut : Bool) (old new : State) (s : Standing) → new_shut ≡ true
+pub read_left : (answered old_shut new_shut : Bool) (old new : State) (s : DeskState) → new_shut ≡ true
     → Reads answered old new → HasCleanDisk new → IsServed old_shut old s → IsLeft new_shut new s s
 read_left answered old_shut new_shut old new s ends reads clean served =
     shut_left new_shut new s s ends
     (λ db left. inl (leaves_beside s.them (tables s.state) old served.exactly db (reads.may clean db left)))
 
 -- where a reading call leaves the club
-pub read_stands : (old_shut new_shut : Bool) (old new : State) (s : Standing) → new_shut ≡ false → KeepsContent old new
+pub read_stands : (old_shut new_shut : Bool) (old new : State) (s : DeskState) → new_shut ≡ false → KeepsContent old new
     → IsServed old_shut old s → IsServed new_shut new s
 read_stands old_shut new_shut old new s ready keeps served =
     record {
@@ -65,7 +65,7 @@ module _ {A : Type 0} where
       → told_all found ≡ Err fault
   told_shut fault found is shut = ap told_all shut ∙ ap Err (sym is)
 
-  read_answers : (old_shut new_shut : Bool) (old new : State) (s : Standing) (IsRight : A → Type 0)
+  read_answers : (old_shut new_shut : Bool) (old new : State) (s : DeskState) (IsRight : A → Type 0)
       (found : Result A StoreFault) → OnOk found (new_shut ≡ false) → OnErr found (new_shut ≡ true)
       → IfErr found (λ fault. old_shut ≡ false → IsNamed fault) → Reads (is_ok found) old new → IfOk found IsRight
       → HasCleanDisk new → IsServed old_shut old s
@@ -76,7 +76,7 @@ module _ {A : Type 0} where
       (told_of_call fault (named served.ready), read_left false old_shut new_shut old new s ends reads clean served)
 
   -- a call that only reads, at whatever it answers
-  pub read_serves : (old_shut new_shut : Bool) (old new : State) (s : Standing) (IsRight : A → Type 0)
+  pub read_serves : (old_shut new_shut : Bool) (old new : State) (s : DeskState) (IsRight : A → Type 0)
       (found : Result A StoreFault) (answer : Result A ClubFault) → answer ≡ told_all found
       → OnOk found (new_shut ≡ false) → OnErr found (new_shut ≡ true)
       → IfErr found (λ fault. old_shut ≡ false → IsNamed fault) → Reads (is_ok found) old new → IfOk found IsRight
@@ -89,7 +89,7 @@ module _ {A : Type 0} where
       (read_answers old_shut new_shut old new s IsRight found ready ends named reads right clean served)
 
   -- an answer that is made of what was read
-  pub made_serves : (old_shut new_shut : Bool) (old new : State) (s : Standing) (IsRight : A → Type 0)
+  pub made_serves : (old_shut new_shut : Bool) (old new : State) (s : DeskState) (IsRight : A → Type 0)
       (made : Result A ClubFault) → new_shut ≡ false → KeepsContent old new → IfOk made IsRight
       → IfErr made (λ fault. fault ≡ Memory) → IsServed old_shut old s
       → Serves (IsServed new_shut new) (IsLeft new_shut new) s s IsRight IsOfCall made
@@ -101,7 +101,7 @@ module _ {A : Type 0} where
         (read_stands old_shut new_shut old new s ready keeps served),
   )
 
-  apply_answers : (old_shut new_shut : Bool) (old new : State) (s : Standing) (request : Request)
+  apply_answers : (old_shut new_shut : Bool) (old new : State) (s : DeskState) (request : Request)
       (IsRight : A → Type 0) (found : Result A StoreFault) → KeepsClub → request.moment ≤ last_moment
       → OnOk found (new_shut ≡ false) → OnErr found (new_shut ≡ true)
       → IfErr found (λ fault. old_shut ≡ false → IsNamed fault) → IfOk found IsRight
@@ -117,7 +117,7 @@ module _ {A : Type 0} where
       (told_of_call fault (named served.ready), shut_left new_shut new s (next_of s request) ends left)
 
   -- a command, at whatever it is answered
-  pub apply_serves : (old_shut new_shut : Bool) (old new : State) (s : Standing) (request : Request)
+  pub apply_serves : (old_shut new_shut : Bool) (old new : State) (s : DeskState) (request : Request)
       (IsRight : A → Type 0) (found : Result A StoreFault) (answer : Result A ClubFault) → answer ≡ told_all found
       → KeepsClub → request.moment ≤ last_moment → OnOk found (new_shut ≡ false) → OnErr found (new_shut ≡ true)
       → IfErr found (λ fault. old_shut ≡ false → IsNamed fault) → IfOk found IsRight

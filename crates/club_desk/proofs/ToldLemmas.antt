@@ -1,11 +1,13 @@
 -- What is told of a stretch.
 use Rattle.std.proofs.Common.{◌≡◌, ◌⊎◌, ◌∙◌, Bool, true, false, Option, Some, None, refl, sym, subst, ap, inl, inr}
 use Rattle.std.specs.Prelude.{IfSome}
-use Rattle.sqlite.specs.Effect.{Database, IsDatabase}
+use Rattle.sqlite.specs.Effect.{Database}
 use Rattle.sqlite.specs.State.{State}
 use Rattle.store_tables.specs.Contents.{Content}
-use Rattle.store_tables.specs.Club.{Holds, IsExactly, Leaves}
+use Rattle.store_tables.specs.declared.names.Version.{Version}
+use Rattle.store_tables.specs.declared.names.Version.TheVariants.{Current}
 use Rattle.club_rows.specs.Club.{ClubState, tables}
+use Rattle.club_opening.specs.Versions.{HasClub, HoldsRows, LeavesRows}
 use Rattle.club_opening.specs.declared.fault.OpenFault.{OpenFault}
 use Rattle.club_opening.specs.declared.fault.OpenFault.TheVariants as opening
 use Rattle.http_desk.specs.declared.faults.ClubFault.{ClubFault}
@@ -70,15 +72,13 @@ none_failed has_failed told is none = none_behind has_failed (sym is ∙ none)
 
 -- ---- what stands behind an examination stood before it
 
-left_of : (content : Content) (db : Database) → Holds db content → Leaves content db.trees
-left_of content db holds =
-    record {
-      sound = subst (λ schema. IsDatabase (record { schema = schema; trees = db.trees })) holds.schema holds.sound;
-      tables = holds.tables;
-    }
+rows_left : (version : Version) (content : Content) (db : Database) → HoldsRows version content db
+    → LeavesRows version content db.trees
+rows_left version content db holds =
+    record { schema = db.schema; stands = holds.schema; sound = holds.sound; tables = holds.tables }
 
-pub stood : (s : ClubState) (old new : State) → IsExactly (tables s) new → new.now ≡ old.now → old.now ≡ old.committed
-    → Leaves (tables s) old.committed.trees
-stood s old new exactly same clean =
-    let P : Database → Type 0 = λ db. Leaves (tables s) db.trees in
-    subst P (same ∙ clean) (left_of (tables s) new.now exactly.now)
+pub stood : (s : ClubState) (old new : State) → HasClub Current new.now s → new.now ≡ old.now → old.now ≡ old.committed
+    → LeavesRows Current (tables s) old.committed.trees
+stood s old new has same clean =
+    let P : Database → Type 0 = λ db. LeavesRows Current (tables s) db.trees in
+    subst P (same ∙ clean) (rows_left Current (tables s) new.now has)

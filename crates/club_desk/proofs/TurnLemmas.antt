@@ -15,7 +15,7 @@ use Rattle.club_rows.specs.Club.{tables}
 use Rattle.store.specs.Histories.{Chapter, IsReachable, IsHistory, cut_session}
 use Rattle.club_changes.specs.Steps.{KeepsClub, club_next}
 use Rattle.store.proofs.Proved.{taken_session, one_leads, one_cut}
-use Rattle.club_desk.specs.Served.{Standing, beside_them, next_of, served}
+use Rattle.club_desk.specs.Served.{DeskState, beside_them, next_of, served}
 use Rattle.club_desk.specs.ServedStates.{IsServed, IsLeft, MayLeave}
 use Rattle.club_desk.specs.Repeats.{stands_at}
 use Rattle.club_desk.specs.Turns.{IsTurn, IsOrder, IsTurnOf, AreTurns, IsWhole, AreWhole, IsHistoryOn, IsReachableOn}
@@ -87,7 +87,7 @@ reads_led them sessions old new reads clean led = record {
 
 module _ (keeps : KeepsClub) (them : Neighbours) (sessions : List Chapter) (old : State)
     (on : IsHistoryOn them sessions old) where
-  abbrev before : Standing
+  abbrev before : DeskState
   before = beside_them them on.stands.after
 
   stays : (shut : Bool) (now : State) → IsServed shut now before → IsHistoryOn them sessions now
@@ -124,15 +124,15 @@ module _ (keeps : KeepsClub) (them : Neighbours) (sessions : List Chapter) (old 
         });
       }
 
-  next_stands : (shut : Bool) (now : State) (t : Standing) → (t ≡ before)
+  next_stands : (shut : Bool) (now : State) (t : DeskState) → (t ≡ before)
       ⊎ ((request : Request) × IsAsked request × (t ≡ next_of before request)) → IsServed shut now t
       → IsHistoryOn them sessions now
-  next_stands shut now t (inl same) is = stays shut now (let P : Standing → Type 0 = λ u. IsServed shut now u in
+  next_stands shut now t (inl same) is = stays shut now (let P : DeskState → Type 0 = λ u. IsServed shut now u in
       subst P same is)
   next_stands shut now t (inr done) is = goes shut now done.0 done.1
-      (let P : Standing → Type 0 = λ u. IsServed shut now u in subst P done.2 is)
+      (let P : DeskState → Type 0 = λ u. IsServed shut now u in subst P done.2 is)
 
-  asked_next : (t : Standing) → (t ≡ before)
+  asked_next : (t : DeskState) → (t ≡ before)
       ⊎ ((request : Request) × IsTurn request × (t ≡ next_of before request)) → (t ≡ before)
       ⊎ ((request : Request) × IsAsked request × (t ≡ next_of before request))
   asked_next t (inl same) = inl same
@@ -203,12 +203,12 @@ module _ (keeps : KeepsClub) (them : Neighbours) (sessions : List Chapter) (old 
             on.stands.legal (keeps on.stands.after request (asked_within request turn) on.stands.legal) (left db may));
       }
 
-  next_led : (now : State) (t : Standing) → (t ≡ before)
+  next_led : (now : State) (t : DeskState) → (t ≡ before)
       ⊎ ((request : Request) × IsAsked request × (t ≡ next_of before request)) → MayLeave now before t
       → IsReachableOn them sessions now
-  next_led now t (inl same) left = stays_led now (let P : Standing → Type 0 = λ u. MayLeave now before u in
+  next_led now t (inl same) left = stays_led now (let P : DeskState → Type 0 = λ u. MayLeave now before u in
       subst P same left)
-  next_led now t (inr done) left = cut_led now done.0 done.1 (let P : Standing → Type 0 = λ u. MayLeave now before u in
+  next_led now t (inr done) left = cut_led now done.0 done.1 (let P : DeskState → Type 0 = λ u. MayLeave now before u in
       subst P done.2 left)
 
   -- whether a call has failed or not
@@ -229,7 +229,7 @@ module _ (keeps : KeepsClub) (them : Neighbours) (sessions : List Chapter) (old 
       next_led now _ (behind_errand moment within given) left.leaves
 
 -- a connection over the desk, or an order of the officer's, of whatever moment
-abbrev pub Acted : Bool → State → Standing → Type 0
+abbrev pub Acted : Bool → State → DeskState → Type 0
 Acted shut now s = HasServed served (IsServed shut now) (IsLeft shut now) s
 
 module _ (keeps : KeepsClub) (them : Neighbours) (sessions : List Chapter) (old_shut : Bool) (old : State)
@@ -238,7 +238,7 @@ module _ (keeps : KeepsClub) (them : Neighbours) (sessions : List Chapter) (old_
   served_before = record { ready = ready; legal = on.stands.legal; exactly = on.stands.exactly }
 
   pub turn_stands : (shut : Bool) (now : State) → shut ≡ false
-      → ((s : Standing) → IsServed old_shut old s → Acted shut now s) → IsHistoryOn them sessions now
+      → ((s : DeskState) → IsServed old_shut old s → Acted shut now s) → IsHistoryOn them sessions now
   turn_stands shut now is_open acts =
       let (moment, within, done) = acts (beside_them them on.stands.after) served_before in
       elim done [
@@ -246,7 +246,7 @@ module _ (keeps : KeepsClub) (them : Neighbours) (sessions : List Chapter) (old_
         | inr obeyed ↦ obeyed_stands keeps them sessions old on shut now moment obeyed.0 within is_open obeyed.1
       ]
 
-  pub turn_led : (shut : Bool) (now : State) → ((s : Standing) → IsServed old_shut old s → Acted shut now s)
+  pub turn_led : (shut : Bool) (now : State) → ((s : DeskState) → IsServed old_shut old s → Acted shut now s)
       → IsReachableOn them sessions now
   turn_led shut now acts =
       let (moment, within, done) = acts (beside_them them on.stands.after) served_before in

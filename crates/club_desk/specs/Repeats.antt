@@ -11,11 +11,11 @@ use Rattle.store_tables.specs.declared.names.Version.TheVariants.{Current}
 use Rattle.http_head.specs.Request as head
 use Rattle.http_desk.specs.Desk.{serve, serve_command}
 use Rattle.club_reads.specs.Keys.{holder_of}
-use Rattle.club_desk.specs.Served.{Standing, beside_them, served}
+use Rattle.club_desk.specs.Served.{DeskState, beside_them, served}
 
 -- what it asks the club for: this command of the one who shows the key, about the game or the challenge of that number
 pub record AsksFor (request : head.Request) (key : List ℕ) (number : ℕ) (command : Command) : Type 0 where
-  pub is : (s : Standing) (moment : ℕ) → is_some (holder_of s.state key) ≡ true
+  pub is : (s : DeskState) (moment : ℕ) → is_some (holder_of s.state key) ≡ true
       → serve served s moment request ≡ serve_command served s moment key number (Some command)
 
 -- the state, in the last version

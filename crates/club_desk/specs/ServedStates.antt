@@ -6,40 +6,40 @@ use Rattle.sqlite.specs.State.{State}
 use Rattle.store_tables.specs.Over.{IsBesideThem, LeavesBeside}
 use Rattle.store_tables.proofs.Proved.{leaves_beside}
 use Rattle.club_rows.specs.Club.{IsClub, tables}
-use Rattle.club_desk.specs.Served.{Standing}
+use Rattle.club_desk.specs.Served.{DeskState}
 
 -- No call has failed, and the tables are exactly those of this legal state, beside these neighbours.
-pub record IsServed (needs_reopening : Bool) (now : State) (s : Standing) : Type 0 where
+pub record IsServed (needs_reopening : Bool) (now : State) (s : DeskState) : Type 0 where
   pub ready : needs_reopening ≡ false
   pub legal : IsClub s.state
   pub exactly : IsBesideThem s.them (tables s.state) now
 
 -- the database has the tables of where the club stands, for a later opening
-abbrev pub IsLeftBy : Trees → Standing → Type 0
+abbrev pub IsLeftBy : Trees → DeskState → Type 0
 IsLeftBy db s = LeavesBeside s.them (tables s.state) db
 
 -- whatever a stop leaves has the tables of one of the two
-abbrev pub MayLeave : State → Standing → Standing → Type 0
+abbrev pub MayLeave : State → DeskState → DeskState → Type 0
 MayLeave now s t = (db : Trees) → now.may_leave db → IsLeftBy db s ⊎ IsLeftBy db t
 
 -- What a stop may leave is of one of the two; and if no call has failed, one of them stands.
-pub record IsLeft (needs_reopening : Bool) (now : State) (s t : Standing) : Type 0 where
+pub record IsLeft (needs_reopening : Bool) (now : State) (s t : DeskState) : Type 0 where
   pub leaves : MayLeave now s t
   pub stands : needs_reopening ≡ false → IsServed needs_reopening now s ⊎ IsServed needs_reopening now t
 
-pub served_stays : (shut : Bool) (now : State) (s t : Standing) → IsServed shut now s → IsLeft shut now s t
+pub served_stays : (shut : Bool) (now : State) (s t : DeskState) → IsServed shut now s → IsLeft shut now s t
 served_stays shut now s t served = record {
   leaves = λ db left. inl (leaves_beside s.them (tables s.state) now served.exactly db left);
   stands = λ ready. inl served;
 }
 
-pub served_settled : (shut : Bool) (now : State) (s t : Standing) → IsServed shut now t → IsLeft shut now s t
+pub served_settled : (shut : Bool) (now : State) (s t : DeskState) → IsServed shut now t → IsLeft shut now s t
 served_settled shut now s t served = record {
   leaves = λ db left. inr (leaves_beside t.them (tables t.state) now served.exactly db left);
   stands = λ ready. inr served;
 }
 
-pub left_wider : (shut : Bool) (now : State) (s t : Standing) → IsLeft shut now s s → IsLeft shut now s t
+pub left_wider : (shut : Bool) (now : State) (s t : DeskState) → IsLeft shut now s s → IsLeft shut now s t
 left_wider shut now s t left =
     record {
       leaves = λ db may. elim (left.leaves db may) [ inl it ↦ inl it | inr it ↦ inl it ];

@@ -2,12 +2,11 @@
 
 ghost use Rattle.std.specs.Prelude.{◌≡◌};
 
-use crate::faults::{told, told_all, told_asking};
-use crate::shown::{answered, found_shown};
+use crate::faults::{told_all, told_asking};
+use crate::shown::answered;
 use clocks::Moment;
 use club_questions::Question;
 use club_requests::{Command, Outcome, Refusal, Who};
-use http_bodies::GameShown;
 use http_desk::{ClubFault, ServedClub};
 use sqlite::Alter;
 use std::alloc::Global;
@@ -25,10 +24,10 @@ impl<S: Alter> ServedClub for DeskClub<S> {
     ghost use Rattle.sqlite.specs.Held.{state};
     ghost use Rattle.sqlite.specs.State.{HasCleanDisk};
     ghost use Rattle.http_desk.specs.declared.faults.ClubFault.TheVariants.{Reopen};
-    ghost use Rattle.club_desk.specs.Served.{Standing, served};
+    ghost use Rattle.club_desk.specs.Served.{DeskState, served};
     ghost use Rattle.club_desk.specs.ServedStates.{IsLeft, IsServed, served_stays, served_settled, left_wider};
 
-    ghost State = { Standing };
+    ghost State = { DeskState };
 
     ghost club = { served };
 
@@ -42,17 +41,6 @@ impl<S: Alter> ServedClub for DeskClub<S> {
 
     fn holder_of(&mut self, alloc: Global, key: &str) -> Result<Option<String>, ClubFault> {
         told_all(self.club.holder_of(alloc, key))
-    }
-
-    fn view_game(&mut self, alloc: Global, game: u64) -> Result<Option<GameShown>, ClubFault> {
-        match self.club.view_game(alloc, game) {
-            Ok(found) => found_shown(alloc, found),
-            Err(fault) => Err(told(fault)),
-        }
-    }
-
-    fn legal_rows(&mut self, alloc: Global, game: u64) -> Result<Option<Vec<String>>, ClubFault> {
-        told_all(self.club.legal_rows(alloc, game))
     }
 
     fn ask(

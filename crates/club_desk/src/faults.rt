@@ -7,7 +7,7 @@ use http_desk::ClubFault;
 use store::{AskFault, OpenFault, StoreFault};
 
 // What is told of a fault of the club.
-pub(crate) fn told(fault: StoreFault) -> ClubFault
+fn told(fault: StoreFault) -> ClubFault
     ensures { result ≡ told fault }
 {
     match fault {

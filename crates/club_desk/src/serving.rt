@@ -4,11 +4,11 @@ ghost use Rattle.std.specs.Prelude.{◌≡◌, false, true, None, IfSome};
 ghost use Rattle.sqlite.specs.State.{HasCleanDisk, Opens, IsLive};
 ghost use Rattle.sqlite.specs.Held.{state};
 ghost use Rattle.store.specs.Histories.{HasState, IsReachable, IsHistory};
-ghost use Rattle.store_tables.specs.Tables.{IsClubSchema};
 ghost use Rattle.store_tables.specs.declared.names.Version.TheVariants.{Current};
 ghost use Rattle.table_shapes.specs.Shapes.{is_of_club};
 ghost use Rattle.club_rows.specs.Club.{ClubState, IsClub};
 ghost use Rattle.club_opening.specs.Refused.{HoldClub};
+ghost use Rattle.club_opening.specs.Versions.{HasClubTables};
 ghost use Rattle.club_desk.specs.ToldFault.{IfTaken, IsOfClub, IsTold, fault_behind};
 ghost use Rattle.club_desk.specs.Turns.{IsHistoryOn, IsReachableOn};
 
@@ -81,7 +81,7 @@ pub fn serve_club<S: Alter, V: Visits>(
     ensures told { HasCleanDisk (state S.Store result.1) →
         IsTold (state S.Store conn) (state S.Store result.1) result.0 }
     ensures taken { HasCleanDisk (state S.Store result.1) → Opens (state S.Store conn) → IsLive (state S.Store conn) →
-        IsClubSchema (state S.Store conn).now.schema →
+        HasClubTables (state S.Store conn).now.schema →
         IfTaken result.0 (HoldClub (state S.Store conn).committed.trees) }
     // By whatever texts its tables were made, those that were taken over answer as a club's.
     ensures shape { IfTaken result.0 (is_of_club Current (state S.Store conn).now.schema ≡ true) }

@@ -9,7 +9,7 @@ use clocks::Moment;
 use club_batches::{Numbered, Unseated, batch_for, push_order, read_orders, seat_lines, seats_of};
 use club_orders::Report;
 use club_requests::Outcome;
-use club_words::{BadWords, Batch, BatchWords, Line, Order, RoundRobin, Task, with_text};
+use club_words::{BadWords, Batch, BatchWords, Line, Order, RoundRobin, Task, give_text};
 use http_port::clock;
 use std::alloc::AllocError;
 
@@ -58,11 +58,13 @@ fn add_order(
     moment: Moment,
 ) -> Result<(), Unbegun> {
     let Numbered { number, line } = order;
-    let Line { command, record } = line;
-    let command = match record {
-        Some(path) => with_text(command, read_record(rt, path.as_str())?),
-        None => command,
-    };
+    let Line {
+        mut command,
+        record,
+    } = line;
+    if let Some(path) = record {
+        give_text(&mut command, read_record(rt, path.as_str())?);
+    }
     push_order(batch, number, command, moment)?;
     Ok(())
 }

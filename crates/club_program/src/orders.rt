@@ -67,7 +67,11 @@ pub(crate) fn run_with_record(rt: &HostRuntime, words: &[String], order: Order) 
 {
     match record_in(rt, &order) {
         Ok(None) => run_words(rt, words, &order),
-        Ok(Some(text)) => run_words(rt, words, &order.with_text(text)),
+        Ok(Some(text)) => {
+            let mut order = order;
+            order.give_text(text);
+            run_words(rt, words, &order)
+        }
         Err(report) => print_report(rt, &order.task, &report, order.explains),
     }
 }

@@ -45,6 +45,10 @@ pub enum Question {
     EventGames(String),
     /// The clock of the game of this number, as JSON.
     ClockOf(u64),
+    /// The game of this number as members see it, as JSON.
+    GameBody(u64),
+    /// The legal moves of the game of this number, as JSON.
+    MovesBody(u64),
     /// A game as a person looks at it: its players, their clocks, the board and the moves.
     Board {
         /// The number of the game.

@@ -7,4 +7,4 @@ mod parser;
 pub mod words;
 
 pub use batches::{Batch, BatchWords, Line, RoundRobin, read_line};
-pub use words::{BadWords, Order, Service, Task, Words, read_words, with_text};
+pub use words::{BadWords, Order, Service, Task, Words, give_text, read_words};

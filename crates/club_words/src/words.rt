@@ -50,49 +50,25 @@ pub struct Order {
     pub explains: bool,
 }
 
-/// The command with that text, if it is an import.
-pub fn with_text(command: Command, text: Vec<u8>) -> Command
-    ensures { result ≡ with_text text command }
+/// Gives a command the text that was read for it, if it is an import.
+pub fn give_text(command: &mut Command, text: Vec<u8>)
+    ensures { command.new ≡ with_text text command.old }
 {
-    match command {
-        Command::Import(given) => Command::Import(Import {
-            key: given.key,
-            event: given.event,
-            first: given.first,
-            second: given.second,
-            part: given.part,
-            format: given.format,
-            text,
-        }),
-        other => other,
+    if let Command::Import(given) = command {
+        given.text = text;
     }
 }
 
 impl Order {
-    /// The order with the text that was read for its import; any other order as it is.
-    pub fn with_text(self, text: Vec<u8>) -> Order
-        ensures task { result.task ≡ task_with text self.task }
-        ensures file { result.file ≡ self.file }
-        ensures now { result.now ≡ self.now }
-        ensures explains { result.explains ≡ self.explains }
+    /// Gives an order the text that was read for its import; any other order stays as it is.
+    pub fn give_text(&mut self, text: Vec<u8>)
+        ensures task { self.new.task ≡ task_with text self.old.task }
+        ensures file { self.new.file ≡ self.old.file }
+        ensures now { self.new.now ≡ self.old.now }
+        ensures explains { self.new.explains ≡ self.old.explains }
     {
-        let Order {
-            file,
-            now,
-            task,
-            record,
-            explains,
-        } = self;
-        let task = match task {
-            Task::Request(command) => Task::Request(with_text(command, text)),
-            other => other,
-        };
-        Order {
-            file,
-            now,
-            task,
-            record,
-            explains,
+        if let Task::Request(command) = &mut self.task {
+            give_text(command, text);
         }
     }
 }

@@ -5,11 +5,11 @@ use club_requests::{
     Answer, AnswerChallenge, Command, GameCommand, Moved, OnGame, OpenChallenge, Outcome,
     OutsideEnd, Refusal, Who, Withdraw,
 };
-use http_bodies::GameShown;
+use game_bodies::{GameShown, game_text, moves_text};
 use http_desk::{Closed, ClubFault, DeskFault, Replied, Routes, ServedClub, answer};
 use http_port::{Countdown, Deadline, serve_one};
 use squares::Score;
-use std::alloc::Global;
+use std::alloc::{AllocError, Global};
 use std::io;
 use std::io::{ErrorKind, Read};
 use std::process::Abort;
@@ -51,6 +51,14 @@ fn list(alloc: Global, rows: &[&str]) -> Result<Vec<String>, ClubFault> {
         }
     }
     Ok(list)
+}
+
+// The bytes of a text that is shown.
+fn bytes_of(shown: Result<String, AllocError>) -> Result<Result<Vec<u8>, Refusal>, ClubFault> {
+    match shown {
+        Ok(text) => Ok(Ok(text.into_bytes())),
+        Err(_) => Err(ClubFault::Memory),
+    }
 }
 
 // The first game of the club after its script.
@@ -165,29 +173,22 @@ impl ServedClub for Toy {
         Ok(Some(text(alloc, "anna")?))
     }
 
-    fn view_game(&mut self, alloc: Global, game: u64) -> Result<Option<GameShown>, ClubFault> {
-        if game == 1 {
-            Ok(Some(ended_game(alloc)?))
-        } else {
-            Ok(None)
-        }
-    }
-
-    fn legal_rows(&mut self, alloc: Global, game: u64) -> Result<Option<Vec<String>>, ClubFault> {
-        match game {
-            1 => Ok(Some(Vec::new(alloc))),
-            2 => Ok(Some(list(alloc, &["32-28", "33-29"])?)),
-            _ => Ok(None),
-        }
-    }
-
     fn ask(
         &mut self,
-        _alloc: Global,
-        _question: &Question,
+        alloc: Global,
+        question: &Question,
         _moment: Moment,
     ) -> Result<Result<Vec<u8>, Refusal>, ClubFault> {
-        Ok(Err(Refusal::UnknownEvent))
+        match question {
+            Question::GameBody(1) => bytes_of(game_text(alloc, 1, ended_game(alloc)?)),
+            Question::MovesBody(1) => bytes_of(moves_text(alloc, Vec::new(alloc))),
+            Question::MovesBody(2) => {
+                bytes_of(moves_text(alloc, list(alloc, &["32-28", "33-29"])?))
+            }
+            Question::GameBody(_) => Ok(Err(Refusal::UnknownGame)),
+            Question::MovesBody(_) => Ok(Err(Refusal::UnknownGame)),
+            _ => Ok(Err(Refusal::UnknownEvent)),
+        }
     }
 
     fn apply(

@@ -1,5 +1,4 @@
 pub mod Refusals
 pub mod Reply
-pub mod GameShown
 pub mod ShownViews
 pub mod Bodies

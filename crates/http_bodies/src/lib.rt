@@ -5,12 +5,10 @@ mod asks;
 mod bodies;
 pub mod refusals;
 mod reply;
-pub mod shown;
 pub mod status;
 
 pub use asks::{answer_of, challenge_of, move_text};
-pub use bodies::{answer_text, game_text, moves_text};
+pub use bodies::answer_text;
 pub use refusals::{Method, Refusal};
 pub use reply::{Kind, fault_reply, page_reply, refusal_reply, shown_reply};
-pub use shown::{GameShown, end_name};
 pub use status::status_of;

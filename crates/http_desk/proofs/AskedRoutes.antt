@@ -12,10 +12,10 @@ use Rattle.matchit.specs.Route.{scan}
 use Rattle.matchit.specs.Params.{walk, part_of, AllText}
 use Rattle.matchit.specs.Seek.{has_slash, first}
 use Rattle.http_desk.specs.declared.routes.Page.{Page}
-use Rattle.http_desk.specs.declared.questions.OfGame.TheVariants.{Record, Clock}
+use Rattle.http_desk.specs.declared.questions.OfGame.TheVariants.{View, Moves, Record, Clock}
 use Rattle.http_desk.specs.declared.questions.OfEvent.TheVariants as of_events
 use Rattle.http_desk.specs.Routes.{routes, slash, before, behind, page_of, asked_of_page, asked_of_path, text_of}
-use Rattle.http_desk.specs.Routes.{Asked, about_game, about_event, game_view, legal_moves, challenge, withdraw}
+use Rattle.http_desk.specs.Routes.{Asked, about_game, about_event, challenge, withdraw}
 use Rattle.http_desk.specs.Routes.{action_asked, ply_asked, answer_asked}
 use Rattle.http_desk.specs.Routes.{GameAction, make_move, offer_draw, accept_draw, resign, claim_time, declare}
 use Rattle.http_head.specs.Head.{number_of}
@@ -221,7 +221,7 @@ all_good =
     -- /games/{id}/draw/{ply}/offer
     & good _ _ _ _ refl (λ parts none texts. ply_inside offer_draw _ _ parts none refl)
     -- /games/{id}/legal
-    & good _ _ _ _ refl (λ parts none texts. number_inside (option_map legal_moves) _ parts none)
+    & good _ _ _ _ refl (λ parts none texts. number_inside (option_map (about_game Moves)) _ parts none)
     -- /games/{id}/moves/{ply}
     & good _ _ _ _ refl (λ parts none texts. ply_last make_move _ parts none refl)
     -- /games/{id}/record
@@ -229,7 +229,7 @@ all_good =
     -- /games/{id}/resign
     & good _ _ _ _ refl (λ parts none texts. number_inside (action_asked resign) _ parts none)
     -- /games/{id}
-    & good _ _ _ _ refl (λ parts none texts. number_last (option_map game_view) parts none)
+    & good _ _ _ _ refl (λ parts none texts. number_last (option_map (about_game View)) parts none)
     -- /me/events
     & good _ _ _ _ refl (λ parts none texts. refl)
     -- /me

@@ -7,8 +7,6 @@ use Rattle.http_desk.specs.Served.{Club}
 abbrev pub closed : Club (Unit {0})
 closed = record {
   holder_of = λ s key. None;
-  IsGame = λ s game found. ⊥;
-  AreLegal = λ s game rows. ⊥;
   IsShown = λ s moment question shown. ⊥;
   step = λ s request. (s, refused UnknownKey);
 }

@@ -4,7 +4,7 @@ use Rattle.std.specs.Prelude.{if◌then◌else◌, is_some, ⊤}
 use Rattle.std.specs.Str.{bytes_eq, is_utf8}
 use Rattle.serde_json.specs.Written.{compact_text}
 use Rattle.club_requests.specs.declared.refusals.Refusal as of_club
-use Rattle.club_requests.specs.declared.refusals.Refusal.TheVariants.{UnknownKey, UnknownGame}
+use Rattle.club_requests.specs.declared.refusals.Refusal.TheVariants.{UnknownKey}
 use Rattle.club_requests.specs.Outcome.{Outcome, accepted, repeated, refused as declined}
 use Rattle.club_core.specs.State.{Command, key_holder, withdraw_challenge, on_game as game_command}
 use Rattle.club_core.specs.Step as play
@@ -16,15 +16,14 @@ use Rattle.http_bodies.specs.declared.refusals.Refusal.TheVariants.{Head, NoRout
 use Rattle.http_desk.specs.declared.faults.ClubFault.{ClubFault}
 use Rattle.http_desk.specs.Faults.{club_fault_number, club_fault_name}
 use Rattle.http_desk.specs.Routes.{GameAction, make_move, offer_draw, accept_draw, resign, claim_time, declare}
-use Rattle.http_desk.specs.Routes.{Asking, Asked, members_page, game_view, legal_moves, question, on_game, challenge}
+use Rattle.http_desk.specs.Routes.{Asking, Asked, members_page, question, on_game, challenge}
 use Rattle.http_desk.specs.Routes.{withdraw, answer, asked_of, method_of, is_for_all}
 use Rattle.http_desk.specs.Questions.{Asks}
 use Rattle.club_questions.specs.declared.questions.Question.{Question}
 use Rattle.http_bodies.specs.declared.reply.Kind.{Kind}
 use Rattle.http_bodies.specs.declared.reply.Kind.TheVariants.{Json}
 use Rattle.http_bodies.specs.Reply.{refusal_reply, shown_reply, page_reply, fault_reply}
-use Rattle.http_bodies.specs.GameShown.{GameShown}
-use Rattle.http_bodies.specs.Bodies.{game_data, moves_data, reply_data, move_text, challenge_of, answer_of}
+use Rattle.http_bodies.specs.Bodies.{reply_data, move_text, challenge_of, answer_of}
 use Rattle.http_desk.specs.Served.{Club, IsOfCall, Serves}
 use Rattle.http_desk.specs.declared.desk.AnswerFault.{AnswerFault}
 use Rattle.http_desk.specs.declared.desk.AnswerFault.TheVariants as stop
@@ -40,22 +39,12 @@ answer_reply (refusal r) without_body = refusal_reply r without_body
 answer_reply (shows kind bytes) without_body = shown_reply kind bytes without_body
 answer_reply shows_page without_body = page_reply without_body
 
--- what is to be answered: this, a page that the club shows, or what it shows at a moment to one who asks
+-- what is to be answered: this, or what the club shows at a moment to one who asks
 pub data Due : Type 0 where
   this : Answer → Due
-  game_page : (game : ℕ) → Due
-  legal_page : (game : ℕ) → Due
   question_page : (moment : ℕ) → Asking → (key : List ℕ) → Due
 
 -- ---- pages
-
-abbrev pub game_answer : ℕ → Option GameShown → Answer
-game_answer id None = refusal (OfClub UnknownGame)
-game_answer id (Some game) = shows Json (compact_text (game_data id game))
-
-abbrev pub legal_answer : Option (List (List ℕ)) → Answer
-legal_answer None = refusal (OfClub UnknownGame)
-legal_answer (Some rows) = shows Json (compact_text (moves_data rows))
 
 abbrev pub question_answer : Kind → Result (List ℕ) of_club.Refusal → Answer
 question_answer kind (Ok bytes) = shows kind bytes
@@ -64,9 +53,6 @@ question_answer kind (Err r) = refusal (OfClub r)
 -- the answer is the one that is due in a state
 abbrev pub IsDue : {S : Type 0} → Club S → S → Due → Answer → Type 0
 IsDue club s (this expected) given = given ≡ expected
-IsDue club s (game_page id) given = (found : Option GameShown) × club.IsGame s id found × (given ≡ game_answer id found)
-IsDue club s (legal_page id) given = (rows : Option (List (List ℕ))) × club.AreLegal s id rows
-    × (given ≡ legal_answer rows)
 IsDue club s (question_page moment asking key) given = (about : Question × Kind) × Asks asking key about
     × (shown : Result (List ℕ) of_club.Refusal) × club.IsShown s moment about.0 shown
     × (given ≡ question_answer about.1 shown)
@@ -110,8 +96,6 @@ is_method bytes Post = bytes_eq bytes (codes "POST")
 -- a page, for a member
 abbrev pub serve_page : {S : Type 0} → Club S → S → ℕ → List ℕ → List ℕ → Asked → S × Due
 serve_page club s moment key body members_page = (s, this shows_page)
-serve_page club s moment key body (game_view id) = (s, game_page id)
-serve_page club s moment key body (legal_moves id) = (s, legal_page id)
 serve_page club s moment key body (question asking) = (s, question_page moment asking key)
 serve_page club s moment key body (on_game id turn) =
     serve_command club s moment key id (option_map (game_command id) (command_given turn body))

@@ -6,7 +6,7 @@ use Rattle.club_questions.specs.declared.questions.Question.TheVariants as asked
 use Rattle.http_bodies.specs.declared.reply.Kind.{Kind}
 use Rattle.http_bodies.specs.declared.reply.Kind.TheVariants.{Json, Plain}
 use Rattle.http_desk.specs.declared.questions.OfGame.{OfGame}
-use Rattle.http_desk.specs.declared.questions.OfGame.TheVariants.{Record, Clock}
+use Rattle.http_desk.specs.declared.questions.OfGame.TheVariants.{View, Moves, Record, Clock}
 use Rattle.http_desk.specs.declared.questions.OfEvent.{OfEvent}
 use Rattle.http_desk.specs.declared.questions.OfEvent.TheVariants as of_events
 use Rattle.http_desk.specs.declared.questions.OfMember.{OfMember}
@@ -15,6 +15,8 @@ use Rattle.http_desk.specs.Routes.{Asking, of_game, of_event, of_member}
 
 -- what is asked of the game of that number, and the kind of the bytes that are shown
 abbrev pub game_question : OfGame → ℕ → Question × Kind
+game_question View game = (asked.GameBody game, Json)
+game_question Moves game = (asked.MovesBody game, Json)
 game_question Record game = (asked.Record game, Plain)
 game_question Clock game = (asked.ClockOf game, Json)
 

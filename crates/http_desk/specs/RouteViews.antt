@@ -7,7 +7,7 @@ use Rattle.http_desk.specs.Routes.{GameAction, make_move, offer_draw, accept_dra
 use Rattle.http_desk.specs.declared.questions.Asking as given_asking
 use Rattle.http_desk.specs.declared.questions.Asking.TheVariants as asking
 use Rattle.http_desk.specs.Routes.{Asking, of_game, of_event, of_member}
-use Rattle.http_desk.specs.Routes.{Asked, members_page, game_view, legal_moves, question, on_game, challenge}
+use Rattle.http_desk.specs.Routes.{Asked, members_page, question, on_game, challenge}
 use Rattle.http_desk.specs.Routes.{withdraw, answer}
 
 abbrev pub action_view : given_action.GameAction → GameAction
@@ -25,8 +25,6 @@ asking_view (asking.OfMember topic) = of_member topic
 
 abbrev pub asked_view : given.Asked → Asked
 asked_view asked.MembersPage = members_page
-asked_view (asked.GameView game) = game_view game
-asked_view (asked.LegalMoves game) = legal_moves game
 asked_view (asked.Question about) = question (asking_view about)
 asked_view (asked.OnGame game turn) = on_game game (action_view turn)
 asked_view (asked.Challenge number) = challenge number

@@ -10,7 +10,7 @@ use Rattle.matchit.specs.Seek.{first}
 use Rattle.matchit.specs.declared.error.InsertError.{InsertError}
 use Rattle.http_desk.specs.declared.routes.TheConstants.{TABLE}
 use Rattle.http_desk.specs.declared.routes.Page.{Page}
-use Rattle.http_desk.specs.declared.routes.Page.TheVariants.{GameView, LegalMoves, AskGame, AskEvent, AskMember}
+use Rattle.http_desk.specs.declared.routes.Page.TheVariants.{AskGame, AskEvent, AskMember}
 use Rattle.http_desk.specs.declared.routes.Page.TheVariants.{MakeMove, OfferDraw, AcceptDraw, Resign, ClaimTime, Declare}
 use Rattle.http_desk.specs.declared.routes.Page.TheVariants.{Challenge, Withdraw, Answer, Members}
 use Rattle.http_desk.specs.declared.questions.OfGame.{OfGame}
@@ -97,8 +97,6 @@ pub data Asking : Type 0 where
 -- what a path asks for
 pub data Asked : Type 0 where
   members_page : Asked
-  game_view : (game : ℕ) → Asked
-  legal_moves : (game : ℕ) → Asked
   question : Asking → Asked
   on_game : (game : ℕ) → GameAction → Asked
   challenge : (number : ℕ) → Asked
@@ -131,8 +129,6 @@ text_of bytes = if is_utf8 bytes then Some bytes else None
 abbrev pub asked_of_page : Option Page → List ℕ → Option Asked
 asked_of_page None path = None
 asked_of_page (Some Members) path = Some members_page
-asked_of_page (Some GameView) path = option_map game_view (number_of (second_part path))
-asked_of_page (Some LegalMoves) path = option_map legal_moves (number_of (second_part path))
 asked_of_page (Some (AskGame topic)) path = option_map (about_game topic) (number_of (second_part path))
 asked_of_page (Some (AskEvent topic)) path = option_map (about_event topic) (text_of (second_part path))
 asked_of_page (Some (AskMember topic)) path = Some (question (of_member topic))
@@ -157,8 +153,6 @@ asked_of target = asked_of_path (path_of target)
 -- the one method that serves it
 abbrev pub method_of : Asked → Method
 method_of members_page = Get
-method_of (game_view game) = Get
-method_of (legal_moves game) = Get
 method_of (question asking) = Get
 method_of (on_game game turn) = Post
 method_of (challenge number) = Post
@@ -168,8 +162,6 @@ method_of (answer member number) = Post
 -- whether anybody is shown it, with or without a key
 abbrev pub is_for_all : Asked → Bool
 is_for_all members_page = true
-is_for_all (game_view game) = false
-is_for_all (legal_moves game) = false
 is_for_all (question asking) = false
 is_for_all (on_game game turn) = false
 is_for_all (challenge number) = false

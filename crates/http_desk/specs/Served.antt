@@ -4,7 +4,6 @@ use Rattle.club_requests.specs.Outcome.{Outcome}
 use Rattle.club_requests.specs.declared.refusals.Refusal.{Refusal}
 use Rattle.club_questions.specs.declared.questions.Question.{Question}
 use Rattle.club_core.specs.State.{Request}
-use Rattle.http_bodies.specs.GameShown.{GameShown}
 use Rattle.http_desk.specs.declared.faults.ClubFault.{ClubFault}
 use Rattle.http_desk.specs.declared.faults.ClubFault.TheVariants.{Store, Memory}
 
@@ -12,10 +11,6 @@ use Rattle.http_desk.specs.declared.faults.ClubFault.TheVariants.{Store, Memory}
 pub record Club (S : Type 0) : Type 1 where
   -- the name of the member who has the key, where there is one
   pub holder_of : S → List ℕ → Option (List ℕ)
-  -- the game of that number as it is shown, where there is one
-  pub IsGame : S → ℕ → Option GameShown → Type 0
-  -- its legal moves as they are written, in their order
-  pub AreLegal : S → ℕ → Option (List (List ℕ)) → Type 0
   -- the bytes that a question is shown at a moment, or why there are none
   pub IsShown : S → ℕ → Question → Result (List ℕ) Refusal → Type 0
   -- the state after a request, and its answer

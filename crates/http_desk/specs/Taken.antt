@@ -3,10 +3,10 @@ use Rattle.std.specs.Prelude.{ℕ, List, Option, Some, option_map, option_and_th
 use Rattle.matchit.specs.Params.{walk, named}
 use Rattle.matchit.specs.declared.params.Params.{Params}
 use Rattle.http_desk.specs.declared.routes.Page.{Page}
-use Rattle.http_desk.specs.declared.routes.Page.TheVariants.{GameView, LegalMoves, AskGame, AskEvent, AskMember}
+use Rattle.http_desk.specs.declared.routes.Page.TheVariants.{AskGame, AskEvent, AskMember}
 use Rattle.http_desk.specs.declared.routes.Page.TheVariants.{MakeMove, OfferDraw, AcceptDraw, Resign, ClaimTime, Declare}
 use Rattle.http_desk.specs.declared.routes.Page.TheVariants.{Challenge, Withdraw, Answer, Members}
-use Rattle.http_desk.specs.Routes.{Asked, members_page, game_view, legal_moves, question, challenge, withdraw, of_member}
+use Rattle.http_desk.specs.Routes.{Asked, members_page, question, challenge, withdraw, of_member}
 use Rattle.http_desk.specs.Routes.{make_move, offer_draw, accept_draw, resign, claim_time, declare}
 use Rattle.http_desk.specs.Routes.{about_game, about_event, action_asked, ply_asked, answer_asked}
 use Rattle.http_head.specs.Head.{number_of}
@@ -25,8 +25,6 @@ number_named name parts = option_and_then number_of (named name parts)
 -- what a page asks for by the parts that its route names
 abbrev pub asked_by : Page → Parts → Option Asked
 asked_by Members parts = Some members_page
-asked_by GameView parts = option_map game_view (number_named (codes "id") parts)
-asked_by LegalMoves parts = option_map legal_moves (number_named (codes "id") parts)
 asked_by (AskGame topic) parts = option_map (about_game topic) (number_named (codes "id") parts)
 asked_by (AskEvent topic) parts = option_map (about_event topic) (named (codes "name") parts)
 asked_by (AskMember topic) parts = Some (question (of_member topic))

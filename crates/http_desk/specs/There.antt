@@ -3,10 +3,10 @@ use Rattle.std.specs.Prelude.{◌≡◌, ℕ, List, Some, option_map, Ok, codes,
 use Rattle.matchit.specs.Order.{lookup}
 use Rattle.matchit.specs.Route.{Scan, parse_route}
 use Rattle.http_desk.specs.declared.routes.Page.{Page}
-use Rattle.http_desk.specs.declared.routes.Page.TheVariants.{GameView, LegalMoves, AskGame, AskEvent, AskMember}
+use Rattle.http_desk.specs.declared.routes.Page.TheVariants.{AskGame, AskEvent, AskMember}
 use Rattle.http_desk.specs.declared.routes.Page.TheVariants.{MakeMove, OfferDraw, AcceptDraw, Resign, ClaimTime, Declare}
 use Rattle.http_desk.specs.declared.routes.Page.TheVariants.{Challenge, Withdraw, Answer, Members}
-use Rattle.http_desk.specs.declared.questions.OfGame.TheVariants.{Record, Clock}
+use Rattle.http_desk.specs.declared.questions.OfGame.TheVariants.{View, Moves, Record, Clock}
 use Rattle.http_desk.specs.declared.questions.OfEvent.TheVariants as of_events
 use Rattle.http_desk.specs.declared.questions.OfMember.TheVariants as of_members
 use Rattle.http_desk.specs.Routes.{page_of, routes}
@@ -19,8 +19,8 @@ pub record LeadsTo (text : List ℕ) (page : Page) : Type 0 where
 
 -- all routes of the table, and no more than these
 pub record AreThere : Type 0 where
-  pub game : LeadsTo (codes "/games/{id}") GameView
-  pub legal : LeadsTo (codes "/games/{id}/legal") LegalMoves
+  pub game : LeadsTo (codes "/games/{id}") (AskGame View)
+  pub legal : LeadsTo (codes "/games/{id}/legal") (AskGame Moves)
   pub records : LeadsTo (codes "/games/{id}/record") (AskGame Record)
   pub clock : LeadsTo (codes "/games/{id}/clock") (AskGame Clock)
   pub table : LeadsTo (codes "/events/{name}/table") (AskEvent of_events.Table)
@@ -41,8 +41,8 @@ pub record AreThere : Type 0 where
 
 -- the page of a path of each kind
 pub record AreFound : Type 0 where
-  pub game : page_of (codes "/games/7") ≡ Some GameView
-  pub legal : page_of (codes "/games/7/legal") ≡ Some LegalMoves
+  pub game : page_of (codes "/games/7") ≡ Some (AskGame View)
+  pub legal : page_of (codes "/games/7/legal") ≡ Some (AskGame Moves)
   pub records : page_of (codes "/games/7/record") ≡ Some (AskGame Record)
   pub clock : page_of (codes "/games/7/clock") ≡ Some (AskGame Clock)
   pub table : page_of (codes "/events/autumn/table") ≡ Some (AskEvent of_events.Table)

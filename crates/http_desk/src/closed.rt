@@ -5,7 +5,6 @@ use crate::served::ServedClub;
 use clocks::Moment;
 use club_questions::Question;
 use club_requests::{Command, Outcome, Refusal, Who};
-use http_bodies::GameShown;
 use std::alloc::Global;
 
 /// A club whose file could not be taken over: it stands in no state, and answers every call with the reason.
@@ -31,14 +30,6 @@ impl ServedClub for Closed {
     ghost IsShut = { λ b fault. b.fault ≡ fault };
 
     fn holder_of(&mut self, _alloc: Global, _key: &str) -> Result<Option<String>, ClubFault> {
-        Err(self.fault)
-    }
-
-    fn view_game(&mut self, _alloc: Global, _game: u64) -> Result<Option<GameShown>, ClubFault> {
-        Err(self.fault)
-    }
-
-    fn legal_rows(&mut self, _alloc: Global, _game: u64) -> Result<Option<Vec<String>>, ClubFault> {
         Err(self.fault)
     }
 

@@ -13,7 +13,7 @@ ghost use Rattle.http_desk.specs.DeskViews.{answer_view, IsShutBy};
 
 use crate::commands::{serve_command, turn_given, withdrawal};
 use crate::faults::{ClubFault, DeskFault};
-use crate::pages::{serve_game, serve_legal, serve_question};
+use crate::pages::serve_question;
 use crate::routes::{Asked, Routes, text_of};
 use crate::served::ServedClub;
 use clocks::Moment;
@@ -95,8 +95,6 @@ fn serve_page<C: ServedClub>(
 {
     match asked {
         Asked::MembersPage => Ok(DeskAnswer::Page),
-        Asked::GameView(game) => serve_game(alloc, club, game),
-        Asked::LegalMoves(game) => serve_legal(alloc, club, game),
         Asked::Question(asking) => serve_question(alloc, club, key, asking, moment),
         Asked::OnGame(game, turn) => {
             let command = turn_given(alloc, game, turn, body)?;

@@ -10,6 +10,9 @@ use std::alloc::{AllocError, Global};
 /// What is asked of a game.
 #[derive(Clone, Copy, Debug, PartialEq, Eq)]
 pub enum OfGame {
+    /// The game as members see it.
+    View,
+    Moves,
     Record,
     Clock,
 }
@@ -46,6 +49,8 @@ fn game_question(topic: OfGame, game: u64) -> (Question, Kind)
     ensures { result ≡ game_question topic game }
 {
     match topic {
+        OfGame::View => (Question::GameBody(game), Kind::Json),
+        OfGame::Moves => (Question::MovesBody(game), Kind::Json),
         OfGame::Record => (Question::Record(game), Kind::Plain),
         OfGame::Clock => (Question::ClockOf(game), Kind::Json),
     }

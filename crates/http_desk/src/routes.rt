@@ -21,8 +21,6 @@ use std::marker::Model;
 #[derive(Clone, Copy, Debug, PartialEq, Eq)]
 pub enum Page {
     Members,
-    GameView,
-    LegalMoves,
     AskGame(OfGame),
     AskEvent(OfEvent),
     AskMember(OfMember),
@@ -53,8 +51,6 @@ pub enum GameAction {
 pub enum Asked<'p> {
     /// The page on which members play.
     MembersPage,
-    GameView(u32),
-    LegalMoves(u32),
     Question(Asking<'p>),
     /// The game of that number.
     OnGame(u32, GameAction),
@@ -71,8 +67,6 @@ impl<'p> Asked<'p> {
     {
         match self {
             Asked::MembersPage => Method::Get,
-            Asked::GameView(_) => Method::Get,
-            Asked::LegalMoves(_) => Method::Get,
             Asked::Question(_) => Method::Get,
             Asked::OnGame(_, _) => Method::Post,
             Asked::Challenge(_) => Method::Post,
@@ -87,8 +81,6 @@ impl<'p> Asked<'p> {
     {
         match self {
             Asked::MembersPage => true,
-            Asked::GameView(_) => false,
-            Asked::LegalMoves(_) => false,
             Asked::Question(_) => false,
             Asked::OnGame(_, _) => false,
             Asked::Challenge(_) => false,
@@ -146,8 +138,8 @@ pub fn path_of(target: &[u8]) -> Option<&[u8]>
 
 // The routes of the desk, each with its page.
 const TABLE: [(&str, Page); 18] = [
-    ("/games/{id}", Page::GameView),
-    ("/games/{id}/legal", Page::LegalMoves),
+    ("/games/{id}", Page::AskGame(OfGame::View)),
+    ("/games/{id}/legal", Page::AskGame(OfGame::Moves)),
     ("/games/{id}/record", Page::AskGame(OfGame::Record)),
     ("/games/{id}/clock", Page::AskGame(OfGame::Clock)),
     ("/events/{name}/table", Page::AskEvent(OfEvent::Table)),
@@ -357,14 +349,6 @@ fn asked_of_page<'p>(page: Page, params: &Params<'_, 'p>) -> Option<Asked<'p>>
 {
     match page {
         Page::Members => Some(Asked::MembersPage),
-        Page::GameView => match number_named(params, "id") {
-            None => None,
-            Some(game) => Some(Asked::GameView(game)),
-        },
-        Page::LegalMoves => match number_named(params, "id") {
-            None => None,
-            Some(game) => Some(Asked::LegalMoves(game)),
-        },
         Page::AskGame(topic) => game_asked(topic, params),
         Page::AskEvent(topic) => event_asked(topic, params),
         Page::AskMember(topic) => Some(Asked::Question(Asking::OfMember(topic))),

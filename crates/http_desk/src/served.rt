@@ -1,14 +1,13 @@
 //! What the desk asks of a club.
 ghost use Rattle.std.specs.Prelude.{◌≡◌, Err, option_map, string_bytes};
 ghost use Rattle.club_core.specs.Answer.{command_of, outcome_of, who_of};
-ghost use Rattle.http_bodies.specs.ShownViews.{found_view, rows_view, shown_view};
+ghost use Rattle.http_bodies.specs.ShownViews.{shown_view};
 ghost use Rattle.http_desk.specs.Served.{Club, IsOfCall, Serves};
 
 use crate::faults::ClubFault;
 use clocks::Moment;
 use club_questions::Question;
 use club_requests::{Command, Outcome, Refusal, Who};
-use http_bodies::GameShown;
 use std::alloc::Global;
 
 /// A club that stands in a state. A call that fails leaves the state before it or the one after it, and tells that a
@@ -37,24 +36,6 @@ pub trait ServedClub {
         ensures serves { IsClean self.new → (s : State) → Stands self.old s →
             Serves (Stands self.new) (Leaves self.new) s s
             (λ name. option_map string_bytes name ≡ club.holder_of s key.now) IsOfCall result };
-
-    /// A game as members see it, if there is one of that number.
-    fn view_game(&mut self, alloc: Global, game: u64) -> Result<Option<GameShown>, ClubFault>
-        ensures clean { IsClean self.new → IsClean self.old }
-        ensures shut { (fault : ClubFault) → IsShut self.old fault →
-            (result ≡ Err fault) × IsShut self.new fault }
-        ensures serves { IsClean self.new → (s : State) → Stands self.old s →
-            Serves (Stands self.new) (Leaves self.new) s s (λ found. club.IsGame s game (found_view found))
-            IsOfCall result };
-
-    /// The legal moves of a game as they are written, in the order in which they are listed.
-    fn legal_rows(&mut self, alloc: Global, game: u64) -> Result<Option<Vec<String>>, ClubFault>
-        ensures clean { IsClean self.new → IsClean self.old }
-        ensures shut { (fault : ClubFault) → IsShut self.old fault →
-            (result ≡ Err fault) × IsShut self.new fault }
-        ensures serves { IsClean self.new → (s : State) → Stands self.old s →
-            Serves (Stands self.new) (Leaves self.new) s s (λ rows. club.AreLegal s game (rows_view rows))
-            IsOfCall result };
 
     /// The bytes that a question is shown at a moment, or why there are none.
     fn ask(

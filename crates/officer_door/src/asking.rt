@@ -48,8 +48,9 @@ fn errand_with(alloc: Global, order: Order, text: &[u8]) -> Result<Option<Errand
     ensures { IfOk result (IsErrandOf (Words.Order order) text.now) }
 {
     let given = text_given(alloc, text)?;
-    let Order { task, .. } = order.with_text(given);
-    Ok(errand_in(task))
+    let mut order = order;
+    order.give_text(given);
+    Ok(errand_in(order.task))
 }
 
 // What words that were read have the desk do, with the text of a record.

@@ -16,7 +16,6 @@ mod upgrades;
 
 pub use club::{Club, Run, Unopened, adopt, create, resume};
 pub use club_opening::OpenFault;
-pub use club_views::{Played, ViewedGame};
 pub use fault::{AskFault, StoreFault};
 pub use found::Upgrade;
 pub use reopen::{holds_nothing, holds_what_sessions_left, leaves_what_sessions_left};

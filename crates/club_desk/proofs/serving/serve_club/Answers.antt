@@ -2,7 +2,6 @@ use Rattle.std.proofs.Common.{◌≡◌, true, refl, sym, subst, inr}
 use Rattle.sqlite.specs.State.{HasCleanDisk}
 use Rattle.sqlite.specs.Held.{state}
 use Rattle.table_shapes.specs.Shapes.{is_of_club}
-use Rattle.store_tables.specs.Club.{IsOpened}
 use Rattle.store_tables.specs.Over.{IsBesideThem}
 use Rattle.store_tables.specs.declared.names.Version.TheVariants.{Current}
 use Rattle.club_rows.specs.Club.{tables}
@@ -54,6 +53,7 @@ returns-in-Err-clause-told g c clean = inr (
   c.told_of_opening.ensures,
   record {
     blames = λ is. c.in-Err.ensures.blames clean is;
+    first = λ is. c.in-Err.ensures.named clean is;
     kept = λ opens db left.
         g.met.S.Store.settled c.args.conn.store db opens.is_open (c.in-Err.ensures.reads.may clean db left);
   },
@@ -73,22 +73,14 @@ returns-clause-taken g c clean opens live has =
     let after : HasCleanDisk (state g.S.Store c.serve_open-has_failed.new.club.club.connection) =
     subst (λ k. HasCleanDisk (state g.S.Store k)) same clean in
     let before = c.serve_open-has_failed.ensures.clean after in
-    let (schema, unchanged, may) = c.in-Ok.ensures.unchanged before has in
-    let opened : IsOpened (state g.S.Store c.args.conn) = record {
-      is_open = opens.is_open;
-      idle = opens.autocommit;
-      schema = schema;
-      sound = (live opens.is_open).0;
-      committed = sym opens.clean;
-      settled = λ db left. g.met.S.Store.settled c.args.conn.store db opens.is_open left;
-    } in
-    let (s, is_club, at) = c.in-Ok.ensures.found before opened in
+    let (beside, unchanged, may) = c.in-Ok.ensures.unchanged before has in
+    let (s, is_club, held) = c.in-Ok.ensures.held before has (live opens.is_open).0 in
     let shown = unchanged.0 in
     served_taken _ c.serve_open-has_failed.result c.fault_behind.result c.fault_behind.ensures (record {
       state = s;
       legal = is_club;
       leaves =
-          stood s (state g.S.Store c.args.conn) (state g.S.Store c.in-Ok.club.connection) at shown.now_is opens.clean;
+          stood s (state g.S.Store c.args.conn) (state g.S.Store c.in-Ok.club.connection) held shown.now_is opens.clean;
     })
 
 pub returns-in-Err-clause-shape : goal.returns-in-Err-clause-shape

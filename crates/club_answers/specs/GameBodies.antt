@@ -1,0 +1,44 @@
+-- A game as members see it, and its legal moves, as JSON.
+use Rattle.std.specs.Prelude.{◌≡◌, ℕ, List, Some, string_bytes}
+use Rattle.std.specs.Option.{option_map}
+use Rattle.serde_json.specs.Written.{compact_text}
+use Rattle.squares.specs.declared.sides.Side.{Side}
+use Rattle.squares.specs.declared.sides.Side.TheVariants.{First, Second}
+use Rattle.club_rows.specs.Club.{ClubState}
+use Rattle.club_changes.specs.Stored.{AreLegalRows}
+use Rattle.club_views.specs.Viewed.{IsViewed}
+use Rattle.club_views.specs.declared.viewed.ViewedGame.{ViewedGame}
+use Rattle.game_bodies.specs.Bodies.{game_data, moves_data}
+use Rattle.game_bodies.specs.GameShown.{GameShown}
+use Rattle.game_bodies.specs.ShownViews.{texts_view}
+
+-- the name of the player of a side
+abbrev pub named : ViewedGame → Side → List ℕ
+named viewed First = string_bytes viewed.first
+named viewed Second = string_bytes viewed.second
+
+-- what is shown of a view of a game
+abbrev pub shown_of : ViewedGame → GameShown
+shown_of viewed =
+    record {
+      event = string_bytes viewed.event;
+      first = string_bytes viewed.first;
+      second = string_bytes viewed.second;
+      moves = texts_view viewed.played.moves.items;
+      position = string_bytes viewed.played.position;
+      left_first = viewed.played.left_first;
+      left_second = viewed.played.left_second;
+      offer = option_map (named viewed) viewed.played.offer;
+      end = viewed.played.end;
+      result = viewed.played.result;
+    }
+
+-- a view of the game of this number is shown so
+abbrev pub IsGameBody : ClubState → ℕ → List ℕ → Type 0
+IsGameBody s id text = (viewed : ViewedGame) × IsViewed s id (Some viewed)
+    × (text ≡ compact_text (game_data id (shown_of viewed)))
+
+-- its legal moves, as they are written, in the order in which they are listed
+abbrev pub IsMovesBody : ClubState → ℕ → List ℕ → Type 0
+IsMovesBody s id text = (rows : List (List ℕ)) × AreLegalRows s id (Some rows)
+    × (text ≡ compact_text (moves_data rows))

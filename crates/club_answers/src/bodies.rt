@@ -1,0 +1,115 @@
+//! A game as members see it, and its legal moves, as JSON.
+
+ghost use Rattle.std.specs.Prelude.{◌≡◌, IfOk, is_ok, string_bytes};
+ghost use Rattle.std.specs.Option.{option_map};
+ghost use Rattle.sqlite.specs.State.{HasCleanDisk};
+ghost use Rattle.sqlite.specs.Held.{state};
+ghost use Rattle.store_tables.specs.Beside.{HasRows};
+ghost use Rattle.store_tables.specs.Reading.{Reads};
+ghost use Rattle.club_rows.specs.Club.{ClubState, IsClub, tables};
+ghost use Rattle.game_bodies.specs.ShownViews.{game_view};
+ghost use Rattle.club_answers.specs.Found.{IsFoundAs};
+ghost use Rattle.club_answers.specs.AnswerTexts.{IsNoGame};
+ghost use Rattle.club_answers.specs.GameBodies.{IsGameBody, IsMovesBody, named, shown_of};
+
+use crate::found::Found;
+use club_reads::CallFault;
+use club_requests::Refusal;
+use club_views::{ViewedGame, legal_of, view_of};
+use game_bodies::{GameShown, game_text, moves_text};
+use sqlite::{Alter, Connection};
+use squares::Side;
+use std::alloc::{AllocError, Global};
+
+// The name of the player who offers a draw.
+fn offering(
+    alloc: Global,
+    viewed: &ViewedGame,
+    offer: Option<Side>,
+) -> Result<Option<String>, AllocError>
+    ensures { IfOk result (λ name. option_map string_bytes name ≡ option_map (named viewed.now) offer) }
+{
+    match offer {
+        Some(Side::First) => {
+            let name = viewed.first.clone()?;
+            Ok(Some(name))
+        }
+        Some(Side::Second) => {
+            let name = viewed.second.clone()?;
+            Ok(Some(name))
+        }
+        None => Ok(None),
+    }
+}
+
+// The game, with the name of the player who offers a draw.
+fn with_offer(viewed: ViewedGame, offer: Option<String>) -> GameShown
+    ensures { option_map string_bytes offer ≡ option_map (named viewed) viewed.played.offer →
+        game_view result ≡ shown_of viewed }
+{
+    let ViewedGame {
+        event,
+        first,
+        second,
+        played,
+    } = viewed;
+    GameShown {
+        event,
+        first,
+        second,
+        moves: played.moves,
+        position: played.position,
+        left_first: played.left_first,
+        left_second: played.left_second,
+        offer,
+        end: played.end,
+        result: played.result,
+    }
+}
+
+// The game as it is shown.
+fn game_shown(alloc: Global, viewed: ViewedGame) -> Result<GameShown, AllocError>
+    ensures { IfOk result (λ game. game_view game ≡ shown_of viewed) }
+{
+    let offer = offering(alloc, &viewed, viewed.played.offer)?;
+    Ok(with_offer(viewed, offer))
+}
+
+/// A game as members see it.
+pub(crate) fn game_body<S: Alter>(
+    alloc: Global,
+    conn: &mut Connection<S>,
+    game: u64,
+) -> Result<Found, CallFault>
+    ensures reads { Reads (is_ok result) (state S.Store conn.old) (state S.Store conn.new) }
+    ensures found { HasCleanDisk (state S.Store conn.new) → IfOk result (λ found. (s : ClubState) → IsClub s →
+        HasRows (tables s) (state S.Store conn.old) → IsFoundAs (IsGameBody s game) (IsNoGame s game) found) }
+{
+    match view_of(alloc, conn, game)? {
+        Some(viewed) => {
+            let shown = game_shown(alloc, viewed)?;
+            let text = game_text(alloc, game, shown)?;
+            Ok(Found::Text(text))
+        }
+        None => Ok(Found::Refused(Refusal::UnknownGame)),
+    }
+}
+
+/// The legal moves of a game.
+pub(crate) fn moves_body<S: Alter>(
+    alloc: Global,
+    conn: &mut Connection<S>,
+    game: u64,
+) -> Result<Found, CallFault>
+    ensures reads { Reads (is_ok result) (state S.Store conn.old) (state S.Store conn.new) }
+    ensures found { HasCleanDisk (state S.Store conn.new) → IfOk result (λ found. (s : ClubState) → IsClub s →
+        HasRows (tables s) (state S.Store conn.old) → IsFoundAs (IsMovesBody s game) (IsNoGame s game) found) }
+{
+    match legal_of(alloc, conn, game)? {
+        Some(rows) => {
+            let text = moves_text(alloc, rows)?;
+            Ok(Found::Text(text))
+        }
+        None => Ok(Found::Refused(Refusal::UnknownGame)),
+    }
+}
