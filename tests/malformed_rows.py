@@ -84,15 +84,13 @@ class Audit:
             moves.sort(key=lambda it: it["ply"] if type(it["ply"]) is int else 0)
 
     def verdicts(self):
-        """What verify may say: the first table that is wrong, or games in place of the moves, where a row of games has
-        another type."""
+        """What verify says: the first table that is wrong."""
         meta = self.rows["meta"]
         number = meta[0]["schema"] if [it["id"] for it in meta] == [1] else None
         if type(number) is int and number != 2:
             return ["store 70 Foreign" if number == 1 else f"store 71 Schema {number}"]
         wrong = [table for table in COLUMNS if self.is_wrong(table)]
-        sooner = ["games"] if wrong[:1] == ["moves"] and not self.are_typed("games") else []
-        return [f"store 72 Damaged {table}" for table in wrong[:1] + sooner] or ["sound"]
+        return [f"store 72 Damaged {table}" for table in wrong[:1]] or ["sound"]
 
     def is_wrong(self, table):
         """Rows that cannot be read for what another table lacks are wrong with that."""
@@ -455,4 +453,4 @@ def case(test, name, file, given):
     test.check(is_good and said in wanted and ran.returncode == (0 if said == "sound" else 3), name, wanted,
                (ran.returncode, ran.stdout, ran.stderr), done)
     test.check(before == sum_of(file), f"{name}: the file's bytes", "as before", "others", done)
-    return said if said == wanted[0] else "72 one that comes sooner"
+    return said

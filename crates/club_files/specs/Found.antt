@@ -4,13 +4,13 @@ use Rattle.sqlite_wal.specs.Recovery.{Image}
 use Rattle.sqlite.specs.Tree.{Trees}
 use Rattle.sqlite.specs.Effect.{Database}
 use Rattle.store_tables.specs.Contents as of_schema
-use Rattle.store_tables.specs.Contents.{Content}
-use Rattle.store_tables.specs.Tables.{first_schema, schema_of}
-use Rattle.store_tables.specs.declared.names.Version.{Version}
+use Rattle.store_tables.specs.Tables.{first_schema}
 use Rattle.store_tables.specs.declared.names.Version.TheVariants.{First, Current}
 use Rattle.club_rows.specs.Club.{ClubState, IsClub}
 use Rattle.club_rows.specs.FirstSchema.{IsFirstClub, first_tables}
 use Rattle.club_opening.specs.Blames.{Names}
+use Rattle.club_opening.specs.RightTables.{NamesFirst}
+use Rattle.club_opening.specs.Versions.{HasClubTables}
 use Rattle.club_opening.specs.declared.fault.OpenFault.{OpenFault}
 use Rattle.club_opening.specs.declared.fault.OpenFault.TheVariants as opening
 use Rattle.sessions.specs.Finds.{IsFoundIn}
@@ -37,15 +37,18 @@ pub record AreFirstFilesOf (s : ClubState) (files : Image) : Type 0 where
   pub legal : IsFirstClub s
   pub finds : (found : Trees) → IsFoundIn files found → of_schema.Leaves first_schema (first_tables s) found
 
--- the tables of a club stand there, in this version, whatever their rows
-abbrev pub HasTables : Version → Trees → Type 0
-HasTables version trees = (content : Content) × of_schema.Leaves (schema_of version) content trees
+-- the trees list a schema that has the tables of a club, whatever their rows
+abbrev pub ListClub : Schema → Trees → Type 0
+ListClub schema trees = HasClubTables schema × IsSound schema trees
+
+abbrev pub database_of : Schema → Trees → Database
+database_of schema trees = record { schema = schema; trees = trees }
 
 -- Where an opening found the tables of a club, they are those of a legal state in schema 2.
 pub record AreSound (files : Image) : Type 0 where
   pub found : Trees
   pub is_found : IsFoundIn files found
-  pub legal : (version : Version) → HasTables version found → HoldClub found
+  pub legal : (schema : Schema) → ListClub schema found → HoldClub found
 
 -- The tables that an opening found answer as those of a club, by whatever texts they were made.
 pub record AnswerAsClub (files : Image) : Type 0 where
@@ -59,21 +62,19 @@ pub record AreKept (files : Image) (MayLeave : Image → Type 0) : Type 0 where
   pub is_found : IsFoundIn files found
   pub stays : (left : Image) → MayLeave left → (later : Trees) → IsFoundIn left later → ∥ later ≡ found ∥₁
 
-abbrev pub club_database : Version → Trees → Database
-club_database version trees = record { schema = schema_of version; trees = trees }
-
 -- What an opening found was not taken as a club's: where the tables of a club stood there, they are blamed; and later
 -- openings find the same.
 pub record AreRefused (files : Image) (MayLeave : Image → Type 0) (fault : OpenFault) : Type 0 where
   pub kept : AreKept files MayLeave
-  pub blames : (version : Version) → HasTables version kept.found
-      → Names Current (club_database version kept.found) fault
+  pub blames : (schema : Schema) → ListClub schema kept.found → Names Current (database_of schema kept.found) fault
+  pub first : (schema : Schema) → ListClub schema kept.found → NamesFirst (database_of schema kept.found) fault
 
 -- The same of an upgrade, after which a call of the database may have failed: then later openings may find more.
 pub record AreNotUpgraded (files : Image) (MayLeave : Image → Type 0) (fault : OpenFault) : Type 0 where
   pub found : Trees
   pub is_found : IsFoundIn files found
-  pub blames : (version : Version) → HasTables version found → Names First (club_database version found) fault
+  pub blames : (schema : Schema) → ListClub schema found → Names First (database_of schema found) fault
+  pub first : (schema : Schema) → ListClub schema found → NamesFirst (database_of schema found) fault
   pub kept : fault ≢ opening.Store → AreKept files MayLeave
 
 -- A club's files were copied; or a call of the copy's or of the club's database failed, or memory was refused.

@@ -22,7 +22,6 @@ use http_desk::ClubFault;
 use http_port::Visits;
 use sessions::close;
 use sqlite::{FileFrom, FileStore};
-use store::holds_exactly;
 
 /// A stretch of serving over the files of a path, which hold at first what `S` stands for: opens them, where no other
 /// program uses them, which is said at once and not waited for, takes the club over, serves those who come until the
@@ -64,7 +63,6 @@ pub fn serve_files<S: RepeatableStart, V: Visits>(
         Ok(conn) => conn,
         Err(report) => return (Err(report), None),
     };
-    holds_exactly(&conn);
     let (fault, conn) = serve_club(rt.alloc(), conn, visits);
     (Ok(fault), Some(close(conn)))
 }

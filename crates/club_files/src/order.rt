@@ -30,7 +30,6 @@ use club_words::{Order, Task};
 use sessions::close;
 use sqlite::{FileFrom, FileStore};
 use std::io::Write;
-use store::holds_exactly;
 
 // For what the files of a task are opened.
 fn purpose_of(task: &Task) -> Purpose
@@ -115,7 +114,6 @@ pub fn obey<S: RepeatableStart, W: Write>(
         Ok(conn) => conn,
         Err(report) => return (report, None),
     };
-    holds_exactly(&conn);
     let (report, conn) = act(rt.alloc(), conn, &order.task, moment, out);
     (report, Some(close(conn)))
 }

@@ -121,8 +121,8 @@ one_meta_row : (version : Version) (s : ClubState) → (last : ℤ)
 one_meta_row First s = (pos s.last, refl)
 one_meta_row Current s = (pos s.last, refl)
 
--- A database with the tables of a legal club, which answer as a club's, is blamed for nothing, but for a version that is
--- not taken.
+-- A database with the tables of a legal club, which answer as a club's, is blamed for nothing, but for a version that
+-- is not taken.
 pub good_at : (oldest version : Version) (s : ClubState) → IsClubOf version s → (db : Database)
     → HasClub version db s → is_of_club version db.schema ≡ true → (fault : OpenFault) → Names oldest db fault
     → (fault ≡ Store)
@@ -146,7 +146,8 @@ pub good_in : (oldest version : Version) (s : ClubState) → IsClubOf version s 
     → (fault ≡ Store)
     ⊎ ((fault ≡ Memory) ⊎ ((fault ≡ Schema (pos (schema_number version)))
     × (¬ IsNumberFrom oldest (pos (schema_number version)))))
-good_in oldest version s club db holds = good_at oldest version s club db (rows_held version db (tables_at version s) holds)
+good_in oldest version s club db holds =
+    good_at oldest version s club db (rows_held version db (tables_at version s) holds)
     (ap (is_of_club version) holds.schema ∙ club_is_of_club version)
 
 -- of a version that is taken it is blamed for nothing

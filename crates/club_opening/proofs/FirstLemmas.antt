@@ -52,7 +52,7 @@ use Rattle.club_opening.specs.Blames.{undeclared_row}
 use Rattle.club_opening.specs.RightTables.{AreOfClub, ArePlayed, AreScored, AreSeated, HasScores, HasTable}
 use Rattle.club_opening.specs.RightTables.{HaveChallenges, IsFirstIn, IsLater, IsOfPlay, IsRight, IsUnheld}
 use Rattle.club_opening.specs.RightTables.{IsUntyped, IsWrongOfPlay}
-use Rattle.club_opening.specs.RightTables.{NamesChallenges, NamesExamined, NamesFirst, NamesPlayed, NamesWrong, TellsEvents, rows_in}
+use Rattle.club_opening.specs.RightTables.{NamesExamined, NamesFirst, NamesPlayed, NamesWrong, TellsEvents, rows_in}
 use Rattle.club_opening.specs.declared.fault.OpenFault.{OpenFault}
 use Rattle.club_opening.specs.declared.fault.OpenFault.TheVariants.{Damaged, Foreign, Memory, Schema, Store}
 use Rattle.club_opening.proofs.BlameLemmas.{place_in, read_after}
@@ -438,7 +438,7 @@ pub first_wrong : (table : Table) (db : Database) (e : OpenFault) → NamesWrong
 first_wrong table db e wrong right t is version content holds =
     let (named, none) = wrong t is in
     record {
-      before = λ u low reached. right version content holds u (subst (λ (v : Table). order u < order v) named low);
+      before = λ u low. right version content holds u (subst (λ (v : Table). order u < order v) named low);
       named = λ club. none version content holds (subst (λ v. IsRight v version content) named club);
     }
 
@@ -465,30 +465,45 @@ pub first_challenges : (db : Database) (e : OpenFault) → NamesWrong Challenges
 first_challenges db e wrong right = first_wrong Challenges db e wrong (λ version content holds u low.
     people_upto version EventRules content (omega arith) (right version content holds) u (omega (arith, low)))
 
--- one that names the games for their types, where the challenges are right by what is known of the games
+-- one that names the games for their types, where the challenges and the moves are right by what is known of the games
 pub first_games : (db : Database) → HoldsNone db (λ version content. HasTypes Games content)
     → ((version : Version) (content : Content) → HoldsRows version content db → AreOfClub version EventRules content)
     → ((version : Version) (content : Content) → HoldsRows version content db → HaveChallenges content)
+    → ((version : Version) (content : Content) → HoldsRows version content db → HaveMoves version content)
     → NamesFirst db (Damaged Games)
-first_games db none right have t is version content holds =
+first_games db none right have play t is version content holds =
     let absent = none version content holds in
     subst (IsFirstIn version content) (damaged_same Games t is) (record {
-      before = λ u low reached. right_upto version content (right version content holds) u (omega (arith, low))
-          (λ later. have version content holds) (λ later. absurd (absent (reached later)))
+      before = λ u low. right_upto version content (right version content holds) u (omega (arith, low))
+          (λ later. have version content holds) (λ later. play version content holds)
           (λ later. absurd (omega (arith, low, later)));
       named = λ club. absent
           (types_same IsGame (content 10) (tables_at version club.state 10) (club.same Games tt (omega arith)).there
           (typed_at version club.state (club_of_version version club.state club.legal) Games));
     })
 
+-- one that names the moves by the games that were read
+pub first_moves : (db : Database)
+    → ((version : Version) (content : Content) → HoldsRows version content db → AreOfClub version EventRules content)
+    → ((version : Version) (content : Content) → HoldsRows version content db → HaveChallenges content)
+    → ((version : Version) (content : Content) → HoldsRows version content db → ¬ HaveMoves version content)
+    → NamesFirst db (Damaged Moves)
+first_moves db right have wrong t is version content holds =
+    subst (IsFirstIn version content) (damaged_same Moves t is) (record {
+      before = λ u low. right_upto version content (right version content holds) u (omega (arith, low))
+          (λ later. have version content holds) (λ later. absurd (omega (arith, low, later)))
+          (λ later. absurd (omega (arith, low, later)));
+      named = λ play. wrong version content holds play;
+    })
+
 -- one that names the challenges for what is known of the games
-pub first_known : (db : Database) (rows : Rows) (e : OpenFault) → NamesChallenges rows e
+pub first_known : (db : Database) (rows : Rows) → ((cs : List Challenge) → ¬ AreChallenges cs rows)
     → ((version : Version) (content : Content) → HoldsRows version content db → AreOfClub version EventRules content)
     → ((version : Version) (content : Content) → HoldsRows version content db → HaveChallenges content
-    → (cs : List Challenge) × AreChallenges cs rows) → NamesFirst db e
-first_known db rows e names right pass = first_challenges db e
-    (λ t is. let (named, none) = names t is in
-    (named, λ version content holds have. let (cs, are) = pass version content holds have in none cs are))
+    → (cs : List Challenge) × AreChallenges cs rows) → NamesFirst db (Damaged Challenges)
+first_known db rows none right pass = first_challenges db (Damaged Challenges)
+    (named_wrong Challenges db (λ version content holds have.
+    let (cs, are) = pass version content holds have in none cs are))
     right
 
 -- one that names a table that was examined
@@ -527,13 +542,13 @@ module _ (db : Database) (rows : Rows) (e : OpenFault)
   play_first EventRules wrong cs are version content holds = absurd (let low = wrong.play.0 in omega (arith, low))
   play_first Challenges wrong cs are version content holds = absurd (let low = wrong.play.0 in omega (arith, low))
   play_first Moves wrong cs are version content holds = record {
-    before = λ u low reached. right_upto version content (right version content holds) u (omega (arith, low))
+    before = λ u low. right_upto version content (right version content holds) u (omega (arith, low))
         (λ later. have version content holds cs are) (λ later. absurd (omega (arith, low, later)))
         (λ later. absurd (omega (arith, low, later)));
     named = λ right. wrong.moves refl version content holds (read_moves version content holds right);
   }
   play_first Games wrong cs are version content holds = record {
-    before = λ u low reached. right_upto version content (right version content holds) u (omega (arith, low))
+    before = λ u low. right_upto version content (right version content holds) u (omega (arith, low))
         (λ later. have version content holds cs are)
         (λ later. elim wrong.before [
           | inl unheld ↦ absurd (unheld version content holds tt)
@@ -543,7 +558,7 @@ module _ (db : Database) (rows : Rows) (e : OpenFault)
     named = λ club. wrong.games refl version content holds (read_games version content holds club);
   }
   play_first Seen wrong cs are version content holds = record {
-    before = λ u low reached. right_upto version content (right version content holds) u (omega (arith, low))
+    before = λ u low. right_upto version content (right version content holds) u (omega (arith, low))
         (λ later. have version content holds cs are)
         (λ later. elim wrong.before [
           | inl unheld ↦ absurd (unheld version content holds tt)
@@ -561,7 +576,7 @@ module _ (db : Database) (rows : Rows) (e : OpenFault)
   pub first_examined : NamesExamined rows db e → NamesFirst db e
   first_examined names t is version content holds = elim (names t is) [
     | inl (named, none) ↦ record {
-      before = λ u low reached.
+      before = λ u low.
           let less = subst (λ (v : Table). order u < order v) named low in
           people_upto version EventRules content (omega arith) (right version content holds) u (omega (arith, less));
       named = λ club.
@@ -569,7 +584,7 @@ module _ (db : Database) (rows : Rows) (e : OpenFault)
     }
     | inr ((cs, are), inl wrong) ↦ play_first t wrong cs are version content holds
     | inr ((cs, are), inr (inl (named, played, none))) ↦ record {
-      before = λ u low reached.
+      before = λ u low.
           let less = subst (λ (v : Table). order u < order v) named low in
           all_upto version content Seen (seen_of version content holds cs are played) (have version content holds cs are)
           (moves_of version content holds played.seated.moves) u (omega (arith, less));
@@ -578,7 +593,7 @@ module _ (db : Database) (rows : Rows) (e : OpenFault)
           (has version content holds (subst (λ v. IsRight v version content) named club));
     }
     | inr ((cs, are), inr (inr (named, played, scored))) ↦ record {
-      before = λ u low reached.
+      before = λ u low.
           let less = subst (λ (v : Table). order u < order v) named low in
           all_upto version content Scores (scores_of version content holds cs are played scored)
           (have version content holds cs are) (moves_of version content holds played.seated.moves) u

@@ -14,34 +14,36 @@ use Rattle.store_tables.specs.Changes.{HaveSame}
 use Rattle.store_tables.specs.Content.{AreApart, Keeps}
 use Rattle.store_tables.specs.Contents.{Content}
 use Rattle.store_tables.specs.Reading.{Tells}
-use Rattle.store_tables.proofs.Proved.{all_alike}
+use Rattle.store_tables.proofs.Proved.{all_alike, ids_of}
 use Rattle.store_tables.specs.Tables.{challenges, events, games, members}
+use Rattle.store_tables.specs.declared.names.Table.{Table}
 use Rattle.store_tables.specs.declared.names.Table.TheVariants.{EventRules, Games}
 use Rattle.store_tables.specs.declared.names.Version.{Version}
 use Rattle.store_tables.specs.declared.rows.GameRecord.{GameRecord}
 use Rattle.store_tables.specs.declared.rows.Rows.{Rows}
 use Rattle.store_sql.specs.Read.{AreCounted, IsReadAs}
-use Rattle.club_audit.specs.Audit.{AreEvents, AreMembers, HasPeople}
+use Rattle.club_audit.specs.Audit.{AreEvents, AreMembers}
 use Rattle.club_audit.specs.ChallengeAudit.{AreChallenges, IsGameAmong}
 use Rattle.club_core.specs.declared.challenges.Challenge.{Challenge}
 use Rattle.club_core.specs.Events.{Event}
 use Rattle.club_core.specs.Members.{Member}
 use Rattle.club_core.specs.Seats.{Pairing}
-use Rattle.club_rows.specs.Club.{ClubState}
 use Rattle.club_rows.specs.FirstSchema.{tables_at}
 use Rattle.club_rows.specs.Tables.{number}
 use Rattle.club_opening.specs.Blames.{Names}
-use Rattle.club_opening.specs.KnownGames.{AreGamesKnown, game_seat, known, row_seat}
-use Rattle.club_opening.specs.RightTables.{AreOfClub, HasGame, HaveChallenges, IsUntyped, NamesChallenges, NamesFirst}
-use Rattle.club_opening.specs.Places.{BlamesRows}
+use Rattle.club_opening.specs.KnownGames.{AreGamesKnown, AreJudged, NamesUntyped, game_seat, known, row_seat}
+use Rattle.club_opening.specs.RightTables.{AreOfClub, HasGame, HaveChallenges, IsUnheld, IsUntyped, NamesFirst}
+use Rattle.club_opening.specs.RightMoves.{HaveMoves, HaveMovesOf}
+use Rattle.club_opening.specs.Examined.{moves_in}
 use Rattle.club_opening.specs.Versions.{HoldsRows}
 use Rattle.club_opening.proofs.ChallengedLemmas.{challenges_once, challenges_right, right_challenges}
-use Rattle.club_opening.proofs.FirstLemmas.{first_games, first_known, kept_same, stores_of}
+use Rattle.club_opening.proofs.FirstLemmas.{first_games, first_known, first_moves, first_none, kept_same}
+use Rattle.club_opening.proofs.FirstLemmas.{memory_undamaged, store_undamaged, stores_of}
 use Rattle.club_opening.proofs.BlameLemmas.{read_after}
 use Rattle.club_opening.proofs.ClubLemmas.{typed_at}
 use Rattle.club_opening.proofs.StoredLemmas.{club_of_version}
 use Rattle.club_opening.specs.declared.fault.OpenFault.{OpenFault}
-use Rattle.club_opening.specs.declared.fault.OpenFault.TheVariants.{Damaged}
+use Rattle.club_opening.specs.declared.fault.OpenFault.TheVariants.{Damaged, Memory, Store}
 
 -- only the number itself is known to be it
 known_number : (v : Value) (n : ℕ) → known v ≡ pos n → v ≡ number n
@@ -66,8 +68,8 @@ module _ (game : GameRecord) (row : Row) (is : game_seat game ≡ row_seat row) 
   second_player = cc
 
 -- the game that is known of a row, and the row of a game
-game_of : (games : List GameRecord) (rows : List Row) → map game_seat games ≡ map row_seat rows → (row : Row) → Has rows row
-    → (k : ℕ) × (game : GameRecord) × (slice_get games k ≡ Some game) × (game_seat game ≡ row_seat row)
+game_of : (games : List GameRecord) (rows : List Row) → map game_seat games ≡ map row_seat rows → (row : Row)
+    → Has rows row → (k : ℕ) × (game : GameRecord) × (slice_get games k ≡ Some game) × (game_seat game ≡ row_seat row)
 game_of [] [] same row has = absurd has
 game_of [] (r ∷ rows) same row has = cc
 game_of (g ∷ games) [] same row has = cc
@@ -122,8 +124,8 @@ module _ (games : List GameRecord) (rows shown : List Row) (same : HaveSame rows
         second_is = known_number (column row 4) p.second (sym (second_player game row is) ∙ among.of.second);
       }
 
--- what the audit lets pass of the rows that were read and of what is known of the games is right in whatever content the
--- database may hold, and back
+-- what the audit lets pass of the rows that were read and of what is known of the games is right in whatever content
+-- the database may hold, and back
 module _ (rows : Rows) (old two : State) (ms : List Member) (are_ms : AreMembers ms rows.members.items)
     (es : List Event) (are_es : AreEvents es rows.events.items)
     (kept_ms : Keeps (members 1) old.now.trees (map member_cells rows.members.items))
@@ -182,12 +184,16 @@ module _ (old mid new : State) (count : ℕ) (shown : List Row) (counted : AreCo
       }))
 
   -- of others their ids, events and players are known
-  pub known_shown : (slice : List Row) (known_rows : List GameRecord) → slice ≡ shown → ¬ All IsGame slice
-      → map game_seat known_rows ≡ map row_seat slice → AreGamesKnown known_rows old new
-  known_shown slice known_rows is other seats = record {
+  pub known_shown : (slice : List Row) (known_rows judged_rows : List GameRecord) → slice ≡ shown → ¬ All IsGame slice
+      → map game_seat known_rows ≡ map row_seat slice → AreJudged slice judged_rows
+      → AreGamesKnown known_rows judged_rows old new
+  known_shown slice known_rows judged_rows is other seats are = record {
     shown = shown;
     keeps = kept_shown;
+    ids = ids_of (games 10) (mid.now.trees 10) shown (λ r. refl) tells.once
+        (subst (λ (d : Database). AreApart (d.trees 10)) (sym counted.same.0.now_is) counted.apart);
     seats = seats ∙ ap (map row_seat) is;
+    judged = subst (λ l. AreJudged l judged_rows) is are;
     untyped = λ version content holds typed. other (subst (All IsGame) (sym is)
         (all_alike (games 10) old.now.trees IsGame shown (content 10) kept_shown
         (stores_of (games 10) 5 refl refl version old.now content holds).rows typed));
@@ -195,23 +201,24 @@ module _ (old mid new : State) (count : ℕ) (shown : List Row) (counted : AreCo
   }
 
 -- a database that did not change has the same games
-pub known_before : (known_rows : List GameRecord) (old mid new : State) → IsUnchanged old mid
-    → AreGamesKnown known_rows mid new → AreGamesKnown known_rows old new
-known_before known_rows old mid new same it = record {
+pub known_before : (known_rows judged_rows : List GameRecord) (old mid new : State) → IsUnchanged old mid
+    → AreGamesKnown known_rows judged_rows mid new → AreGamesKnown known_rows judged_rows old new
+known_before known_rows judged_rows old mid new same it = record {
   shown = it.shown;
   keeps = subst (λ (d : Database). Keeps (games 10) d.trees it.shown) same.0.now_is it.keeps;
+  ids = it.ids;
   seats = it.seats;
+  judged = it.judged;
   untyped = subst (IsUntyped Games) same.0.now_is it.untyped;
   same = unchanged_then old mid new same it.same;
 }
 
 -- what is named where games are untyped, of a legal club
-pub untyped_blamed : (oldest : Version) (rows : Rows) (db : Database) (e : OpenFault) → IsUntyped Games db
-    → ((e ≡ Damaged Games) × ((cs : List Challenge) × AreChallenges cs rows))
-    ⊎ (BlamesRows rows e × ((s : ClubState) → HasPeople s rows → NamesChallenges rows e)) → Names oldest db e
-untyped_blamed oldest rows db e untyped (inl (named, right)) = inl (inr (inr (Games, named, untyped)))
-untyped_blamed oldest rows db e untyped (inr (inl memory, wrong)) = inl (inr (inl memory))
-untyped_blamed oldest rows db e untyped (inr (inr (t, named, none), wrong)) = inr (inr (inr (
+pub untyped_blamed : (oldest : Version) (db : Database) (e : OpenFault) → IsUntyped Games db
+    → (e ≡ Store) ⊎ ((e ≡ Memory) ⊎ ((t : Table) × (e ≡ Damaged t))) → Names oldest db e
+untyped_blamed oldest db e untyped (inl store) = inl (inl store)
+untyped_blamed oldest db e untyped (inr (inl memory)) = inl (inr (inl memory))
+untyped_blamed oldest db e untyped (inr (inr (t, named))) = inr (inr (inr (
   t,
   named,
   λ version s own holds.
@@ -219,16 +226,35 @@ untyped_blamed oldest rows db e untyped (inr (inr (t, named, none), wrong)) = in
 )))
 
 -- and of which table it is said
-pub first_untyped : (rows : Rows) (db : Database) (e : OpenFault) → IsUntyped Games db
+pub first_untyped : (known_rows judged_rows : Rows) (db : Database) (e : OpenFault) → IsUntyped Games db
     → ((version : Version) (content : Content) → HoldsRows version content db → AreOfClub version EventRules content)
     → ((version : Version) (content : Content) → HoldsRows version content db → (cs : List Challenge)
-    → AreChallenges cs rows → HaveChallenges content)
+    → AreChallenges cs known_rows → HaveChallenges content)
     → ((version : Version) (content : Content) → HoldsRows version content db → HaveChallenges content
-    → (cs : List Challenge) × AreChallenges cs rows) → (s : ClubState) → HasPeople s rows
-    → ((e ≡ Damaged Games) × ((cs : List Challenge) × AreChallenges cs rows))
-    ⊎ (BlamesRows rows e × ((s : ClubState) → HasPeople s rows → NamesChallenges rows e)) → NamesFirst db e
-first_untyped rows db e untyped right have pass s people (inl (named, (cs, are))) =
+    → (cs : List Challenge) × AreChallenges cs known_rows)
+    → ((version : Version) (content : Content) → HoldsRows version content db → HaveMoves version content
+    → HaveMovesOf judged_rows (moves_in db.trees))
+    → ((version : Version) (content : Content) → HoldsRows version content db
+    → HaveMovesOf judged_rows (moves_in db.trees) → HaveMoves version content)
+    → NamesUntyped known_rows judged_rows db e → NamesFirst db e
+first_untyped known_rows judged_rows db e untyped right have pass told back (inl store) =
+    first_none db e (store_undamaged e store)
+first_untyped known_rows judged_rows db e untyped right have pass told back (inr (inl memory)) =
+    first_none db e (memory_undamaged e memory)
+first_untyped known_rows judged_rows db e untyped right have pass told back (inr (inr (inl (named, none)))) =
+    subst (NamesFirst db) (sym named) (first_known db known_rows none right pass)
+first_untyped known_rows judged_rows db e untyped right have pass told back
+    (inr (inr (inr ((cs, are), inl (named, wrong))))) =
     subst (NamesFirst db) (sym named)
-    (first_games db untyped right (λ version content holds. have version content holds cs are))
-first_untyped rows db e untyped right have pass s people (inr (blamed, wrong)) =
-    first_known db rows e (wrong s people) right pass
+    (first_moves db right (λ version content holds. have version content holds cs are)
+    (λ version content holds play. wrong version content holds (told version content holds play)))
+first_untyped known_rows judged_rows db e untyped right have pass told back
+    (inr (inr (inr ((cs, are), inr (named, play))))) =
+    subst (NamesFirst db) (sym named)
+    (first_games db untyped right (λ version content holds. have version content holds cs are)
+    (λ version content holds. either version content holds play))
+  where
+    either : (version : Version) (content : Content) → HoldsRows version content db
+        → IsUnheld db ⊎ HaveMovesOf judged_rows (moves_in db.trees) → HaveMoves version content
+    either version content holds (inl unheld) = absurd (unheld version content holds tt)
+    either version content holds (inr moves) = back version content holds moves

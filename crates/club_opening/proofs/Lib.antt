@@ -6,10 +6,12 @@ pub mod ExaminedLemmas
 pub mod FirstLemmas
 pub mod GamesToldLemmas
 pub mod GroupRows
+pub mod JudgedLemmas
 pub mod KnownLemmas
 pub mod MoveOrderLemmas
 pub mod MovesReadLemmas
 pub mod MovesToldLemmas
+pub mod NamedLemmas
 pub mod OnceLemmas
 pub mod PastLemmas
 pub mod PlayedLemmas

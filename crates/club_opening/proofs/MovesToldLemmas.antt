@@ -1,6 +1,6 @@
 -- Moves that are right in a file are so for the games and the events that were read of it.
 use Rattle.std.proofs.Common.{◌≡◌, ℕ, ℤ, zero, suc, pos, ◌+◌, Bool, List, [], ◌∷◌, map, filter, None, Some, refl, ap}
-use Rattle.std.proofs.Common.{sym, subst, ◌∙◌, arith, inl, inr}
+use Rattle.std.proofs.Common.{sym, subst, ◌∙◌, arith, inl, inr, ◌⊎◌, ◌≢◌}
 use Rattle.std.specs.Prelude.{slice_get}
 use Rattle.sqlite_value.specs.declared.value.Value.TheVariants.{Int}
 use Rattle.sqlite.specs.Order.{Row, column}
@@ -21,7 +21,7 @@ use Rattle.club_audit.specs.GameAudit.{IsRightOf}
 use Rattle.club_audit.proofs.Proved.{numbered-at, numbered-back}
 use Rattle.store_tables.specs.Cells.{IsMove, event_cells, event_rule_cells, game_cells, move_cells}
 use Rattle.store_tables.specs.Changes.{HaveSame}
-use Rattle.store_tables.specs.Content.{same_key}
+use Rattle.store_tables.specs.Content.{Keeps, same_key}
 use Rattle.store_tables.specs.Contents.{Content}
 use Rattle.store_tables.specs.Tables.{event_rules, events, games, moves}
 use Rattle.store_tables.specs.declared.names.Version.{Version}
@@ -34,7 +34,7 @@ use Rattle.store_tables.specs.declared.rows.MoveRow.{MoveRow}
 use Rattle.store_tables.specs.declared.rows.Rows.{Rows}
 use Rattle.store_tables.proofs.Proved.{has_map, has_mapped}
 use Rattle.store_sql.specs.Read.{beginning_with}
-use Rattle.club_opening.specs.Blames.{AreRead, undeclared_row}
+use Rattle.club_opening.specs.Blames.{AreRead, AreRulesRead, undeclared_row}
 use Rattle.club_opening.specs.Versions.{HasTablesOf, HoldsRows}
 use Rattle.club_opening.specs.Examined.{moves_in}
 use Rattle.club_opening.specs.RightMoves.{DeclaresIn, HaveMoves, HaveMovesOf}
@@ -130,30 +130,50 @@ none_placed : (rules : List EventRuleRow) (events_rows : List EventRow)
 none_placed rules es are zero rule at = cc
 none_placed rules es are (suc n) rule at = none_says rules es are n rule at
 
-module _ (rows : Rows) (version : Version) (old new : State) (read : AreRead version rows old new)
+-- The games of rows, by which their moves are judged: each row that has the types of its columns is that of one of them,
+-- and each of them is that of such a row or names no event; and both have the same ids.
+pub record AreGamesIn (listed : List GameRecord) (rows : List Row) : Type 0 where
+  pub there : (game : GameRecord) → Has rows (game_cells game) → (other : GameRecord) × Has listed other
+      × (game_cells game ≡ game_cells other)
+  pub owner : (row : Row) → Has rows row → (game : GameRecord) × Has listed game × (column row 0 ≡ Int game.id)
+  pub back : (game : GameRecord) → Has listed game
+      → Has rows (game_cells game) ⊎ ((n : ℕ) → game.event ≢ pos n)
+  pub owned : (game : GameRecord) → Has listed game → (row : Row) × Has rows row × (column row 0 ≡ Int game.id)
+
+-- those that were read
+same_in : (listed : List GameRecord) (rows : List Row) → HaveSame rows (map game_cells listed) → AreGamesIn listed rows
+same_in listed rows same = record {
+  there = λ game has. has_mapped game_cells listed (game_cells game) (same.there (game_cells game) has);
+  owner = λ row has.
+      let (game, there, is) = has_mapped game_cells listed row (same.there row has) in
+      (game, there, ap (λ r. column r 0) is);
+  back = λ game has. inl (same.back (game_cells game) (has_map game_cells listed game has));
+  owned = λ game has. (game_cells game, same.back (game_cells game) (has_map game_cells listed game has), refl);
+}
+
+module _ (rows : Rows) (version : Version) (old new : State)
+    (kept_events : Keeps (events 4) old.now.trees (map event_cells rows.events.items))
+    (rules : AreRulesRead version rows.events.items rows.event_rules.items old new)
     (schema : HasTablesOf version old.now.schema) (s : ClubState) (people : HasPeople s rows) (v : Version)
-    (content : Content) (holds : HoldsRows v content old.now) where
+    (content : Content) (holds : HoldsRows v content old.now)
+    (games_in : AreGamesIn rows.games.items (content 10)) where
   shown_same : HaveSame (content 8) (moves_in old.now.trees)
   shown_same = kept_same (moves 8) old.now (content 8) (moves_in old.now.trees)
       (stores_of (moves 8) 4 refl refl v old.now content holds).rows (keeps_shown (moves 8) old.now.trees)
 
-  games_same : HaveSame (content 10) (map game_cells rows.games.items)
-  games_same = kept_same (games 10) old.now (content 10) (map game_cells rows.games.items)
-      (stores_of (games 10) 5 refl refl v old.now content holds).rows read.games.keeps
-
   events_same : HaveSame (content 4) (map event_cells rows.events.items)
   events_same = kept_same (events 4) old.now (content 4) (map event_cells rows.events.items)
-      (stores_of (events 4) 2 refl refl v old.now content holds).rows read.events.keeps
+      (stores_of (events 4) 2 refl refl v old.now content holds).rows kept_events
 
-  declared : (w : Version) → HoldsRows w content old.now → AreRead w rows old new
+  declared : (w : Version) → HoldsRows w content old.now → AreRulesRead w rows.events.items rows.event_rules.items old new
       → (game : GameRecord) (id : ℕ) (declares : Bool) → NamesRule rows game id declares
       → DeclaresIn w content (pos id) declares
   declared First held told game id declares ruled =
       same-pos _ _
-      (sym ruled.says ∙ none_placed rows.event_rules.items rows.events.items told.rules.1 id ruled.rule ruled.rule_is)
+      (sym ruled.says ∙ none_placed rows.event_rules.items rows.events.items told.1 id ruled.rule ruled.rule_is)
   declared Current held told game id declares ruled =
       let same = kept_same (event_rules 16) old.now (content 16) (map event_rule_cells rows.event_rules.items)
-      (rules_in old.now content held).rows told.rules.keeps in
+      (rules_in old.now content held).rows told.keeps in
       let there = same.back (event_rule_cells ruled.rule)
       (has_map event_rule_cells rows.event_rules.items ruled.rule
       (placed_has rows.event_rules.items id ruled.rule ruled.rule_is)) in
@@ -162,22 +182,27 @@ module _ (rows : Rows) (version : Version) (old new : State) (read : AreRead ver
       (λ i. Int (id_is i) ∷ Int (ruled.says i) ∷ [])
       there
 
-  pub moves_told : HaveMoves v content → HaveMovesOf rows (moves_in old.now.trees)
-  moves_told have =
+  -- a game that names an event is that of a row
+  named_there : (game : GameRecord) (id : ℕ) → Has (content 10) (game_cells game) ⊎ ((n : ℕ) → game.event ≢ pos n)
+      → game.event ≡ pos id → Has (content 10) (game_cells game)
+  named_there game id (inl there) is = there
+  named_there game id (inr never) is = absurd (never id is)
+
+  pub judged_told : HaveMoves v content → HaveMovesOf rows (moves_in old.now.trees)
+  judged_told have =
       let same : version ≡ v = one_of version v old.now.schema schema holds.schema in
-      let told : AreRead v rows old new = subst (λ w. AreRead w rows old new) same read in
+      let told = subst (λ w. AreRulesRead w rows.events.items rows.event_rules.items old new) same rules in
       record {
         typed = types_same IsMove (moves_in old.now.trees) (content 8) shown_same.back have.typed;
         owned = λ row h.
             let (cells, there, is) = have.owned row (shown_same.back row h) in
-            let (game, in_games, cells_are) = has_mapped game_cells rows.games.items cells (games_same.there cells there) in
+            let (game, in_games, id_is) = games_in.owner cells there in
             let (n, at) = had_place rows.games.items game in_games in
-            (n, game, at, is ∙ ap (λ r. column r 0) cells_are);
+            (n, game, at, is ∙ id_is);
         played = λ n game at id event declares named ruled kind budget increment kind_is gives.
             let id_is = event_id s rows people id event named.row_is in
             let its = have.played game event
-            (games_same.back (game_cells game)
-            (has_map game_cells rows.games.items game (has_got rows.games.items n game at)))
+            (named_there game id (games_in.back game (has_got rows.games.items n game at)) named.event_is)
             (events_same.back (event_cells event)
             (has_map event_cells rows.events.items event (placed_has rows.events.items id event named.row_is)))
             (named.event_is ∙ sym id_is) declares
@@ -196,7 +221,7 @@ module _ (rows : Rows) (version : Version) (old new : State) (read : AreRead ver
       }
 
   -- the rules of the event at a place, by what the file says of it
-  ruled_back : (w : Version) → HoldsRows w content old.now → AreRead w rows old new
+  ruled_back : (w : Version) → HoldsRows w content old.now → AreRulesRead w rows.events.items rows.event_rules.items old new
       → (game : GameRecord) (n : ℕ) → game.event ≡ pos (suc n) → (event : EventRow)
       → slice_get rows.events.items n ≡ Some event → (declares : Bool) → DeclaresIn w content (pos (suc n)) declares
       → NamesRule rows game (suc n) declares
@@ -209,11 +234,11 @@ module _ (rows : Rows) (version : Version) (old new : State) (read : AreRead ver
         event_is = is;
         rule = rule;
         rule_is = there;
-        says = none_says rows.event_rules.items rows.events.items told.rules.1 n rule there ∙ sym (ap pos none);
+        says = none_says rows.event_rules.items rows.events.items told.1 n rule there ∙ sym (ap pos none);
       }
   ruled_back Current held told game n is event at declares says =
       let same = kept_same (event_rules 16) old.now (content 16) (map event_rule_cells rows.event_rules.items)
-      (rules_in old.now content held).rows told.rules.keeps in
+      (rules_in old.now content held).rows told.keeps in
       let (rule, in_rules, cells_are) = has_mapped event_rule_cells rows.event_rules.items _ (same.there _ says) in
       let (m, there) = had_place rows.event_rules.items rule in_rules in
       let (event_is, said) = rule_parts (pos (suc n)) (pos (declares_number declares)) rule cells_are in
@@ -226,22 +251,18 @@ module _ (rows : Rows) (version : Version) (old new : State) (read : AreRead ver
       }
 
   -- moves that are right for what was read are so in the file
-  pub moves_back : HaveMovesOf rows (moves_in old.now.trees) → HaveMoves v content
-  moves_back have =
+  pub judged_back : HaveMovesOf rows (moves_in old.now.trees) → HaveMoves v content
+  judged_back have =
       let same : version ≡ v = one_of version v old.now.schema schema holds.schema in
-      let told : AreRead v rows old new = subst (λ w. AreRead w rows old new) same read in
+      let told = subst (λ w. AreRulesRead w rows.events.items rows.event_rules.items old new) same rules in
       record {
         typed = types_same IsMove (content 8) (moves_in old.now.trees) shown_same.there have.typed;
         owned = λ row h.
-            let (n, game, at, is) = have.owned row (shown_same.there row h) in (
-              game_cells game,
-              games_same.back (game_cells game)
-                  (has_map game_cells rows.games.items game (has_got rows.games.items n game at)),
-              is,
-            );
+            let (n, game, at, is) = have.owned row (shown_same.there row h) in
+            let (cells, there, id_is) = games_in.owned game (has_got rows.games.items n game at) in
+            (cells, there, is ∙ sym id_is);
         played = λ game event in_games in_events named declares says kind budget increment kind_is gives.
-            let (its_game, there, game_is) = has_mapped game_cells rows.games.items (game_cells game)
-            (games_same.there (game_cells game) in_games) in
+            let (its_game, there, game_is) = games_in.there game in_games in
             let (n, at) = had_place rows.games.items its_game there in
             let (its_event, among, event_is) = has_mapped event_cells rows.events.items (event_cells event)
             (events_same.there (event_cells event) in_events) in
@@ -273,3 +294,18 @@ module _ (rows : Rows) (version : Version) (old new : State) (read : AreRead ver
               are = alike_of kind (terms_told budget increment declares) its_game game its.moves id start its.are;
             };
       }
+
+-- the same where all rows of games were read
+module _ (rows : Rows) (version : Version) (old new : State) (read : AreRead version rows old new)
+    (schema : HasTablesOf version old.now.schema) (s : ClubState) (people : HasPeople s rows) (v : Version)
+    (content : Content) (holds : HoldsRows v content old.now) where
+  read_in : AreGamesIn rows.games.items (content 10)
+  read_in = same_in rows.games.items (content 10)
+      (kept_same (games 10) old.now (content 10) (map game_cells rows.games.items)
+      (stores_of (games 10) 5 refl refl v old.now content holds).rows read.games.keeps)
+
+  pub moves_told : HaveMoves v content → HaveMovesOf rows (moves_in old.now.trees)
+  moves_told = judged_told rows version old new read.events.keeps read.rules schema s people v content holds read_in
+
+  pub moves_back : HaveMovesOf rows (moves_in old.now.trees) → HaveMoves v content
+  moves_back = judged_back rows version old new read.events.keeps read.rules schema s people v content holds read_in

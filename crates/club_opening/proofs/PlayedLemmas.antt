@@ -367,8 +367,8 @@ has_scores rows version old mid read v content holds club =
     }
 
 -- no table of a database with the tables of a legal club is called damaged
-good_undamaged : (oldest version : Version) (s : ClubState) → IsClubOf version s → (db : Database) → HasClub version db s
-    → (e : OpenFault) → Names oldest db e → (t : Table) → e ≢ Damaged t
+good_undamaged : (oldest version : Version) (s : ClubState) → IsClubOf version s → (db : Database)
+    → HasClub version db s → (e : OpenFault) → Names oldest db e → (t : Table) → e ≢ Damaged t
 good_undamaged oldest version s own db holds e (inl (inl store)) t is = store_undamaged e store t is
 good_undamaged oldest version s own db holds e (inl (inr (inl memory))) t is = memory_undamaged e memory t is
 good_undamaged oldest version s own db holds e (inl (inr (inr (u, named, wrong)))) t is =

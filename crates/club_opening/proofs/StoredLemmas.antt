@@ -74,6 +74,9 @@ pub of_version : (version : Version) (schema : Schema) → HasTablesOf version s
 of_version First schema has = inl has
 of_version Current schema has = inr has
 
+pub tables_known : (version : Version) (schema : Schema) → schema ≡ schema_of version → HasClubTables schema
+tables_known version schema is = tables_of_club schema (schema_known version schema is)
+
 pub alone_of : (version : Version) (schema : Schema) → schema ≡ schema_of version → HasTablesOf version schema
 alone_of First schema is = is
 alone_of Current schema is = (no_others, is)

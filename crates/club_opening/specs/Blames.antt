@@ -116,8 +116,8 @@ IsNumberFrom Current n = n ≡ pos 2
 abbrev pub NamesSchema : Version → Database → OpenFault → Type 0
 NamesSchema oldest db fault = (n : ℤ) × (fault ≡ Schema n) × (¬ IsNumberFrom oldest n) × HasNumber db n
 
--- The database is called foreign: the number in `meta`, if there is one, is not that of its tables, or they do not answer
--- as a club's, which can only be where other programs made something of their own on them.
+-- The database is called foreign: the number in `meta`, if there is one, is not that of its tables, or they do not
+-- answer as a club's, which can only be where other programs made something of their own on them.
 abbrev pub NamesForeign : Database → OpenFault → Type 0
 NamesForeign db fault = (fault ≡ Foreign)
     × HoldsNone db (λ version content. (is_of_club version db.schema ≡ true) × ((last : ℤ)

@@ -107,15 +107,9 @@ IsRight t version content = AreOfClub version t content
 abbrev pub IsOfPlay : Table → Type 0
 IsOfPlay t = (order Challenges < order t) × (order t < order Scores)
 
--- The other table was looked at before this one is named: the tables are looked at in their order. But the moves are not
--- looked at where rows of games have values of other types, which are named once the challenges were judged.
-abbrev pub IsReached : Table → Table → Content → Type 0
-IsReached Games u content = order Challenges < order u → HasTypes Games content
-IsReached t u content = Unit {0}
-
--- The named table is not right, and each before it is that was looked at.
+-- The named table is not right, and each before it is.
 pub record IsFirstIn (version : Version) (content : Content) (t : Table) : Type 0 where
-  pub before : (u : Table) → order u < order t → IsReached t u content → IsRight u version content
+  pub before : (u : Table) → order u < order t → IsRight u version content
   pub named : ¬ IsRight t version content
 
 -- A table that is called damaged is so, in whatever content the database may hold.

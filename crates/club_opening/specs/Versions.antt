@@ -3,6 +3,8 @@ use Rattle.std.specs.Prelude.{◌≡◌, ◌⊎◌, List, map}
 use Rattle.sqlite.specs.Effect.{Database, IsDatabase}
 use Rattle.sqlite.specs.Schema.{Schema}
 use Rattle.sqlite.specs.State.{State}
+use Rattle.sqlite.specs.Tree.{Trees}
+use Rattle.sqlite_catalog.specs.Listing.{IsSound}
 use Rattle.store_tables.specs.Beside.{IsBeside}
 use Rattle.store_tables.specs.Contents as of_schema
 use Rattle.store_tables.specs.Contents.{Content, AreStored}
@@ -34,6 +36,13 @@ pub record HoldsRows (version : Version) (content : Content) (db : Database) : T
   pub schema : HasTablesOf version db.schema
   pub sound : IsDatabase db
   pub tables : AreStored (schema_of version) db.trees content
+
+-- a later opening finds these rows in the tables of this version
+pub record LeavesRows (version : Version) (content : Content) (trees : Trees) : Type 0 where
+  pub schema : Schema
+  pub stands : HasTablesOf version schema
+  pub sound : IsSound schema trees
+  pub tables : AreStored (schema_of version) trees content
 
 -- The database has the tables of this club, in this version: in schema 2 alone or beside what other programs made.
 abbrev pub HasClub : Version → Database → ClubState → Type 0

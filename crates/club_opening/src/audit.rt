@@ -1,6 +1,6 @@
 //! Which table of a club is wrong, by the rows that are read whole.
 
-ghost use Rattle.std.specs.Prelude.{◌≡◌, ◌≢◌, ◌⊎◌, ◌≤◌, ℕ, pos, None, Some, IfErr, IfOk, OnOk, List};
+ghost use Rattle.std.specs.Prelude.{◌≡◌, ◌≢◌, ◌≤◌, ℕ, pos, None, Some, IfErr, IfOk, OnOk, List};
 ghost use Rattle.club_audit.specs.Audit.{AreApartGames, HasPeople};
 ghost use Rattle.club_audit.specs.ChallengeAudit.{AreChallenges};
 ghost use Rattle.club_core.specs.declared.challenges.Challenge.{Challenge};
@@ -44,17 +44,5 @@ pub(crate) fn audit(alloc: Global, rows: &Rows) -> Result<Option<Table>, OpenFau
     match moment(rows.meta.last) {
         Some(_) => Ok(None),
         None => Ok(Some(Table::Meta)),
-    }
-}
-
-/// What is named where a row of games has a value of another type, by what is known of the games: the challenges where
-/// these are wrong.
-pub(crate) fn before_games(alloc: Global, rows: &Rows) -> OpenFault
-    ensures { ((result ≡ OpenFault.Damaged Table.Games) × ((cs : List Challenge) × AreChallenges cs rows.now)) ⊎
-        (BlamesRows rows.now result × ((s : ClubState) → HasPeople s rows.now → NamesChallenges rows.now result)) }
-{
-    match audit(alloc, rows) {
-        Ok(_) => OpenFault::Damaged(Table::Games),
-        Err(fault) => fault,
     }
 }

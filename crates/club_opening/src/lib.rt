@@ -4,6 +4,7 @@
 mod audit;
 mod fault;
 mod games;
+mod known;
 mod opening;
 mod read;
 

@@ -1,6 +1,6 @@
 //! Examining the tables of a database that was opened.
 
-ghost use Rattle.std.specs.Prelude.{◌≡◌, ◌≢◌, ◌⊎◌, true, None, Some, IfErr, IfOk, OnOk, is_ok};
+ghost use Rattle.std.specs.Prelude.{◌≡◌, ◌≢◌, ◌⊎◌, true, false, None, Some, IfErr, IfOk, OnOk, is_ok};
 ghost use Rattle.sqlite.specs.State.{HasCleanDisk, IsUnchanged};
 ghost use Rattle.sqlite.specs.Effect.{IsDatabase};
 ghost use Rattle.sqlite.specs.Held.{state};
@@ -19,6 +19,7 @@ ghost use Rattle.club_rows.specs.FirstSchema.{IsClubOf, tables_at};
 ghost use Rattle.club_rows.specs.Club.{ClubState, IsClub, tables};
 ghost use Rattle.club_audit.specs.Audit.{AreApartGames, HasPeople};
 ghost use Rattle.club_opening.specs.Places.{IsMomentOf, IsNoRegister, IsRegisterOf};
+ghost use Rattle.club_opening.specs.KnownGames.{NamesUntyped};
 ghost use Rattle.club_opening.specs.RightTables.{IsLater, NamesExamined, NamesFirst, NamesPlayed, NamesScores};
 
 use crate::audit::audit;
@@ -30,7 +31,7 @@ use club_audit::scores_are;
 use club_rows::numbers::moment;
 use sqlite::{Alter, Connection};
 use std::alloc::Global;
-use store_tables::{MoveRow, Rows, ScoreRow, SeenRow, Table, Version};
+use store_tables::{GameRecord, MoveRow, Rows, ScoreRow, SeenRow, Table, Version};
 
 /// Tests that the moves and the positions are those of the games, which were read: the first wrong table by them, or
 /// the one that is known, whichever is named first.
@@ -71,6 +72,79 @@ fn examine_play<S: Alter>(
     match examine_games(alloc, conn, rows, last, RowCounts { moves, seen }, known) {
         Ok(wrong) => Ok(wrong),
         Err(fault) => Err(fault),
+    }
+}
+
+/// What is named where a row of games has a value of another type: the moves, where they are wrong; else the games.
+fn named_by(wrong: Option<Table>) -> OpenFault
+    ensures moves { wrong ≡ Some Table.Moves → result ≡ OpenFault.Damaged Table.Moves }
+    ensures games { wrong ≢ Some Table.Moves → result ≡ OpenFault.Damaged Table.Games }
+{
+    match wrong {
+        Some(Table::Moves) => OpenFault::Damaged(Table::Moves),
+        _ => OpenFault::Damaged(Table::Games),
+    }
+}
+
+/// What is named where a row of games has a value of another type, and reading the moves came to this fault.
+fn named_for(fault: OpenFault) -> OpenFault
+    ensures damaged { (t : Table) → fault ≡ OpenFault.Damaged t →
+        ((t ≡ Table.Moves) × (result ≡ OpenFault.Damaged Table.Moves))
+        ⊎ ((t ≢ Table.Moves) × (result ≡ OpenFault.Damaged Table.Games)) }
+    ensures other { ((t : Table) → fault ≢ OpenFault.Damaged t) → result ≡ fault }
+{
+    match fault {
+        OpenFault::Damaged(table) => named_by(Some(table)),
+        OpenFault::Foreign | OpenFault::Schema(_) | OpenFault::Store | OpenFault::Memory => fault,
+    }
+}
+
+/// The same rows with other games.
+fn with_games(rows: Rows, judged: Vec<GameRecord>) -> Rows
+    ensures { result ≡ record rows { games = judged } }
+{
+    let Rows {
+        meta,
+        members,
+        events,
+        event_rules,
+        challenges,
+        games: _known,
+    } = rows;
+    Rows {
+        meta,
+        members,
+        events,
+        event_rules,
+        challenges,
+        games: judged,
+    }
+}
+
+/// What is named where a row of games has a value of another type: the challenges, where these are wrong by what is
+/// known of the games; else the moves, where they are wrong by the games that were read; else the games.
+pub(crate) fn name_untyped<S: Alter>(
+    alloc: Global,
+    conn: &mut Connection<S>,
+    rows: Rows,
+    judged: Vec<GameRecord>,
+) -> OpenFault
+    ensures reads { Reads false (state S.Store conn.old) (state S.Store conn.new) }
+    ensures named { HasCleanDisk (state S.Store conn.new) → HasClubTables (state S.Store conn.old).now.schema →
+        (s : ClubState) → HasPeople s rows → HaveIds (record rows { games = judged }) →
+        NamesUntyped rows (record rows { games = judged }) (state S.Store conn.old).now result }
+    ensures faults { HasCleanDisk (state S.Store conn.new) → HasClubTables (state S.Store conn.old).now.schema →
+        (result ≡ OpenFault.Store) ⊎ ((result ≡ OpenFault.Memory) ⊎
+        ((t : Table) × (result ≡ OpenFault.Damaged t))) }
+{
+    match audit(alloc, &rows) {
+        Ok(_) => {}
+        Err(fault) => return fault,
+    }
+    let rows = with_games(rows, judged);
+    match examine_play(alloc, conn, &rows, moment(rows.meta.last), None) {
+        Ok(wrong) => named_by(wrong),
+        Err(fault) => named_for(fault),
     }
 }
 
@@ -117,8 +191,8 @@ fn before_scores(wrong: Option<Table>) -> Option<Table>
 
 /// Tests that the tables are those of a club of schema 2, or answer as they do, and changes nothing. Of wrong tables
 /// the first is named, in the order members, events, rules of events, challenges, moves, games, positions, scores,
-/// `meta`. But rows of games that have values of other types are named once the challenges were looked at, before the
-/// moves. Schema 1 is refused by its number.
+/// `meta`. Where rows of games have values of other types, the moves of the other games are looked at before the games
+/// are named. Schema 1 is refused by its number.
 pub fn examine<S: Alter>(alloc: Global, conn: &mut Connection<S>) -> Result<(), OpenFault>
     ensures reads { Reads (is_ok result) (state S.Store conn.old) (state S.Store conn.new) }
     ensures found { HasCleanDisk (state S.Store conn.new) → OnOk result (IsOpened (state S.Store conn.old) → (s : _) ×
@@ -129,7 +203,8 @@ pub fn examine<S: Alter>(alloc: Global, conn: &mut Connection<S>) -> Result<(), 
         IsClubSchema (state S.Store conn.old).now.schema →
         ((state S.Store conn.old).now.schema ≡ club_schema) ×
         IsUnchanged (state S.Store conn.old) (state S.Store conn.new)) }
-    // Where its tables stand beside what other programs made, nothing was changed; and they have the rows of a legal club.
+    // Where its tables stand, alone or beside what other programs made, nothing was changed; and they have the rows of a
+    // legal club.
     ensures stays { HasCleanDisk (state S.Store conn.new) → OnOk result (
         IsBeside club_schema (state S.Store conn.old).now.schema →
         IsUnchanged (state S.Store conn.old) (state S.Store conn.new)) }
@@ -137,9 +212,9 @@ pub fn examine<S: Alter>(alloc: Global, conn: &mut Connection<S>) -> Result<(), 
         IsBeside club_schema (state S.Store conn.old).now.schema → IsDatabase (state S.Store conn.old).now →
         (s : _) × IsClub s × HasClub Current (state S.Store conn.new).now s) }
     ensures blames { HasCleanDisk (state S.Store conn.new) → IfErr result (λ e.
-        IsClubSchema (state S.Store conn.old).now.schema → Names Current (state S.Store conn.old).now e) }
+        HasClubTables (state S.Store conn.old).now.schema → Names Current (state S.Store conn.old).now e) }
     ensures first { HasCleanDisk (state S.Store conn.new) → IfErr result (λ e.
-        IsClubSchema (state S.Store conn.old).now.schema → NamesFirst (state S.Store conn.old).now e) }
+        HasClubTables (state S.Store conn.old).now.schema → NamesFirst (state S.Store conn.old).now e) }
     // A legal club, alone or beside what other programs made, is taken.
     ensures good { HasCleanDisk (state S.Store conn.new) → IfErr result (λ e. (s : ClubState) → IsClub s →
         HoldsRows Current (tables s) (state S.Store conn.old).now →
@@ -183,9 +258,9 @@ pub fn examine_from<S: Alter>(
         (s : _) × IsClubOf found.version s × IsRegisterOf s found.rows ×
         HasClub found.version (state S.Store conn.new).now s) }
     ensures blames { HasCleanDisk (state S.Store conn.new) → IfErr result (λ e.
-        IsClubSchema (state S.Store conn.old).now.schema → Names oldest (state S.Store conn.old).now e) }
+        HasClubTables (state S.Store conn.old).now.schema → Names oldest (state S.Store conn.old).now e) }
     ensures first { HasCleanDisk (state S.Store conn.new) → IfErr result (λ e.
-        IsClubSchema (state S.Store conn.old).now.schema → NamesFirst (state S.Store conn.old).now e) }
+        HasClubTables (state S.Store conn.old).now.schema → NamesFirst (state S.Store conn.old).now e) }
     // A legal club of a version that is taken, alone or beside what other programs made, is found to be one.
     ensures good { HasCleanDisk (state S.Store conn.new) → IfErr result (λ e. (version : _) (s : ClubState) →
         IsClubOf version s → HoldsRows version (tables_at version s) (state S.Store conn.old).now →

@@ -1,35 +1,31 @@
 //! All rows of each table, as rows of its type.
 
 ghost use Rattle.std.specs.Prelude.{◌≡◌, ◌≢◌, ◌⊎◌, ℕ, pos, true, None, Some, IfSome, IfOk, IfErr, OnOk, IsTrue, List};
-ghost use Rattle.std.specs.Prelude.{[], ◌∷◌, false, is_ok, length, map, All};
+ghost use Rattle.std.specs.Prelude.{[], ◌∷◌, is_ok, length, map};
 ghost use Rattle.sqlite.specs.State.{HasCleanDisk, IsUnchanged};
 ghost use Rattle.sqlite.specs.Held.{state};
-ghost use Rattle.sqlite.specs.Order.{column};
-ghost use Rattle.sqlite_value.specs.Value.{owned};
 ghost use Rattle.club_audit.specs.Audit.{AreEvents, AreMembers, AreRules};
 ghost use Rattle.club_core.specs.Events.{Event};
 ghost use Rattle.club_core.specs.Members.{Member};
-ghost use Rattle.store_tables.specs.Cells.{meta_cells, member_cells, event_cells, event_rule_cells, game_cells, IsGame};
+ghost use Rattle.store_tables.specs.Cells.{meta_cells, member_cells, event_cells, event_rule_cells};
 ghost use Rattle.store_tables.specs.Beside.{IsBeside};
 ghost use Rattle.store_tables.specs.Reading.{IsNoInput, Reads};
-ghost use Rattle.store_tables.specs.Tables.{schema_number, meta, members, events, games};
+ghost use Rattle.store_tables.specs.Tables.{schema_number, meta, members, events};
 ghost use Rattle.store_tables.specs.Tables.{first_schema};
 ghost use Rattle.store_tables.specs.declared.names.Version.TheVariants.{First, Current};
 ghost use Rattle.club_opening.specs.Blames.{IsMetaRead, IsOneMeta, HasTypes, HoldsNone, Blames, Names, NamesTable};
 ghost use Rattle.club_opening.specs.Blames.{AreRead, AreRulesRead, IsNumberFrom, NamesSchema, undeclared_row};
 ghost use Rattle.club_opening.specs.Places.{NamesRows};
-ghost use Rattle.club_opening.specs.RightTables.{IsUnheld, NamesFirst, NamesWrong, TellsEvents};
-ghost use Rattle.club_opening.specs.KnownGames.{AreGamesKnown, game_seat, known, row_seat};
+ghost use Rattle.club_opening.specs.RightTables.{NamesFirst, NamesWrong, TellsEvents};
 ghost use Rattle.club_opening.specs.Versions.{HasClubTables, HasEvents, HasTablesOf};
 ghost use Rattle.club_opening.specs.Faults.{told};
 ghost use Rattle.store_sql.specs.Read.{IsReadAs};
 ghost use Rattle.table_shapes.specs.Shapes.{is_of_club};
 
-use crate::audit::before_games;
 use crate::fault::OpenFault;
-use crate::games::count_of;
+use crate::known::{GameRows, read_games};
+use crate::opening::name_untyped;
 use club_audit::{are_events, are_members, are_rules};
-use sqlite::types::ValueRef;
 use sqlite::{Alter, Connection, Error, Row};
 use std::alloc::Global;
 use store_sql::{
@@ -37,7 +33,7 @@ use store_sql::{
 };
 use store_tables::{
     ChallengeRow, EventRow, EventRuleRow, GameRecord, MemberRow, MetaRow, MoveRow, Rows, ScoreRow,
-    SeenRow, Table, TableRow, Unread, Version, parse_all,
+    SeenRow, Table, TableRow, Unread, Version,
 };
 use table_shapes::versions_of;
 
@@ -424,129 +420,6 @@ fn read_rules<S: Alter>(
     Ok(rules)
 }
 
-/// The whole number that a value is, or -1, which is no id.
-fn whole(value: ValueRef<'_>) -> i64
-    ensures { result ≡ known (owned value.entry) }
-{
-    match value {
-        ValueRef::Int(number) => number,
-        ValueRef::Null | ValueRef::Real(_) | ValueRef::Text(_) | ValueRef::Blob(_) => -1,
-    }
-}
-
-/// The whole number in a column, or -1.
-fn whole_at(row: &Row, at: usize) -> i64
-    ensures { result ≡ known (column row.now at) }
-{
-    match row.get_ref(at) {
-        Ok(value) => whole(value),
-        Err(_) => -1,
-    }
-}
-
-/// What is known of a game by a row that may have values of other types: its id, its event and its players.
-fn known_game(alloc: Global, row: &Row) -> GameRecord
-    ensures { game_seat result ≡ row_seat row.now }
-{
-    GameRecord {
-        id: whole_at(row, 0),
-        key: None,
-        event: whole_at(row, 2),
-        first: whole_at(row, 3),
-        second: whole_at(row, 4),
-        start: 0,
-        since: 0,
-        plies: 0,
-        left1: 0,
-        left2: 0,
-        offer_side: None,
-        offer_ply: None,
-        end: None,
-        result: None,
-        position: String::new(alloc),
-        track_a: 0,
-        track_b: 0,
-    }
-}
-
-/// What is known of each game.
-fn known_games(alloc: Global, shown: &[Row]) -> Result<Vec<GameRecord>, OpenFault>
-    ensures known { IfOk result (λ games. map game_seat games.items ≡ map row_seat shown.now) }
-    ensures memory { IfErr result (λ e. e ≡ OpenFault.Memory) }
-{
-    let mut games = Vec::new(alloc);
-    'rows: for row in shown {
-        if games.push(known_game(alloc, row)).is_err() {
-            return Err(OpenFault::Memory);
-        }
-    }
-    Ok(games)
-}
-
-/// The rows of games, and whether each value is of the type of its column. Where one is not, these rows have what is
-/// known of the games.
-#[derive(Drop)]
-pub(crate) struct GameRows {
-    games: Vec<GameRecord>,
-    are_typed: bool,
-}
-
-/// The rows of games that these values show.
-fn games_of(alloc: Global, shown: &[Row]) -> Result<GameRows, OpenFault>
-    ensures typed { IfOk result (λ found. found.are_typed ≡ true → shown.now ≡ map game_cells found.games.items) }
-    ensures known { IfOk result (λ found. found.are_typed ≡ false → (¬ All IsGame shown.now) ×
-        (map game_seat found.games.items ≡ map row_seat shown.now)) }
-    ensures memory { IfErr result (λ e. e ≡ OpenFault.Memory) }
-{
-    let why = match parse_all::<GameRecord>(alloc, shown) {
-        Ok(games) => {
-            return Ok(GameRows {
-                games,
-                are_typed: true,
-            });
-        }
-        Err(why) => why,
-    };
-    match why {
-        Unread::Mistyped => match known_games(alloc, shown) {
-            Ok(games) => Ok(GameRows {
-                games,
-                are_typed: false,
-            }),
-            Err(fault) => Err(fault),
-        },
-        Unread::Memory => Err(OpenFault::Memory),
-    }
-}
-
-/// All rows of games, or what is known of the games where a value is of another type than its column.
-fn read_games<S: Alter>(alloc: Global, conn: &mut Connection<S>) -> Result<GameRows, OpenFault>
-    ensures reads { Reads (is_ok result) (state S.Store conn.old) (state S.Store conn.new) }
-    ensures rows { HasCleanDisk (state S.Store conn.new) → IfOk result (λ found. found.are_typed ≡ true →
-        HasClubTables (state S.Store conn.old).now.schema → IsReadAs (games 10) 1
-        (map game_cells found.games.items) (state S.Store conn.old) (state S.Store conn.new)) }
-    ensures known { HasCleanDisk (state S.Store conn.new) → IfOk result (λ found. found.are_typed ≡ false →
-        HasClubTables (state S.Store conn.old).now.schema → AreGamesKnown found.games.items
-        (state S.Store conn.old) (state S.Store conn.new)) }
-    ensures blames { HasCleanDisk (state S.Store conn.new) → IfErr result (λ e.
-        HasClubTables (state S.Store conn.old).now.schema → NamesTable (state S.Store conn.old).now e) }
-    ensures torn { HasCleanDisk (state S.Store conn.new) → IfErr result (λ e. (t : Table) → e ≡ OpenFault.Damaged t →
-        HasClubTables (state S.Store conn.old).now.schema → IsUnheld (state S.Store conn.old).now) }
-{
-    match count_of::<GameRecord, S>(alloc, conn, Table::Games) {
-        Ok(_) => {}
-        Err(fault) => return Err(fault),
-    }
-    let shown = match show_all::<GameRecord, S>(conn) {
-        Ok(shown) => shown,
-        Err(error) => return Err(fault_of(error)),
-    };
-    match games_of(alloc, &shown) {
-        Ok(found) => Ok(found),
-        Err(fault) => Err(fault),
-    }
-}
-
 /// The rows of a club that are read whole, and the version of its tables.
 #[derive(Drop)]
 pub struct Register {
@@ -631,8 +504,8 @@ fn read_shaped<S: Alter>(
 
 /// All rows of a club but those of moves, positions and scores, and nothing changed, where its version is taken: from
 /// the oldest on. Tables that would not answer as a club's are refused before their rows are read. The members, the
-/// events and their rules are tested as they are read, so that of tables with wrong rows the first is named; where a row
-/// of games has a value of another type, the challenges are tested before the games are named.
+/// events and their rules are tested as they are read, so that of tables with wrong rows the first is named; where a
+/// row of games has a value of another type, the challenges and the moves are tested before the games are named.
 pub(crate) fn read_rows<S: Alter>(
     alloc: Global,
     conn: &mut Connection<S>,
@@ -674,7 +547,11 @@ pub(crate) fn read_rows<S: Alter>(
         Ok(challenges) => challenges,
         Err(fault) => return Err(fault),
     };
-    let GameRows { games, are_typed } = match read_games(alloc, conn) {
+    let GameRows {
+        games,
+        judged,
+        are_typed,
+    } = match read_games(alloc, conn) {
         Ok(found) => found,
         Err(fault) => return Err(fault),
     };
@@ -689,6 +566,6 @@ pub(crate) fn read_rows<S: Alter>(
     if are_typed {
         Ok(Register { version, rows })
     } else {
-        Err(before_games(alloc, &rows))
+        Err(name_untyped(alloc, conn, rows, judged))
     }
 }

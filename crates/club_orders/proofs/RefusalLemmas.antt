@@ -1,10 +1,11 @@
 -- What is reported where a club was taken over, and what stands where it is found sound.
 use Rattle.std.proofs.Common.{◌≡◌, ◌∙◌, subst}
-use Rattle.sqlite.specs.Effect.{Database, IsDatabase}
+use Rattle.sqlite.specs.Effect.{Database}
 use Rattle.sqlite.specs.State.{State}
-use Rattle.store_tables.specs.Contents.{Content}
-use Rattle.store_tables.specs.Club.{Holds, IsExactly, Leaves}
-use Rattle.club_rows.specs.Club.{ClubState, tables}
+use Rattle.store_tables.specs.declared.names.Version.TheVariants.{Current}
+use Rattle.club_rows.specs.Club.{ClubState, IsClub}
+use Rattle.club_opening.specs.Refused.{HoldClub}
+use Rattle.club_opening.specs.Versions.{HasClub}
 use Rattle.club_opening.specs.declared.fault.OpenFault.{OpenFault}
 use Rattle.club_orders.specs.declared.report.Report.{Report}
 use Rattle.club_orders.specs.declared.report.Report.TheVariants.{Ready, Sound, Answered, Shown, Unwritten}
@@ -35,16 +36,19 @@ taken_over P (Listening port) taken = tt
 taken_over P Unbound taken = tt
 taken_over P NoMemory taken = tt
 
-left_of : (content : Content) (db : Database) → Holds db content → Leaves content db.trees
-left_of content db holds =
-    record {
-      sound = subst (λ schema. IsDatabase (record { schema = schema; trees = db.trees })) holds.schema holds.sound;
-      tables = holds.tables;
-    }
-
 -- what stands behind an examination stood before it
-pub stood : (s : ClubState) (old new : State) → IsExactly (tables s) new → new.now ≡ old.now → old.now ≡ old.committed
-    → Leaves (tables s) old.committed.trees
-stood s old new exactly same clean =
-    let P : Database → Type 0 = λ db. Leaves (tables s) db.trees in
-    subst P (same ∙ clean) (left_of (tables s) new.now exactly.now)
+pub stood : (s : ClubState) → IsClub s → (old new : State) → HasClub Current new.now s → new.now ≡ old.now
+    → old.now ≡ old.committed → HoldClub old.committed.trees
+stood s legal old new holds same clean =
+    let P : Database → Type 0 = λ db. HoldClub db.trees in
+    let there : HoldClub new.now.trees = record {
+      state = s;
+      legal = legal;
+      leaves = record {
+        schema = new.now.schema;
+        stands = holds.schema;
+        sound = holds.sound;
+        tables = holds.tables;
+      };
+    } in
+    subst P (same ∙ clean) there

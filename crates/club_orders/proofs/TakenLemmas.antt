@@ -1,5 +1,6 @@
 -- A club that an opening found, alone or beside what other programs made.
-use Rattle.std.proofs.Common.{◌≡◌, true, ap, ◌∙◌}
+use Rattle.std.proofs.Common.{◌≡◌, true, ap, ◌∙◌, Result, Ok, Err}
+use Rattle.std.specs.Prelude.{IfOk, IfErr}
 use Rattle.sqlite.specs.State.{State}
 use Rattle.store_tables.specs.Beside.{HasRows, IsBeside}
 use Rattle.store_tables.specs.Contents as of_schema
@@ -89,3 +90,13 @@ is_taken_first club s P at takes =
 pub taken_so : (P : Type 0) (report : Report) → P → IfTaken report P
 taken_so P (Unopened fault) is = tt
 taken_so P _ is = is
+
+-- two things that are told of a call where it answered, or where it did not
+module _ {T E : Type 0} where
+  pub both_ok : (r : Result T E) (P Q : T → Type 0) → IfOk r P → IfOk r Q → IfOk r (λ x. P x × Q x)
+  both_ok (Ok x) P Q p q = (p, q)
+  both_ok (Err y) P Q p q = tt
+
+  pub both_err : (r : Result T E) (P Q : E → Type 0) → IfErr r P → IfErr r Q → IfErr r (λ y. P y × Q y)
+  both_err (Ok x) P Q p q = tt
+  both_err (Err y) P Q p q = (p, q)

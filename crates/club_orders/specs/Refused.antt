@@ -1,23 +1,29 @@
--- Which orders take a club over, and what is said of tables that are not upgraded.
-use Rattle.std.specs.Prelude.{◌≡◌, ◌≢◌, ◌⊎◌, pos, ⊤}
+-- Which orders take a club over, and what is said of tables that are taken over, or not upgraded.
+use Rattle.std.specs.Prelude.{◌≡◌, ◌≢◌, ◌⊎◌, List, pos, ⊤}
 use Rattle.sqlite.specs.Tree.{Trees}
 use Rattle.sqlite.specs.State.{State, Opens}
+use Rattle.store_tables.specs.Beside.{HasRows}
 use Rattle.store_tables.specs.Contents as of_schema
-use Rattle.store_tables.specs.Tables.{first_schema, IsClubSchema}
+use Rattle.store_tables.specs.Over.{Neighbours, IsBesideThem}
+use Rattle.store_tables.specs.Tables.{first_schema}
 use Rattle.store_tables.specs.declared.names.Version.TheVariants.{First}
-use Rattle.club_rows.specs.Club.{ClubState}
+use Rattle.club_rows.specs.Club.{ClubState, tables}
 use Rattle.club_rows.specs.FirstSchema.{IsFirstClub, first_tables}
 use Rattle.club_opening.specs.Blames.{Names}
-use Rattle.club_opening.specs.Refused.{IsKept}
+use Rattle.club_opening.specs.Refused.{HoldClub, IsKept}
+use Rattle.club_opening.specs.RightTables.{NamesFirst}
+use Rattle.club_opening.specs.Versions.{HasClubTables}
 use Rattle.club_opening.specs.declared.fault.OpenFault.{OpenFault}
 use Rattle.club_opening.specs.declared.fault.OpenFault.TheVariants.{Schema, Store, Memory}
+use Rattle.store.specs.Histories.{Chapter, HasState, IsHistory, IsReachable}
 use Rattle.club_words.specs.declared.words.Task.{Task}
 use Rattle.club_words.specs.declared.words.Task.TheVariants as task
 
 -- The tables were not upgraded. An upgrade takes either version, and may have begun to write where a call of the
 -- database failed.
 pub record IsUpgradeRefusal (old new : State) (fault : OpenFault) : Type 0 where
-  pub blames : IsClubSchema old.now.schema → Names First old.now fault
+  pub blames : HasClubTables old.now.schema → Names First old.now fault
+  pub first : HasClubTables old.now.schema → NamesFirst old.now fault
   pub kept : fault ≢ Store → Opens old → IsKept old new
 
 -- tables of schema 1 are refused by their number; or a call of the database failed, or memory was refused
@@ -27,6 +33,18 @@ IsOlder fault = (fault ≡ Schema (pos 1)) ⊎ ((fault ≡ Store) ⊎ (fault ≡
 -- a legal state of schema 1 has the tables that stand there
 abbrev pub HasFirst : ClubState → Trees → Type 0
 HasFirst s trees = IsFirstClub s × of_schema.Leaves first_schema (first_tables s) trees
+
+-- A club was taken over: it is not of schema 1, and legal if its tables are a club's. Its state and its history go on
+-- from what was found, beside the same tables of other programs, and so they do from whatever a stop leaves.
+pub record IsTakenOver (old new : State) : Type 0 where
+  pub newer : (s : ClubState) → ¬ HasFirst s old.committed.trees
+  pub legal : HasClubTables old.now.schema → HoldClub old.committed.trees
+  pub stands : (s : ClubState) → (has : HasState s old.committed.trees) → IsBesideThem has.them (tables s) new
+  pub rows : (s : ClubState) → HasState s old.committed.trees → HasRows (tables s) new
+  pub history : (them : Neighbours) (sessions : List Chapter) → IsReachable them sessions old.committed.trees
+      → IsHistory them sessions new
+  pub leads : (them : Neighbours) (sessions : List Chapter) → IsReachable them sessions old.committed.trees
+      → (db : Trees) → new.may_leave db → IsReachable them sessions db
 
 -- every task but the making of a club and its upgrade takes one over
 abbrev pub IfTakesOver : Task → Type 0 → Type 0

@@ -18,6 +18,7 @@ ghost use Rattle.club_orders.specs.Report.{IfTaken, IfUnopened, OnlyUnopened};
 
 use crate::batched::Batched;
 use crate::report::Report;
+use crate::taking::take_over;
 use clocks::Moment;
 use club_questions::Question;
 use club_requests::{Outcome, Refusal};
@@ -25,10 +26,7 @@ use club_words::Batch;
 use sqlite::{Alter, Connection};
 use std::alloc::Global;
 use std::io::sink;
-use store::{
-    AskFault, Club, Run, StoreFault, adopt, holds_exactly, holds_what_sessions_left,
-    leaves_what_sessions_left,
-};
+use store::{AskFault, Club, Run, StoreFault};
 
 // Why a question is refused, if it is. What it is shown is written nowhere.
 fn refusal_of<S: Alter>(
@@ -133,10 +131,7 @@ pub(crate) fn give_batch<S: Alter>(
         (db : _) → (state S.Store result.1).may_leave db →
         IsReachable them (sessions ++ batch_sessions batch.now.requests.items result.0) db }
 {
-    holds_exactly(&conn);
-    holds_what_sessions_left(&conn);
-    leaves_what_sessions_left(&conn);
-    let mut club = match adopt(alloc, conn) {
+    let mut club = match take_over(alloc, conn) {
         Ok(club) => club,
         Err(unopened) => return (Report::Unopened(unopened.fault), unopened.conn),
     };

@@ -7,7 +7,6 @@ ghost use Rattle.sqlite_trees.specs.View.{doubt};
 ghost use Rattle.store_tables.specs.Contents.{IsEmpty};
 ghost use Rattle.store_tables.specs.Club.{IsExactly, IsOpened};
 ghost use Rattle.store_tables.specs.Reading.{KeepsContent};
-ghost use Rattle.store_tables.specs.Tables.{IsClubSchema};
 ghost use Rattle.store_tables.specs.declared.names.Version.TheVariants.{Current};
 ghost use Rattle.table_shapes.specs.Shapes.{is_of_club};
 ghost use Rattle.club_core.specs.Answer.{answered, outcome_of};
@@ -20,10 +19,12 @@ ghost use Rattle.club_orders.specs.Report.{given, Answers, ask_report, IfRequest
 ghost use Rattle.club_orders.specs.Report.{IfTaken, IsCarriedOver, IsRepeated, OnlyUnopened, upgrade_of};
 ghost use Rattle.club_orders.specs.Report.{Shows, IsPassed, IsBegun, request_sessions, task_sessions, writes};
 ghost use Rattle.club_opening.specs.Refused.{HoldClub, IsKept, IsRefusal};
+ghost use Rattle.club_opening.specs.Versions.{HasClubTables};
 ghost use Rattle.club_orders.specs.Refused.{HasFirst, IfTakesOver, IfUpgrade, IsOlder, IsUpgradeRefusal};
 
 use crate::batch::give_batch;
 use crate::report::Report;
+use crate::taking::take_over;
 use clocks::Moment;
 use club_questions::Question;
 use club_requests::{Command, Outcome, Refusal, Who};
@@ -32,8 +33,8 @@ use sqlite::{Alter, Connection};
 use std::alloc::Global;
 use std::io::Write;
 use store::{
-    AskFault, OpenFault, Upgrade, adopt, create, holds_exactly, holds_nothing,
-    holds_what_sessions_left, leaves_what_sessions_left, upgrade,
+    AskFault, OpenFault, Upgrade, create, holds_exactly, holds_nothing, holds_what_sessions_left,
+    leaves_what_sessions_left, upgrade,
 };
 
 // Makes the tables of a club.
@@ -89,10 +90,7 @@ fn request<S: Alter>(
         (db : _) → (state S.Store result.1).may_leave db →
         IsReachable them (sessions ++ request_sessions (given command.now moment) result.0) db }
 {
-    holds_exactly(&conn);
-    holds_what_sessions_left(&conn);
-    leaves_what_sessions_left(&conn);
-    let mut club = match adopt(alloc, conn) {
+    let mut club = match take_over(alloc, conn) {
         Ok(club) => club,
         Err(unopened) => return (Report::Unopened(unopened.fault), unopened.conn),
     };
@@ -143,10 +141,7 @@ fn ask<S: Alter, W: Write>(
         (them : _) (sessions : _) → IsReachable them sessions (state S.Store conn).committed.trees →
         (db : _) → (state S.Store result.1).may_leave db → IsReachable them sessions db }
 {
-    holds_exactly(&conn);
-    holds_what_sessions_left(&conn);
-    leaves_what_sessions_left(&conn);
-    let mut club = match adopt(alloc, conn) {
+    let mut club = match take_over(alloc, conn) {
         Ok(club) => club,
         Err(unopened) => return (Report::Unopened(unopened.fault), unopened.conn),
     };
@@ -205,7 +200,7 @@ pub fn verify<S: Alter>(alloc: Global, conn: Connection<S>) -> (Report, Connecti
     ensures sound { HasCleanDisk (state S.Store result.1) → IsOpened (state S.Store conn) → result.0 ≡ Report.Sound →
         (s : ClubState) × IsClub s × IsExactly (tables s) (state S.Store result.1) }
     ensures legal { HasCleanDisk (state S.Store result.1) → Opens (state S.Store conn) → IsLive (state S.Store conn) →
-        IsClubSchema (state S.Store conn).now.schema → result.0 ≡ Report.Sound →
+        HasClubTables (state S.Store conn).now.schema → result.0 ≡ Report.Sound →
         HoldClub (state S.Store conn).committed.trees }
     ensures keeps { HasCleanDisk (state S.Store result.1) → Opens (state S.Store conn) →
         IsKept (state S.Store conn) (state S.Store result.1) }
@@ -222,15 +217,8 @@ pub fn verify<S: Alter>(alloc: Global, conn: Connection<S>) -> (Report, Connecti
         (them : _) (sessions : _) → IsReachable them sessions (state S.Store conn).committed.trees →
         (db : _) → (state S.Store result.1).may_leave db → IsReachable them sessions db }
 {
-    holds_exactly(&conn);
-    holds_what_sessions_left(&conn);
-    leaves_what_sessions_left(&conn);
-    match adopt(alloc, conn) {
-        Ok(club) => {
-            let conn = club.into_connection();
-            leaves_what_sessions_left(&conn);
-            (Report::Sound, conn)
-        }
+    match take_over(alloc, conn) {
+        Ok(club) => (Report::Sound, club.into_connection()),
         Err(found) => (Report::Unopened(found.fault), found.conn),
     }
 }
@@ -277,7 +265,7 @@ pub fn act<S: Alter, W: Write>(
         IfVerify task.now (result.0 ≡ Report.Sound →
         (s : ClubState) × IsClub s × IsExactly (tables s) (state S.Store result.1)) }
     ensures legal { HasCleanDisk (state S.Store result.1) → Opens (state S.Store conn) → IsLive (state S.Store conn) →
-        IsClubSchema (state S.Store conn).now.schema → IfVerify task.now (result.0 ≡ Report.Sound →
+        HasClubTables (state S.Store conn).now.schema → IfVerify task.now (result.0 ≡ Report.Sound →
         HoldClub (state S.Store conn).committed.trees) }
     // By whatever texts its tables were made, those that were taken over answer as a club's.
     ensures shape { IfTakesOver task.now (IfTaken result.0 (

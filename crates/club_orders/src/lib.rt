@@ -7,6 +7,7 @@ pub mod copying;
 pub mod doing;
 mod explained;
 pub mod report;
+mod taking;
 mod written;
 
 pub use batched::{Batched, print_batch};

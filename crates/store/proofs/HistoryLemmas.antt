@@ -1,5 +1,5 @@
 -- What sessions of a club lead to, counted by the requests that are accepted.
-use Rattle.store_tables.specs.Tables.{club_schema, first_schema, IsClubSchema, schema_after}
+use Rattle.store_tables.specs.Tables.{club_schema, first_schema, schema_after}
 use Rattle.std.proofs.Common.{◌≡◌, ◌⊎◌, ℕ, zero, suc, ◌+◌, ◌≤◌, Bool, true, false, List, [], ◌∷◌, ◌++◌, map, length}
 use Rattle.std.proofs.Common.{take, Option, Some, None, IsSome, IsTrue, is_none, refl, sym, ap, subst, ◌∙◌, inl, inr}
 use Rattle.std.proofs.Common.{arith}
@@ -17,7 +17,7 @@ use Rattle.club_requests.specs.Outcome.{Outcome, accepted, repeated, refused}
 use Rattle.club_core.specs.State.{Request, opening_state, is_accepted}
 use Rattle.club_laws.proofs.Proved.{folds-accepted}
 use Rattle.club_rows.specs.Club.{both_games, ClubState, IsClub, tables}
-use Rattle.store_tables.specs.Beside.{Others, beside}
+use Rattle.store_tables.specs.Beside.{IsBeside, Others, beside}
 use Rattle.store_tables.specs.Contents.{AreStored, Content, IsEmpty, IsExactlyEmpty}
 use Rattle.store_tables.specs.Club.{IsExactly, Leaves}
 use Rattle.store_tables.specs.Over.{alone, IsBesideThem, LeavesBeside, Neighbours, over}
@@ -32,8 +32,8 @@ use Rattle.store.specs.Histories.{Chapter, Leads, Place, SessionReaches, Reaches
 use Rattle.store.specs.Histories.{IsAfter, is_taken, opens_as, run_session, served, session_of, answered_session}
 use Rattle.store.specs.Histories.{IsExactlyAt, LeavesAt, Session, cut_session}
 use Rattle.club_rows.specs.FirstSchema.{first_tables}
-use Rattle.club_opening.specs.Versions.{HoldsRows}
-use Rattle.club_opening.proofs.Proved.{schema_known, schemas_differ}
+use Rattle.club_opening.specs.Versions.{HasClubTables, HoldsRows}
+use Rattle.club_opening.proofs.Proved.{one_of}
 use Rattle.store_tables.specs.declared.names.Version.{Version}
 use Rattle.store_tables.specs.declared.names.Version.TheVariants.{First, Current}
 
@@ -399,13 +399,14 @@ module _ (s : State) (opens : Opens s) (live : IsLive s)
         may_leave = λ db left. subst IsEmpty (sym (settled db opens.is_open left)) empty;
       }
 
--- a history whose tables were taken as those of the last schema, if they are a club's alone, is one of the last version
+-- a history whose tables were taken as those of the last schema, if they are a club's, is one of the last version
 pub current_taken : (them : Neighbours) (chapters : List Chapter) (s : State)
-    → (IsClubSchema s.now.schema → s.now.schema ≡ club_schema)
+    → (HasClubTables s.now.schema → IsBeside club_schema s.now.schema)
     → (version : Version) × IsHistoryAt version them chapters s → IsHistory them chapters s
 current_taken them chapters s taken (First, at) =
     let first : s.now.schema ≡ first_schema = at.exactly.1.now.schema in
-    absurd (schemas_differ (sym first ∙ taken (schema_known First s.now.schema first)))
+    let same : First ≡ Current = one_of First Current s.now.schema first (taken (inl first)) in
+    absurd (let x = same in cc)
 current_taken them chapters s taken (Current, at) = at
 
 -- what keeps the tables keeps where they stand

@@ -1,13 +1,18 @@
--- The rows of a club that was just made are the tables of the machine's opening state.
-use Rattle.std.proofs.Common.{◌≡◌, ℕ, Bool, true, false, List, [], refl, subst}
+-- The rows of a club that was just made are the tables of the machine's opening state; and which tables were taken.
+use Rattle.std.proofs.Common.{◌≡◌, ◌∙◌, ℕ, Bool, true, false, List, [], inl, inr, refl, subst, sym}
 use Rattle.std.specs.Prelude.{if◌then◌else◌, ◌==◌}
 use Rattle.sqlite.specs.Order.{Row}
+use Rattle.sqlite.specs.Schema.{Schema}
 use Rattle.sqlite.specs.Tree.{Trees}
 use Rattle.sqlite.specs.State.{State}
 use Rattle.club_core.specs.State.{opening_state}
 use Rattle.club_rows.specs.Club.{tables}
+use Rattle.store_tables.specs.Beside.{IsBeside}
 use Rattle.store_tables.specs.Contents.{Content, opening}
 use Rattle.store_tables.specs.Club.{IsExactly, Leaves}
+use Rattle.store_tables.specs.Tables.{club_schema, IsClubSchema}
+use Rattle.club_opening.specs.Versions.{HasClubTables}
+use Rattle.club_opening.proofs.Proved.{schemas_differ}
 
 nothing-else : (z a b c d e f g h : Bool) (rows : List Row)
     → ◌≡◌ {A = List Row} (if z then rows else [])
@@ -39,3 +44,9 @@ opening-exactly s is = subst (λ c. IsExactly c s) opening-is is
 
 pub opening-left : (db : Trees) → Leaves opening db → Leaves (tables opening_state) db
 opening-left db is = subst (λ c. Leaves c db) opening-is is
+
+-- a club's tables that are those of schema 2, if they are a club's alone, are these beside whatever others
+pub beside_taken : (schema : Schema) → (IsClubSchema schema → schema ≡ club_schema) → HasClubTables schema
+    → IsBeside club_schema schema
+beside_taken schema taken (inl first) = absurd (schemas_differ (sym first ∙ taken (inl first)))
+beside_taken schema taken (inr beside) = beside

@@ -1,6 +1,7 @@
 //! An open club.
 
-ghost use Rattle.std.specs.Prelude.{◌≡◌, ◌≢◌, ◌≤◌, ◌⊎◌, ◌++◌, ◌∷◌, [], false, true, pos, Err, IfOk, IfErr, OnOk, OnErr};
+ghost use Rattle.std.specs.Prelude.{◌≡◌, ◌≤◌, ◌⊎◌, ◌++◌, ◌∷◌, [], false, true, pos, Err, IfOk, IfErr, OnOk, OnErr};
+ghost use Rattle.sqlite.specs.Effect.{IsDatabase};
 ghost use Rattle.sqlite.specs.State.{HasCleanDisk, IsUnchanged};
 ghost use Rattle.sqlite.specs.Held.{state};
 ghost use Rattle.sqlite_trees.specs.View.{doubt};
@@ -10,12 +11,12 @@ ghost use Rattle.store_tables.specs.Contents.{IsExactlyEmpty, IsEmpty};
 ghost use Rattle.store_tables.specs.Club.{IsExactly, IsOpened, Leaves};
 ghost use Rattle.store_tables.specs.Over.{alone, IsBesideThem, LeavesBeside};
 ghost use Rattle.store_tables.specs.Reading.{KeepsContent, KeepsMay, OnlyReads, Reads};
-ghost use Rattle.store_tables.specs.Tables.{club_schema, first_schema, IsClubSchema};
+ghost use Rattle.store_tables.specs.Tables.{club_schema, first_schema};
 ghost use Rattle.store_tables.specs.declared.names.Version.TheVariants.{First, Current};
 ghost use Rattle.table_shapes.specs.Shapes.{is_of_club};
 ghost use Rattle.club_opening.specs.Blames.{Names};
 ghost use Rattle.club_opening.specs.RightTables.{NamesFirst};
-ghost use Rattle.club_opening.specs.Versions.{HoldsRows, IsExactlyClub};
+ghost use Rattle.club_opening.specs.Versions.{HasClub, HasClubTables, HoldsRows, IsExactlyClub};
 ghost use Rattle.club_rows.specs.FirstSchema.{IsFirstClub};
 ghost use Rattle.store.specs.Histories.{IsReachable, IsHistory, answered_session, cut_session};
 ghost use Rattle.store_tables.specs.Changed.{changed};
@@ -27,7 +28,6 @@ ghost use Rattle.club_changes.specs.Steps.{request, club_step, club_next};
 
 mod asking;
 mod keys;
-mod reading;
 mod run;
 mod sessions;
 mod shut;
@@ -122,9 +122,12 @@ pub fn adopt<S: Alter>(alloc: Global, conn: Connection<S>) -> Result<Club<S>, Un
     ensures found { IfOk result (λ club. HasCleanDisk (state S.Store club.connection) → IsOpened
         (state S.Store conn) → (s : _) × IsClub s × IsExactly (tables s) (state S.Store club.connection)) }
     ensures unchanged { IfOk result (λ club. HasCleanDisk (state S.Store club.connection) →
-        IsClubSchema (state S.Store conn).now.schema →
-        ((state S.Store conn).now.schema ≡ club_schema) × IsUnchanged (state S.Store conn)
+        HasClubTables (state S.Store conn).now.schema →
+        IsBeside club_schema (state S.Store conn).now.schema × IsUnchanged (state S.Store conn)
         (state S.Store club.connection) × KeepsMay (state S.Store conn) (state S.Store club.connection)) }
+    ensures held { IfOk result (λ club. HasCleanDisk (state S.Store club.connection) →
+        HasClubTables (state S.Store conn).now.schema → IsDatabase (state S.Store conn).now →
+        (s : _) × IsClub s × HasClub Current (state S.Store club.connection).now s) }
     ensures clean { IfOk result (λ club. doubt (state S.Store conn).is_clean ≤ doubt
         (state S.Store club.connection).is_clean) }
     // By whatever texts its tables were made, they answer as those of a club.
@@ -133,9 +136,9 @@ pub fn adopt<S: Alter>(alloc: Global, conn: Connection<S>) -> Result<Club<S>, Un
     ensures kept { IfOk result (λ club. Reads true (state S.Store conn) (state S.Store club.connection)) }
     ensures idle { IfErr result (λ u. u.conn.in_transaction ≡ false) }
     ensures blames { IfErr result (λ u. HasCleanDisk (state S.Store u.conn) →
-        IsClubSchema (state S.Store conn).now.schema → Names Current (state S.Store conn).now u.fault) }
+        HasClubTables (state S.Store conn).now.schema → Names Current (state S.Store conn).now u.fault) }
     ensures named { IfErr result (λ u. HasCleanDisk (state S.Store u.conn) →
-        IsClubSchema (state S.Store conn).now.schema → NamesFirst (state S.Store conn).now u.fault) }
+        HasClubTables (state S.Store conn).now.schema → NamesFirst (state S.Store conn).now u.fault) }
     ensures older { IfOk result (λ club. HasCleanDisk (state S.Store club.connection) → (s : _) → IsFirstClub s →
         ¬ IsExactlyClub First s (state S.Store conn)) }
     ensures first { IfErr result (λ u. HasCleanDisk (state S.Store u.conn) → (s : _) → IsFirstClub s →

@@ -12,10 +12,11 @@ ghost use Rattle.store_tables.specs.Beside.{IsBeside};
 ghost use Rattle.store_tables.specs.Over.{IsBesideThem};
 ghost use Rattle.store_tables.specs.Reading.{KeepsMay, OnlyReads};
 ghost use Rattle.table_shapes.specs.Shapes.{is_of_club};
-ghost use Rattle.store_tables.specs.Tables.{club_schema, first_schema, IsClubSchema};
+ghost use Rattle.store_tables.specs.Tables.{club_schema, first_schema};
 ghost use Rattle.store_tables.specs.declared.names.Version.TheVariants.{First};
 ghost use Rattle.club_opening.specs.Blames.{Names};
-ghost use Rattle.club_opening.specs.Versions.{HoldsRows, IsExactlyClub, IsOpenedAt};
+ghost use Rattle.club_opening.specs.RightTables.{NamesFirst};
+ghost use Rattle.club_opening.specs.Versions.{HasClubTables, HoldsRows, IsExactlyClub, IsOpenedAt};
 ghost use Rattle.club_rows.specs.Club.{ClubState, IsClub, tables};
 ghost use Rattle.club_rows.specs.FirstSchema.{IsClubOf, IsFirstClub, first_tables, tables_at};
 ghost use Rattle.store.specs.Histories.{IsHistory, IsReachable, upgraded};
@@ -73,7 +74,9 @@ pub fn upgrade<S: Alter>(
         is_of_club version (state S.Store conn).now.schema ≡ true →
         (u.fault ≡ OpenFault.Store) ⊎ (u.fault ≡ OpenFault.Memory)) }
     ensures blames { IfErr result (λ u. HasCleanDisk (state S.Store u.conn) →
-        IsClubSchema (state S.Store conn).now.schema → Names First (state S.Store conn).now u.fault) }
+        HasClubTables (state S.Store conn).now.schema → Names First (state S.Store conn).now u.fault) }
+    ensures named { IfErr result (λ u. HasCleanDisk (state S.Store u.conn) →
+        HasClubTables (state S.Store conn).now.schema → NamesFirst (state S.Store conn).now u.fault) }
     ensures led { IfOk result (λ done. HasCleanDisk (state S.Store done.0) → Opens (state S.Store conn) →
         IsLive (state S.Store conn) → (them : _) (chapters : _) →
         IsReachable them chapters (state S.Store conn).committed.trees →

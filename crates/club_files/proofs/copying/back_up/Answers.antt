@@ -47,7 +47,7 @@ returns-in-Sound-clause-sound g c clean is =
     let before = was_clean _ _ c.verify-report.ensures.clean mid in
     let opened = c.in-Ok.ensures.opened before in
     sound_files (image_at g.S.Start) (file_state c.in-Ok.conn) (c.in-Ok.ensures.found before)
-    (c.holds_exactly.ensures opened.0 opened.1)
+    opened.0 opened.1
     (λ schema. c.verify-report.ensures.legal mid opened.0 opened.1 schema c.in-Sound.is)
 
 pub returns-in-Sound-clause-copied : goal.returns-in-Sound-clause-copied
@@ -93,7 +93,7 @@ returns-in_default g c = record {
       refused_files (image_at g.S.Start) (file_state c.in-Ok.conn) (c.in-Ok.ensures.found before)
       (file_state c.verify-report.result.1) (store_state c.close-in_default.result).may_leave
       (c.close-in_default.ensures.member clean)
-      opened.0 (c.holds_exactly.ensures opened.0 opened.1) fault refusal)
+      opened.0 opened.1 fault refusal)
       (c.verify-report.ensures.refuses mid);
   untaken = λ fault is. refl;
   older = λ clean s are.

@@ -54,7 +54,7 @@ returns-clause-told g c clean =
       refl,
       told_files (image_at g.S.Start) (file_state c.in-Ok.conn) (c.in-Ok.ensures.found before)
           (file_state c.serve_club-fault.result.1) (store_state c.close.result).may_leave
-          (c.close.ensures.member clean) opened.0 (c.holds_exactly.ensures opened.0 opened.1)
+          (c.close.ensures.member clean) opened.0 opened.1
           c.serve_club-fault.result.0 (c.serve_club-fault.ensures.told after),
     )
 
@@ -64,7 +64,7 @@ returns-clause-taken g c clean =
     let before = c.serve_club-fault.ensures.clean after in
     let opened = c.in-Ok.ensures.opened before in
     taken_files (image_at g.S.Start) (file_state c.in-Ok.conn) (c.in-Ok.ensures.found before)
-    (c.holds_exactly.ensures opened.0 opened.1) c.serve_club-fault.result.0
+    opened.0 opened.1 c.serve_club-fault.result.0
     (λ schema. c.serve_club-fault.ensures.taken after opened.0 opened.1 schema)
 
 pub returns-clause-shape : goal.returns-clause-shape

@@ -71,7 +71,7 @@ returns-clause-sound g c clean =
     let opened = c.in-Ok.ensures.opened before in
     if_verify c.args.order.now.task (λ legal is.
     sound_files (image_at g.S.Start) (file_state c.in-Ok.conn) (c.in-Ok.ensures.found before)
-    (c.holds_exactly.ensures opened.0 opened.1) (λ schema. legal schema is))
+    opened.0 opened.1 (λ schema. legal schema is))
     (verify_under _ _ c.args.order.now.task (λ schema. c.act-report.ensures.legal after opened.0 opened.1 schema))
 
 pub returns-clause-shape : goal.returns-clause-shape
@@ -94,7 +94,7 @@ returns-clause-refuses g c clean =
     if_unopened _ _ c.act-report.result.0 (λ fault refusal.
     refused_files (image_at g.S.Start) (file_state c.in-Ok.conn) (c.in-Ok.ensures.found before)
     (file_state c.act-report.result.1) (store_state c.close.result).may_leave (c.close.ensures.member clean) opened.0
-    (c.holds_exactly.ensures opened.0 opened.1) fault refusal)
+    opened.1 fault refusal)
     refused)
     (c.act-report.ensures.refuses after)
 
@@ -152,5 +152,5 @@ returns-clause-withheld g c clean =
     if_unopened _ _ c.act-report.result.0 (λ fault refusal.
     not_upgraded (image_at g.S.Start) (file_state c.in-Ok.conn) here (file_state c.act-report.result.1)
     (store_state c.close.result).may_leave (c.close.ensures.member clean) opened.0
-    (c.holds_exactly.ensures opened.0 opened.1) fault refusal) refused)
+    opened.1 fault refusal) refused)
     (c.act-report.ensures.withheld after)

@@ -100,10 +100,9 @@ returns-in-Ok-examine_rows-clause-same g c clean known =
     (exactly_of c.in-Ok.found.version schema known own, same)
 
 pub returns-in-Err-examine_rows-clause-blames : goal.returns-in-Err-examine_rows-clause-blames
-returns-in-Err-examine_rows-clause-blames g c clean known =
+returns-in-Err-examine_rows-clause-blames g c clean has =
     let s0 = state g.S.Store c.args.conn.now in
     let s1 = state g.S.Store c.read_rows.new.conn in
-    let has = tables_of_club s0.now.schema known in
     let clean1 : HasCleanDisk s1 = omega (arith, c.examine_rows.ensures.reads.clean) in
     let (schema, read) = c.in-Ok.ensures.rows clean1 has in
     play_blamed c.args.oldest c.in-Ok.found.version c.in-Ok.found.rows s0 s1 s1 c.in-Err-examine_rows.fault schema read
@@ -111,10 +110,9 @@ returns-in-Err-examine_rows-clause-blames g c clean known =
     (c.in-Err-examine_rows.ensures.blames clean (still s0 s1 read.same has))
 
 pub returns-in-Err-examine_rows-clause-first : goal.returns-in-Err-examine_rows-clause-first
-returns-in-Err-examine_rows-clause-first g c clean known =
+returns-in-Err-examine_rows-clause-first g c clean has =
     let s0 = state g.S.Store c.args.conn.now in
     let s1 = state g.S.Store c.read_rows.new.conn in
-    let has = tables_of_club s0.now.schema known in
     let clean1 : HasCleanDisk s1 = omega (arith, c.examine_rows.ensures.reads.clean) in
     let found = c.in-Ok.found in
     let rows = found.rows in
@@ -147,14 +145,6 @@ returns-in-Err-examine_rows-clause-first g c clean known =
     (subst (λ (d : Database). NamesExamined rows d e) read.same.0.now_is
     (c.in-Err-examine_rows.ensures.examined clean here s people (have_ids found.version rows s0 s1 read)))
 
-pub returns-in-Err-clause-blames : goal.returns-in-Err-clause-blames
-returns-in-Err-clause-blames g c clean known =
-    c.in-Err.ensures.blames clean (tables_of_club (state g.S.Store c.args.conn.now).now.schema known)
-
-pub returns-in-Err-clause-first : goal.returns-in-Err-clause-first
-returns-in-Err-clause-first g c clean known =
-    c.in-Err.ensures.first clean (tables_of_club (state g.S.Store c.args.conn.now).now.schema known)
-
 -- ---- whatever stands beside the tables
 
 pub returns-in-Err-clause-good : goal.returns-in-Err-clause-good
@@ -165,15 +155,9 @@ returns-in-Err-clause-good g c clean version s club holds shape taken =
 
 pub returns-in-Err-examine_rows-clause-good : goal.returns-in-Err-examine_rows-clause-good
 returns-in-Err-examine_rows-clause-good g c clean version s club holds shape taken =
-    let s0 = state g.S.Store c.args.conn.now in
-    let s1 = state g.S.Store c.read_rows.new.conn in
-    let has = of_version version s0.now.schema holds.schema in
-    let clean1 : HasCleanDisk s1 = omega (arith, c.examine_rows.ensures.reads.clean) in
-    let (schema, read) = c.in-Ok.ensures.rows clean1 has in
-    let e = c.in-Err-examine_rows.fault in
-    good_taken c.args.oldest version s club s0.now holds shape taken e
-    (play_blamed c.args.oldest c.in-Ok.found.version c.in-Ok.found.rows s0 s1 s1 e schema read read.same
-    (c.in-Err-examine_rows.ensures.blames clean (still s0 s1 read.same has)))
+    let db = (state g.S.Store c.args.conn.now).now in
+    good_taken c.args.oldest version s club db holds shape taken c.in-Err-examine_rows.fault
+    (returns-in-Err-examine_rows-clause-blames g c clean (of_version version db.schema holds.schema))
 
 pub returns-in-Ok-examine_rows-clause-newer : goal.returns-in-Ok-examine_rows-clause-newer
 returns-in-Ok-examine_rows-clause-newer g c clean has =

@@ -4,14 +4,17 @@ use Rattle.sqlite.specs.Held.{state}
 use Rattle.sqlite.specs.State.{HasCleanDisk}
 use Rattle.sqlite.proofs.Callers.{unchanged_then}
 use Rattle.club_opening.proofs.StoredLemmas.{first_beside}
-use Rattle.store_tables.proofs.Proved.{read_failed, read_then}
+use Rattle.store_tables.proofs.Proved.{ids_of, read_then}
 use Rattle.store_tables.specs.Cells.{IsChallenge}
-use Rattle.store_tables.specs.Tables.{members, events, challenges}
+use Rattle.store_tables.specs.Tables.{members, events, challenges, games}
 use Rattle.store_tables.specs.declared.names.Table.TheVariants.{Challenges}
 use Rattle.club_opening.proofs.BlameLemmas.{meta_before, names_both, read_after, read_before, rows_blamed_before}
 use Rattle.club_opening.proofs.BlameLemmas.{rules_after, rules_unchanged, still, still_of}
 use Rattle.club_opening.specs.Blames.{AreRulesRead}
-use Rattle.club_opening.specs.Versions.{HasEvents}
+use Rattle.club_opening.specs.Versions.{HasEvents, HoldsRows}
+use Rattle.store_tables.specs.Changes.{HaveSame}
+use Rattle.store_tables.specs.Contents.{Content}
+use Rattle.store_tables.specs.declared.names.Version.{Version}
 use Rattle.club_opening.proofs.ClubLemmas.{has_events}
 use Rattle.club_opening.proofs.FirstLemmas.{challenge_types_wrong, events_right, first_before, first_challenges}
 use Rattle.club_opening.proofs.FirstLemmas.{first_events, has_people}
@@ -25,6 +28,14 @@ use Rattle.std.proofs.Common.{map}
 use Rattle.store_tables.specs.declared.rows.Rows.{Rows}
 use Rattle.store_tables.specs.Cells.{event_cells}
 use Rattle.store_tables.specs.declared.names.Table.TheVariants.{Events, EventRules}
+use Rattle.std.proofs.Common.{false}
+use Rattle.club_audit.specs.Audit.{HasPeople}
+use Rattle.store_tables.specs.Cells.{member_cells}
+use Rattle.store_tables.specs.Rows.{HaveIds}
+use Rattle.club_opening.specs.KnownGames.{NamesUntyped}
+use Rattle.club_opening.proofs.FirstLemmas.{kept_same, stores_of}
+use Rattle.club_opening.proofs.JudgedLemmas.{judged_ids, judged_in}
+use Rattle.club_opening.proofs.MovesToldLemmas.{judged_back, judged_told}
 use Rattle.club_opening.proofs.read.read_rows.Goals as goal
 
 pub returns-then-are_typed-clause-rows : goal.returns-then-are_typed-clause-rows
@@ -377,11 +388,13 @@ returns-else-are_typed-clause-blames g c clean has =
     let s3 = state g.S.Store c.read_events.new.conn in
     let s4 = state g.S.Store c.read_rules.new.conn in
     let s5 = state g.S.Store c.read.new.conn in
-    let clean5 : HasCleanDisk s5 = omega (arith, c.read_games.ensures.reads.clean) in
-    let clean4 : HasCleanDisk s4 = omega (arith, c.read.ensures.reads.clean, c.read_games.ensures.reads.clean) in
-    let clean3 : HasCleanDisk s3 = omega (arith, c.read_rules.ensures.reads.clean, c.read.ensures.reads.clean, c.read_games.ensures.reads.clean) in
-    let clean2 : HasCleanDisk s2 = omega (arith, c.read_events.ensures.reads.clean, c.read_rules.ensures.reads.clean, c.read.ensures.reads.clean, c.read_games.ensures.reads.clean) in
-    let clean1 : HasCleanDisk s1 = omega (arith, c.read_members.ensures.reads.clean, c.read_events.ensures.reads.clean, c.read_rules.ensures.reads.clean, c.read.ensures.reads.clean, c.read_games.ensures.reads.clean) in
+    let s6 = state g.S.Store c.read_games.new.conn in
+    let clean6 : HasCleanDisk s6 = omega (arith, c.name_untyped.ensures.reads.clean, clean) in
+    let clean5 : HasCleanDisk s5 = omega (arith, c.read_games.ensures.reads.clean, clean6) in
+    let clean4 : HasCleanDisk s4 = omega (arith, c.read.ensures.reads.clean, c.read_games.ensures.reads.clean, clean6) in
+    let clean3 : HasCleanDisk s3 = omega (arith, c.read_rules.ensures.reads.clean, c.read.ensures.reads.clean, c.read_games.ensures.reads.clean, clean6) in
+    let clean2 : HasCleanDisk s2 = omega (arith, c.read_events.ensures.reads.clean, c.read_rules.ensures.reads.clean, c.read.ensures.reads.clean, c.read_games.ensures.reads.clean, clean6) in
+    let clean1 : HasCleanDisk s1 = omega (arith, c.read_members.ensures.reads.clean, c.read_events.ensures.reads.clean, c.read_rules.ensures.reads.clean, c.read.ensures.reads.clean, c.read_games.ensures.reads.clean, clean6) in
     let version = c.in-Ok.told.version in
     let (schema, one) = c.in-Ok.ensures.found clean1 has in
     let same1 = c.in-Ok.ensures.same clean1 has in
@@ -399,9 +412,10 @@ returns-else-are_typed-clause-blames g c clean has =
     in
     let are_challenges = c.in-Ok-read.ensures.rows clean5 (first_beside _ (still s0 s4 same4 has)) in
     let same5 = unchanged_then s0 s4 s5 same4 are_challenges.same in
-    let known = known_before _ s0 s5 _ same5
-    (c.in-Ok-read_games.ensures.known clean c.if-are_typed.false (still s0 s5 same5 has)) in
-    untyped_blamed c.args.oldest _ s0.now c.before_games.result known.untyped c.before_games.ensures
+    let known = known_before _ _ s0 s5 _ same5
+    (c.in-Ok-read_games.ensures.known clean6 c.if-are_typed.false (still s0 s5 same5 has)) in
+    untyped_blamed c.args.oldest s0.now c.name_untyped.result known.untyped
+    (c.name_untyped.ensures.faults clean (still s0 s6 known.same has))
 
 pub returns-else-are_typed-clause-first : goal.returns-else-are_typed-clause-first
 returns-else-are_typed-clause-first g c clean has =
@@ -411,11 +425,13 @@ returns-else-are_typed-clause-first g c clean has =
     let s3 = state g.S.Store c.read_events.new.conn in
     let s4 = state g.S.Store c.read_rules.new.conn in
     let s5 = state g.S.Store c.read.new.conn in
-    let clean5 : HasCleanDisk s5 = omega (arith, c.read_games.ensures.reads.clean) in
-    let clean4 : HasCleanDisk s4 = omega (arith, c.read.ensures.reads.clean, c.read_games.ensures.reads.clean) in
-    let clean3 : HasCleanDisk s3 = omega (arith, c.read_rules.ensures.reads.clean, c.read.ensures.reads.clean, c.read_games.ensures.reads.clean) in
-    let clean2 : HasCleanDisk s2 = omega (arith, c.read_events.ensures.reads.clean, c.read_rules.ensures.reads.clean, c.read.ensures.reads.clean, c.read_games.ensures.reads.clean) in
-    let clean1 : HasCleanDisk s1 = omega (arith, c.read_members.ensures.reads.clean, c.read_events.ensures.reads.clean, c.read_rules.ensures.reads.clean, c.read.ensures.reads.clean, c.read_games.ensures.reads.clean) in
+    let s6 = state g.S.Store c.read_games.new.conn in
+    let clean6 : HasCleanDisk s6 = omega (arith, c.name_untyped.ensures.reads.clean, clean) in
+    let clean5 : HasCleanDisk s5 = omega (arith, c.read_games.ensures.reads.clean, clean6) in
+    let clean4 : HasCleanDisk s4 = omega (arith, c.read.ensures.reads.clean, c.read_games.ensures.reads.clean, clean6) in
+    let clean3 : HasCleanDisk s3 = omega (arith, c.read_rules.ensures.reads.clean, c.read.ensures.reads.clean, c.read_games.ensures.reads.clean, clean6) in
+    let clean2 : HasCleanDisk s2 = omega (arith, c.read_events.ensures.reads.clean, c.read_rules.ensures.reads.clean, c.read.ensures.reads.clean, c.read_games.ensures.reads.clean, clean6) in
+    let clean1 : HasCleanDisk s1 = omega (arith, c.read_members.ensures.reads.clean, c.read_events.ensures.reads.clean, c.read_rules.ensures.reads.clean, c.read.ensures.reads.clean, c.read_games.ensures.reads.clean, clean6) in
     let version = c.in-Ok.told.version in
     let (schema, one) = c.in-Ok.ensures.found clean1 has in
     let same1 = c.in-Ok.ensures.same clean1 has in
@@ -433,8 +449,8 @@ returns-else-are_typed-clause-first g c clean has =
     in
     let are_challenges = c.in-Ok-read.ensures.rows clean5 (first_beside _ (still s0 s4 same4 has)) in
     let same5 = unchanged_then s0 s4 s5 same4 are_challenges.same in
-    let known = known_before _ s0 s5 _ same5
-    (c.in-Ok-read_games.ensures.known clean c.if-are_typed.false (still s0 s5 same5 has)) in
+    let known = known_before _ _ s0 s5 _ same5
+    (c.in-Ok-read_games.ensures.known clean6 c.if-are_typed.false (still s0 s5 same5 has)) in
     let rows : Rows = record {
       meta = c.in-Ok.told.meta;
       members = c.in-Ok-read_members.members;
@@ -446,17 +462,39 @@ returns-else-are_typed-clause-first g c clean has =
     let own_rules = c.in-Ok-read_rules.ensures.are es own_es in
     let (s, people) = has_people rows ms are_ms es are_es
     (subst (λ l. AreRules c.in-Ok-read_rules.rules.items (length l)) c.deref.ensures.value own_rules) in
-    let members_kept = (read_after (members 1) 1 _ s0 s1 s2 same1 are_members).keeps in
-    let events_kept = (read_after (events 4) 1 _ s0 s2 s3 same2 are_events).keeps in
+    let read_ms = read_after (members 1) 1 _ s0 s1 s2 same1 are_members in
+    let read_es = read_after (events 4) 1 _ s0 s2 s3 same2 are_events in
     let challenges_read = read_after (challenges 6) 2 _ s0 s4 s5 same4 are_challenges in
-    first_untyped rows s0.now c.before_games.result known.untyped
+    let judged : Rows = record rows { games = c.in-Ok-read_games.found.judged } in
+    let people_there : HasPeople s judged =
+    record { members = people.members; events = people.events; rules = people.rules } in
+    let read_rules = rules_after version _ _ s0 s3 s4 s5 same3 are_rules are_challenges.same in
+    let own = subst (λ l. AreRulesRead version l c.in-Ok-read_rules.rules.items s0 s5) c.deref.ensures.value read_rules in
+    let same_games : (v : Version) (content : Content) → HoldsRows v content s0.now
+    → HaveSame (content 10) known.shown = λ v content holds.
+    kept_same (games 10) s0.now (content 10) known.shown (stores_of (games 10) 5 refl refl v s0.now content holds).rows
+    known.keeps in
+    let ids : HaveIds judged = record {
+      members = ids_of (members 1) (s0.now.trees 1) (map member_cells rows.members.items) (λ r. refl) read_ms.once
+          read_ms.apart;
+      events = ids_of (events 4) (s0.now.trees 4) (map event_cells rows.events.items) (λ r. refl) read_es.once
+          read_es.apart;
+      games = judged_ids known.shown judged.games.items known.ids known.judged;
+    } in
+    first_untyped rows judged s0.now c.name_untyped.result known.untyped
     (people_right version c.in-Ok-read_members.members.items event_rows c.in-Ok-read_rules.rules.items s0.now
     (people_read version _ event_rows _ s0 s1 s2 s3 s4 schema same1 are_members own_events are_rules ms are_ms es own_es
     own_rules))
-    (have_known rows s0 s5 ms are_ms es are_es members_kept events_kept challenges_read known.shown known.keeps
+    (have_known rows s0 s5 ms are_ms es are_es read_ms.keeps read_es.keeps challenges_read known.shown known.keeps
     known.seats)
-    (pass_known rows s0 s5 ms are_ms es are_es members_kept events_kept challenges_read known.shown known.keeps
-    known.seats) s people c.before_games.ensures
+    (pass_known rows s0 s5 ms are_ms es are_es read_ms.keeps read_es.keeps challenges_read known.shown known.keeps
+    known.seats)
+    (λ v content holds. judged_told judged version s0 s5 read_es.keeps own schema s people_there v content holds
+    (judged_in (content 10) known.shown judged.games.items (same_games v content holds) known.ids known.judged))
+    (λ v content holds. judged_back judged version s0 s5 read_es.keeps own schema s people_there v content holds
+    (judged_in (content 10) known.shown judged.games.items (same_games v content holds) known.ids known.judged))
+    (subst (λ (d : Database). NamesUntyped rows judged d c.name_untyped.result) known.same.0.now_is
+    (c.name_untyped.ensures.named clean (still s0 s6 known.same has) s people ids))
 
 pub returns-then-are_typed-clause-reads : goal.returns-then-are_typed-clause-reads
 returns-then-are_typed-clause-reads g c =
@@ -468,8 +506,9 @@ returns-then-are_typed-clause-reads g c =
 
 pub returns-else-are_typed-clause-reads : goal.returns-else-are_typed-clause-reads
 returns-else-are_typed-clause-reads g c =
-    read_failed true _ _ (read_then true _ _ _ c.in-Ok.ensures.reads
-    (read_then true _ _ _ c.in-Ok-read_members.ensures.reads
-    (read_then true _ _ _ c.in-Ok-read_events.ensures.reads
-    (read_then true _ _ _ c.in-Ok-read_rules.ensures.reads
-    (read_then true _ _ _ c.in-Ok-read.ensures.reads c.in-Ok-read_games.ensures.reads)))))
+    read_then false _ _ _ c.in-Ok.ensures.reads
+    (read_then false _ _ _ c.in-Ok-read_members.ensures.reads
+    (read_then false _ _ _ c.in-Ok-read_events.ensures.reads
+    (read_then false _ _ _ c.in-Ok-read_rules.ensures.reads
+    (read_then false _ _ _ c.in-Ok-read.ensures.reads
+    (read_then false _ _ _ c.in-Ok-read_games.ensures.reads c.name_untyped.ensures.reads)))))

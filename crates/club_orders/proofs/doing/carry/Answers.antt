@@ -50,6 +50,7 @@ pub returns-in-Err-clause-refuses : goal.returns-in-Err-clause-refuses
 returns-in-Err-clause-refuses g c clean =
     record {
       blames = λ is. c.in-Err.ensures.blames clean is;
+      first = λ is. c.in-Err.ensures.named clean is;
       kept = λ other opens db left.
           g.met.S.Store.settled c.args.conn.store db opens.is_open ((c.in-Err.ensures.kept other).may clean db left);
     }

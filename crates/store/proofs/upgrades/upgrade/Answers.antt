@@ -6,7 +6,7 @@ use Rattle.store_tables.specs.declared.names.Version.TheVariants.{First, Current
 use Rattle.store_tables.proofs.Proved.{exactly_same, leaves_same, still_beside}
 use Rattle.club_rows.specs.Club.{tables}
 use Rattle.club_rows.specs.FirstSchema.{first_tables}
-use Rattle.club_opening.specs.Versions.{IsExactlyClub}
+use Rattle.club_opening.specs.Versions.{HasTablesOf, IsExactlyClub}
 use Rattle.club_opening.proofs.Proved.{schema_known, schemas_differ}
 use Rattle.store.proofs.HistoryLemmas.{current_taken, left_at, opens_led}
 use Rattle.store.proofs.UpgradeLemmas.{first_history, made_alone, made_left, not_newer, register_widened, upgraded_cut}
@@ -44,7 +44,7 @@ returns-in-Current-clause-led g c clean opens live them chapters led =
     let at = opens_led s0 opens live
     (λ d shown stays. g.met.S.Store.settled c.args.conn.store d shown stays) them chapters led in
     let last = current_taken them chapters s0
-    (λ known. (c.in-Ok.ensures.same clean known).0 ∙ ap schema_of c.in-Current.is) at in
+    (λ known. subst (λ v. HasTablesOf v s0.now.schema) c.in-Current.is (c.in-Ok.ensures.stays clean known).0) at in
     upgraded_stands Current them chapters s0 s1 last
     (still_beside s0 s1 (c.in-Ok.ensures.reads.kept refl clean) them (tables last.after) last.exactly)
 
@@ -113,6 +113,12 @@ pub returns-in-Err-clause-good : goal.returns-in-Err-clause-good
 returns-in-Err-clause-good g c clean version s club holds shape =
     c.in-Err.ensures.good clean version s club holds shape (λ is. absurd (not_newer First refl is))
 
+pub returns-in-Err-clause-blames : goal.returns-in-Err-clause-blames
+returns-in-Err-clause-blames g c clean known = c.in-Err.ensures.blames clean known
+
+pub returns-in-Err-clause-named : goal.returns-in-Err-clause-named
+returns-in-Err-clause-named g c clean known = c.in-Err.ensures.first clean known
+
 pub returns-in-Err-clause-cut_off : goal.returns-in-Err-clause-cut_off
 returns-in-Err-clause-cut_off g c clean opens live them chapters led db may =
     let s0 = state g.S.Store c.args.conn in
@@ -133,6 +139,9 @@ returns-clause-fault g c clean s first exactly db may =
           (leaves_same _ (tables s) db (register_widened s c.in-Ok.found.rows _ _ register c.deref.ensures.value
           c.of_current-meta.ensures) after)
     ]
+
+pub returns-clause-named : goal.returns-clause-named
+returns-clause-named g c clean known t is = absurd (let x = is in cc)
 
 pub returns-clause-stays : goal.returns-clause-stays
 returns-clause-stays g c clean beside =

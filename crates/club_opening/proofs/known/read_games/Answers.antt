@@ -9,7 +9,7 @@ use Rattle.club_opening.proofs.BlameLemmas.{names_both, still}
 use Rattle.club_opening.proofs.FirstLemmas.{stores_of}
 use Rattle.club_opening.proofs.KnownLemmas.{known_shown, read_shown}
 use Rattle.club_opening.proofs.StoredLemmas.{first_beside}
-use Rattle.club_opening.proofs.read.read_games.Goals as goal
+use Rattle.club_opening.proofs.known.read_games.Goals as goal
 
 pub returns-in-Err-clause-blames : goal.returns-in-Err-clause-blames
 returns-in-Err-clause-blames g c clean has =
@@ -51,6 +51,6 @@ returns-in-Ok-games_of-clause-known g c clean other has =
     let clean1 : HasCleanDisk s1 = omega (arith, c.show_all.ensures.reads.clean, clean) in
     let counted = c.in-Ok.ensures.counted clean1 (first_beside _ has) in
     let tells = c.in-Ok-show_all.ensures.rows clean (first_beside _ (still s0 s1 counted.same has)) in
-    let (untyped, seats) = c.in-Ok-games_of.ensures.known other in
+    let (untyped, (seats, are)) = c.in-Ok-games_of.ensures.known other in
     known_shown s0 s1 s2 c.in-Ok.field-0 c.in-Ok-show_all.shown.items counted tells c.deref.result.now
-    c.in-Ok-games_of.found.games.items c.deref.ensures.value untyped seats
+    c.in-Ok-games_of.found.games.items c.in-Ok-games_of.found.judged.items c.deref.ensures.value untyped seats are

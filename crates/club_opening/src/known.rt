@@ -1,0 +1,229 @@
+//! The rows of games, and what is known of them where a value is of another type than its column.
+
+ghost use Rattle.std.specs.Prelude.{◌≡◌, negsuc, true, false, IfOk, IfErr, All, is_ok, map};
+ghost use Rattle.sqlite.specs.Held.{state};
+ghost use Rattle.sqlite.specs.Order.{column};
+ghost use Rattle.sqlite.specs.State.{HasCleanDisk};
+ghost use Rattle.sqlite_value.specs.Value.{owned};
+ghost use Rattle.store_sql.specs.Read.{IsReadAs};
+ghost use Rattle.store_tables.specs.Cells.{IsGame, game_cells};
+ghost use Rattle.store_tables.specs.Reading.{Reads};
+ghost use Rattle.store_tables.specs.Tables.{games};
+ghost use Rattle.club_opening.specs.Blames.{NamesTable};
+ghost use Rattle.club_opening.specs.KnownGames.{AreGamesKnown, AreJudged, IsJudged, game_seat, known, row_seat};
+ghost use Rattle.club_opening.specs.RightTables.{IsUnheld};
+ghost use Rattle.club_opening.specs.Versions.{HasClubTables};
+
+use crate::fault::OpenFault;
+use crate::games::count_of;
+use crate::read::fault_of;
+use sqlite::types::ValueRef;
+use sqlite::{Alter, Connection, Row};
+use std::alloc::Global;
+use store_sql::show_all;
+use store_tables::{GameRecord, Table, TableRow, Unread, parse_all};
+
+/// The whole number that a value is, or -1, which is no id.
+fn whole(value: ValueRef<'_>) -> i64
+    ensures { result ≡ known (owned value.entry) }
+{
+    match value {
+        ValueRef::Int(number) => number,
+        ValueRef::Null | ValueRef::Real(_) | ValueRef::Text(_) | ValueRef::Blob(_) => -1,
+    }
+}
+
+/// The whole number in a column, or -1.
+fn whole_at(row: &Row, at: usize) -> i64
+    ensures { result ≡ known (column row.now at) }
+{
+    match row.get_ref(at) {
+        Ok(value) => whole(value),
+        Err(_) => -1,
+    }
+}
+
+/// What is known of a game by a row that may have values of other types: its id, its event and its players.
+fn known_game(alloc: Global, row: &Row) -> GameRecord
+    ensures { game_seat result ≡ row_seat row.now }
+{
+    GameRecord {
+        id: whole_at(row, 0),
+        key: None,
+        event: whole_at(row, 2),
+        first: whole_at(row, 3),
+        second: whole_at(row, 4),
+        start: 0,
+        since: 0,
+        plies: 0,
+        left1: 0,
+        left2: 0,
+        offer_side: None,
+        offer_ply: None,
+        end: None,
+        result: None,
+        position: String::new(alloc),
+        track_a: 0,
+        track_b: 0,
+    }
+}
+
+/// What is known of each game.
+fn known_games(alloc: Global, shown: &[Row]) -> Result<Vec<GameRecord>, OpenFault>
+    ensures known { IfOk result (λ games. map game_seat games.items ≡ map row_seat shown.now) }
+    ensures memory { IfErr result (λ e. e ≡ OpenFault.Memory) }
+{
+    let mut games = Vec::new(alloc);
+    'rows: for row in shown {
+        if games.push(known_game(alloc, row)).is_err() {
+            return Err(OpenFault::Memory);
+        }
+    }
+    Ok(games)
+}
+
+/// A game with the id of this row, which names no event.
+fn nameless(alloc: Global, row: &Row) -> GameRecord
+    ensures id { result.id ≡ known (column row.now 0) }
+    ensures event { result.event ≡ negsuc 0 }
+{
+    GameRecord {
+        id: whole_at(row, 0),
+        key: None,
+        event: -1,
+        first: 0,
+        second: 0,
+        start: 0,
+        since: 0,
+        plies: 0,
+        left1: 0,
+        left2: 0,
+        offer_side: None,
+        offer_ply: None,
+        end: None,
+        result: None,
+        position: String::new(alloc),
+        track_a: 0,
+        track_b: 0,
+    }
+}
+
+/// The game of a row; or, where a value is of another type, one with its id that names no event.
+fn judged_game(alloc: Global, row: &Row) -> Result<GameRecord, OpenFault>
+    ensures judged { IfOk result (IsJudged row.now) }
+    ensures memory { IfErr result (λ e. e ≡ OpenFault.Memory) }
+{
+    let why = match GameRecord::parse(row) {
+        Ok(game) => return Ok(game),
+        Err(why) => why,
+    };
+    match why {
+        Unread::Mistyped => Ok(nameless(alloc, row)),
+        Unread::Memory => Err(OpenFault::Memory),
+    }
+}
+
+/// The games of all rows, so far.
+fn judged_games(alloc: Global, shown: &[Row]) -> Result<Vec<GameRecord>, OpenFault>
+    ensures judged { IfOk result (λ games. AreJudged shown.now games.items) }
+    ensures memory { IfErr result (λ e. e ≡ OpenFault.Memory) }
+{
+    let mut games = Vec::new(alloc);
+    'rows: for row in shown {
+        let game = match judged_game(alloc, row) {
+            Ok(game) => game,
+            Err(fault) => return Err(fault),
+        };
+        if games.push(game).is_err() {
+            return Err(OpenFault::Memory);
+        }
+    }
+    Ok(games)
+}
+
+/// The rows of games, and whether each value is of the type of its column. Where one is not, these rows have what is
+/// known of the games, and those by which their moves are judged stand beside.
+#[derive(Drop)]
+pub(crate) struct GameRows {
+    pub games: Vec<GameRecord>,
+    pub judged: Vec<GameRecord>,
+    pub are_typed: bool,
+}
+
+/// What is known of the games by these values.
+fn untyped_games(alloc: Global, shown: &[Row]) -> Result<GameRows, OpenFault>
+    ensures known { IfOk result (λ found. (map game_seat found.games.items ≡ map row_seat shown.now) ×
+        AreJudged shown.now found.judged.items) }
+    ensures untyped { IfOk result (λ found. found.are_typed ≡ false) }
+    ensures memory { IfErr result (λ e. e ≡ OpenFault.Memory) }
+{
+    let games = match known_games(alloc, shown) {
+        Ok(games) => games,
+        Err(fault) => return Err(fault),
+    };
+    match judged_games(alloc, shown) {
+        Ok(judged) => Ok(GameRows {
+            games,
+            judged,
+            are_typed: false,
+        }),
+        Err(fault) => Err(fault),
+    }
+}
+
+/// The rows of games that these values show.
+fn games_of(alloc: Global, shown: &[Row]) -> Result<GameRows, OpenFault>
+    ensures typed { IfOk result (λ found. found.are_typed ≡ true → shown.now ≡ map game_cells found.games.items) }
+    ensures known { IfOk result (λ found. found.are_typed ≡ false → (¬ All IsGame shown.now) ×
+        ((map game_seat found.games.items ≡ map row_seat shown.now) × AreJudged shown.now found.judged.items)) }
+    ensures memory { IfErr result (λ e. e ≡ OpenFault.Memory) }
+{
+    let why = match parse_all::<GameRecord>(alloc, shown) {
+        Ok(games) => {
+            return Ok(GameRows {
+                games,
+                judged: Vec::new(alloc),
+                are_typed: true,
+            });
+        }
+        Err(why) => why,
+    };
+    match why {
+        Unread::Mistyped => match untyped_games(alloc, shown) {
+            Ok(found) => Ok(found),
+            Err(fault) => Err(fault),
+        },
+        Unread::Memory => Err(OpenFault::Memory),
+    }
+}
+
+/// All rows of games, or what is known of the games where a value is of another type than its column.
+pub(crate) fn read_games<S: Alter>(
+    alloc: Global,
+    conn: &mut Connection<S>,
+) -> Result<GameRows, OpenFault>
+    ensures reads { Reads (is_ok result) (state S.Store conn.old) (state S.Store conn.new) }
+    ensures rows { HasCleanDisk (state S.Store conn.new) → IfOk result (λ found. found.are_typed ≡ true →
+        HasClubTables (state S.Store conn.old).now.schema → IsReadAs (games 10) 1
+        (map game_cells found.games.items) (state S.Store conn.old) (state S.Store conn.new)) }
+    ensures known { HasCleanDisk (state S.Store conn.new) → IfOk result (λ found. found.are_typed ≡ false →
+        HasClubTables (state S.Store conn.old).now.schema → AreGamesKnown found.games.items
+        found.judged.items (state S.Store conn.old) (state S.Store conn.new)) }
+    ensures blames { HasCleanDisk (state S.Store conn.new) → IfErr result (λ e.
+        HasClubTables (state S.Store conn.old).now.schema → NamesTable (state S.Store conn.old).now e) }
+    ensures torn { HasCleanDisk (state S.Store conn.new) → IfErr result (λ e. (t : Table) → e ≡ OpenFault.Damaged t →
+        HasClubTables (state S.Store conn.old).now.schema → IsUnheld (state S.Store conn.old).now) }
+{
+    match count_of::<GameRecord, S>(alloc, conn, Table::Games) {
+        Ok(_) => {}
+        Err(fault) => return Err(fault),
+    }
+    let shown = match show_all::<GameRecord, S>(conn) {
+        Ok(shown) => shown,
+        Err(error) => return Err(fault_of(error)),
+    };
+    match games_of(alloc, &shown) {
+        Ok(found) => Ok(found),
+        Err(fault) => Err(fault),
+    }
+}
