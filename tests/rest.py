@@ -288,6 +288,36 @@ def tables_by_other_texts():
         verdict(f"a move over {name}", (0, "accepted ply 1 32-28"), move(file, 1))
 
 
+def of_the_other(file):
+    """The rows of another program's table in the file."""
+    with contextlib.closing(sqlite3.connect(file)) as found:
+        return found.execute("SELECT id, text, member FROM notes ORDER BY id").fetchall()
+
+
+def beside_tables_with_rows():
+    """Behind a club's tables another program keeps a table, an index and a view: the club goes on, and its rows stay."""
+    theirs = [(1, "pays in May", 1), (2, "", 2)]
+    seated("shared.db")
+    with contextlib.closing(sqlite3.connect("shared.db", isolation_level=None)) as found:
+        found.execute("CREATE TABLE notes (id INTEGER PRIMARY KEY, text TEXT, member INTEGER)")
+        found.executemany("INSERT INTO notes VALUES (?, ?, ?)", theirs)
+        found.execute("CREATE INDEX games_of ON games (event)")
+        found.execute("CREATE VIEW payers AS SELECT name FROM members")
+    verdict("a club before another program's table", (0, "sound"), club("shared.db", "verify"))
+    verdict("a move there", (0, "accepted ply 1 32-28"), move("shared.db", 1))
+    verdict("the move there again", (0, "repeated ply 1 32-28"), move("shared.db", 1))
+    verdict("a member there", (0, "accepted member 3"), club("shared.db", "member", "cora", "keycora33"))
+    with desk("shared.db") as port:
+        verdict("the desk shows a game there", (200, True), shown(port))
+    verdict("init there", (3, "store 70 Foreign"), club("shared.db", "init"))
+    verdict("the other program's rows stay", theirs, of_the_other("shared.db"))
+    verdict("a backup there", (0, "copied"), club("shared.db", "backup", "of_shared.db"))
+    verdict("the backup is the club", (0, "sound"), club("of_shared.db", "verify"))
+    with contextlib.closing(sqlite3.connect("of_shared.db")) as found:
+        names = {name for (name,) in found.execute("SELECT name FROM sqlite_schema WHERE sql IS NOT NULL")}
+    verdict("it has the club's tables alone", set(TABLES), names)
+
+
 def kept_as_the_file_is():
     """The log is made with the mode of the file, whoever makes it."""
     seated("group.db")
@@ -350,6 +380,7 @@ def main():
         other_files_are_left()
         databases_of_others_are_left()
         tables_by_other_texts()
+        beside_tables_with_rows()
         kept_as_the_file_is()
         moved_away_while_served()
     return int(bool(bad))
