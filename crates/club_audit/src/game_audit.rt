@@ -129,8 +129,9 @@ pub(crate) fn wrong_in_event(
     }
 }
 
-/// The first wrong table by all rows of one game, of the event of that row, with declarations or without, up to the last
-/// moment; none where they are those of a legal game. The rows of its positions may stand in any order, those of its moves stand by plies.
+/// The first wrong table by all rows of one game, of the event of that row, with declarations or without, up to the
+/// last moment; none where they are those of a legal game. The rows of its positions may stand in any order, those of
+/// its moves stand by plies.
 pub fn audit_game(
     alloc: Global,
     event: &EventRow,
@@ -140,9 +141,12 @@ pub fn audit_game(
     seen: &[SeenRow],
     last: Moment,
 ) -> Result<Option<Table>, Memory>
-    ensures sound { IfOk result (λ wrong. wrong ≡ None → AreOfEvent event.now declares last game.now moves.now seen.now) }
-    ensures complete { IfOk result (λ wrong. AreOfEvent event.now declares last game.now moves.now seen.now → wrong ≡ None) }
-    ensures first { IfOk result (IsFirstWrong (IsRightInEvent event.now declares (Some last) game.now moves.now seen.now)) }
+    ensures sound { IfOk result (λ wrong. wrong ≡ None →
+        AreOfEvent event.now declares last game.now moves.now seen.now) }
+    ensures complete { IfOk result (λ wrong. AreOfEvent event.now declares last game.now moves.now seen.now →
+        wrong ≡ None) }
+    ensures first { IfOk result (IsFirstWrong (IsRightInEvent event.now declares
+        (Some last) game.now moves.now seen.now)) }
 {
     let _within = last.seconds();
     let wrong = wrong_in_event(alloc, event, declares, game, moves, seen, Some(last))?;

@@ -169,9 +169,9 @@ fn seated(
     Ok(batch)
 }
 
-/// The orders that seat a round robin at a moment, a seat for each game of the Berger table, round after round, numbered
-/// from 1; before them it is asked whether each name is a member's. Refuses names that stand twice or that no member can
-/// have, keys that are none, and more or fewer players than a table has.
+/// The orders that seat a round robin at a moment, a seat for each game of the Berger table, round after round,
+/// numbered from 1; before them it is asked whether each name is a member's. Refuses names that stand twice or that no
+/// member can have, keys that are none, and more or fewer players than a table has.
 pub fn seats_of(alloc: Global, robin: &RoundRobin, moment: Moment) -> Result<Batch, Unseated>
     ensures requests { IfOk result (λ batch. map request_of batch.requests.items ≡
         map (seat_request robin.entry.now moment)

@@ -17,7 +17,8 @@ use Rattle.store_tables.specs.Content.{same_key, put}
 use Rattle.store_tables.proofs.Proved.{equal_ints}
 pub use Rattle.store_tables.proofs.Proved.{same_itself, same_by, put_had, put_kept}
 pub use Rattle.club_changes.proofs.PlacedRows.{same_list, had_at, AreAtPlaces, one_line}
-pub use Rattle.club_changes.proofs.PlacedIds.{pos_same, ids_agree, ids_same, numbered_had, numbered_has, numbered_length}
+pub use Rattle.club_changes.proofs.PlacedIds.{pos_same, ids_agree, ids_same, numbered_had, numbered_has}
+pub use Rattle.club_changes.proofs.PlacedIds.{numbered_length}
 pub use Rattle.club_changes.proofs.PlacedIds.{numbered_at, take_next}
 use Rattle.club_changes.specs.Steps.{HaveSame}
 

@@ -26,9 +26,9 @@ fn unread(fault: CallFault) -> CopyFault
     }
 }
 
-/// Makes the tables of a club in an empty database, and puts all rows of the club into them, in one transaction with one
-/// commit. The club is read and stays as it is. After a fault the copy has no table or is whole, also after a stop; where
-/// the fault is not the copy's, nothing was done to it. A database where tables of a club stand is left as it is.
+/// Makes the tables of a club in an empty database, and puts all rows of the club into them, in one transaction with
+/// one commit. The club is read and stays as it is. After a fault the copy has no table or is whole, also after a stop;
+/// where the fault is not the copy's, nothing was done to it. A database where tables of a club stand is left as it is.
 pub fn copy_tables<S: Alter, T: Alter>(
     alloc: Global,
     club: &mut Connection<S>,

@@ -659,7 +659,8 @@ still-shogi DM SM resign g still = tt
 still-shogi DM SM claim_time g still = tt
 still-shogi DM SM (declare ply) g still = tt
 
-pub unwrap-draughts : {DM SM : Type 0} (g : Game DM) (new : AnyGame DM SM) → IsLaterAny (draughts g) new → (later : Game DM)
+pub unwrap-draughts : {DM SM : Type 0} (g : Game DM) (new : AnyGame DM SM) → IsLaterAny (draughts g) new
+    → (later : Game DM)
     × (new ≡ draughts later) × IsLaterGame g later
 unwrap-draughts g (draughts later) is = (later, refl, is)
 unwrap-draughts g (shogi later) is = absurd is

@@ -9,8 +9,8 @@ use Rattle.club_lists.specs.Clock.{left_now}
 use Rattle.club_lists.specs.GameSummary.{Over, GameSummary}
 use Rattle.club_lists.specs.declared.board.BoardView.{BoardView}
 
--- the kind of a game, the names of its event and of its players, the diagram of its last position, and its moves as they
--- are written
+-- the kind of a game, the names of its event and of its players, the diagram of its last position, and its moves as
+-- they are written
 pub record Board : Type 0 where
   pub kind : GameKind
   pub event : List ℕ

@@ -1,6 +1,8 @@
 -- Rows by the ids of games: those that begin with the id of none.
-use Rattle.std.proofs.Common.{◌≡◌, ◌≢◌, ◌⊎◌, ℕ, ℤ, zero, suc, pos, ◌+◌, ◌<◌, ◌≤◌, ◌&&◌, Bool, true, false, not, List, [], ◌∷◌}
-use Rattle.std.proofs.Common.{length, map, filter, get_or, Some, refl, ap, sym, subst, ◌∙◌, arith, inl, inr, true≢false, Equal}
+use Rattle.std.proofs.Common.{◌≡◌, ◌≢◌, ◌⊎◌, ℕ, ℤ, zero, suc, pos, ◌+◌, ◌<◌, ◌≤◌, ◌&&◌, Bool, true, false, not, List}
+use Rattle.std.proofs.Common.{[], ◌∷◌}
+use Rattle.std.proofs.Common.{length, map, filter, get_or, Some, refl, ap, sym, subst, ◌∙◌, arith, inl, inr}
+use Rattle.std.proofs.Common.{true≢false, Equal}
 use Rattle.std.specs.Prelude.{slice_get}
 use Rattle.std.specs.Cmp.{tied_itself}
 use Rattle.std.specs.List.{AllByRecursion}

@@ -66,7 +66,8 @@ one-more k = omega arith
 heads : {A : Type 0} (x y : A) (xs ys : List A) → x ∷ xs ≡ y ∷ ys → (x ≡ y) × (xs ≡ ys)
 heads x y xs ys is = (cc, cc)
 
-pub row_id : (events : List Event) (n : ℕ) (any : ClubGame) → column (row_of_game both_games events n any) 0 ≡ Int (pos n)
+pub row_id : (events : List Event) (n : ℕ) (any : ClubGame)
+    → column (row_of_game both_games events n any) 0 ≡ Int (pos n)
 row_id events n (draughts g) = refl
 row_id events n (shogi g) = refl
 
@@ -79,7 +80,8 @@ numbered_begin row first n (x ∷ xs) zero low = first n x ∙ ap (λ m. Int (po
 numbered_begin row first n (x ∷ xs) (suc k) low = numbered_begin row first (suc n) xs k (omega (arith, low))
     ∙ ap (λ m. Int (pos m)) (next-is n k)
 
-pub begin_places : {A : Type 0} (row : ℕ → A → Row) → ((n : ℕ) (x : A) → column (row n x) 0 ≡ Int (pos n)) → (xs : List A)
+pub begin_places : {A : Type 0} (row : ℕ → A → Row) → ((n : ℕ) (x : A) → column (row n x) 0 ≡ Int (pos n))
+    → (xs : List A)
     → BeginWithPlaces (numbered_from row 1 xs)
 begin_places row first xs k low = numbered_begin row first 1 xs k low ∙ ap (λ m. Int (pos m)) (one-more k)
 
@@ -138,7 +140,11 @@ good_at oldest version s club db holds shape fault (inr (inl (n, named, other, h
     inr (inr (named ∙ ap Schema is, subst (λ k. ¬ IsNumberFrom oldest k) is other))
 good_at oldest version s club db holds shape fault (inr (inr (inl (named, none)))) =
     absurd (none version (tables_at version s) holds (shape, one_meta_row version s))
-good_at oldest version s club db holds shape fault (inr (inr (inr (t, named, none)))) = absurd (none version s club holds)
+good_at oldest version s club db holds shape fault (inr (inr (inr (
+  t,
+  named,
+  none,
+)))) = absurd (none version s club holds)
 
 -- the tables of a club alone answer as a club's
 pub good_in : (oldest version : Version) (s : ClubState) → IsClubOf version s → (db : Database)
@@ -180,7 +186,8 @@ good_fault s club db holds fault blamed = elim (good_in Current Current s club d
 -- ---- what was read
 
 -- rows with ids that are places were read as the list that they are
-pub ids_read : (table : Definition) (rows wanted : List Row) (old new : State) → IsReadAs table 1 rows old new → AreIds rows
+pub ids_read : (table : Definition) (rows wanted : List Row) (old new : State) → IsReadAs table 1 rows old new
+    → AreIds rows
     → Keeps table old.now.trees wanted → BeginWithPlaces wanted → rows ≡ wanted
 ids_read table rows wanted old new read ids keeps places =
     one_list rows wanted (in_order rows read.sorted ids) (places_rise wanted places)
@@ -194,7 +201,8 @@ one_last last moment number schema id (inr none) = absurd none
 
 -- rows of members that were read where those of a club stand are its own, and so are those of events
 pub members_kept : (s : ClubState) (rows : List MemberRow) (old new : State)
-    → Keeps (members 1) old.now.trees (tables_of both_games s 1) → IsReadAs (members 1) 1 (map member_cells rows) old new
+    → Keeps (members 1) old.now.trees (tables_of both_games s 1)
+    → IsReadAs (members 1) 1 (map member_cells rows) old new
     → map member_cells rows ≡ tables_of both_games s 1
 members_kept s rows old new keeps read =
     ids_read (members 1) (map member_cells rows) (tables_of both_games s 1) old new read

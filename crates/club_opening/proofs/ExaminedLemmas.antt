@@ -412,7 +412,8 @@ none_after : (table named : Table) (o : Option Table) → IsAfter table o → ((
     → order named ≤ order table → o ≡ None
 none_after table named None after other low = refl
 none_after table named (Some t) after other low =
-    let up = subst (λ (u : Table). order table < order u) (other t refl) (after t refl) in absurd (omega (arith, up, low))
+    let up = subst (λ (u : Table). order table < order u) (other t refl) (after t refl) in
+    absurd (omega (arith, up, low))
 
 none_named_of : (o : Option Table) → IsPlayed o → ((t : Table) → o ≡ Some t → t ≢ Meta) → o ≡ None
 none_named_of None played other = refl
@@ -476,7 +477,8 @@ module _ (rows : Rows) (last : Option ℕ) (k : ℕ) (game : GameRecord) (ms ss 
         ∙ ap (λ n. length (past n (moves_in old.now.trees))) (next_suc k));
     seen_left = λ none s of.
         let id = game_id none s of in
-        let own : b ≡ length (beginning_with (pos (suc k)) (seen_in old.now.trees)) = is.seen_number (λ t named. absurd (none_some v t named (one_of.none none).1))
+        let own : b ≡ length (beginning_with (pos (suc k)) (seen_in old.now.trees)) = is.seen_number
+        (λ t named. absurd (none_some v t named (one_of.none none).1))
         ∙ (λ i. length (beginning_with (id i) (seen_in (trees_same_after i)))) in
         ap (λ n. ss - n) own
         ∙ (taken ss _ _ _ (was.seen_left (one_of.none none).0 s of) (past_step k (seen_in old.now.trees))
@@ -498,7 +500,8 @@ module _ (rows : Rows) (last : Option ℕ) (k : ℕ) (game : GameRecord) (ms ss 
         ∙ ap (λ n. length (past n (moves_in old.now.trees))) (next_suc k));
     seen_rest = λ free s people.
         let id = id_in (played_after u free) s people in
-        let own : b ≡ length (beginning_with (pos (suc k)) (seen_in old.now.trees)) = is.seen_number (seen_after v (both_played w v u one_of free).1)
+        let own : b ≡ length (beginning_with (pos (suc k)) (seen_in old.now.trees)) = is.seen_number (seen_after v
+        (both_played w v u one_of free).1)
         ∙ (λ i. length (beginning_with (id i) (seen_in (trees_same_after i)))) in
         ap (λ n. ss - n) own
         ∙ (taken ss _ _ _ (was.seen_rest (both_played w v u one_of free).0 s people)
@@ -521,7 +524,8 @@ module _ (rows : Rows) (last : Option ℕ) (k : ℕ) (game : GameRecord) (ms ss 
         elim (last_or n k (omega (arith, low))) [
           | inr less ↦ was.moves_right before s people n other less there
           | inl same ↦
-              let both : ◌≡◌ {A = Option GameRecord} (Some game) (Some other) = sym at ∙ (ap (slice_get rows.games.items) (sym same) ∙ there) in
+              let both : ◌≡◌ {A = Option GameRecord} (Some game) (Some other) = sym at
+              ∙ (ap (slice_get rows.games.items) (sym same) ∙ there) in
               subst (HasMovesOf rows (moves_in old.now.trees)) (same_Some game other both)
               (subst (λ t. HasMovesOf rows (moves_in t) game) trees_same_after (is.moves_right here s people))
         ];

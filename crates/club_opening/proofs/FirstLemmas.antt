@@ -12,7 +12,8 @@ use Rattle.sqlite.proofs.Callers.{unchanged_then}
 use Rattle.sqlite_rules.specs.Lists.{Has}
 use Rattle.sqlite_rules.proofs.ListLemmas.{all_has, has_got}
 use Rattle.store_tables.specs.Beside.{IsBeside}
-use Rattle.store_tables.specs.Cells.{IsChallenge, IsEvent, IsEventRule, IsGame, IsMember, IsMove, IsSeen, challenge_cells}
+use Rattle.store_tables.specs.Cells.{IsChallenge, IsEvent, IsEventRule, IsGame, IsMember, IsMove, IsSeen}
+use Rattle.store_tables.specs.Cells.{challenge_cells}
 use Rattle.store_tables.specs.Cells.{event_cells, event_rule_cells, game_cells, member_cells}
 use Rattle.store_tables.specs.Changes.{HaveSame}
 use Rattle.store_tables.specs.Content.{AreApart, Keeps}
@@ -135,11 +136,12 @@ types_none table definition IsTyped IsSo old e typed (inr (inr (named, wrong))) 
 
 pub member_types_wrong : (old : State) (e : OpenFault) → Blames Members (members 1) IsMember old e
     → NamesWrong Members old.now e
-member_types_wrong old e = types_none Members (members 1) IsMember (IsRight Members) old e (λ version content holds club. (
-  stores_of (members 1) 1 refl refl version old.now content holds,
-  types_same IsMember (content 1) (tables_at version club.state 1) (club.same Members tt (omega arith)).there
-      (typed_at version club.state (club_of_version version club.state club.legal) Members),
-))
+member_types_wrong old e = types_none Members (members 1) IsMember (IsRight Members) old e
+    (λ version content holds club. (
+      stores_of (members 1) 1 refl refl version old.now content holds,
+      types_same IsMember (content 1) (tables_at version club.state 1) (club.same Members tt (omega arith)).there
+          (typed_at version club.state (club_of_version version club.state club.legal) Members),
+    ))
 
 pub event_types_wrong : (old : State) (e : OpenFault) → Blames Events (events 4) IsEvent old e
     → NamesWrong Events old.now e
@@ -286,7 +288,8 @@ sooner version t u content low club = record {
   same = λ v there lower. club.same v there (omega (arith, low, lower));
 }
 
-people_upto : (version : Version) (t : Table) (content : Content) → order t ≤ order EventRules → AreOfClub version t content
+people_upto : (version : Version) (t : Table) (content : Content) → order t ≤ order EventRules
+    → AreOfClub version t content
     → (u : Table) → order u ≤ order t → IsRight u version content
 people_upto version t content few club =
     upto (order t) (λ u. IsRight u version content) (sooner version t Members content (omega arith) club)
@@ -586,7 +589,8 @@ module _ (db : Database) (rows : Rows) (e : OpenFault)
     | inr ((cs, are), inr (inl (named, played, none))) ↦ record {
       before = λ u low.
           let less = subst (λ (v : Table). order u < order v) named low in
-          all_upto version content Seen (seen_of version content holds cs are played) (have version content holds cs are)
+          all_upto version content Seen (seen_of version content holds cs are played)
+          (have version content holds cs are)
           (moves_of version content holds played.seated.moves) u (omega (arith, less));
       named = λ club.
           none version content holds
@@ -617,7 +621,8 @@ moves_types_wrong rows old e blames t is =
     let (named, none) = types_none Moves (moves 8) IsMove (λ version content. HaveMovesOf rows (moves_in old.now.trees))
     old e
     (λ version content holds have.
-    let stored : Stores (moves 8) old.now.trees content = stores_of (moves 8) 4 refl refl version old.now content holds in
+    let stored : Stores (moves 8) old.now.trees content = stores_of
+    (moves 8) 4 refl refl version old.now content holds in
     let same = kept_same (moves 8) old.now (content 8) (moves_in old.now.trees) stored.rows
     (keeps_shown (moves 8) old.now.trees) in
     (stored, types_same IsMove (content 8) (moves_in old.now.trees) same.there have.typed))
@@ -762,31 +767,12 @@ has_people rows ms are_ms es are_es are_rules =
       record { members = are_ms; events = made.events_are; rules = made.rules_are },
     )
 
--- ---- the head names no table
-
-pub store_undamaged : (e : OpenFault) → e ≡ Store → (t : Table) → e ≢ Damaged t
-store_undamaged e named t is = let both : ◌≡◌ {A = OpenFault} Store (Damaged t) = sym named ∙ is in absurd cc
-
-pub memory_undamaged : (e : OpenFault) → e ≡ Memory → (t : Table) → e ≢ Damaged t
-memory_undamaged e named t is = let both : ◌≡◌ {A = OpenFault} Memory (Damaged t) = sym named ∙ is in absurd cc
-
-pub foreign_undamaged : (e : OpenFault) → e ≡ Foreign → (t : Table) → e ≢ Damaged t
-foreign_undamaged e named t is = let both : ◌≡◌ {A = OpenFault} Foreign (Damaged t) = sym named ∙ is in absurd cc
-
-pub schema_undamaged : (n : ℤ) (e : OpenFault) → e ≡ Schema n → (t : Table) → e ≢ Damaged t
-schema_undamaged n e named t is = let both : ◌≡◌ {A = OpenFault} (Schema n) (Damaged t) = sym named ∙ is in absurd cc
-
-pub told_undamaged : (db : Database) (e : OpenFault) → (e ≡ Store) ⊎ ((e ≡ Memory) ⊎ NamesSchema First db e)
-    → (t : Table) → e ≢ Damaged t
-told_undamaged db e (inl store) t is = store_undamaged e store t is
-told_undamaged db e (inr (inl memory)) t is = memory_undamaged e memory t is
-told_undamaged db e (inr (inr (n, named, none, has))) t is = schema_undamaged n e named t is
-
 -- ---- challenges that were read
 
 -- what the audit lets pass of the rows that were read is right in whatever content the database may hold, and back
 module _ (rows : Rows) (version : Version) (old new : State) (read : AreRead version rows old new) (ms : List Member)
-    (are_ms : AreMembers ms rows.members.items) (es : List Event) (are_es : AreEvents es rows.events.items) (v : Version)
+    (are_ms : AreMembers ms rows.members.items) (es : List Event) (are_es : AreEvents es rows.events.items)
+    (v : Version)
     (content : Content) (holds : HoldsRows v content old.now) where
   stored_challenges : Stores (challenges 6) old.now.trees content
   stored_challenges = stores_of (challenges 6) 3 refl refl v old.now content holds

@@ -38,10 +38,11 @@ use Rattle.club_opening.specs.Examined.{moves_in}
 use Rattle.club_opening.specs.Versions.{HoldsRows}
 use Rattle.club_opening.proofs.ChallengedLemmas.{challenges_once, challenges_right, right_challenges}
 use Rattle.club_opening.proofs.FirstLemmas.{first_games, first_known, first_moves, first_none, kept_same}
-use Rattle.club_opening.proofs.FirstLemmas.{memory_undamaged, store_undamaged, stores_of}
+use Rattle.club_opening.proofs.FirstLemmas.{stores_of}
 use Rattle.club_opening.proofs.BlameLemmas.{read_after}
 use Rattle.club_opening.proofs.ClubLemmas.{typed_at}
 use Rattle.club_opening.proofs.StoredLemmas.{club_of_version}
+use Rattle.club_opening.proofs.UndamagedLemmas.{memory_undamaged, store_undamaged}
 use Rattle.club_opening.specs.declared.fault.OpenFault.{OpenFault}
 use Rattle.club_opening.specs.declared.fault.OpenFault.TheVariants.{Damaged, Memory, Store}
 

@@ -18,4 +18,5 @@ pub mod PlayedLemmas
 pub mod Proved
 pub mod RegisterLemmas
 pub mod StoredLemmas
+pub mod UndamagedLemmas
 pub mod UntypedLemmas

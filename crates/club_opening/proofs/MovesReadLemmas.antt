@@ -99,7 +99,8 @@ module _ (trees : Trees) (unique : AreUnique trees) (apart : AreApart (trees 8))
       subst (λ (y : Row). IsInt (column y 0)) (sym is) (typed r stored).game
 
   -- those of one game rise
-  read_rises : (n : ℤ) (rows : List Row) (old new : State) → old.now.trees ≡ trees → AreReadOf (moves 8) 2 n rows old new
+  read_rises : (n : ℤ) (rows : List Row) (old new : State) → old.now.trees ≡ trees
+      → AreReadOf (moves 8) 2 n rows old new
       → IsAscending Before rows
   read_rises n rows old new here read =
       let shown = moves_in trees in
@@ -117,7 +118,8 @@ module _ (trees : Trees) (unique : AreUnique trees) (apart : AreApart (trees 8))
       (stored_apart trees unique.moves apart (λ r h. let is = typed r h in (is.game, is.ply)))))
 
   -- where the table has those of a legal game, they are it
-  read_are : {P M E T : Type 0} (rules : GameRules P M E T) (terms : Terms) (game : GameRecord) (rows other : List MoveRow)
+  read_are : {P M E T : Type 0} (rules : GameRules P M E T) (terms : Terms) (game : GameRecord)
+      (rows other : List MoveRow)
       (old new : State) → old.now.trees ≡ trees → AreReadOf (moves 8) 2 game.id (map move_cells rows) old new
       → HaveSame (beginning_with game.id (moves_in trees)) (map move_cells other) → AreMovesOf rules terms game other
       → AreMovesOf rules terms game rows
@@ -251,7 +253,8 @@ module _ (rows : Rows) (place : ℕ) (game : GameRecord) (ms : List MoveRow) (ss
       let both : HaveSame (map move_cells ms) made =
       same_on (map move_cells ms) (beginning_with (pos (1 + place)) shown) made
       (same_back _ _ (turned_same _ (map move_cells ms) own.once)) group in
-      let moves_are = one_rising (map move_cells ms) made rise (game_rise s.events (1 + place) g) both.there both.back in
+      let moves_are = one_rising (map move_cells ms) made rise (game_rise s.events
+      (1 + place) g) both.there both.back in
       let here : IsGameAt s (1 + place) game ms g =
       record { legal = have.legal.games place g stands; row_is = cells_are; moves_are = moves_are } in
       record {
@@ -285,7 +288,8 @@ module _ (rows : Rows) (place : ℕ) (game : GameRecord) (ms : List MoveRow) (ss
       let all : AreAllOf s (place + 1) game ms ss has.it =
       record {
         at = has.at;
-        seen_are = subst (λ n. AreEachOnce (map seen_cells ss) (rows_of_seen both_games n has.it)) (next place) seen_are;
+        seen_are = subst (λ n. AreEachOnce (map seen_cells ss) (rows_of_seen both_games n has.it))
+            (next place) seen_are;
       } in
       let none : Option ℕ = None in
       let right = club-right s rows have.games.people place game ms ss none legal.last has.low has.it all

@@ -63,7 +63,8 @@ event_parts : (a b : EventRow) → event_cells a ≡ event_cells b
     → (a.id ≡ b.id) × (a.game ≡ b.game) × (a.budget ≡ b.budget) × (a.increment ≡ b.increment)
 event_parts a b is = (cc, cc, cc, cc)
 
-game_parts : (a b : GameRecord) → game_cells a ≡ game_cells b → (a.id ≡ b.id) × (a.event ≡ b.event) × (a.start ≡ b.start)
+game_parts : (a b : GameRecord) → game_cells a ≡ game_cells b
+    → (a.id ≡ b.id) × (a.event ≡ b.event) × (a.start ≡ b.start)
 game_parts a b is = (cc, cc, cc)
 
 rule_parts : (id said : ℤ) (rule : EventRuleRow) → Int id ∷ Int said ∷ [] ≡ event_rule_cells rule
@@ -100,7 +101,8 @@ event_id : (s : ClubState) (rows : Rows) → HasPeople s rows → (id : ℕ) (ev
     → place rows.events.items id ≡ Some event → event.id ≡ pos id
 event_id s rows people zero event at = cc
 event_id s rows people (suc n) event at =
-    let (e, stands, is) = numbered-at event_cells event_row 1 rows.events.items s.events people.events.rows_are n event at
+    let (e, stands, is) = numbered-at event_cells event_row 1 rows.events.items s.events people.events.rows_are n
+    event at
     in
     let same : ◌≡◌ {A = ℤ} event.id (pos (1 + n)) = cc in same ∙ ap pos (one_more n)
 
@@ -108,7 +110,8 @@ rule_id : (s : ClubState) (rows : Rows) → HasPeople s rows → (id : ℕ) (rul
     → place rows.event_rules.items id ≡ Some rule → rule.event ≡ pos id
 rule_id s rows people zero rule at = cc
 rule_id s rows people (suc n) rule at =
-    let (e, stands, is) = numbered-at event_rule_cells rule_row 1 rows.event_rules.items s.events people.rules n rule at in
+    let (e, stands, is) = numbered-at event_rule_cells rule_row 1 rows.event_rules.items s.events people.rules n rule
+    at in
     let same : ◌≡◌ {A = ℤ} rule.event (pos (1 + n)) = cc in same ∙ ap pos (one_more n)
 
 -- where no event declares, each row says so
@@ -130,8 +133,8 @@ none_placed : (rules : List EventRuleRow) (events_rows : List EventRow)
 none_placed rules es are zero rule at = cc
 none_placed rules es are (suc n) rule at = none_says rules es are n rule at
 
--- The games of rows, by which their moves are judged: each row that has the types of its columns is that of one of them,
--- and each of them is that of such a row or names no event; and both have the same ids.
+-- The games of rows, by which their moves are judged: each row that has the types of its columns is that of one of
+-- them, and each of them is that of such a row or names no event; and both have the same ids.
 pub record AreGamesIn (listed : List GameRecord) (rows : List Row) : Type 0 where
   pub there : (game : GameRecord) → Has rows (game_cells game) → (other : GameRecord) × Has listed other
       × (game_cells game ≡ game_cells other)
@@ -165,7 +168,8 @@ module _ (rows : Rows) (version : Version) (old new : State)
   events_same = kept_same (events 4) old.now (content 4) (map event_cells rows.events.items)
       (stores_of (events 4) 2 refl refl v old.now content holds).rows kept_events
 
-  declared : (w : Version) → HoldsRows w content old.now → AreRulesRead w rows.events.items rows.event_rules.items old new
+  declared : (w : Version) → HoldsRows w content old.now
+      → AreRulesRead w rows.events.items rows.event_rules.items old new
       → (game : GameRecord) (id : ℕ) (declares : Bool) → NamesRule rows game id declares
       → DeclaresIn w content (pos id) declares
   declared First held told game id declares ruled =
@@ -221,14 +225,17 @@ module _ (rows : Rows) (version : Version) (old new : State)
       }
 
   -- the rules of the event at a place, by what the file says of it
-  ruled_back : (w : Version) → HoldsRows w content old.now → AreRulesRead w rows.events.items rows.event_rules.items old new
+  ruled_back : (w : Version) → HoldsRows w content old.now
+      → AreRulesRead w rows.events.items rows.event_rules.items old new
       → (game : GameRecord) (n : ℕ) → game.event ≡ pos (suc n) → (event : EventRow)
       → slice_get rows.events.items n ≡ Some event → (declares : Bool) → DeclaresIn w content (pos (suc n)) declares
       → NamesRule rows game (suc n) declares
   ruled_back First held told game n is event at declares none =
-      let (e, stands, cells_are) = numbered-at event_cells event_row 1 rows.events.items s.events people.events.rows_are n
+      let (e, stands, cells_are) = numbered-at event_cells event_row 1 rows.events.items s.events
+      people.events.rows_are n
       event at in
-      let (rule, there, rule_is) = numbered-back event_rule_cells rule_row 1 rows.event_rules.items s.events people.rules
+      let (rule, there, rule_is) = numbered-back event_rule_cells rule_row 1 rows.event_rules.items s.events
+      people.rules
       n e stands in
       record {
         event_is = is;
@@ -286,7 +293,8 @@ module _ (rows : Rows) (version : Version) (old new : State)
             record {
               moves = its.moves;
               same = subst (λ (k : ℤ). HaveSame (beginning_with k (content 8)) (map move_cells its.moves)) (sym id)
-                  (same_on (beginning_with its_game.id (content 8)) (beginning_with its_game.id (moves_in old.now.trees))
+                  (same_on (beginning_with its_game.id (content 8)) (beginning_with its_game.id
+                  (moves_in old.now.trees))
                   (map move_cells its.moves)
                   (filtered_same (λ x. same_key (0 ∷ []) x (Int its_game.id ∷ [])) (content 8) (moves_in old.now.trees)
                   shown_same)

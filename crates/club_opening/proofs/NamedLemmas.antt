@@ -19,7 +19,7 @@ use Rattle.club_opening.specs.KnownGames.{NamesUntyped}
 use Rattle.club_opening.specs.RightTables.{IsLater, IsOfPlay, NamesPlayed}
 use Rattle.club_opening.specs.declared.fault.OpenFault.{OpenFault}
 use Rattle.club_opening.specs.declared.fault.OpenFault.TheVariants.{Damaged, Memory, Store}
-use Rattle.club_opening.proofs.FirstLemmas.{memory_undamaged, store_undamaged}
+use Rattle.club_opening.proofs.UndamagedLemmas.{memory_undamaged, store_undamaged}
 
 moves_or : (t : Table) → (t ≡ Moves) ⊎ (t ≢ Moves)
 moves_or Moves = inl refl

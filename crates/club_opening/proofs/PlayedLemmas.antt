@@ -1,5 +1,6 @@
 -- The tables of a file up to the scores, where at most `meta` is wrong, and the scores that are no club's.
-use Rattle.std.proofs.Common.{◌≡◌, ◌≢◌, ◌⊎◌, ℕ, ◌≤◌, false, true, true≢false, List, [], ◌∷◌, length, map, Option, Some, None}
+use Rattle.std.proofs.Common.{◌≡◌, ◌≢◌, ◌⊎◌, ℕ, ◌≤◌, false, true, true≢false, List, [], ◌∷◌, length, map, Option}
+use Rattle.std.proofs.Common.{Some, None}
 use Rattle.std.proofs.Common.{refl, ap, sym, subst, ◌∙◌, arith, inl, inr}
 use Rattle.std.proofs.lemmas.List.{take_all}
 use Rattle.std.proofs.lemmas.Option.{same_Some}
@@ -52,15 +53,16 @@ use Rattle.store_tables.specs.Rows.{HaveIds}
 use Rattle.club_opening.proofs.StoredLemmas.{unique_of}
 use Rattle.club_opening.proofs.ExaminedLemmas.{played_after}
 use Rattle.club_opening.proofs.ClubLemmas.{begin_places, ids_read, row_id, typed_at}
-use Rattle.club_opening.proofs.FirstLemmas.{damaged_same, foreign_undamaged, kept_rules, kept_same, memory_undamaged}
+use Rattle.club_opening.proofs.FirstLemmas.{damaged_same, kept_rules, kept_same}
 use Rattle.club_opening.proofs.FirstLemmas.{none_said, of_either}
-use Rattle.club_opening.proofs.FirstLemmas.{rules_in, schema_undamaged, store_undamaged, stores_of, types_none}
+use Rattle.club_opening.proofs.FirstLemmas.{rules_in, stores_of, types_none}
 use Rattle.club_opening.proofs.FirstLemmas.{types_same}
 use Rattle.club_opening.proofs.GroupRows.{seen_had}
 use Rattle.club_opening.proofs.OnceLemmas.{each_once, score_key}
 use Rattle.club_opening.proofs.PastLemmas.{table_gathered}
 use Rattle.club_opening.proofs.RegisterLemmas.{keeps_same, keeps_shown, none_declared, stored_same}
 use Rattle.club_opening.proofs.StoredLemmas.{club_of_version, one_of}
+use Rattle.club_opening.proofs.UndamagedLemmas.{foreign_undamaged, memory_undamaged, schema_undamaged, store_undamaged}
 
 -- ---- scores
 
@@ -226,7 +228,8 @@ module _ (rows : Rows) (version : Version) (old mid : State) (read : AreRead ver
         (kept_rules version rows.events.items rows.event_rules.items old mid read.rules (sym is)))
 
     -- the rows of each table up to the games
-    same_plain : (u : Table) → order u ≤ order Games → HasTable u version → HaveSame (rows_in u content) (rows_in u (tables_of both_games all))
+    same_plain : (u : Table) → order u ≤ order Games → HasTable u version
+        → HaveSame (rows_in u content) (rows_in u (tables_of both_games all))
     same_plain Members low there =
         subst (HaveSame (content 1)) are_ms.rows_are
         (kept_same (members 1) old.now (content 1) (map member_cells rows.members.items)
@@ -258,7 +261,10 @@ module _ (rows : Rows) (version : Version) (old mid : State) (read : AreRead ver
     games_at = record {
       state = all;
       legal = legal;
-      same = λ u there low. subst (HaveSame (rows_in u content)) (sym (rows_at version all u (omega (arith, low)) there))
+      same = λ u there low. subst (HaveSame (rows_in u content)) (sym (rows_at version all u (omega (
+        arith,
+        low,
+      )) there))
           (same_plain u low there);
     }
 

@@ -258,7 +258,8 @@ module _ (version : Version) (rows : Rows) (last : Option ℕ) (old mid new : St
         (subst (λ n. length (past n (moves_in mid.now.trees)) ≡ 0) (sym found.played.number_of) none.moves)
         found.played.moves_are in
         let are_seen : HaveSame (seen_in mid.now.trees) (tables_of both_games t 12) =
-        table_gathered (rows_of_seen both_games) (λ id g z h. seen_had id g z h) (seen_in mid.now.trees) found.played.games
+        table_gathered (rows_of_seen both_games) (λ id g z h. seen_had id g z h)
+        (seen_in mid.now.trees) found.played.games
         (subst (λ n. length (past n (seen_in mid.now.trees)) ≡ 0) (sym found.played.number_of) none.seen)
         found.seen_are in
         let are_scores = scores.are t (record { few = few; rows_are = rows_are }) in
@@ -385,7 +386,8 @@ play_blamed oldest version rows old mid later fault has read same blamed = elim
             is,
             λ other s club holds.
                 none other s club
-                (club_read_as version other s club rows old mid has holds read (have_ids version rows old mid read)) holds,
+                (club_read_as version other s club rows old mid has holds read
+                (have_ids version rows old mid read)) holds,
           )))
     ]
 

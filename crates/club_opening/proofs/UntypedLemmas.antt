@@ -1,5 +1,6 @@
 -- What is found of a game whose rows of positions have values of other types than their columns.
-use Rattle.std.proofs.Common.{◌≡◌, ◌⊎◌, ◌≤◌, ℕ, List, [], map, length, Option, Some, inl, inr, refl, ap, sym, ◌∙◌, arith}
+use Rattle.std.proofs.Common.{◌≡◌, ◌⊎◌, ◌≤◌, ℕ, List, [], map, length, Option, Some, inl, inr, refl, ap, sym, ◌∙◌}
+use Rattle.std.proofs.Common.{arith}
 use Rattle.std.specs.Prelude.{slice_get}
 use Rattle.std.proofs.lemmas.List.{length-map}
 use Rattle.std.proofs.lemmas.List.Sorted.{length_permutation}
@@ -42,7 +43,8 @@ pub seen_untyped : (old : State) (e : ReadFault) → e ≡ Mistyped → BlamesRe
 seen_untyped old e is (inl store) = let both : Mistyped ≡ ReadStore = sym is ∙ store in absurd cc
 seen_untyped old e is (inr (inl memory)) = let both : Mistyped ≡ ReadMemory = sym is ∙ memory in absurd cc
 seen_untyped old e is (inr (inr (named, wrong))) = λ version content holds typed.
-    let stored : Stores (seen 12) old.now.trees content = stores_of (seen 12) 6 refl refl version old.now content holds in
+    let stored : Stores (seen 12) old.now.trees content = stores_of
+    (seen 12) 6 refl refl version old.now content holds in
     wrong (content 12) stored.rows stored.apart typed
 
 -- or another fault

@@ -203,8 +203,8 @@ pub fn examine<S: Alter>(alloc: Global, conn: &mut Connection<S>) -> Result<(), 
         IsClubSchema (state S.Store conn.old).now.schema →
         ((state S.Store conn.old).now.schema ≡ club_schema) ×
         IsUnchanged (state S.Store conn.old) (state S.Store conn.new)) }
-    // Where its tables stand, alone or beside what other programs made, nothing was changed; and they have the rows of a
-    // legal club.
+    // Where its tables stand, alone or beside what other programs made, nothing was changed; and they have the rows of
+    // a legal club.
     ensures stays { HasCleanDisk (state S.Store conn.new) → OnOk result (
         IsBeside club_schema (state S.Store conn.old).now.schema →
         IsUnchanged (state S.Store conn.old) (state S.Store conn.new)) }

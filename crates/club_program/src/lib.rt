@@ -1,4 +1,5 @@
-//! What the program does, from its words to its exit status: an officer's order or orders over one file, or the desk over it.
+//! What the program does, from its words to its exit status: an officer's order or orders over one file, or the desk
+//! over it.
 #![tactic(auto)]
 
 ghost use Rattle.std.specs.Prelude.{◌≤◌};

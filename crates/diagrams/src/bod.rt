@@ -3,7 +3,8 @@ ghost use Rattle.std.specs.Prelude.{◌≡◌, ◌++◌, ◌<◌, ◌≤◌, OnO
 ghost use Rattle.diagrams.specs.BodNames.{side_mark, role_name, digit_name, count_name, cell_text};
 ghost use Rattle.diagrams.specs.BodNames.{empty_square, ten, wide_blank, nothing};
 ghost use Rattle.diagrams.specs.BodDiagram.{squares_text, rank_text, heading, border, ranks_text, held_text};
-ghost use Rattle.diagrams.specs.BodDiagram.{kinds_text, hand_text, hand_line, board_text, bod_text, hand_name, turn_line};
+ghost use Rattle.diagrams.specs.BodDiagram.{kinds_text, hand_text, hand_line, board_text, bod_text, hand_name};
+ghost use Rattle.diagrams.specs.BodDiagram.{turn_line};
 ghost use Rattle.diagrams.specs.ShogiLines.{hand_kinds};
 
 use crate::shogi::piece_at;
@@ -256,8 +257,8 @@ fn turn_line(side: Side) -> &'static str
 
 /// The diagram of a position of shogi that Japanese programs read and write (BOD), in UTF-8: White's hand, the numbers
 /// of the files, the nine ranks from file 9 to file 1, and Black's hand. A piece is its name of one character, after a
-/// `v` where it is White's; a count above 1 stands behind the kind's name. A last line says that White is to move; there
-/// is none where Black is.
+/// `v` where it is White's; a count above 1 stands behind the kind's name. A last line says that White is to move;
+/// there is none where Black is.
 ///
 /// It fails where memory is refused, and then alone.
 pub fn write_bod(alloc: Global, position: &SPos) -> Result<String, Memory>

@@ -111,7 +111,8 @@ module _ (b : Cells) (d : Direction) (of : Squares) (are : (n : ℕ) → set.con
             ] refl
       ] refl
 
-  from_ray : (n m : ℕ) → is_in n (clear_front b (ray d m)) ≡ cut n (find (set.contains of) (ray d m)) (is_in n (ray d m))
+  from_ray : (n m : ℕ)
+      → is_in n (clear_front b (ray d m)) ≡ cut n (find (set.contains of) (ray d m)) (is_in n (ray d m))
   unfolding ray
   from_ray n m = elim (ray-off d m) [
     | inl on ↦ along n 9 m (omega arith) (ray-ends d m on)

@@ -1,5 +1,6 @@
 -- The moves of a position, computed.
-use Rattle.std.specs.Prelude.{◌≡◌, ℕ, ◌+◌, Bool, false, not, cond, length, ◌&&◌, Option, Some, None, is_none, is_some, List, []}
+use Rattle.std.specs.Prelude.{◌≡◌, ℕ, ◌+◌, Bool, false, not, cond, length, ◌&&◌, Option, Some, None, is_none}
+use Rattle.std.specs.Prelude.{is_some, List, []}
 use Rattle.std.specs.Prelude.{◌∷◌, ◌++◌, max, count_by, fold, map, take, nat_lt, ◌||◌, ◌==◌, option_and_then}
 use Rattle.std.specs.Prelude.{if◌then◌else◌}
 use Rattle.std.specs.Option.{option_map_or}

@@ -11,7 +11,8 @@ use Rattle.matchit.specs.declared.error.InsertError.{InsertError}
 use Rattle.http_desk.specs.declared.routes.TheConstants.{TABLE}
 use Rattle.http_desk.specs.declared.routes.Page.{Page}
 use Rattle.http_desk.specs.declared.routes.Page.TheVariants.{AskGame, AskEvent, AskMember}
-use Rattle.http_desk.specs.declared.routes.Page.TheVariants.{MakeMove, OfferDraw, AcceptDraw, Resign, ClaimTime, Declare}
+use Rattle.http_desk.specs.declared.routes.Page.TheVariants.{MakeMove, OfferDraw, AcceptDraw, Resign, ClaimTime}
+use Rattle.http_desk.specs.declared.routes.Page.TheVariants.{Declare}
 use Rattle.http_desk.specs.declared.routes.Page.TheVariants.{Challenge, Withdraw, Answer, Members}
 use Rattle.http_desk.specs.declared.questions.OfGame.{OfGame}
 use Rattle.http_desk.specs.declared.questions.OfEvent.{OfEvent}

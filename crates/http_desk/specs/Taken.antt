@@ -4,7 +4,8 @@ use Rattle.matchit.specs.Params.{walk, named}
 use Rattle.matchit.specs.declared.params.Params.{Params}
 use Rattle.http_desk.specs.declared.routes.Page.{Page}
 use Rattle.http_desk.specs.declared.routes.Page.TheVariants.{AskGame, AskEvent, AskMember}
-use Rattle.http_desk.specs.declared.routes.Page.TheVariants.{MakeMove, OfferDraw, AcceptDraw, Resign, ClaimTime, Declare}
+use Rattle.http_desk.specs.declared.routes.Page.TheVariants.{MakeMove, OfferDraw, AcceptDraw, Resign, ClaimTime}
+use Rattle.http_desk.specs.declared.routes.Page.TheVariants.{Declare}
 use Rattle.http_desk.specs.declared.routes.Page.TheVariants.{Challenge, Withdraw, Answer, Members}
 use Rattle.http_desk.specs.Routes.{Asked, members_page, question, challenge, withdraw, of_member}
 use Rattle.http_desk.specs.Routes.{make_move, offer_draw, accept_draw, resign, claim_time, declare}

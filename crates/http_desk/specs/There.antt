@@ -4,7 +4,8 @@ use Rattle.matchit.specs.Order.{lookup}
 use Rattle.matchit.specs.Route.{Scan, parse_route}
 use Rattle.http_desk.specs.declared.routes.Page.{Page}
 use Rattle.http_desk.specs.declared.routes.Page.TheVariants.{AskGame, AskEvent, AskMember}
-use Rattle.http_desk.specs.declared.routes.Page.TheVariants.{MakeMove, OfferDraw, AcceptDraw, Resign, ClaimTime, Declare}
+use Rattle.http_desk.specs.declared.routes.Page.TheVariants.{MakeMove, OfferDraw, AcceptDraw, Resign, ClaimTime}
+use Rattle.http_desk.specs.declared.routes.Page.TheVariants.{Declare}
 use Rattle.http_desk.specs.declared.routes.Page.TheVariants.{Challenge, Withdraw, Answer, Members}
 use Rattle.http_desk.specs.declared.questions.OfGame.TheVariants.{View, Moves, Record, Clock}
 use Rattle.http_desk.specs.declared.questions.OfEvent.TheVariants as of_events

@@ -1,7 +1,8 @@
 -- The line that is written of a connection: moment, method, path, status and the name of the member who asked. The key
 -- that was shown is no part of it.
 -- And the line of an order of the officer's: moment, `officer`, its word, and the status with which that ends.
-use Rattle.std.specs.Prelude.{◌≡◌, ◌⊎◌, ◌++◌, ◌+◌, ◌-◌, ◌^◌, ℕ, List, [], Option, Some, None, Result, Ok, Err, codes, decimal}
+use Rattle.std.specs.Prelude.{◌≡◌, ◌⊎◌, ◌++◌, ◌+◌, ◌-◌, ◌^◌, ℕ, List, [], Option, Some, None, Result, Ok, Err, codes}
+use Rattle.std.specs.Prelude.{decimal}
 use Rattle.std.specs.Prelude.{Bool, take, min, nat_lt, option_and_then, option_map, string_bytes, if◌then◌else◌}
 use Rattle.std.specs.Char.{is_ascii_graphic}
 use Rattle.std.specs.Io.KnownBytes.{Appends}

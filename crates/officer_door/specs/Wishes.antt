@@ -11,8 +11,8 @@ use Rattle.officer_door.specs.declared.orders.Errand.{Errand}
 use Rattle.officer_door.specs.declared.said.Said.{Said}
 use Rattle.officer_door.specs.declared.said.Said.TheVariants.{Part, File, Order, Nothing}
 
--- the words of an order, one behind the other, say what the desk is to do, as the program's own words do; bytes that are
--- no text are no words
+-- the words of an order, one behind the other, say what the desk is to do, as the program's own words do; bytes that
+-- are no text are no words
 abbrev pub IsErrandSaid : (words text : List ℕ) → Option Errand → Type 0
 IsErrandSaid words text errand =
     ((read : Words) × AreSaid (parted words) read × IsErrandOf read text errand)

@@ -1,5 +1,6 @@
 -- The laws of the table, from what was computed.
-use Rattle.std.proofs.Common.{◌≡◌, ◌≢◌, ◌+◌, ◌-◌, ◌<◌, ◌≤◌, ℕ, List, [], ◌∷◌, map, filter, length, Bool, true, false, cond}
+use Rattle.std.proofs.Common.{◌≡◌, ◌≢◌, ◌+◌, ◌-◌, ◌<◌, ◌≤◌, ℕ, List, [], ◌∷◌, map, filter, length, Bool, true, false}
+use Rattle.std.proofs.Common.{cond}
 use Rattle.std.proofs.Common.{◌&&◌, ◌||◌, nat_eq, refl, sym, ap, subst, ◌∙◌, arith, zero-add, true≢false}
 use Rattle.std.proofs.lemmas.List.{length-map}
 use Rattle.std.proofs.lemmas.Bool.{eqb-true, leb-true}
@@ -163,7 +164,8 @@ module _ (players : ℕ) (few : players ≤ 32) (two : 2 ≤ players) where
       games_with one (games players round) ≤ 1
   unfolding play_once
   once_a_round round one first last low high =
-      let each = each_in (λ n. list_all (λ r. play_once n (games n r)) (range_with_len 1 (rounds_of n true))) 2 31 players
+      let each = each_in (λ n. list_all (λ r. play_once n (games n r)) (range_with_len 1
+      (rounds_of n true))) 2 31 players
       all_once two (omega arith) in
       let this = each_in (λ r. play_once players (games players r)) 1 (rounds_of players true) round each first
       (omega arith) in

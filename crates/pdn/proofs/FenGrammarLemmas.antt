@@ -44,7 +44,8 @@ EndNumberParts low text (Ok front) = OnBoard front.square × (low ≤ front.squa
 one-parts : (low d : ℕ) (rest : List ℕ) → 1 ≤ d → d < 10
     → EndNumberParts low ((48 + d) ∷ rest) (cond (nat_le low d) (good d rest) (Err 1))
 one-parts low d rest h k =
-    elim (nat_le low d) as (λ b. nat_le low d ≡ b → EndNumberParts low ((48 + d) ∷ rest) (cond b (good d rest) (Err 1))) [
+    elim (nat_le low d) as (λ b. nat_le low d ≡ b
+    → EndNumberParts low ((48 + d) ∷ rest) (cond b (good d rest) (Err 1))) [
       | true ↦ λ e. let least : low ≤ d = grind (arith, nat_tests, e) in
           ((h, omega arith), least, ap (λ t. t ++ rest) (sym (one_digit d k)))
       | false ↦ λ e. tt

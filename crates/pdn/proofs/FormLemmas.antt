@@ -26,7 +26,8 @@ read_second-shorter first (c ∷ rest) =
 read_number-shorter : (text : List ℕ) → Shorter (length text) (read_number text)
 read_number-shorter [] = tt
 read_number-shorter (c ∷ rest) =
-    elim (nat_le 49 c && nat_le c 57) as (λ b. Shorter (suc (length rest)) (cond b (read_second (c - 48) rest) (Err 0))) [
+    elim (nat_le 49 c && nat_le c 57) as (λ b. Shorter (suc (length rest)) (cond b (read_second (c - 48) rest)
+    (Err 0))) [
       | true ↦ read_second-shorter (c - 48) rest
       | false ↦ tt
     ]

@@ -343,7 +343,8 @@ written-back event white black date s ms g kept items score_is =
     let score_there : score_in t0 ms ≡ Ok s = score-there s ms t0 tagged ended kept.agreed in
     let mean : MeanAll opening (move_texts t0) ms =
     subst (λ l. MeanAll opening l ms) (sym are.moves) (mean-all opening ms legal) in
-    let open_there : BeginsEven (first_tag (codes "FEN") t0) = subst BeginsEven (sym (are.untagged (codes "FEN"))) tt in (
+    let open_there : BeginsEven (first_tag (codes "FEN") t0) =
+    subst BeginsEven (sym (are.untagged (codes "FEN"))) tt in (
       t0,
       record {
         whole = subst (λ t. Lexes total true true t t0 None) (sym parts) l0;

@@ -11,7 +11,8 @@ use Rattle.pdn.specs.Grammar.{IsSquareText, IsCross, AreLandings, HasForm}
 
 number-ascii : (n : ℕ) → OnBoard n → IsAscii (square_text n)
 number-ascii n on =
-    elim (nat_lt n 10) as (λ b. nat_lt n 10 ≡ b → IsAscii (cond b ((48 + n) ∷ []) ((48 + n / 10) ∷ (48 + n % 10) ∷ []))) [
+    elim (nat_lt n 10) as (λ b. nat_lt n 10 ≡ b
+    → IsAscii (cond b ((48 + n) ∷ []) ((48 + n / 10) ∷ (48 + n % 10) ∷ []))) [
       | true ↦ λ is. IsAscii-cons (48 + n) [] (let high = on.1 in omega (arith, high)) IsAscii-nil
       | false ↦ λ is.
           let high = on.1 in

@@ -37,7 +37,8 @@ quote-parts (c ∷ text) k n false e =
       | true ↦ λ is f. let same : k ≡ n = cc in
           ([], text, omega (arith, same), nothing, (λ i. nat_eq-same c 34 is i ∷ text))
       | false ↦ λ no_quote f.
-          elim (nat_eq c 92) as (λ b. nat_eq c 92 ≡ b → quote_at (k + 1) b text ≡ Some n → Quoted false k (c ∷ text) n) [
+          elim (nat_eq c 92) as (λ b. nat_eq c 92 ≡ b → quote_at (k + 1) b text ≡ Some n
+          → Quoted false k (c ∷ text) n) [
             | true ↦ λ is g.
                 let w = quote-parts text (k + 1) n true g in
                 let count = w.2 in

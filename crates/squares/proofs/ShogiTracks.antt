@@ -90,7 +90,8 @@ module _ {A : Type 0} (place : A → ℕ) (back : ℕ → A) (placed : (a : A) �
     added_at free a q (inr h) b is =
         ap (λ s. set.contains s q) (get_or-set_other words (place (key p)) (place a) (set.insert old n) set.empty h)
         ∙ tracks a q
-        ∙ elim b as (λ b. eq_by_cmp nat_cmp q n ≡ b → of a (map.get board q) ≡ of a (cond b (Some p) (map.get board q))) [
+        ∙ elim b as (λ b. eq_by_cmp nat_cmp q n ≡ b
+        → of a (map.get board q) ≡ of a (cond b (Some p) (map.get board q))) [
           | true ↦ λ e. ap (of a) (ap (map.get board) (one_square q n e) ∙ free) ∙ of_none a ∙ sym (of_other a p h)
           | false ↦ λ _. refl
         ] is

@@ -24,7 +24,8 @@ fn fill_inside<S: Alter>(tx: &mut Transaction<'_, S>, changes: &Changes) -> Resu
         (state S.Store tx.old.conn.now).in_transaction → OnOk result (FillsWith changes.now
         (state S.Store tx.old.conn.now) (state S.Store tx.new.conn.now)) }
     ensures refuses { HasCleanDisk (state S.Store tx.new.conn.now) → IsTrue
-        (state S.Store tx.old.conn.now).in_transaction → IsBeside first_schema (state S.Store tx.old.conn.now).now.schema →
+        (state S.Store tx.old.conn.now).in_transaction →
+        IsBeside first_schema (state S.Store tx.old.conn.now).now.schema →
         IfOk result (λ _. ⊥) }
     ensures survives { Survives (state S.Store tx.old.conn.now) (state S.Store tx.new.conn.now) (λ _. ⊥) }
 {

@@ -42,7 +42,8 @@ fn make_first<S: Alter>(tx: &mut Transaction<'_, S>) -> Result<(), Error>
         (state S.Store tx.old.conn.now).in_transaction → OnOk result (Makes 0 4 (state S.Store tx.old.conn.now)
         (state S.Store tx.new.conn.now)) }
     ensures refuses { HasCleanDisk (state S.Store tx.new.conn.now) → IsTrue
-        (state S.Store tx.old.conn.now).in_transaction → IsBeside first_schema (state S.Store tx.old.conn.now).now.schema →
+        (state S.Store tx.old.conn.now).in_transaction →
+        IsBeside first_schema (state S.Store tx.old.conn.now).now.schema →
         IfOk result (λ _. ⊥) }
     // In an empty database.
     ensures known { HasCleanDisk (state S.Store tx.new.conn.now) → IsTrue
@@ -84,7 +85,8 @@ pub(crate) fn create_inside<S: Alter>(tx: &mut Transaction<'_, S>) -> Result<(),
         (state S.Store tx.old.conn.now).in_transaction → OnOk result (Fills (state S.Store tx.old.conn.now)
         (state S.Store tx.new.conn.now)) }
     ensures refuses { HasCleanDisk (state S.Store tx.new.conn.now) → IsTrue
-        (state S.Store tx.old.conn.now).in_transaction → IsBeside first_schema (state S.Store tx.old.conn.now).now.schema →
+        (state S.Store tx.old.conn.now).in_transaction →
+        IsBeside first_schema (state S.Store tx.old.conn.now).now.schema →
         IfOk result (λ _. ⊥) }
     // In an empty database.
     ensures known { HasCleanDisk (state S.Store tx.new.conn.now) → IsTrue
@@ -120,7 +122,8 @@ pub fn create_tables<S: Alter>(conn: &mut Connection<S>) -> Result<(), Error>
     ensures known { HasCleanDisk (state S.Store conn.new) → IsExactlyEmpty (state S.Store conn.old) →
         IfErr result IsNoInput }
     ensures survives { Survives (state S.Store conn.old) (state S.Store conn.new) (λ db. (IsExactlyEmpty
-        (state S.Store conn.old) → Leaves opening db) × (IsBeside first_schema (state S.Store conn.old).now.schema → ⊥)) }
+        (state S.Store conn.old) → Leaves opening db) × (IsBeside first_schema (state S.Store conn.old).now.schema →
+        ⊥)) }
 {
     let mut tx = conn.transaction();
     create_inside(&mut tx)?;

@@ -107,7 +107,8 @@ over_changed c one other rest same t = elim (cases_Bool (has_tree club_schema.ta
       changed_alike t c (over one rest) one (ap (λ b. if b then one t else rest t) is) in
       let last : over other rest t ≡ other t = ap (λ b. if b then other t else rest t) is in
       subst (λ l. HaveSame l (over other rest t)) (sym first)
-      (subst (λ l. HaveSame (changed c one t) l) (sym last) (same_at club_schema.tables (changed c one) other same t is))
+      (subst (λ l. HaveSame (changed c one t) l) (sym last) (same_at club_schema.tables
+      (changed c one) other same t is))
   | inr past ↦ same_by _ _
       (changed_past c (over one rest) t past
       ∙ (ap (λ b. if b then one t else rest t) past ∙ sym (ap (λ b. if b then other t else rest t) past)))

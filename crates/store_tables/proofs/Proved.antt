@@ -42,6 +42,7 @@ pub use Rattle.store_tables.proofs.ApartLemmas.{each_shown}
 pub use Rattle.store_tables.proofs.OrderLemmas.{has_index, sorted_rows}
 pub use Rattle.store_tables.proofs.ReadLemmas.{has_map, has_mapped, has_turned}
 -- A club beside its neighbours.
-pub use Rattle.store_tables.proofs.OverLemmas.{over_changed, exactly_alike, leaves_alike, exactly_changed, leaves_changed}
+pub use Rattle.store_tables.proofs.OverLemmas.{over_changed, exactly_alike, leaves_alike, exactly_changed}
+pub use Rattle.store_tables.proofs.OverLemmas.{leaves_changed}
 pub use Rattle.store_tables.proofs.OverLemmas.{beside_alone, alone_exactly, left_alone, alone_leaves, leaves_beside}
 pub use Rattle.store_tables.proofs.OverLemmas.{still_beside, rows_beside}

@@ -56,7 +56,8 @@ unfolding create_table creates
 not_made schema formats def strict stands = elim (cases_Bool (is_attached schema def.name)) [
   | inl attached ↦ rw attached refl
   | inr free ↦ rw free
-      (fails_first _ _ (not_freed (is_reserved def.name) def.if_missing (table_named schema def.name) _ _ strict stands))
+      (fails_first _ _ (not_freed (is_reserved def.name) def.if_missing
+      (table_named schema def.name) _ _ strict stands))
 ]
 
 -- ---- a text that makes a table of this name
@@ -129,7 +130,8 @@ meta_stands others =
     let schema : Schema = beside first_schema others in
     let plain : is_ok (compiled schema t.meta_create) ≡ false =
     no_text schema (codes "meta") (meta_is_there others) (first t.meta_create) t.meta_create refl
-    (λ p read. makes_of p.statement (codes "meta") (subst (λ r. made_in r ≡ Some (codes "meta", false)) read meta_is_made))
+    (λ p read. makes_of p.statement (codes "meta")
+    (subst (λ r. made_in r ≡ Some (codes "meta", false)) read meta_is_made))
     in
     elim (cases_Bool (reads_listing schema t.meta_create)) [
       | inl lists ↦ rw lists no_listing

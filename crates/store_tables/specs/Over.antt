@@ -25,8 +25,8 @@ pub record Neighbours : Type 0 where
 abbrev pub alone : Neighbours
 alone = record { made = no_others; rows = nothing }
 
--- The connection has exactly these rows of a club and those of its neighbours, which have no part in putting rows of the
--- club; and so has all that a stop may leave.
+-- The connection has exactly these rows of a club and those of its neighbours, which have no part in putting rows of
+-- the club; and so has all that a stop may leave.
 pub record IsBesideThem (them : Neighbours) (content : Content) (s : State) : Type 0 where
   pub clear : StandsClear club_schema them.made
   pub exactly : IsExactly (beside club_schema them.made) (over content them.rows) s

@@ -139,8 +139,8 @@ impl<'a> Course<'a> {
         Ok(String::from_str(alloc, outcome.as_str())?)
     }
 
-    /// Whether the requests from that number on, given to the files, come to what they come to where nothing stops them,
-    /// the first as one that stands already or not, and leave the rows that are left then.
+    /// Whether the requests from that number on, given to the files, come to what they come to where nothing stops
+    /// them, the first as one that stands already or not, and leave the rows that are left then.
     fn goes_on(&self, alloc: Global, files: Disks, from: usize, stands: bool) -> Result<bool> {
         let (run, files) = session(alloc, files, self.requests.get(from..).unwrap_or(&[]));
         let texts = told(alloc, &run?.outcomes)?;
@@ -213,8 +213,8 @@ pub struct WholeCourse {
     pub stops: u64,
 }
 
-/// The course of requests, if wherever a call of the log or of the database file is the last what is found is whole, and
-/// the rest goes on from there.
+/// The course of requests, if wherever a call of the log or of the database file is the last what is found is whole,
+/// and the rest goes on from there.
 pub fn whole_at_each_stop(
     alloc: Global,
     start: Start,

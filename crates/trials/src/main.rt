@@ -37,8 +37,8 @@ fn reported(rt: &HostRuntime, text: &str) -> anyhow::Result<Report> {
     Ok(report)
 }
 
-// Whether every line of the script holds, which is printed. How many stops were tried is no matter of the script, and is
-// told beside it.
+// Whether every line of the script holds, which is printed. How many stops were tried is no matter of the script, and
+// is told beside it.
 fn holds(rt: &HostRuntime) -> anyhow::Result<bool> {
     let text = read_script(rt)?;
     let report = reported(rt, text.as_str())?;

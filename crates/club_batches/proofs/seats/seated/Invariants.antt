@@ -9,6 +9,7 @@ invariant-loop-game l =
       count : l.number ≡ l.game-index;
       questions : l.batch.questions ≡ l.fn.questions;
       numbers : l.batch.numbers.items ≡ numbers_to l.game-index;
-      requests : map request_of l.batch.requests.items ++ map (seat_request l.robin l.moment) (drop l.game-index l.games)
+      requests : map request_of l.batch.requests.items ++ map (seat_request l.robin l.moment)
+          (drop l.game-index l.games)
           ≡ map (seat_request l.robin l.moment) l.games;
     }

@@ -6,6 +6,7 @@ use Rattle.club_lists.proofs.board.push_moves.Given as goal
 abbrev pub invariant-loop-made : goal.invariant-loop-made
 invariant-loop-made l = record {
   count : l.plies ≡ l.made-index;
-  lines : string_bytes l.text ++ moves_from l.kind l.plies l.filled (map (λ t. string_bytes t) (drop l.made-index l.moves))
+  lines : string_bytes l.text ++ moves_from l.kind l.plies l.filled (map (λ t. string_bytes t)
+      (drop l.made-index l.moves))
       ≡ string_bytes l.fn.text ++ moves_from l.kind 0 0 (map (λ t. string_bytes t) l.moves);
 }

@@ -4,8 +4,9 @@ use Rattle.club_audit.proofs.Proved.{events-count, members-count}
 use Rattle.club_opening.proofs.ExaminedLemmas.{people_of}
 use Rattle.club_opening.proofs.RegisterLemmas.{register_apart, register_challenges}
 use Rattle.store_tables.specs.declared.names.Table.TheVariants.{Challenges, Games, Meta}
-use Rattle.club_opening.proofs.FirstLemmas.{damaged_same, memory_undamaged, some_later}
+use Rattle.club_opening.proofs.FirstLemmas.{damaged_same, some_later}
 use Rattle.club_opening.proofs.audit.audit.Goals as goal
+use Rattle.club_opening.proofs.UndamagedLemmas.{memory_undamaged}
 
 pub returns-in-Ok-false-clause-fault : goal.returns-in-Ok-false-clause-fault
 returns-in-Ok-false-clause-fault c =

@@ -16,11 +16,12 @@ use Rattle.club_opening.specs.Examined.{IsGameFound}
 use Rattle.club_opening.specs.RightTables.{IsUntyped}
 use Rattle.club_opening.proofs.BlameLemmas.{names_both, still}
 use Rattle.club_opening.proofs.ExaminedLemmas.{IsOneOf, game_found}
-use Rattle.club_opening.proofs.FirstLemmas.{either_later, memory_undamaged, moves_types_wrong, some_later, store_undamaged}
+use Rattle.club_opening.proofs.FirstLemmas.{either_later, moves_types_wrong, some_later}
 use Rattle.club_opening.proofs.FirstLemmas.{wrong_later}
 use Rattle.club_opening.proofs.MovesReadLemmas.{game_games_wrong, game_moves_right, game_moves_wrong, game_seen_wrong}
 use Rattle.club_opening.proofs.UntypedLemmas.{untyped_found}
 use Rattle.club_opening.proofs.games.examine_game.Goals as goal
+use Rattle.club_opening.proofs.UndamagedLemmas.{memory_undamaged, store_undamaged}
 
 pub returns-in-Err-clause-later_fault : goal.returns-in-Err-clause-later_fault
 returns-in-Err-clause-later_fault g c clean has =

@@ -9,7 +9,8 @@ use Rattle.sqlite.proofs.StateLemmas.{unchanged}
 use Rattle.store_tables.proofs.Proved.{read_nothing, read_then}
 use Rattle.club_opening.specs.Examined.{AreLeftAfter}
 use Rattle.club_opening.proofs.BlameLemmas.{still}
-use Rattle.club_opening.proofs.ExaminedLemmas.{IsOneOf, NamesLeft, blamed_before, both_after, left_all, left_more, left_start, not_last}
+use Rattle.club_opening.proofs.ExaminedLemmas.{IsOneOf, NamesLeft, blamed_before, both_after, left_all, left_more}
+use Rattle.club_opening.proofs.ExaminedLemmas.{left_start, not_last}
 use Rattle.store_tables.specs.declared.names.Table.TheVariants.{Moves, Seen}
 use Rattle.club_opening.proofs.FirstLemmas.{either_later, left_later}
 use Rattle.club_opening.proofs.games.examine_games.Goals as goal
@@ -43,7 +44,12 @@ loop-place-preserved g c =
     let new = state g.S.Store c.examine_game.new.conn in
     let found = c.in-Ok.found in
     let one_of : IsOneOf c.loop-place.wrong found.wrong c.first_of-wrong.result =
-    record { none = c.first_of-wrong.ensures.none; some = c.first_of-wrong.ensures.some; first = c.first_of-wrong.ensures.first } in
+    record {
+      none = c.first_of-wrong.ensures.none;
+      some = c.first_of-wrong.ensures.some;
+      first =
+          c.first_of-wrong.ensures.first;
+    } in
     record {
       items = c.loop-place.invariant.items;
       reads = read_then true s0 mid new c.loop-place.invariant.reads c.in-Ok.ensures.reads;

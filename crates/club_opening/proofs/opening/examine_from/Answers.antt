@@ -137,7 +137,8 @@ returns-in-Err-examine_rows-clause-first g c clean has =
     made.events_are made.rules_are cs are_cs played.seated schema v content holds (played.seen_are _ _)
     (played.none_seen s people) scored)
     (has_scores rows found.version s0 s1 read) (whole_unblamed c.args.oldest s0 e names)
-    (moves_told rows found.version s0 s1 read schema s people) (moves_back rows found.version s0 s1 read schema s people)
+    (moves_told rows found.version s0 s1 read schema s people)
+    (moves_back rows found.version s0 s1 read schema s people)
     (games_told rows found.version s0 s1 read schema)
     (λ v content holds cs are_cs seated. games_right rows found.version s0 s1 read ms are_ms made.ruled made.events_are
     made.rules_are cs are_cs seated schema v content holds)

@@ -145,7 +145,12 @@ returns-in-Err-examine_scores-clause-examined g c clean has s people ids t is =
     let (named, none) = subst (λ (d : Database). NamesScores rows d e) play.games.same.0.now_is other t is in
     inr (
       c.in-Ok.ensures.challenges,
-      inr (inl (named, are_played rows c.moment-last.result c.in-Ok-examine_play.wrong s1 s2 play free ids s people apart, none)),
+      inr (inl (
+        named,
+        are_played rows c.moment-last.result c.in-Ok-examine_play.wrong s1 s2 play free ids s people
+            apart,
+        none,
+      )),
     )
 
 pub returns-in-Some-wrong-clause-examined : goal.returns-in-Some-wrong-clause-examined

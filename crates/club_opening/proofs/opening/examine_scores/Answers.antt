@@ -55,5 +55,6 @@ returns-in-Ok-false-clause-scores g c clean has =
 pub returns-in-Err-clause-blames : goal.returns-in-Err-clause-blames
 returns-in-Err-clause-blames g c clean has =
     inl
-    (names_both Scores (scores 14) 7 IsScore (state g.S.Store c.args.conn.now) c.in-Err.fault refl refl (λ content all. all)
+    (names_both Scores (scores 14) 7 IsScore (state g.S.Store c.args.conn.now) c.in-Err.fault refl refl
+    (λ content all. all)
     (c.in-Err.ensures.blames clean (first_beside _ has)))

@@ -27,7 +27,8 @@ returns-clause-are g c =
 
 pub returns-in-Err-clause-wrong : goal.returns-in-Err-clause-wrong
 returns-in-Err-clause-wrong g c clean has =
-    event_types_wrong (state g.S.Store c.args.conn.now) c.in-Err.fault (c.in-Err.ensures.blames clean (first_beside _ has))
+    event_types_wrong (state g.S.Store c.args.conn.now) c.in-Err.fault (c.in-Err.ensures.blames clean
+    (first_beside _ has))
 
 pub returns-then-not-are_events-clause-wrong : goal.returns-then-not-are_events-clause-wrong
 returns-then-not-are_events-clause-wrong g c clean has =
@@ -45,5 +46,6 @@ returns-clause-rows g c clean has =
 pub returns-in-Err-clause-blames : goal.returns-in-Err-clause-blames
 returns-in-Err-clause-blames g c clean has =
     inl
-    (names_both Events (events 4) 2 IsEvent (state g.S.Store c.args.conn.now) c.in-Err.fault refl refl (λ content all. all)
+    (names_both Events (events 4) 2 IsEvent (state g.S.Store c.args.conn.now) c.in-Err.fault refl refl
+    (λ content all. all)
     (c.in-Err.ensures.blames clean (first_beside _ has)))

@@ -8,8 +8,8 @@ use Rattle.store_tables.proofs.Proved.{read_then}
 use Rattle.club_opening.specs.Blames.{IsMetaRead, NamesForeign, NamesSchema}
 use Rattle.club_opening.specs.Versions.{HasTablesOf}
 use Rattle.club_opening.proofs.BlameLemmas.{foreign_named, meta_before, refused_named, still, still_of, told_blamed}
-use Rattle.club_opening.proofs.FirstLemmas.{foreign_undamaged, schema_undamaged, store_undamaged, told_undamaged}
 use Rattle.club_opening.proofs.read.read_head.Goals as goal
+use Rattle.club_opening.proofs.UndamagedLemmas.{foreign_undamaged, schema_undamaged, store_undamaged, told_undamaged}
 
 pub returns-in-Err-clause-blames : goal.returns-in-Err-clause-blames
 returns-in-Err-clause-blames g c clean has =
@@ -120,7 +120,8 @@ returns-in-Err-check_tables-clause-undamaged g c clean has =
     in
     let same1 = c.in-Ok.ensures.same clean1 has in
     let same2 = unchanged_then s0 s1 s2 same1 (c.in-Ok-check_rules.ensures.same clean2 (still s0 s1 same1 has)) in
-    store_undamaged c.in-Err-check_tables.fault (c.in-Err-check_tables.ensures.blames clean (first_beside _ (still s0 s2 same2 has)))
+    store_undamaged c.in-Err-check_tables.fault (c.in-Err-check_tables.ensures.blames clean (first_beside _
+    (still s0 s2 same2 has)))
 
 pub returns-in-Ok-check_tables-clause-reads : goal.returns-in-Ok-check_tables-clause-reads
 returns-in-Ok-check_tables-clause-reads g c =

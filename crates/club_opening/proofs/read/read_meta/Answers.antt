@@ -17,7 +17,8 @@ returns-clause-none g c clean =
     IfOk-weaker c.one_meta.result _ _ (λ o wrong none version content k one.
     wrong none
     (shown_one old.now version content _ c.in-Ok.shown.items old new (search rules) refl
-    (c.in-Ok.ensures.rows clean (first_beside _ (of_version version old.now.schema k.schema))) k one)) c.one_meta.ensures.none
+    (c.in-Ok.ensures.rows clean (first_beside _
+    (of_version version old.now.schema k.schema))) k one)) c.one_meta.ensures.none
 
 pub returns-clause-some : goal.returns-clause-some
 returns-clause-some g c clean =

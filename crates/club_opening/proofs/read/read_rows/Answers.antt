@@ -77,7 +77,8 @@ returns-then-are_typed-clause-rows g c clean has =
     let same2 = unchanged_then s0 s1 s2 same1 are_members.same in
     let are_events = c.in-Ok-read_events.ensures.rows clean3 (still s0 s2 same2 has) in
     let same3 = unchanged_then s0 s2 s3 same2 are_events.same in
-    let are_rules = c.in-Ok-read_rules.ensures.rules clean4 (still_of s0 s3 version same3 schema) are_events.same.0.is_open in
+    let are_rules = c.in-Ok-read_rules.ensures.rules clean4
+    (still_of s0 s3 version same3 schema) are_events.same.0.is_open in
     let rules_same = rules_unchanged version _ _ s3 s4 are_rules in
     let same4 = unchanged_then s0 s3 s4 same3 rules_same in
     let are_challenges = c.in-Ok-read.ensures.rows clean5 (first_beside _ (still s0 s4 same4 has)) in
@@ -186,7 +187,8 @@ returns-in-Err-read-clause-blames g c clean has =
     let same2 = unchanged_then s0 s1 s2 same1 are_members.same in
     let are_events = c.in-Ok-read_events.ensures.rows clean3 (still s0 s2 same2 has) in
     let same3 = unchanged_then s0 s2 s3 same2 are_events.same in
-    let are_rules = c.in-Ok-read_rules.ensures.rules clean4 (still_of s0 s3 version same3 schema) are_events.same.0.is_open in
+    let are_rules = c.in-Ok-read_rules.ensures.rules clean4
+    (still_of s0 s3 version same3 schema) are_events.same.0.is_open in
     let rules_same = rules_unchanged version _ _ s3 s4 are_rules in
     let same4 = unchanged_then s0 s3 s4 same3 rules_same in
     rows_blamed_before c.args.oldest s0 s4 c.in-Err-read.fault same4
@@ -232,7 +234,8 @@ returns-in-Err-read_games-clause-blames g c clean has =
     let same2 = unchanged_then s0 s1 s2 same1 are_members.same in
     let are_events = c.in-Ok-read_events.ensures.rows clean3 (still s0 s2 same2 has) in
     let same3 = unchanged_then s0 s2 s3 same2 are_events.same in
-    let are_rules = c.in-Ok-read_rules.ensures.rules clean4 (still_of s0 s3 version same3 schema) are_events.same.0.is_open in
+    let are_rules = c.in-Ok-read_rules.ensures.rules clean4
+    (still_of s0 s3 version same3 schema) are_events.same.0.is_open in
     let rules_same = rules_unchanged version _ _ s3 s4 are_rules in
     let same4 = unchanged_then s0 s3 s4 same3 rules_same in
     let are_challenges = c.in-Ok-read.ensures.rows clean5 (first_beside _ (still s0 s4 same4 has)) in
@@ -320,8 +323,19 @@ returns-in-Err-read-clause-first g c clean has =
     let s4 = state g.S.Store c.read_rules.new.conn in
     let clean4 : HasCleanDisk s4 = omega (arith, c.read.ensures.reads.clean) in
     let clean3 : HasCleanDisk s3 = omega (arith, c.read_rules.ensures.reads.clean, c.read.ensures.reads.clean) in
-    let clean2 : HasCleanDisk s2 = omega (arith, c.read_events.ensures.reads.clean, c.read_rules.ensures.reads.clean, c.read.ensures.reads.clean) in
-    let clean1 : HasCleanDisk s1 = omega (arith, c.read_members.ensures.reads.clean, c.read_events.ensures.reads.clean, c.read_rules.ensures.reads.clean, c.read.ensures.reads.clean) in
+    let clean2 : HasCleanDisk s2 = omega (
+      arith,
+      c.read_events.ensures.reads.clean,
+      c.read_rules.ensures.reads.clean,
+      c.read.ensures.reads.clean,
+    ) in
+    let clean1 : HasCleanDisk s1 = omega (
+      arith,
+      c.read_members.ensures.reads.clean,
+      c.read_events.ensures.reads.clean,
+      c.read_rules.ensures.reads.clean,
+      c.read.ensures.reads.clean,
+    ) in
     let version = c.in-Ok.told.version in
     let (schema, one) = c.in-Ok.ensures.found clean1 has in
     let same1 = c.in-Ok.ensures.same clean1 has in
@@ -329,7 +343,8 @@ returns-in-Err-read-clause-first g c clean has =
     let same2 = unchanged_then s0 s1 s2 same1 are_members.same in
     let are_events = c.in-Ok-read_events.ensures.rows clean3 (still s0 s2 same2 has) in
     let same3 = unchanged_then s0 s2 s3 same2 are_events.same in
-    let are_rules = c.in-Ok-read_rules.ensures.rules clean4 (still_of s0 s3 version same3 schema) are_events.same.0.is_open in
+    let are_rules = c.in-Ok-read_rules.ensures.rules clean4
+    (still_of s0 s3 version same3 schema) are_events.same.0.is_open in
     let same4 = unchanged_then s0 s3 s4 same3 (rules_unchanged version _ _ s3 s4 are_rules) in
     let (ms, are_ms) = c.in-Ok-read_members.ensures.are in
     let (es, are_es) = c.in-Ok-read_events.ensures.are in
@@ -338,7 +353,8 @@ returns-in-Err-read-clause-first g c clean has =
     let own_events = subst (λ l. IsReadAs (events 4) 1 (map event_cells l) s2 s3) (sym c.deref.ensures.value) are_events
     in
     let e = c.in-Err-read.fault in
-    let wrong = challenge_types_wrong s4 e (c.in-Err-read.ensures.blames clean (first_beside _ (still s0 s4 same4 has))) in
+    let wrong = challenge_types_wrong s4 e (c.in-Err-read.ensures.blames clean (first_beside _
+    (still s0 s4 same4 has))) in
     first_challenges s0.now e
     (subst (λ (d : Database). NamesWrong Challenges d e) same4.0.now_is wrong)
     (people_right version c.in-Ok-read_members.members.items event_rows c.in-Ok-read_rules.rules.items s0.now
@@ -355,9 +371,27 @@ returns-in-Err-read_games-clause-first g c clean has =
     let s5 = state g.S.Store c.read.new.conn in
     let clean5 : HasCleanDisk s5 = omega (arith, c.read_games.ensures.reads.clean) in
     let clean4 : HasCleanDisk s4 = omega (arith, c.read.ensures.reads.clean, c.read_games.ensures.reads.clean) in
-    let clean3 : HasCleanDisk s3 = omega (arith, c.read_rules.ensures.reads.clean, c.read.ensures.reads.clean, c.read_games.ensures.reads.clean) in
-    let clean2 : HasCleanDisk s2 = omega (arith, c.read_events.ensures.reads.clean, c.read_rules.ensures.reads.clean, c.read.ensures.reads.clean, c.read_games.ensures.reads.clean) in
-    let clean1 : HasCleanDisk s1 = omega (arith, c.read_members.ensures.reads.clean, c.read_events.ensures.reads.clean, c.read_rules.ensures.reads.clean, c.read.ensures.reads.clean, c.read_games.ensures.reads.clean) in
+    let clean3 : HasCleanDisk s3 = omega (
+      arith,
+      c.read_rules.ensures.reads.clean,
+      c.read.ensures.reads.clean,
+      c.read_games.ensures.reads.clean,
+    ) in
+    let clean2 : HasCleanDisk s2 = omega (
+      arith,
+      c.read_events.ensures.reads.clean,
+      c.read_rules.ensures.reads.clean,
+      c.read.ensures.reads.clean,
+      c.read_games.ensures.reads.clean,
+    ) in
+    let clean1 : HasCleanDisk s1 = omega (
+      arith,
+      c.read_members.ensures.reads.clean,
+      c.read_events.ensures.reads.clean,
+      c.read_rules.ensures.reads.clean,
+      c.read.ensures.reads.clean,
+      c.read_games.ensures.reads.clean,
+    ) in
     let version = c.in-Ok.told.version in
     let (schema, one) = c.in-Ok.ensures.found clean1 has in
     let same1 = c.in-Ok.ensures.same clean1 has in
@@ -365,7 +399,8 @@ returns-in-Err-read_games-clause-first g c clean has =
     let same2 = unchanged_then s0 s1 s2 same1 are_members.same in
     let are_events = c.in-Ok-read_events.ensures.rows clean3 (still s0 s2 same2 has) in
     let same3 = unchanged_then s0 s2 s3 same2 are_events.same in
-    let are_rules = c.in-Ok-read_rules.ensures.rules clean4 (still_of s0 s3 version same3 schema) are_events.same.0.is_open in
+    let are_rules = c.in-Ok-read_rules.ensures.rules clean4
+    (still_of s0 s3 version same3 schema) are_events.same.0.is_open in
     let same4 = unchanged_then s0 s3 s4 same3 (rules_unchanged version _ _ s3 s4 are_rules) in
     let (ms, are_ms) = c.in-Ok-read_members.ensures.are in
     let (es, are_es) = c.in-Ok-read_events.ensures.are in
@@ -391,10 +426,36 @@ returns-else-are_typed-clause-blames g c clean has =
     let s6 = state g.S.Store c.read_games.new.conn in
     let clean6 : HasCleanDisk s6 = omega (arith, c.name_untyped.ensures.reads.clean, clean) in
     let clean5 : HasCleanDisk s5 = omega (arith, c.read_games.ensures.reads.clean, clean6) in
-    let clean4 : HasCleanDisk s4 = omega (arith, c.read.ensures.reads.clean, c.read_games.ensures.reads.clean, clean6) in
-    let clean3 : HasCleanDisk s3 = omega (arith, c.read_rules.ensures.reads.clean, c.read.ensures.reads.clean, c.read_games.ensures.reads.clean, clean6) in
-    let clean2 : HasCleanDisk s2 = omega (arith, c.read_events.ensures.reads.clean, c.read_rules.ensures.reads.clean, c.read.ensures.reads.clean, c.read_games.ensures.reads.clean, clean6) in
-    let clean1 : HasCleanDisk s1 = omega (arith, c.read_members.ensures.reads.clean, c.read_events.ensures.reads.clean, c.read_rules.ensures.reads.clean, c.read.ensures.reads.clean, c.read_games.ensures.reads.clean, clean6) in
+    let clean4 : HasCleanDisk s4 = omega (
+      arith,
+      c.read.ensures.reads.clean,
+      c.read_games.ensures.reads.clean,
+      clean6,
+    ) in
+    let clean3 : HasCleanDisk s3 = omega (
+      arith,
+      c.read_rules.ensures.reads.clean,
+      c.read.ensures.reads.clean,
+      c.read_games.ensures.reads.clean,
+      clean6,
+    ) in
+    let clean2 : HasCleanDisk s2 = omega (
+      arith,
+      c.read_events.ensures.reads.clean,
+      c.read_rules.ensures.reads.clean,
+      c.read.ensures.reads.clean,
+      c.read_games.ensures.reads.clean,
+      clean6,
+    ) in
+    let clean1 : HasCleanDisk s1 = omega (
+      arith,
+      c.read_members.ensures.reads.clean,
+      c.read_events.ensures.reads.clean,
+      c.read_rules.ensures.reads.clean,
+      c.read.ensures.reads.clean,
+      c.read_games.ensures.reads.clean,
+      clean6,
+    ) in
     let version = c.in-Ok.told.version in
     let (schema, one) = c.in-Ok.ensures.found clean1 has in
     let same1 = c.in-Ok.ensures.same clean1 has in
@@ -402,7 +463,8 @@ returns-else-are_typed-clause-blames g c clean has =
     let same2 = unchanged_then s0 s1 s2 same1 are_members.same in
     let are_events = c.in-Ok-read_events.ensures.rows clean3 (still s0 s2 same2 has) in
     let same3 = unchanged_then s0 s2 s3 same2 are_events.same in
-    let are_rules = c.in-Ok-read_rules.ensures.rules clean4 (still_of s0 s3 version same3 schema) are_events.same.0.is_open in
+    let are_rules = c.in-Ok-read_rules.ensures.rules clean4
+    (still_of s0 s3 version same3 schema) are_events.same.0.is_open in
     let same4 = unchanged_then s0 s3 s4 same3 (rules_unchanged version _ _ s3 s4 are_rules) in
     let (ms, are_ms) = c.in-Ok-read_members.ensures.are in
     let (es, are_es) = c.in-Ok-read_events.ensures.are in
@@ -428,10 +490,36 @@ returns-else-are_typed-clause-first g c clean has =
     let s6 = state g.S.Store c.read_games.new.conn in
     let clean6 : HasCleanDisk s6 = omega (arith, c.name_untyped.ensures.reads.clean, clean) in
     let clean5 : HasCleanDisk s5 = omega (arith, c.read_games.ensures.reads.clean, clean6) in
-    let clean4 : HasCleanDisk s4 = omega (arith, c.read.ensures.reads.clean, c.read_games.ensures.reads.clean, clean6) in
-    let clean3 : HasCleanDisk s3 = omega (arith, c.read_rules.ensures.reads.clean, c.read.ensures.reads.clean, c.read_games.ensures.reads.clean, clean6) in
-    let clean2 : HasCleanDisk s2 = omega (arith, c.read_events.ensures.reads.clean, c.read_rules.ensures.reads.clean, c.read.ensures.reads.clean, c.read_games.ensures.reads.clean, clean6) in
-    let clean1 : HasCleanDisk s1 = omega (arith, c.read_members.ensures.reads.clean, c.read_events.ensures.reads.clean, c.read_rules.ensures.reads.clean, c.read.ensures.reads.clean, c.read_games.ensures.reads.clean, clean6) in
+    let clean4 : HasCleanDisk s4 = omega (
+      arith,
+      c.read.ensures.reads.clean,
+      c.read_games.ensures.reads.clean,
+      clean6,
+    ) in
+    let clean3 : HasCleanDisk s3 = omega (
+      arith,
+      c.read_rules.ensures.reads.clean,
+      c.read.ensures.reads.clean,
+      c.read_games.ensures.reads.clean,
+      clean6,
+    ) in
+    let clean2 : HasCleanDisk s2 = omega (
+      arith,
+      c.read_events.ensures.reads.clean,
+      c.read_rules.ensures.reads.clean,
+      c.read.ensures.reads.clean,
+      c.read_games.ensures.reads.clean,
+      clean6,
+    ) in
+    let clean1 : HasCleanDisk s1 = omega (
+      arith,
+      c.read_members.ensures.reads.clean,
+      c.read_events.ensures.reads.clean,
+      c.read_rules.ensures.reads.clean,
+      c.read.ensures.reads.clean,
+      c.read_games.ensures.reads.clean,
+      clean6,
+    ) in
     let version = c.in-Ok.told.version in
     let (schema, one) = c.in-Ok.ensures.found clean1 has in
     let same1 = c.in-Ok.ensures.same clean1 has in
@@ -439,7 +527,8 @@ returns-else-are_typed-clause-first g c clean has =
     let same2 = unchanged_then s0 s1 s2 same1 are_members.same in
     let are_events = c.in-Ok-read_events.ensures.rows clean3 (still s0 s2 same2 has) in
     let same3 = unchanged_then s0 s2 s3 same2 are_events.same in
-    let are_rules = c.in-Ok-read_rules.ensures.rules clean4 (still_of s0 s3 version same3 schema) are_events.same.0.is_open in
+    let are_rules = c.in-Ok-read_rules.ensures.rules clean4
+    (still_of s0 s3 version same3 schema) are_events.same.0.is_open in
     let same4 = unchanged_then s0 s3 s4 same3 (rules_unchanged version _ _ s3 s4 are_rules) in
     let (ms, are_ms) = c.in-Ok-read_members.ensures.are in
     let (es, are_es) = c.in-Ok-read_events.ensures.are in
@@ -469,7 +558,8 @@ returns-else-are_typed-clause-first g c clean has =
     let people_there : HasPeople s judged =
     record { members = people.members; events = people.events; rules = people.rules } in
     let read_rules = rules_after version _ _ s0 s3 s4 s5 same3 are_rules are_challenges.same in
-    let own = subst (λ l. AreRulesRead version l c.in-Ok-read_rules.rules.items s0 s5) c.deref.ensures.value read_rules in
+    let own = subst (λ l. AreRulesRead version l c.in-Ok-read_rules.rules.items s0 s5) c.deref.ensures.value
+    read_rules in
     let same_games : (v : Version) (content : Content) → HoldsRows v content s0.now
     → HaveSame (content 10) known.shown = λ v content holds.
     kept_same (games 10) s0.now (content 10) known.shown (stores_of (games 10) 5 refl refl v s0.now content holds).rows

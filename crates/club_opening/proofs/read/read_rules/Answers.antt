@@ -73,10 +73,12 @@ returns-then-not-are_rules-clause-wrong g c clean has told =
 pub returns-clause-rules : goal.returns-clause-rules
 returns-clause-rules g c clean has is_open =
     subst
-    (λ v. AreRulesRead v c.args.events.now c.in-Ok.rules.items (state g.S.Store c.args.conn.now) (state g.S.Store c.read.new.conn))
+    (λ v. AreRulesRead v c.args.events.now c.in-Ok.rules.items (state g.S.Store c.args.conn.now)
+    (state g.S.Store c.read.new.conn))
     (sym c.in-Current.is) (c.in-Ok.ensures.rows clean (rw c.in-Current.is at has))
 
 pub returns-in-Err-clause-blames : goal.returns-in-Err-clause-blames
 returns-in-Err-clause-blames g c clean has es are of =
     let schema = rw c.in-Current.is at has in
-    inl (rule_types_named (state g.S.Store c.args.conn.now) c.in-Err.fault schema (c.in-Err.ensures.blames clean schema))
+    inl (rule_types_named (state g.S.Store c.args.conn.now) c.in-Err.fault schema
+    (c.in-Err.ensures.blames clean schema))

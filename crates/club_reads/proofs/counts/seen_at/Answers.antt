@@ -14,7 +14,11 @@ returns-clause-seen g c clean content old e k tells position few ply =
     let laws = g.R.Rules.rules in
     let text = laws.write_position c.args.position.now in
     let rows = c.in_ok-find.field-0.items in
-    let fits : SFits w64 c.from.result = subst (SFits w64) (sym c.from.ensures) (omega (arith, ints, c.ranges.game.fits))
+    let fits : SFits w64 c.from.result = subst (SFits w64) (sym c.from.ensures) (omega (
+      arith,
+      ints,
+      c.ranges.game.fits,
+    ))
     in
     let those =
     subst₂ (λ z t. AreThose (0 ∷ 1 ∷ []) (Int z ∷ Text t ∷ []) (content 12) (map seen_cells rows))

@@ -8,7 +8,8 @@ pub returns-clause-played : goal.returns-clause-played
 returns-clause-played g c clean content old k of =
     shown old (subst (IsOfKind g.R.Rules.rules c.args.kind content old) c.in-Some.is of)
   where
-    shown : (o : Option (Game g.row.R-Move.Denot)) → IsOfKind g.R.Rules.rules c.args.kind content o (Some c.in-Some.stored)
+    shown : (o : Option (Game g.row.R-Move.Denot))
+        → IsOfKind g.R.Rules.rules c.args.kind content o (Some c.in-Some.stored)
         → ShowsPlayed g.R.Rules.rules o (Some c.in_ok-played.played)
     shown None other = let same : c.in-Some.stored.kind ≡ c.args.kind = search rules in absurd (other same)
     shown (Some game) (same, tells, is) = c.in_ok-played.ensures.played clean content game k tells is

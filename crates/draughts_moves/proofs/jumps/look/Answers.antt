@@ -9,7 +9,8 @@ returns c =
     let m = c.args.mover.now in
     let board = c.args.position.now.board in (
       λ n. prey-is board m.piece m.origin m.taken c.squares_of-enemies.result c.difference-left.result
-          c.without.result (λ k. c.squares_of-enemies.ensures k ∙ ap (λ side. is_of side (map.get board k)) c.other.ensures)
+          c.without.result (λ k. c.squares_of-enemies.ensures k
+          ∙ ap (λ side. is_of side (map.get board k)) c.other.ensures)
           c.difference-left.ensures c.without.ensures n,
       c.others.ensures,
     )

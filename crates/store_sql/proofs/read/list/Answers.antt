@@ -30,7 +30,8 @@ returns-in-Ok-clause-rows g c clean =
     g.T.Select.by_first_text g.met.T.Select.read k.0 here in
     sym shows ∙ told_rows k.0 g.T.Select.table g.T.Select.width is.place is.at (g.met.T.Select.numbered id).0
     (g.met.T.Select.numbered id).1 k.1 old new c.in-Ok.shown.items k.4
-    (c.in-Ok.ensures.rows clean (subst (IsBeside g.T.Select.club) (sym k.4.now.schema) here)) (subst BeginWithPlaces (sym rows) places) ∙ rows) have
+    (c.in-Ok.ensures.rows clean (subst (IsBeside g.T.Select.club) (sym k.4.now.schema) here)) (subst BeginWithPlaces
+    (sym rows) places) ∙ rows) have
 
 pub returns-in-Ok-clause-same : goal.returns-in-Ok-clause-same
 returns-in-Ok-clause-same g c clean =

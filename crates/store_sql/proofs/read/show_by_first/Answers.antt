@@ -48,7 +48,8 @@ returns-clause-rows g c clean =
     let same = club_rows g.T.Select.club g.T.Select.table g.T.Select.width g.T.Select.all_text g.T.Select.ids_text
     g.T.Select.by_first_text g.met.T.Select.read (g.met.T.Select.current club_schema (no_others, refl)) content
     (state g.S.Store c.args.conn.now) k in
-    subst (λ l. AreThose (0 ∷ []) (Int c.args.first.now ∷ []) l rows.items × IsSorted (by_others g.T.Select.width) rows.items)
+    subst (λ l. AreThose (0 ∷ []) (Int c.args.first.now ∷ []) l rows.items
+    × IsSorted (by_others g.T.Select.width) rows.items)
     same
     (some_found k.0 g.T.Select.table g.T.Select.width g.T.Select.all_text g.T.Select.ids_text g.T.Select.by_first_text
     (shown_at g.T.Select.club g.T.Select.table g.T.Select.width g.T.Select.all_text g.T.Select.ids_text

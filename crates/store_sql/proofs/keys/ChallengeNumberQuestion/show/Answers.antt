@@ -28,7 +28,8 @@ returns-clause-rows g c clean =
     (rows_of content (state g.S.Store c.args.conn.now) k 3 (challenges 6) refl)
     (finds k.0 (challenges 6) 3 (0 ∷ 1 ∷ []) wanted given challenges_by_number (λ x y. Equal)
     (at_schema club_schema (λ s. Finds s (challenges 6) 3 (0 ∷ 1 ∷ []) wanted given challenges_by_number (λ x y. Equal))
-    (λ others. challenges_by_number_finds others c.args.self.now.member c.args.self.now.number) k.0 k.2) (state g.S.Store c.args.conn.now)
+    (λ others. challenges_by_number_finds others c.args.self.now.member c.args.self.now.number) k.0 k.2)
+    (state g.S.Store c.args.conn.now)
     (state g.S.Store c.query_all.new.self) rows.items
     (survives_given challenges_by_number _ given (state g.S.Store c.args.conn.now)
     (state g.S.Store c.query_all.new.self) (search rules) c.query_all.ensures.survives) clean

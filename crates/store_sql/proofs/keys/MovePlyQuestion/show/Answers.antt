@@ -28,7 +28,8 @@ returns-clause-rows g c clean =
     (rows_of content (state g.S.Store c.args.conn.now) k 4 (moves 8) refl)
     (finds k.0 (moves 8) 4 (0 ∷ 1 ∷ []) wanted given moves_by_ply (λ x y. Equal)
     (at_schema club_schema (λ s. Finds s (moves 8) 4 (0 ∷ 1 ∷ []) wanted given moves_by_ply (λ x y. Equal))
-    (λ others. moves_by_ply_finds others c.args.self.now.game c.args.self.now.ply) k.0 k.2) (state g.S.Store c.args.conn.now)
+    (λ others. moves_by_ply_finds others c.args.self.now.game c.args.self.now.ply) k.0 k.2)
+    (state g.S.Store c.args.conn.now)
     (state g.S.Store c.query_all.new.self) rows.items
     (survives_given moves_by_ply _ given (state g.S.Store c.args.conn.now) (state g.S.Store c.query_all.new.self)
     (search rules) c.query_all.ensures.survives) clean

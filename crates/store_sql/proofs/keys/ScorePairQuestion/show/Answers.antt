@@ -28,7 +28,8 @@ returns-clause-rows g c clean =
     (rows_of content (state g.S.Store c.args.conn.now) k 7 (scores 14) refl)
     (finds k.0 (scores 14) 7 (0 ∷ 1 ∷ 2 ∷ []) wanted given scores_by_pair (λ x y. Equal)
     (at_schema club_schema (λ s. Finds s (scores 14) 7 (0 ∷ 1 ∷ 2 ∷ []) wanted given scores_by_pair (λ x y. Equal))
-    (λ others. scores_by_pair_finds others c.args.self.now.event c.args.self.now.member c.args.self.now.opponent) k.0 k.2)
+    (λ others. scores_by_pair_finds others c.args.self.now.event c.args.self.now.member c.args.self.now.opponent) k.0
+    k.2)
     (state g.S.Store c.args.conn.now) (state g.S.Store c.query_all.new.self) rows.items
     (survives_given scores_by_pair _ given (state g.S.Store c.args.conn.now) (state g.S.Store c.query_all.new.self)
     (search rules) c.query_all.ensures.survives) clean

@@ -28,7 +28,8 @@ returns-clause-rows g c clean =
     (rows_of content (state g.S.Store c.args.conn.now) k 6 (seen 12) refl)
     (finds k.0 (seen 12) 6 (0 ∷ 1 ∷ []) wanted given seen_by_position (λ x y. Equal)
     (at_schema club_schema (λ s. Finds s (seen 12) 6 (0 ∷ 1 ∷ []) wanted given seen_by_position (λ x y. Equal))
-    (λ others. seen_by_position_finds others c.args.self.now.game c.args.self.now.position.now) k.0 k.2) (state g.S.Store c.args.conn.now)
+    (λ others. seen_by_position_finds others c.args.self.now.game c.args.self.now.position.now) k.0 k.2)
+    (state g.S.Store c.args.conn.now)
     (state g.S.Store c.query_all.new.self) rows.items
     (survives_given seen_by_position _ given (state g.S.Store c.args.conn.now) (state g.S.Store c.query_all.new.self)
     (search rules) c.query_all.ensures.survives) clean
