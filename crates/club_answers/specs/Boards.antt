@@ -2,7 +2,7 @@
 use Rattle.std.specs.Prelude.{◌≡◌, ℕ, List, Bool, true, false, Some}
 use Rattle.squares.specs.ShogiSets.{ShogiPosition}
 use Rattle.club_core.specs.Game.{last_position, moves_of}
-use Rattle.club_core.specs.Seats.{Pairing}
+use Rattle.club_core.specs.declared.seats.Pairing.{Pairing}
 use Rattle.club_core.specs.State.{draughts, shogi, place, kind_at, pairing_of}
 use Rattle.club_rows.specs.Club.{ClubGame, ClubState, both_games}
 use Rattle.club_views.specs.Viewed.{written_from}

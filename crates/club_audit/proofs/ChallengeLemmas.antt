@@ -11,7 +11,7 @@ use Rattle.club_core.specs.declared.challenges.ChallengeState.TheVariants.{Open,
 use Rattle.club_core.specs.Challenges.{goes_by, pairing_for}
 use Rattle.club_core.specs.LegalState.{Each, AreApart, IsLegalChallenge}
 use Rattle.club_requests.specs.Limits.{is_challenge_number}
-use Rattle.club_core.specs.Seats.{Pairing}
+use Rattle.club_core.specs.declared.seats.Pairing.{Pairing}
 use Rattle.club_core.specs.State.{draughts, shogi, place, terms_at, pairing_of}
 use Rattle.club_laws.proofs.Proved.{map-at, map-got, le-true}
 use Rattle.store_tables.specs.Cells.{challenge_cells, game_cells, event_cells}

@@ -5,7 +5,7 @@ use Rattle.club_core.specs.declared.challenges.ChallengeState.TheVariants.{Accep
 use Rattle.club_core.specs.Challenges.{goes_by, pairing_for}
 use Rattle.club_core.specs.LegalState.{Each, AreApart}
 use Rattle.club_requests.specs.Limits.{is_challenge_number}
-use Rattle.club_core.specs.Seats.{Pairing}
+use Rattle.club_core.specs.declared.seats.Pairing.{Pairing}
 use Rattle.store_tables.specs.Cells.{challenge_cells}
 use Rattle.store_tables.specs.declared.rows.ChallengeRow.{ChallengeRow}
 use Rattle.store_tables.specs.declared.rows.GameRecord.{GameRecord}

@@ -2,7 +2,6 @@
 
 ghost use Rattle.std.specs.Prelude.{◌≡◌, ◌<◌, ◌≤◌, List, length, pos, true, false, IfOk};
 ghost use Rattle.club_core.specs.declared.challenges.Challenge as core;
-ghost use Rattle.club_core.specs.Answer.{pairing_of};
 ghost use Rattle.club_core.specs.LegalState.{Each, AreApart};
 ghost use Rattle.club_requests.specs.Limits.{most_members, most_events};
 ghost use Rattle.club_audit.specs.ChallengeAudit.{AreChallenges, HasItsGame, IsChallengeAmong, IsChallengeOf};
@@ -43,8 +42,8 @@ fn is_id(id: u32, count: usize) -> bool
 
 // Whether the game's row is of that event and of those players, each on that side.
 fn is_row_of_pairing(game: &GameRecord, pairing: Pairing) -> bool
-    ensures sound { result ≡ true → IsRowOfPairing game.now (pairing_of pairing) }
-    ensures complete { IsRowOfPairing game.now (pairing_of pairing) → result ≡ true }
+    ensures sound { result ≡ true → IsRowOfPairing game.now pairing }
+    ensures complete { IsRowOfPairing game.now pairing → result ≡ true }
 {
     game.event == i64::from(pairing.event)
         && game.first == i64::from(pairing.first)
@@ -53,8 +52,8 @@ fn is_row_of_pairing(game: &GameRecord, pairing: Pairing) -> bool
 
 // Whether the row is of the game with this id, and of that event and those players.
 fn is_game_of(row: &GameRecord, id: u32, pairing: Pairing) -> bool
-    ensures sound { result ≡ true → (row.now.id ≡ pos id) × IsRowOfPairing row.now (pairing_of pairing) }
-    ensures complete { row.now.id ≡ pos id → IsRowOfPairing row.now (pairing_of pairing) → result ≡ true }
+    ensures sound { result ≡ true → (row.now.id ≡ pos id) × IsRowOfPairing row.now pairing }
+    ensures complete { row.now.id ≡ pos id → IsRowOfPairing row.now pairing → result ≡ true }
 {
     if row.id != i64::from(id) {
         return false;
@@ -64,8 +63,8 @@ fn is_game_of(row: &GameRecord, id: u32, pairing: Pairing) -> bool
 
 // Whether one of the rows is so.
 fn is_game_among(games: &[GameRecord], id: u32, pairing: Pairing) -> bool
-    ensures sound { result ≡ true → IsGameAmong games.now id (pairing_of pairing) }
-    ensures complete { IsGameAmong games.now id (pairing_of pairing) → result ≡ true }
+    ensures sound { result ≡ true → IsGameAmong games.now id pairing }
+    ensures complete { IsGameAmong games.now id pairing → result ≡ true }
 {
     for row in games {
         if is_game_of(row, id, pairing) {

@@ -21,7 +21,7 @@ use Rattle.club_core.specs.Events.{Event}
 use Rattle.club_core.specs.LegalState.{AreApart}
 use Rattle.club_requests.specs.Outcome.{Outcome, Reply, accepted, repeated, refused, map_outcome, by_member, unless}
 use Rattle.club_requests.specs.Outcome.{unless_repeat}
-use Rattle.club_core.specs.Seats.{Pairing}
+use Rattle.club_core.specs.declared.seats.Pairing.{Pairing}
 use Rattle.club_core.specs.State.{AnyGame, State, place, kind_at, seated_as, is_accepted, with_challenge, with_answer}
 use Rattle.club_core.specs.State.{with_imported, challenge_game}
 use Rattle.club_rows.specs.Club.{both_games, ClubState, IsClub}

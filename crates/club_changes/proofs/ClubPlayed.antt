@@ -23,7 +23,7 @@ use Rattle.club_core.specs.LegalState.{IsLegalEvent, IsLegalIn, IsGameOf}
 use Rattle.club_core.specs.Step.{GameCommand}
 use Rattle.club_core.specs.Step.{no_game_refusal}
 use Rattle.club_core.specs.Step.{game_step}
-use Rattle.club_core.specs.Seats.{Pairing}
+use Rattle.club_core.specs.declared.seats.Pairing.{Pairing}
 use Rattle.club_core.specs.State.{seated, seated_as, state_after, place, kind_at, terms_at, with_game, step_game}
 use Rattle.club_core.specs.State.{on_game}
 use Rattle.club_core.specs.View.{IsRowOf}

@@ -20,7 +20,7 @@ use Rattle.club_rules.specs.declared.names.GameKind.{GameKind}
 use Rattle.club_rules.specs.GameRules.{GameRules}
 use Rattle.club_core.specs.Events.{Event}
 use Rattle.club_core.specs.Members.{Member, find_id}
-use Rattle.club_core.specs.Seats.{KeyedGame}
+use Rattle.club_core.specs.declared.seats.KeyedGame.{KeyedGame}
 use Rattle.club_core.specs.Game.{Game, clocks_of}
 use Rattle.club_core.specs.LegalState.{IsLegalIn}
 use Rattle.club_core.specs.Step.{GameCommand, game_step}
@@ -249,11 +249,11 @@ pub row_id : (s : ClubState) (id : ℕ) (g : ClubGame) (row : GameRecord) → ga
     → row.id ≡ pos id
 row_id s id g row cells = int_same row.id (pos id) (ap (λ w. column w 0) cells ∙ first_of_game both_games s.events id g)
 
-pub ids_read : (k : KeyedGame) (id : ℕ) (g : ClubGame) → Some k ≡ keyed_game (Some g) id → (k.id ≡ id)
+pub ids_read : (k : KeyedGame) (id : ℕ) (g : ClubGame) → Some k ≡ keyed_game (Some g) id → (k.game ≡ id)
     × (k.pairing.event ≡ (pairing_of g).event)
 ids_read k id g is =
-    let e : k ≡ record { id = id; pairing = pairing_of g } = cc in
-    (ap (λ x. x.id) e, ap (λ x. x.pairing.event) e)
+    let e : k ≡ record { game = id; pairing = pairing_of g } = cc in
+    (ap (λ x. x.game) e, ap (λ x. x.pairing.event) e)
 
 some_of : {A : Type 0} (o : Option A) → IsSome o → (x : A) × (o ≡ Some x)
 some_of None some = absurd (true≢false (sym some))
@@ -287,7 +287,7 @@ players_stand s is_club id (club.shogi g) at =
 
 pub pairing_same : (k : KeyedGame) (id : ℕ) (g : ClubGame) → Some k ≡ keyed_game (Some g) id → k.pairing ≡ pairing_of g
 pairing_same k id g is =
-    let e : k ≡ record { id = id; pairing = pairing_of g } = cc in
+    let e : k ≡ record { game = id; pairing = pairing_of g } = cc in
     ap (λ x. x.pairing) e
 
 -- ---- a stored game

@@ -22,7 +22,7 @@ use Rattle.club_core.specs.declared.members.Member as given_member
 use Rattle.club_requests.specs.declared.refusals.Refusal.{Refusal}
 use Rattle.club_requests.specs.declared.requests.Caller.{Caller}
 use Rattle.club_requests.specs.declared.requests.Caller.TheVariants.{Officer, Member}
-use Rattle.club_core.specs.Answer.{members_of, event_of, events_of, keyed_of, outcome_of, answered}
+use Rattle.club_core.specs.Answer.{members_of, event_of, events_of, outcome_of, answered}
 use Rattle.club_core.specs.Events.{Terms, Event, event_kind, event_declares, has_event_name}
 use Rattle.club_core.specs.Game.{Game}
 use Rattle.club_core.specs.Imports.{Import, Imported, imported, has_part, reading_of_import, repeat_of_import}
@@ -32,7 +32,8 @@ use Rattle.club_requests.specs.Limits.{is_name}
 use Rattle.club_core.specs.Members.{find_id}
 use Rattle.club_requests.specs.Outcome.{Reply, Outcome, accepted, repeated, refused, map_outcome, by_officer, unless}
 use Rattle.club_requests.specs.Outcome.{unless_repeat, game_seated}
-use Rattle.club_core.specs.Seats.{KeyedGame, has_member_name, are_two}
+use Rattle.club_core.specs.declared.seats.KeyedGame.{KeyedGame}
+use Rattle.club_core.specs.Seats.{has_member_name, are_two}
 use Rattle.club_core.specs.State.{draughts, shogi, place, kind_at, terms_at, any_under, draughts_in, shogi_in}
 use Rattle.club_core.specs.State.{state_after, with_imported, import_looked_up, import_as, import_record}
 use Rattle.club_core.proofs.Proved.{none-holds}
@@ -397,11 +398,11 @@ pub by_known : {P M E T : Type 0} (laws : GameRules P M E T) (records : GameReco
     (import_found laws records given (event_declares (events_of es) given.event)
     (find_id (has_event_name given.event) (events_of es))
     (find_id (has_member_name given.first) (members_of ms)) (find_id (has_member_name given.second) (members_of ms))
-    (option_map keyed_of known.keyed) old known.games) ≡ imported_by laws records known who given old
+    known.keyed old known.games) ≡ imported_by laws records known who given old
 by_known laws records known who given old ms es members events =
     λ j. by_officer who (import_found laws records given
     (event_declares (events_of (events j)) given.event)
     (find_id (has_event_name given.event) (events_of (events j)))
     (find_id (has_member_name given.first) (members_of (members j)))
     (find_id (has_member_name given.second) (members_of (members j)))
-    (option_map keyed_of known.keyed) old known.games)
+    known.keyed old known.games)

@@ -19,7 +19,7 @@ use Rattle.club_core.specs.Events.{Event, Terms}
 use Rattle.club_core.specs.Game.{Entry, Game, Clocks, left_of, side_after, moves_of, clocks_of, turn_of, rule_end}
 use Rattle.club_core.specs.Game.{end_of, end_with, result_of, score_with}
 use Rattle.club_core.specs.LegalState.{IsLegalIn}
-use Rattle.club_core.specs.Seats.{Pairing}
+use Rattle.club_core.specs.declared.seats.Pairing.{Pairing}
 use Rattle.club_core.specs.State.{draughts, shogi, place, terms_at, pairing_of, is_late_any, swept_any}
 use Rattle.club_core.specs.Step.{is_late, ended, swept}
 use Rattle.club_core.proofs.Proved.{AreRules, not-some, no-rule-end, turn-of-game, score-none}

@@ -13,7 +13,7 @@ use Rattle.club_rules.proofs.Proved.{check-at, position_after-append}
 use Rattle.club_core.specs.Events.{Terms}
 use Rattle.club_core.specs.Game.{Entry, Game, moves_of, clocks_of, last_position, left_of, spend, turn_of}
 use Rattle.club_core.specs.Imports.{imported}
-use Rattle.club_core.specs.Seats.{Pairing}
+use Rattle.club_core.specs.declared.seats.Pairing.{Pairing}
 use Rattle.club_core.proofs.Proved.{AreRules, clocks-played, last-played}
 use Rattle.club_laws.proofs.Proved.{made-again}
 use Rattle.club_imports.specs.OneMoment.{clocks_with}

@@ -10,7 +10,7 @@ use Rattle.club_rules.specs.GameRules.{GameRules}
 use Rattle.club_core.specs.ClubRules.{ClubRules}
 use Rattle.club_core.specs.Members.{Member}
 use Rattle.club_core.specs.Events.{Event, Terms}
-use Rattle.club_core.specs.Seats.{Pairing}
+use Rattle.club_core.specs.declared.seats.Pairing.{Pairing}
 use Rattle.club_core.specs.Game.{Game, Entry}
 use Rattle.club_core.specs.LegalState.{Each, IsLegalIn}
 use Rattle.club_core.specs.State.{AnyGame, draughts, shogi, State, place, kind_at, terms_at, seated_as, with_members}

@@ -19,7 +19,9 @@ use Rattle.club_core.specs.Members.{find_id, member_step, same_member, member_re
 use Rattle.club_requests.specs.Limits.{is_name, is_budget, is_increment}
 use Rattle.club_core.specs.Events.{Event, has_event_name, has_good_values, event_step, same_event, event_refusal}
 use Rattle.club_core.specs.Events.{event_tests, declaring}
-use Rattle.club_core.specs.Seats.{Pairing, KeyedGame, pair, seat_found, seat_step, same_seats, seat_refusal}
+use Rattle.club_core.specs.declared.seats.KeyedGame.{KeyedGame}
+use Rattle.club_core.specs.declared.seats.Pairing.{Pairing}
+use Rattle.club_core.specs.Seats.{pair, seat_found, seat_step, same_seats, seat_refusal}
 use Rattle.club_core.specs.Seats.{has_member_name}
 use Rattle.club_core.specs.State.{state_after, is_accepted, add_member, add_event, seat, seated, seated_as, kind_at}
 use Rattle.club_core.specs.State.{place, with_members, with_events, with_new_game, game_under, caller_of, step_by}

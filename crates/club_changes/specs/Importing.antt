@@ -7,7 +7,7 @@ use Rattle.club_rules.specs.declared.names.GameKind.{GameKind}
 use Rattle.club_rules.specs.GameRules.{GameRules}
 use Rattle.club_rules.specs.Records.{GameRecords}
 use Rattle.club_requests.specs.declared.requests.Caller.{Caller}
-use Rattle.club_core.specs.Answer.{members_of, events_of, keyed_of, outcome_of, answered}
+use Rattle.club_core.specs.Answer.{members_of, events_of, outcome_of, answered}
 use Rattle.club_core.specs.Events.{Terms, Event, has_event_name, event_declares}
 use Rattle.club_core.specs.Game.{Game, result_of}
 use Rattle.club_core.specs.Imports.{Import, Imported, imported, import_found}
@@ -53,7 +53,7 @@ IsUnder s key (Some stored) = IsUnderKey s key stored
 pub record IsKnown (s : ClubState) (key : List ℕ) (known : Known) : Type 0 where
   pub members_are : members_of known.members.items ≡ s.members
   pub events_are : events_of known.events.items ≡ s.events
-  pub keyed_is : option_map keyed_of known.keyed ≡ game_under s.games key
+  pub keyed_is : known.keyed ≡ game_under s.games key
   pub under_is : IsUnder s key known.under
   pub games_are : known.games ≡ length s.games
 
@@ -79,7 +79,7 @@ imported_by laws records known caller given old =
     (find_id (has_event_name given.event) (events_of known.events.items))
     (find_id (has_member_name given.first) (members_of known.members.items))
     (find_id (has_member_name given.second) (members_of known.members.items))
-    (option_map keyed_of known.keyed)
+    known.keyed
     old
     known.games)
 

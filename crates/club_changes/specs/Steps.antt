@@ -22,7 +22,7 @@ use Rattle.club_requests.specs.Outcome.{MoveReply, Outcome, accepted, repeated, 
 use Rattle.club_requests.specs.declared.answers.Answer.{Answer}
 use Rattle.club_requests.specs.declared.answers.Answer.TheVariants as answer
 use Rattle.club_core.specs.Answer.{answered, outcome_of, move_reply_of, who_of, command_of}
-use Rattle.club_core.specs.Seats.{Pairing}
+use Rattle.club_core.specs.declared.seats.Pairing.{Pairing}
 use Rattle.club_core.specs.State.{Command, Request, place, kind_at, seated, seated_as, state_after, step, step_command}
 use Rattle.club_core.specs.State.{next}
 pub use Rattle.club_rows.specs.LegalRows.{IsRecordOf}

@@ -2,7 +2,6 @@
 
 ghost use Rattle.std.specs.Prelude.{◌≡◌, [], ◌∷◌, IfOk, IsTrue};
 ghost use Rattle.std.specs.Option.{option_map};
-ghost use Rattle.club_core.specs.Answer.{pairing_of};
 ghost use Rattle.club_requests.specs.Limits.{is_budget};
 ghost use Rattle.club_rows.specs.Replay.{terms_given};
 ghost use Rattle.club_changes.specs.Steps.{first_row, first_seen_rows, first_meetings, Puts, no_rows};
@@ -10,7 +9,7 @@ ghost use Rattle.club_changes.specs.Steps.{first_row, first_seen_rows, first_mee
 use crate::starts::start;
 use clocks::Moment;
 use club_core::KeyedGame;
-use club_games::{Draughts, Shogi};
+use club_games::by_kind;
 use club_rows::Terms;
 use club_rules::{GameKind, Memory};
 use std::alloc::Global;
@@ -30,15 +29,12 @@ pub(crate) fn seat_in(
         (record
         no_rows {
           games = first_row kind (terms_given terms) new.game (option_map (λ k. k.now) key.entry)
-              (pairing_of new.pairing) moment ∷ [];
+              new.pairing moment ∷ [];
           seen =
-              first_seen_rows kind new.game (option_map (λ k. k.now) key.entry) (pairing_of new.pairing) moment;
+              first_seen_rows kind new.game (option_map (λ k. k.now) key.entry) new.pairing moment;
         })) }
     ensures running { IfOk result (λ changes.
-        first_meetings kind (option_map (λ k. k.now) key.entry) (pairing_of new.pairing) moment ≡ []) }
+        first_meetings kind (option_map (λ k. k.now) key.entry) new.pairing moment ≡ []) }
 {
-    match kind {
-        GameKind::Draughts => start::<Draughts>(alloc, terms, new, key, moment),
-        GameKind::Shogi => start::<Shogi>(alloc, terms, new, key, moment),
-    }
+    by_kind!(kind, start::<_>(alloc, terms, new, key, moment))
 }

@@ -3,7 +3,6 @@
 ghost use Rattle.std.specs.Prelude.{◌≡◌, ◌<◌, [], ◌∷◌, Some, None, IfOk, IsErrOf};
 ghost use Rattle.std.specs.Option.{option_map};
 ghost use Rattle.club_core.specs.Answer.{event_of, events_of};
-ghost use Rattle.club_core.specs.Answer.{pairing_of};
 ghost use Rattle.club_core.specs.State.{place};
 ghost use Rattle.club_core.specs.LegalState.{Each, IsLegalEvent};
 ghost use Rattle.club_rows.specs.Replay.{terms_given};
@@ -56,13 +55,13 @@ pub fn seated_rows(
         (record
         no_rows {
           games = started (events_of events.now) new.game (option_map (λ k. k.now) key.entry)
-              (pairing_of new.pairing) moment ∷ [];
+              new.pairing moment ∷ [];
           seen =
-              started_seen (events_of events.now) new.game (option_map (λ k. k.now) key.entry) (pairing_of new.pairing)
+              started_seen (events_of events.now) new.game (option_map (λ k. k.now) key.entry) new.pairing
               moment;
         })) }
     ensures running { IfOk result (λ changes.
-        started_scores (events_of events.now) (option_map (λ k. k.now) key.entry) (pairing_of new.pairing) moment
+        started_scores (events_of events.now) (option_map (λ k. k.now) key.entry) new.pairing moment
         ≡ []) }
     ensures unfit { IsErrOf result ChangeFault.Unfit → place (events_of events.now) new.pairing.event ≡ None }
 {

@@ -2,7 +2,6 @@
 
 ghost use Rattle.std.specs.Prelude.{◌≡◌, ◌<◌, ℕ, Bool, [], ◌∷◌, Some, None, IfOk, IsTrue};
 ghost use Rattle.std.specs.Option.{option_map};
-ghost use Rattle.club_core.specs.Answer.{pairing_of};
 ghost use Rattle.club_core.specs.Game.{result_of};
 ghost use Rattle.club_requests.specs.Limits.{is_budget};
 ghost use Rattle.club_core.specs.State.{seated};
@@ -30,7 +29,7 @@ fn first_row<R: Rules>(
 ) -> Result<GameRow<R::End>, Memory>
     ensures { IfOk result (λ row. (increment : ℕ) (declares : Bool) →
         IsRowOf R.rules (record { budget = budget; increment = increment; declares = declares })
-        (seated (option_map (λ k. k.now) key.entry) (pairing_of pairing) moment) row) }
+        (seated (option_map (λ k. k.now) key.entry) pairing moment) row) }
 {
     match key {
         Some(key) => seated_row::<R>(alloc, key, pairing, budget, moment),
@@ -51,12 +50,12 @@ pub(crate) fn start<R: Rules>(
         (record
         no_rows {
           games = game_row R.rules (terms_given terms) new.game
-              (seated (option_map (λ k. k.now) key.entry) (pairing_of new.pairing) moment) ∷ [];
+              (seated (option_map (λ k. k.now) key.entry) new.pairing moment) ∷ [];
           seen =
-              seen_rows R.rules new.game (seated (option_map (λ k. k.now) key.entry) (pairing_of new.pairing) moment);
+              seen_rows R.rules new.game (seated (option_map (λ k. k.now) key.entry) new.pairing moment);
         })) }
     ensures running { IfOk result (λ changes.
-        result_of R.rules (seated (option_map (λ k. k.now) key.entry) (pairing_of new.pairing) moment) ≡ None) }
+        result_of R.rules (seated (option_map (λ k. k.now) key.entry) new.pairing moment) ≡ None) }
 {
     let row = first_row::<R>(alloc, key, new.pairing, terms.budget, moment)?;
     let mut changes = at(alloc, moment);

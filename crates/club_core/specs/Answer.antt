@@ -19,8 +19,6 @@ use Rattle.club_requests.specs.declared.requests.Request as given_request
 use Rattle.club_requests.specs.declared.requests.Import as given_import
 use Rattle.club_requests.specs.declared.requests.Who as given_who
 use Rattle.club_requests.specs.declared.requests.Who.TheVariants as given_who_is
-use Rattle.club_core.specs.declared.seats.Pairing as given_pairing
-use Rattle.club_core.specs.declared.seats.KeyedGame as given_keyed
 use Rattle.club_core.specs.declared.seats.Seating as given_seating
 use Rattle.club_core.specs.declared.seats.Seating.TheVariants as seating
 use Rattle.club_requests.specs.Outcome.{Reply, MoveReply, member_added, event_added, game_seated, moved, draw_offered}
@@ -29,7 +27,7 @@ use Rattle.club_requests.specs.Outcome.{challenge_refused}
 use Rattle.club_requests.specs.Outcome.{challenge_accepted, Outcome, accepted, repeated, refused, map_outcome}
 use Rattle.club_core.specs.Members.{Member}
 use Rattle.club_core.specs.Events.{Event}
-use Rattle.club_core.specs.Seats.{Pairing, KeyedGame}
+use Rattle.club_core.specs.declared.seats.Pairing.{Pairing}
 use Rattle.club_core.specs.Imports.{Import}
 use Rattle.club_core.specs.Step.{GameCommand, move, offer_draw, accept_draw, resign, claim_time, declare}
 use Rattle.club_core.specs.State.{Command, add_member, add_event, seat, import_record, on_game, sweep, open_challenge}
@@ -91,15 +89,9 @@ abbrev pub who_of : given_who.Who → Who
 who_of given_who_is.Officer = officer
 who_of (given_who_is.Key key) = key_holder (string_bytes key)
 
-abbrev pub pairing_of : given_pairing.Pairing → Pairing
-pairing_of p = record { event = p.event; first = p.first; second = p.second }
-
-abbrev pub keyed_of : given_keyed.KeyedGame → KeyedGame
-keyed_of k = record { id = k.game; pairing = pairing_of k.pairing }
-
 -- the outcome that a seating stands for
 abbrev pub seating_of : given_seating.Seating → Outcome Pairing
-seating_of (seating.Starts k) = accepted (pairing_of k.pairing) (game_seated k.game)
+seating_of (seating.Starts k) = accepted k.pairing (game_seated k.game)
 seating_of (seating.Repeated id) = repeated (game_seated id)
 seating_of (seating.Refused refusal) = refused refusal
 

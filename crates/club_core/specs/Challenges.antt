@@ -15,7 +15,8 @@ use Rattle.club_requests.specs.Outcome.{challenge_accepted}
 use Rattle.club_requests.specs.Outcome.{Outcome, accepted, refused, first_refusal, unless, unless_repeat}
 use Rattle.club_core.specs.Members.{Member, find_id}
 use Rattle.club_core.specs.Events.{Event, has_event_name}
-use Rattle.club_core.specs.Seats.{Pairing, has_member_name, is_id, are_two}
+use Rattle.club_core.specs.declared.seats.Pairing.{Pairing}
+use Rattle.club_core.specs.Seats.{has_member_name, is_id, are_two}
 
 -- what a challenge goes by: its member, and the member's number for it
 abbrev pub goes_by : Challenge → ℕ × ℕ

@@ -2,7 +2,7 @@
 use Rattle.std.specs.Prelude.{ℕ, ◌+◌, List, [], ◌∷◌, length, map, Option, Some, None, Bool, true, false, not, is_some}
 use Rattle.std.specs.Prelude.{◌&&◌, nat_le, if◌then◌else◌}
 use Rattle.squares.specs.declared.sides.Score.{Score}
-use Rattle.squares.specs.declared.sides.Score.TheVariants.{FirstWins, Draw, SecondWins}
+use Rattle.squares.specs.Sides.{same_score}
 use Rattle.club_rules.specs.declared.records.RecordFormat.{RecordFormat}
 use Rattle.club_rules.specs.declared.records.RecordFormat.TheVariants.{Pdn, Csa}
 use Rattle.club_rules.specs.declared.record_refusals.RecordRefusal.TheVariants.{ResultDiffers}
@@ -16,7 +16,9 @@ use Rattle.club_requests.specs.declared.refusals.Refusal.TheVariants.{UnknownEve
 use Rattle.club_requests.specs.Limits.{most_games, most_record_bytes, is_name}
 use Rattle.club_requests.specs.Outcome.{Reply, game_seated, Outcome, accepted, refused, first_refusal, unless}
 use Rattle.club_requests.specs.Outcome.{unless_repeat}
-use Rattle.club_core.specs.Seats.{Pairing, KeyedGame, are_two, same_seats}
+use Rattle.club_core.specs.declared.seats.KeyedGame.{KeyedGame}
+use Rattle.club_core.specs.declared.seats.Pairing.{Pairing}
+use Rattle.club_core.specs.Seats.{are_two, same_seats}
 use Rattle.club_core.specs.Game.{Game, moves_of, result_of}
 
 -- an import: the key of the new game, the names of its event and its players, and a part of a text in a format
@@ -39,12 +41,6 @@ same_format Pdn Pdn = true
 same_format Csa Csa = true
 same_format Pdn Csa = false
 same_format Csa Pdn = false
-
-abbrev pub same_score : Score → Score → Bool
-same_score FirstWins FirstWins = true
-same_score Draw Draw = true
-same_score SecondWins SecondWins = true
-same_score _ _ = false
 
 abbrev pub has_score : Option Score → Score → Bool
 has_score None score = false

@@ -9,17 +9,8 @@ use Rattle.club_requests.specs.Outcome.{Reply, game_seated, Outcome, accepted, r
 use Rattle.club_requests.specs.Outcome.{unless_repeat}
 use Rattle.club_core.specs.Members.{Member, find_id}
 use Rattle.club_core.specs.Events.{Event, has_event_name}
-
--- an event and the two players, by their ids
-pub record Pairing : Type 0 where
-  pub event : ℕ
-  pub first : ℕ
-  pub second : ℕ
-
--- a game that stands under a key
-pub record KeyedGame : Type 0 where
-  pub id : ℕ
-  pub pairing : Pairing
+use Rattle.club_core.specs.declared.seats.Pairing.{Pairing}
+use Rattle.club_core.specs.declared.seats.KeyedGame.{KeyedGame}
 
 abbrev pub has_member_name : List ℕ → Member → Bool
 has_member_name name m = bytes_eq m.name name
@@ -35,7 +26,7 @@ module _ (event : ℕ) (first second : Option ℕ) where
   same_seats None = None
   same_seats (Some old) =
       if event == old.pairing.event && is_id first old.pairing.first && is_id second old.pairing.second
-      then Some (game_seated old.id)
+      then Some (game_seated old.game)
       else None
 
 -- both are members, and not one

@@ -14,7 +14,9 @@ use Rattle.club_requests.specs.Outcome.{by_member}
 use Rattle.club_core.specs.Members as members
 use Rattle.club_core.specs.Members.{find_id, member_step}
 use Rattle.club_core.specs.Events.{Terms, Event, has_event_name, event_kind, event_declares, event_step}
-use Rattle.club_core.specs.Seats.{Pairing, KeyedGame, has_member_name, seat_step}
+use Rattle.club_core.specs.declared.seats.KeyedGame.{KeyedGame}
+use Rattle.club_core.specs.declared.seats.Pairing.{Pairing}
+use Rattle.club_core.specs.Seats.{has_member_name, seat_step}
 use Rattle.club_core.specs.Challenges.{challenge_under, challenge_by, put_challenge, pairing_for, opening_step}
 use Rattle.club_core.specs.Challenges.{withdrawal_step, answer_step}
 use Rattle.club_core.specs.Game.{Game}
@@ -97,7 +99,7 @@ module _ {DM SM : Type 0} where
 
   abbrev pub keyed_game : Option (AnyGame DM SM) → ℕ → Option KeyedGame
   keyed_game None id = None
-  keyed_game (Some g) id = Some (record { id = id; pairing = pairing_of g })
+  keyed_game (Some g) id = Some (record { game = id; pairing = pairing_of g })
 
   abbrev pub keyed_at : List (AnyGame DM SM) → Option ℕ → Option KeyedGame
   keyed_at games None = None

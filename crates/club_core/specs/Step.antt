@@ -5,7 +5,7 @@ use Rattle.std.specs.Prelude.{slice_get}
 use Rattle.std.specs.Option.{option_map}
 use Rattle.squares.specs.declared.sides.Side.{Side}
 use Rattle.squares.specs.declared.sides.Side.TheVariants.{First, Second}
-use Rattle.squares.specs.Sides.{same_side, other}
+use Rattle.squares.specs.Sides.{same_side, same_score, other}
 use Rattle.club_rules.specs.declared.refusals.MoveRefusal.{MoveRefusal}
 use Rattle.club_rules.specs.GameRules.{GameRules}
 use Rattle.club_requests.specs.declared.requests.Caller.{Caller}
@@ -68,38 +68,14 @@ has_offer (Some offer) side ply = same_side offer.side side && offer.ply == ply
 abbrev pub repeat_of_offer : Option Offer → Side → ℕ → Option Reply
 repeat_of_offer offer side ply = if has_offer offer side ply then Some (draw_offered ply) else None
 
--- how a game ended from outside
-abbrev pub is_resigned : Option OutsideEnd → Bool
-is_resigned None = false
-is_resigned (Some Resigned) = true
-is_resigned (Some Agreed) = false
-is_resigned (Some Time) = false
-is_resigned (Some Declared) = false
-is_resigned (Some (Recorded score)) = false
-
-abbrev pub is_agreed : Option OutsideEnd → Bool
-is_agreed None = false
-is_agreed (Some Resigned) = false
-is_agreed (Some Agreed) = true
-is_agreed (Some Time) = false
-is_agreed (Some Declared) = false
-is_agreed (Some (Recorded score)) = false
-
-abbrev pub is_lost_by_time : Option OutsideEnd → Bool
-is_lost_by_time None = false
-is_lost_by_time (Some Resigned) = false
-is_lost_by_time (Some Agreed) = false
-is_lost_by_time (Some Time) = true
-is_lost_by_time (Some Declared) = false
-is_lost_by_time (Some (Recorded score)) = false
-
-abbrev pub is_declared : Option OutsideEnd → Bool
-is_declared None = false
-is_declared (Some Resigned) = false
-is_declared (Some Agreed) = false
-is_declared (Some Time) = false
-is_declared (Some Declared) = true
-is_declared (Some (Recorded score)) = false
+-- the game ended from outside in this way
+abbrev pub is_ended_by : OutsideEnd → Option OutsideEnd → Bool
+is_ended_by Resigned (Some Resigned) = true
+is_ended_by Agreed (Some Agreed) = true
+is_ended_by Time (Some Time) = true
+is_ended_by Declared (Some Declared) = true
+is_ended_by (Recorded score) (Some (Recorded other)) = same_score score other
+is_ended_by _ _ = false
 
 -- the side that a member plays
 abbrev pub side_of_member : ℕ → ℕ → ℕ → Option Side
@@ -219,7 +195,7 @@ module _ {P M E T : Type 0} (rules : GameRules P M E T) (game : Game M) where
 
   -- the players agreed on a draw, by this side's accepting the other's offer of that ply
   abbrev pub repeat_of_accept : Side → ℕ → Option Reply
-  repeat_of_accept side ply = repeat_of_end Agreed (is_agreed game.outside && has_offer game.offer (other side) ply)
+  repeat_of_accept side ply = repeat_of_end Agreed (is_ended_by Agreed game.outside && has_offer game.offer (other side) ply)
 
   -- a side accepts the other's offer
   abbrev pub step_accept : Side → ℕ → Outcome (Game M)
@@ -239,7 +215,7 @@ module _ {P M E T : Type 0} (rules : GameRules P M E T) (game : Game M) where
   resign_refusal side = first_refusal (resign_tests side)
 
   abbrev pub repeat_of_resign : Side → Option Reply
-  repeat_of_resign side = repeat_of_end Resigned (is_resigned game.outside && is_turn side)
+  repeat_of_resign side = repeat_of_end Resigned (is_ended_by Resigned game.outside && is_turn side)
 
   -- the side to move gives up
   abbrev pub step_resign : Side → Outcome (Game M)
@@ -247,14 +223,14 @@ module _ {P M E T : Type 0} (rules : GameRules P M E T) (game : Game M) where
 
   -- the side to move lost by time, and this is the other
   abbrev pub repeat_of_claim : Side → Option Reply
-  repeat_of_claim side = repeat_of_end Time (is_lost_by_time game.outside && not (is_turn side))
+  repeat_of_claim side = repeat_of_end Time (is_ended_by Time game.outside && not (is_turn side))
 
 module _ {P M E T : Type 0} (rules : GameRules P M E T) (terms : Terms) (game : Game M) where
   -- the side to move declared, at this ply, that it had won
   abbrev pub repeat_of_declare : Side → ℕ → Option Reply
   repeat_of_declare side ply =
       repeat_of_end rules game Declared
-      (is_declared game.outside && is_turn rules game side && is_next_ply rules game ply)
+      (is_ended_by Declared game.outside && is_turn rules game side && is_next_ply rules game ply)
 
   -- the event has declarations, and the side to move may make one
   abbrev pub may_declare : Bool

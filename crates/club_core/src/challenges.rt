@@ -7,7 +7,7 @@ ghost use Rattle.club_core.specs.Challenges.{pairing_for, repeat_of_opening, ope
 ghost use Rattle.club_core.specs.Challenges.{opening_step, withdrawal_step, repeat_of_answer, answer_refusal, answers};
 ghost use Rattle.club_core.specs.Challenges.{answer_step};
 ghost use Rattle.club_requests.specs.Outcome.{by_member};
-ghost use Rattle.club_core.specs.Answer.{members_of, events_of, pairing_of, reply_of, challenge_outcome_of};
+ghost use Rattle.club_core.specs.Answer.{members_of, events_of, reply_of, challenge_outcome_of};
 
 use crate::events::Event;
 use crate::members::Member;
@@ -54,7 +54,7 @@ pub enum ChallengeDecision {
 impl Challenge {
     /// The event and the players of the game that the challenge is to.
     pub fn pairing(self) -> Pairing
-        ensures { pairing_of result ≡ pairing_for self }
+        ensures { result ≡ pairing_for self }
     {
         if self.first {
             Pairing {

@@ -11,7 +11,7 @@ ghost use Rattle.club_core.specs.View.{Shows, IsDecision, terms_of};
 use crate::decided::Decision;
 use crate::draws::is_next_ply;
 use crate::endings::{accept_end, answer_of_end};
-use crate::ends::is_declared;
+use crate::ends::is_ended_by;
 use crate::players::is_side;
 use crate::rows::GameView;
 use club_requests::{Answer, OutsideEnd, Refusal};
@@ -23,7 +23,7 @@ fn repeat_of_declare<R: Rules>(view: &GameView<R>, side: Side, ply: u64) -> Opti
     ensures { (game : Game R.Move) → Shows R.rules game view.now → IsLegalGame R.rules (terms_of view.now) game →
         option_map reply_of result ≡ repeat_of_declare R.rules (terms_of view.now) game side ply }
 {
-    if is_declared(&view.row.end)
+    if is_ended_by(&view.row.end, OutsideEnd::Declared)
         && is_side(side, R::turn(&view.position))
         && is_next_ply(view, ply)
     {

@@ -13,7 +13,7 @@ ghost use Rattle.club_core.specs.View.{Shows, IsSound, IsDecision, terms_of};
 
 use crate::decided::Decision;
 use crate::endings::{accept_end, answer_of_end};
-use crate::ends::is_agreed;
+use crate::ends::is_ended_by;
 use crate::players::is_side;
 use crate::rows::{GameView, Offer, copy_row};
 use club_requests::{Answer, OutsideEnd, Refusal};
@@ -126,7 +126,7 @@ fn repeat_of_accept<R: Rules>(view: &GameView<R>, side: Side, ply: u64) -> Optio
     ensures { (game : Game R.Move) → Shows R.rules game view.now → IsLegalGame R.rules (terms_of view.now) game →
         option_map reply_of result ≡ repeat_of_accept R.rules game side ply }
 {
-    if is_agreed(&view.row.end) && has_offer(view.row.offer, side.other(), ply) {
+    if is_ended_by(&view.row.end, OutsideEnd::Agreed) && has_offer(view.row.offer, side.other(), ply) {
         return Some(answer_of_end(view, OutsideEnd::Agreed));
     }
     None

@@ -10,7 +10,7 @@ ghost use Rattle.club_core.specs.Step.{repeat_of_claim, claim_refusal, step_clai
 ghost use Rattle.club_core.specs.View.{Shows, IsDecision, terms_of};
 
 use crate::decided::Decision;
-use crate::ends::{is_lost_by_time, is_resigned, outside_score};
+use crate::ends::{is_ended_by, outside_score};
 use crate::players::{is_side, left_in};
 use crate::rows::{GameEnd, GameView, copy_row};
 use clocks::Moment;
@@ -50,7 +50,7 @@ fn repeat_of_resign<R: Rules>(view: &GameView<R>, side: Side) -> Option<Answer>
     ensures { (game : Game R.Move) → Shows R.rules game view.now → IsLegalGame R.rules (terms_of view.now) game →
         option_map reply_of result ≡ repeat_of_resign R.rules game side }
 {
-    if is_resigned(&view.row.end) && is_side(side, R::turn(&view.position)) {
+    if is_ended_by(&view.row.end, OutsideEnd::Resigned) && is_side(side, R::turn(&view.position)) {
         return Some(answer_of_end(view, OutsideEnd::Resigned));
     }
     None
@@ -93,7 +93,7 @@ fn repeat_of_claim<R: Rules>(view: &GameView<R>, side: Side) -> Option<Answer>
     ensures { (game : Game R.Move) → Shows R.rules game view.now → IsLegalGame R.rules (terms_of view.now) game →
         option_map reply_of result ≡ repeat_of_claim R.rules game side }
 {
-    if is_lost_by_time(&view.row.end) && !is_side(side, R::turn(&view.position)) {
+    if is_ended_by(&view.row.end, OutsideEnd::Time) && !is_side(side, R::turn(&view.position)) {
         return Some(answer_of_end(view, OutsideEnd::Time));
     }
     None

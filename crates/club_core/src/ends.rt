@@ -5,7 +5,7 @@ ghost use Rattle.std.specs.Option.{option_map};
 ghost use Rattle.club_core.specs.declared.rows.GameEnd.TheVariants.{Rule};
 ghost use Rattle.club_core.specs.Game.{score_with, outside_score};
 ghost use Rattle.club_core.specs.View.{rule_in, outside_in};
-ghost use Rattle.club_core.specs.Step.{is_resigned, is_agreed, is_lost_by_time, is_declared};
+ghost use Rattle.club_core.specs.Step.{is_ended_by};
 
 use crate::rows::GameEnd;
 use club_requests::OutsideEnd;
@@ -22,42 +22,12 @@ pub fn rule_in<E: Copy>(end: &Option<GameEnd<E>>) -> Option<E>
     }
 }
 
-/// Whether the game was resigned.
-pub fn is_resigned<E>(end: &Option<GameEnd<E>>) -> bool
-    ensures { result ≡ is_resigned (outside_in end.now) }
+/// Whether the game ended from outside in this way.
+pub fn is_ended_by<E>(end: &Option<GameEnd<E>>, way: OutsideEnd) -> bool
+    ensures { result ≡ is_ended_by way (outside_in end.now) }
 {
     match end {
-        Some(GameEnd::Outside(OutsideEnd::Resigned)) => true,
-        _ => false,
-    }
-}
-
-/// Whether the players agreed on a draw.
-pub fn is_agreed<E>(end: &Option<GameEnd<E>>) -> bool
-    ensures { result ≡ is_agreed (outside_in end.now) }
-{
-    match end {
-        Some(GameEnd::Outside(OutsideEnd::Agreed)) => true,
-        _ => false,
-    }
-}
-
-/// Whether the side to move lost by time.
-pub fn is_lost_by_time<E>(end: &Option<GameEnd<E>>) -> bool
-    ensures { result ≡ is_lost_by_time (outside_in end.now) }
-{
-    match end {
-        Some(GameEnd::Outside(OutsideEnd::Time)) => true,
-        _ => false,
-    }
-}
-
-/// Whether the side to move declared that it had won.
-pub fn is_declared<E>(end: &Option<GameEnd<E>>) -> bool
-    ensures { result ≡ is_declared (outside_in end.now) }
-{
-    match end {
-        Some(GameEnd::Outside(OutsideEnd::Declared)) => true,
+        Some(GameEnd::Outside(end)) => *end == way,
         _ => false,
     }
 }

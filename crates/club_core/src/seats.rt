@@ -10,7 +10,7 @@ ghost use Rattle.club_core.specs.Seats.{has_member_name, same_seats, seat_refusa
 ghost use Rattle.club_core.specs.Seats.{are_two};
 ghost use Rattle.club_requests.specs.Outcome.{by_officer, game_seated};
 ghost use Rattle.club_core.specs.State.{seated};
-ghost use Rattle.club_core.specs.Answer.{members_of, events_of, keyed_of, pairing_of, seating_of};
+ghost use Rattle.club_core.specs.Answer.{members_of, events_of, seating_of};
 ghost use Rattle.club_core.specs.View.{IsRowOf};
 
 use crate::events::Event;
@@ -92,7 +92,7 @@ pub fn repeated_seat(
     second: Option<u32>,
     under_key: Option<KeyedGame>,
 ) -> Option<u32>
-    ensures { option_map game_seated result ≡ same_seats event first second (option_map keyed_of under_key) }
+    ensures { option_map game_seated result ≡ same_seats event first second under_key }
 {
     let old = match under_key {
         Some(old) => old,
@@ -112,7 +112,7 @@ fn refusal_of_seat(
     first: Option<u32>,
     second: Option<u32>,
 ) -> Option<Refusal>
-    ensures value { result ≡ seat_refusal (option_map keyed_of under_key) games key.now first second }
+    ensures value { result ≡ seat_refusal under_key games key.now first second }
     ensures room { IfNone result (games < most_games) }
 {
     if under_key.is_some() {
@@ -136,7 +136,7 @@ fn seat_found(
     games: u32,
     key: &str,
 ) -> Seating
-    ensures { seating_of result ≡ seat_found (Some event) first second (option_map keyed_of under_key) games key.now }
+    ensures { seating_of result ≡ seat_found (Some event) first second under_key games key.now }
 {
     match repeated_seat(event, first, second, under_key) {
         Some(game) => return Seating::Repeated(game),
@@ -177,7 +177,7 @@ pub fn seat(
     requires members { length members.now ≤ most_members }
     requires events { length events.now ≤ most_events }
     ensures { seating_of result ≡ by_officer caller (seat_step (members_of members.now) (events_of events.now)
-        (option_map keyed_of under_key) games (string_bytes command.now.key)
+        under_key games (string_bytes command.now.key)
         (string_bytes command.now.event) (string_bytes command.now.first) (string_bytes command.now.second)) }
 {
     if caller != Caller::Officer {
@@ -202,7 +202,7 @@ pub fn seated_row<R: Rules>(
 ) -> Result<GameRow<R::End>, Memory>
     ensures { IfOk result (λ row. (increment : ℕ) (declares : Bool) →
         IsRowOf R.rules (record { budget = budget; increment = increment; declares = declares })
-        (seated (Some key.now) (pairing_of pairing) start) row) }
+        (seated (Some key.now) pairing start) row) }
 {
     let key = String::from_str(alloc, key)?;
     started_row::<R>(alloc, Some(key), pairing, budget, start)
@@ -217,7 +217,7 @@ pub fn keyless_row<R: Rules>(
 ) -> Result<GameRow<R::End>, Memory>
     ensures { IfOk result (λ row. (increment : ℕ) (declares : Bool) →
         IsRowOf R.rules (record { budget = budget; increment = increment; declares = declares })
-        (seated None (pairing_of pairing) start) row) }
+        (seated None pairing start) row) }
 {
     started_row::<R>(alloc, None, pairing, budget, start)
 }
@@ -232,7 +232,7 @@ fn started_row<R: Rules>(
 ) -> Result<GameRow<R::End>, Memory>
     ensures { IfOk result (λ row. (increment : ℕ) (declares : Bool) →
         IsRowOf R.rules (record { budget = budget; increment = increment; declares = declares })
-        (seated (option_map (λ k. string_bytes k) key) (pairing_of pairing) start) row) }
+        (seated (option_map (λ k. string_bytes k) key) pairing start) row) }
 {
     let position = R::start();
     let track = R::track_start(&position);

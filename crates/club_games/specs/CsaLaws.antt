@@ -3,9 +3,8 @@ use Rattle.std.proofs.Common.{◌≡◌, ℕ, zero, suc, ◌+◌, List, [], ◌�
 use Rattle.std.proofs.Common.{Some, None, Result, Ok, Err, refl, sym, ap, ◌∙◌, subst}
 use Rattle.std.specs.Prelude.{slice_get, if◌then◌else◌}
 use Rattle.squares.specs.declared.sides.Score.{Score}
-use Rattle.squares.specs.declared.sides.Score.TheVariants as score
 use Rattle.squares.specs.declared.shogi.moves.SMove.{SMove}
-use Rattle.squares.specs.Sides.{loses, other}
+use Rattle.squares.specs.Sides.{loses, other, same_score, same_score-same}
 use Rattle.squares.specs.ShogiSets.{ShogiPosition}
 use Rattle.squares.specs.ShogiOpening.{opening}
 use Rattle.shogi_moves.specs.declared.checking.Illegal.{Illegal}
@@ -25,7 +24,7 @@ use Rattle.csa.specs.declared.statements.Statement.{Statement}
 use Rattle.csa.specs.declared.statements.WrittenMove.{WrittenMove}
 use Rattle.csa.specs.Lines.{text_statements}
 use Rattle.csa.specs.Order.{first_stray}
-use Rattle.csa.specs.Endings.{claimed, fits_rules, same_score, agrees, claim_settled, ending, says_declared}
+use Rattle.csa.specs.Endings.{claimed, fits_rules, agrees, claim_settled, ending, says_declared}
 use Rattle.csa.specs.Reading.{first_statement, records_of}
 use Rattle.csa.specs.Records.{begins_even, end_in, score_in}
 use Rattle.csa.specs.Replays.{written_moves}
@@ -66,21 +65,10 @@ replay-line ms (w ∷ ws) ns line read =
     (end_of opening ms) (meant (last_position opening ms) w) refl read
 
 -- where the rules ended the game, the score is theirs
-same-score : (a b : Score) → same_score a b ≡ true → a ≡ b
-same-score score.FirstWins score.FirstWins is = refl
-same-score score.Draw score.Draw is = refl
-same-score score.SecondWins score.SecondWins is = refl
-same-score score.FirstWins score.Draw is = cc
-same-score score.FirstWins score.SecondWins is = cc
-same-score score.Draw score.FirstWins is = cc
-same-score score.Draw score.SecondWins is = cc
-same-score score.SecondWins score.FirstWins is = cc
-same-score score.SecondWins score.Draw is = cc
-
 settled-score : (fits same : Bool) (claim by_rule s : Score) → same_score claim by_rule ≡ same
     → ◌≡◌ {A = Result Score CsaFault} (if fits && same then Ok claim else Err fault.ResultDiffers) (Ok s) → s ≡ by_rule
 settled-score true true claim by_rule s is told = let claimed_is : claim ≡ s = cc in
-    sym claimed_is ∙ same-score claim by_rule is
+    sym claimed_is ∙ same_score-same claim by_rule is
 settled-score true false claim by_rule s is told = cc
 settled-score false same claim by_rule s is told = cc
 

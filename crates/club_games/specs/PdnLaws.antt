@@ -3,7 +3,7 @@ use Rattle.std.proofs.Common.{◌≡◌, ℕ, suc, List, [], ◌∷◌, ◌++◌
 use Rattle.std.proofs.Common.{None, Result, Ok, Err, refl, sym, ap, ◌∙◌, subst}
 use Rattle.std.specs.Prelude.{codes, if◌then◌else◌}
 use Rattle.squares.specs.declared.sides.Score.{Score}
-use Rattle.squares.specs.declared.sides.Score.TheVariants as score
+use Rattle.squares.specs.Sides.{same_score, same_score-same}
 use Rattle.squares.specs.declared.draughts.moves.DMove.{DMove}
 use Rattle.squares.specs.DraughtsBoard.{Position}
 use Rattle.squares.specs.DraughtsOpening.{opening}
@@ -19,7 +19,7 @@ use Rattle.pdn_games.specs.declared.faults.PdnFault.{PdnFault}
 use Rattle.pdn_games.specs.declared.faults.PdnFault.TheVariants as fault
 use Rattle.pdn_games.specs.Contents.{first_tag, result_in, move_texts, is_other_type}
 use Rattle.pdn_games.specs.Order.{bad_at}
-use Rattle.pdn_games.specs.Reading.{said, told, same_score, agrees, ruled, settled, score_in}
+use Rattle.pdn_games.specs.Reading.{said, told, agrees, ruled, settled, score_in}
 use Rattle.pdn_games.specs.Tokens.{Placed}
 use Rattle.club_rules.specs.Line.{IsPlayedLine}
 use Rattle.club_rules.specs.Records.{Recorded, IsGameByRules, ReadsGames, Reading, game, no_part}
@@ -59,21 +59,10 @@ replay-line ms (text ∷ texts) ns line read =
     (end_of opening ms) (move_value.move_reading (last_position opening ms) text) refl refl read
 
 -- where the rules ended the game, the score is theirs
-same-score : (a b : Score) → same_score a b ≡ true → a ≡ b
-same-score score.FirstWins score.FirstWins is = refl
-same-score score.Draw score.Draw is = refl
-same-score score.SecondWins score.SecondWins is = refl
-same-score score.FirstWins score.Draw is = cc
-same-score score.FirstWins score.SecondWins is = cc
-same-score score.Draw score.FirstWins is = cc
-same-score score.Draw score.SecondWins is = cc
-same-score score.SecondWins score.FirstWins is = cc
-same-score score.SecondWins score.Draw is = cc
-
 settled-score : (same tag : Bool) (claim by_rule s : Score) → same_score claim by_rule ≡ same
     → ◌≡◌ {A = Result Score PdnFault} (if same && tag then Ok claim else Err fault.ResultDiffers) (Ok s) → s ≡ by_rule
 settled-score true true claim by_rule s is told = let claimed_is : claim ≡ s = cc in
-    sym claimed_is ∙ same-score claim by_rule is
+    sym claimed_is ∙ same_score-same claim by_rule is
 settled-score true false claim by_rule s is told = cc
 settled-score false tag claim by_rule s is told = cc
 

@@ -6,8 +6,9 @@ ghost use Rattle.club_games.specs.Draughts.{draughts, refusal_of};
 use club_rules::{EndName, GameKind, MoveRefusal, Rules};
 use draughts_draws::{DEnd, DLineFault, Tail};
 use draughts_moves::Illegal;
+use memory::Memory;
 use pdn::{FenFault, MoveFault};
-use squares::{DMove, DPos, Memory, Score, Side};
+use squares::{DMove, DPos, Score, Side};
 use std::alloc::Global;
 
 /// International draughts.

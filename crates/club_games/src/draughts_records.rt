@@ -6,9 +6,10 @@ ghost use Rattle.club_games.specs.PdnReading.{pdn_refusal, game_of};
 
 use crate::draughts::{Draughts, refusal_of};
 use club_rules::{RecordFormat, RecordReading, RecordRefusal, RecordedGame, Records};
+use memory::Memory;
 use pdn::laws::fen_forms_are_texts;
 use pdn_games::{PdnFault, PdnGame, read_game};
-use squares::{DMove, Memory};
+use squares::DMove;
 use std::alloc::Global;
 
 // Why the club refuses a text with that fault. Memory is no fault of a text.

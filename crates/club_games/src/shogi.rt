@@ -4,10 +4,11 @@ ghost use Rattle.std.specs.Prelude.{◌≡◌};
 ghost use Rattle.club_games.specs.Shogi.{shogi, refusal_of, same_move};
 
 use club_rules::{EndName, GameKind, MoveRefusal, Rules};
+use memory::Memory;
 use sfen::SfenFault;
 use shogi_moves::Illegal;
 use shogi_repetition::{SEnd, SLineFault, Tail};
-use squares::{Memory, SMove, SPos, Score, Side};
+use squares::{SMove, SPos, Score, Side};
 use std::alloc::Global;
 
 /// Shogi.

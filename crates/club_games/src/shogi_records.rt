@@ -7,7 +7,8 @@ ghost use Rattle.club_games.specs.CsaReading.{csa_refusal, game_of, found_game};
 use crate::shogi::{Shogi, refusal_of};
 use club_rules::{RecordFormat, RecordReading, RecordRefusal, RecordedGame, Records};
 use csa::{CsaFault, CsaGame, read_games};
-use squares::{Memory, SMove};
+use memory::Memory;
+use squares::SMove;
 use std::alloc::Global;
 
 // Why the club refuses a text with that fault. Memory is no fault of a text.

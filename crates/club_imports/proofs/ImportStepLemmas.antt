@@ -8,7 +8,7 @@ use Rattle.club_core.specs.Game.{Game}
 use Rattle.club_core.specs.Imports.{Import, Imported, reading_of_import, repeat_of_import, import_refusal, read_in}
 use Rattle.club_core.specs.Imports.{import_between, import_step}
 use Rattle.club_requests.specs.Outcome.{Reply, Outcome, repeated, refused, unless, unless_repeat}
-use Rattle.club_core.specs.Seats.{KeyedGame}
+use Rattle.club_core.specs.declared.seats.KeyedGame.{KeyedGame}
 use Rattle.club_imports.specs.Importing.{IsByRules}
 
 -- the order, over plain outcomes

@@ -8,7 +8,7 @@ use Rattle.club_rules.specs.Records.{Recorded, IsGameByRules}
 use Rattle.club_core.specs.Events.{Terms}
 use Rattle.club_core.specs.Game.{clocks_of, last_position, end_of, end_with, result_of, spend_all}
 use Rattle.club_core.specs.Imports.{recorded_end, imported}
-use Rattle.club_core.specs.Seats.{Pairing}
+use Rattle.club_core.specs.declared.seats.Pairing.{Pairing}
 use Rattle.club_core.specs.View.{track_of_game}
 use Rattle.club_laws.proofs.Proved.{made-again, imported-result}
 use Rattle.club_imports.specs.OneMoment.{at_moment, clocks_with}

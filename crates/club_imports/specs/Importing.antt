@@ -3,7 +3,6 @@ use Rattle.std.specs.Prelude.{◌≡◌, Option, Some, None}
 use Rattle.club_rules.specs.GameRules.{GameRules}
 use Rattle.club_rules.specs.Records as record_is
 use Rattle.club_rules.specs.Records.{Reading, recorded_of, IsGameByRules}
-use Rattle.club_core.specs.Answer.{pairing_of}
 use Rattle.club_core.specs.Game.{Game, moves_of, result_of}
 use Rattle.club_core.specs.Imports.{Imported}
 use Rattle.club_requests.specs.Outcome.{Outcome, accepted, repeated, refused, game_seated}
@@ -31,7 +30,7 @@ IsByRules rules (record_is.refused refusal) = Unit {0}
 -- the outcome that an import stands for
 abbrev pub importing_of : {M : Type 0} → given_importing.Importing M → Outcome (Imported M)
 importing_of (importing.Adds new) =
-    accepted (record { pairing = pairing_of new.pairing; recorded = recorded_of new.recorded }) (game_seated new.game)
+    accepted (record { pairing = new.pairing; recorded = recorded_of new.recorded }) (game_seated new.game)
 importing_of (importing.Repeated id) = repeated (game_seated id)
 importing_of (importing.Refused refusal) = refused refusal
 

@@ -3,7 +3,7 @@
 ghost use Rattle.std.specs.Prelude.{◌≡◌, ◌≤◌, ◌<◌, ℕ, length, Option, IfOk, IfNone, string_bytes};
 ghost use Rattle.std.specs.Option.{option_map};
 ghost use Rattle.club_rules.specs.Records.{recorded_of, reading_of, IsGameByRules};
-ghost use Rattle.club_core.specs.Answer.{members_of, events_of, keyed_of, import_of};
+ghost use Rattle.club_core.specs.Answer.{members_of, events_of, import_of};
 ghost use Rattle.club_core.specs.Events.{has_event_name, event_declares};
 ghost use Rattle.club_core.specs.Game.{Game};
 ghost use Rattle.club_core.specs.Imports.{same_format, has_part, reading_of_import, repeat_of_import, import_refusal};
@@ -11,7 +11,8 @@ ghost use Rattle.club_core.specs.Imports.{read_in, import_game, import_between, 
 ghost use Rattle.club_requests.specs.Limits.{most_members, most_events, most_games};
 ghost use Rattle.club_core.specs.Members.{find_id};
 ghost use Rattle.club_requests.specs.Outcome.{by_officer, game_seated};
-ghost use Rattle.club_core.specs.Seats.{has_member_name, KeyedGame};
+ghost use Rattle.club_core.specs.declared.seats.KeyedGame.{KeyedGame};
+ghost use Rattle.club_core.specs.Seats.{has_member_name};
 ghost use Rattle.club_imports.specs.Importing.{ShowsPlayed, IsByRules, importing_of, AddsByRules};
 
 use crate::played::{PlayedGame, reads_record_of};
@@ -87,7 +88,7 @@ fn repeat_of_import<R: Records>(
     requires { reading_of reading.now ≡ reading_of_import R.rules R.records (import_of command.now) }
     ensures { (old : Option (Game R.Move)) (games : ℕ) → ShowsPlayed R.rules old played.now →
         option_map game_seated result ≡ repeat_of_import R.rules R.records (import_of command.now) event first second
-        (option_map keyed_of under_key) old games }
+        under_key old games }
 {
     if reads_record_of::<R>(played, reading) {
         return repeated_seat(event, first, second, under_key);
@@ -107,7 +108,7 @@ fn refusal_of_import<R: Records>(
     requires { reading_of reading.now ≡ reading_of_import R.rules R.records (import_of command.now) }
     ensures value { (event : ℕ) (old : Option (Game R.Move)) →
         result ≡ import_refusal R.rules R.records (import_of command.now) event first second
-        (option_map keyed_of under_key) old games }
+        under_key old games }
     ensures room { IfNone result (games < most_games) }
 {
     if under_key.is_some() {
@@ -206,7 +207,7 @@ fn import_found<R: Records>(
 ) -> Result<Importing<R::Move>, Memory>
     ensures value { IfOk result (λ i. (old : Option (Game R.Move)) → ShowsPlayed R.rules old played.now →
         importing_of i ≡ import_step R.rules R.records (import_of command.now) event first second
-        (option_map keyed_of under_key) old games declares) }
+        under_key old games declares) }
     ensures by_rules { IfOk result (λ i. AddsByRules R.rules i) }
 {
     let reading = read_import::<R>(alloc, command)?;
@@ -244,7 +245,7 @@ pub fn import<R: Records>(
         (find_id (has_event_name (string_bytes command.now.event)) (events_of events.now))
         (find_id (has_member_name (string_bytes command.now.first)) (members_of members.now))
         (find_id (has_member_name (string_bytes command.now.second)) (members_of members.now))
-        (option_map keyed_of under_key) old games)) }
+        under_key old games)) }
     ensures by_rules { IfOk result (λ i. AddsByRules R.rules i) }
 {
     if caller != Caller::Officer {

@@ -3,7 +3,7 @@
 ghost use Rattle.std.specs.Prelude.{◌≡◌, Option};
 ghost use Rattle.club_rules.specs.Records.{recorded_of, reading_of};
 ghost use Rattle.club_core.specs.Game.{Game};
-ghost use Rattle.club_core.specs.Imports.{same_score, has_score, same_moves, is_record_of, reads_record_of};
+ghost use Rattle.club_core.specs.Imports.{has_score, same_moves, is_record_of, reads_record_of};
 ghost use Rattle.club_imports.specs.Importing.{IsPlayedOf, ShowsPlayed};
 
 use club_rules::{RecordReading, RecordedGame, Rules};
@@ -16,18 +16,12 @@ pub struct PlayedGame<M> {
     pub result: Option<Score>,
 }
 
-fn is_same_score(one: Score, other: Score) -> bool
-    ensures { result ≡ same_score one other }
-{
-    one == other
-}
-
 fn has_score(ended: Option<Score>, score: Score) -> bool
     ensures { result ≡ has_score ended score }
 {
     match ended {
         None => false,
-        Some(ended) => is_same_score(ended, score),
+        Some(ended) => ended == score,
     }
 }
 

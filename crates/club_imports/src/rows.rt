@@ -4,7 +4,6 @@ ghost use Rattle.std.specs.Prelude.{◌≡◌, ◌≤◌, ◌<◌, ◌+◌, ◌^
 ghost use Rattle.squares.specs.declared.sides.Side.TheVariants.{First};
 ghost use Rattle.club_rules.specs.Line.{IsPlayedLine, position_after, line_track};
 ghost use Rattle.club_rules.specs.Records.{recorded_of, IsGameByRules};
-ghost use Rattle.club_core.specs.Answer.{pairing_of};
 ghost use Rattle.club_core.specs.Game.{end_with, left_of, spend, spend_all};
 ghost use Rattle.club_core.specs.Imports.{recorded_end, imported};
 ghost use Rattle.club_requests.specs.Limits.{most_plies, is_budget, is_increment};
@@ -126,7 +125,7 @@ pub fn imported_row<R: Rules>(
     requires increment { IsTrue (is_increment increment) }
     ensures { IfOk result (λ row. (declares : Bool) →
         IsRowOf R.rules (record { budget = budget; increment = increment; declares = declares })
-        (imported R.rules (Some key.now) (pairing_of pairing) start (recorded_of recorded.now)) row) }
+        (imported R.rules (Some key.now) pairing start (recorded_of recorded.now)) row) }
 {
     let moves = recorded.moves.as_slice();
     let line_state = line_state_after::<R>(moves);

@@ -24,7 +24,9 @@ use Rattle.club_requests.specs.Outcome.{Reply, Outcome, refused}
 use Rattle.club_requests.specs.Outcome.{map_outcome, by_officer, unless, unless_repeat}
 use Rattle.club_core.specs.Members.{find_id, has_name_or_key, member_tests, member_refusal}
 use Rattle.club_core.specs.Events.{Event, has_event_name, has_good_values, event_tests, event_refusal, declaring}
-use Rattle.club_core.specs.Seats.{Pairing, KeyedGame, are_two, same_seats, seat_tests, seat_refusal}
+use Rattle.club_core.specs.declared.seats.KeyedGame.{KeyedGame}
+use Rattle.club_core.specs.declared.seats.Pairing.{Pairing}
+use Rattle.club_core.specs.Seats.{are_two, same_seats, seat_tests, seat_refusal}
 use Rattle.club_core.specs.Seats.{pair, seat_found}
 use Rattle.club_core.specs.Challenges.{pairing_for, standing_as}
 use Rattle.club_core.specs.Game.{Game, Entry, Clocks, spend, spend_all}
@@ -119,7 +121,7 @@ module _ {DM SM : Type 0} where
   no-keyed games None stands none = refl
   no-keyed games (Some k) stands none =
       let (g, at) = stands k refl in
-      let some : ◌≡◌ {A = Option KeyedGame} (Some (record { id = k; pairing = pairing_of g })) None = rw at at none in
+      let some : ◌≡◌ {A = Option KeyedGame} (Some (record { game = k; pairing = pairing_of g })) None = rw at at none in
       absurd cc
 
   -- where no game stands under a key, a search for the key finds none

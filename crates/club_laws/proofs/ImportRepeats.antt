@@ -14,7 +14,8 @@ use Rattle.club_core.specs.ClubRules.{ClubRules}
 use Rattle.club_requests.specs.Outcome.{Reply, game_seated, accepted, repeated, map_outcome}
 use Rattle.club_core.specs.Members.{find_id}
 use Rattle.club_core.specs.Events.{Event, has_event_name, event_kind, event_declares}
-use Rattle.club_core.specs.Seats.{KeyedGame, has_member_name}
+use Rattle.club_core.specs.declared.seats.KeyedGame.{KeyedGame}
+use Rattle.club_core.specs.Seats.{has_member_name}
 use Rattle.club_core.specs.Game.{Game, result_of}
 use Rattle.club_core.specs.Imports.{Import, Imported, imported, is_record_of, reading_of_import, read_in}
 use Rattle.club_core.specs.Imports.{repeat_of_import, import_tests, import_refusal, import_between, import_found}

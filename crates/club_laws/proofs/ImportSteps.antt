@@ -15,7 +15,8 @@ use Rattle.club_requests.specs.declared.requests.Caller.TheVariants.{Officer, Me
 use Rattle.club_requests.specs.Limits.{last_moment, most_games, is_name}
 use Rattle.club_core.specs.Members.{find_id}
 use Rattle.club_core.specs.Events.{Event, has_event_name, event_kind, event_declares}
-use Rattle.club_core.specs.Seats.{Pairing, has_member_name, are_two}
+use Rattle.club_core.specs.declared.seats.Pairing.{Pairing}
+use Rattle.club_core.specs.Seats.{has_member_name, are_two}
 use Rattle.club_core.specs.Game.{Game}
 use Rattle.club_core.specs.Imports.{Import, imported, has_part, reading_of_import, read_in, repeat_of_import}
 use Rattle.club_core.specs.Imports.{import_tests, import_refusal, import_between, import_step, import_found}

@@ -17,9 +17,10 @@ use Rattle.club_rules.specs.Records as record_is
 use Rattle.club_rules.specs.Records.{Recorded, Reading, IsGameByRules}
 use Rattle.club_requests.specs.declared.outside_end.OutsideEnd.TheVariants.{Agreed, Time, Declared}
 use Rattle.club_core.specs.Events.{Terms}
-use Rattle.club_core.specs.Seats.{Pairing}
+use Rattle.club_core.specs.declared.seats.Pairing.{Pairing}
 use Rattle.club_core.specs.Game.{Entry, Clocks, spend, end_with, score_with, result_of}
-use Rattle.club_core.specs.Imports.{same_score, recorded_end, has_score, same_moves, is_record_of, imported, read_in}
+use Rattle.squares.specs.Sides.{same_score-itself}
+use Rattle.club_core.specs.Imports.{recorded_end, has_score, same_moves, is_record_of, imported, read_in}
 use Rattle.club_core.specs.Legal.{IsTimely, IsLegalGame}
 use Rattle.club_core.proofs.Proved.{AreRules}
 
@@ -81,11 +82,6 @@ not-declared (Some end) result is = cc
 pub not-timed : {E : Type 0} (end : Option E) (result : Score) → recorded_end end result ≡ Some Time → ⊥
 not-timed None result is = cc
 not-timed (Some end) result is = cc
-
-same_score-itself : (result : Score) → same_score result result ≡ true
-same_score-itself score.FirstWins = refl
-same_score-itself score.Draw = refl
-same_score-itself score.SecondWins = refl
 
 some-none : {A : Type 0} (o : Option A) → IsSome o → o ≡ None → ⊥
 some-none None some none = cc

@@ -30,7 +30,8 @@ use Rattle.club_core.specs.Members as members
 use Rattle.club_core.specs.Members.{find_id, member_refusal, same_member, member_step}
 use Rattle.club_core.specs.Events.{Event, event_kind, has_event_name, event_refusal}
 use Rattle.club_core.specs.Events.{same_event, event_step}
-use Rattle.club_core.specs.Seats.{Pairing, has_member_name}
+use Rattle.club_core.specs.declared.seats.Pairing.{Pairing}
+use Rattle.club_core.specs.Seats.{has_member_name}
 use Rattle.club_core.specs.Seats.{seat_step}
 use Rattle.club_core.specs.Challenges.{challenge_under, challenge_by, pairing_for, standing_as, opening_step}
 use Rattle.club_core.specs.Challenges.{withdrawal_step, answer_step}

@@ -34,7 +34,9 @@ use Rattle.club_core.specs.Members.{find_id, is_member, member_refusal, same_mem
 use Rattle.club_core.specs.Events.{Terms, Event, event_kind, same_game, is_event, has_event_name, event_refusal}
 use Rattle.club_core.specs.Events.{declaring}
 use Rattle.club_core.specs.Events.{same_event, event_step}
-use Rattle.club_core.specs.Seats.{Pairing, KeyedGame, has_member_name, same_seats, seat_tests, seat_refusal, pair}
+use Rattle.club_core.specs.declared.seats.KeyedGame.{KeyedGame}
+use Rattle.club_core.specs.declared.seats.Pairing.{Pairing}
+use Rattle.club_core.specs.Seats.{has_member_name, same_seats, seat_tests, seat_refusal, pair}
 use Rattle.club_core.specs.Seats.{seat_found, seat_step}
 use Rattle.club_core.specs.Challenges.{challenge_under, challenge_by, is_open, standing_as, asks_same, opening_step}
 use Rattle.club_core.specs.Challenges.{withdrawal_step, repeat_of_answer, answer_step}
@@ -221,7 +223,7 @@ module _ {DM SM : Type 0} (s t : State DM SM) (moment again : ℕ) where
   -- and stands under it
   pub keyed-later : (key : List ℕ) (pairing : Pairing) (new : AnyGame DM SM) → has_key key new ≡ true
       → pairing_of new ≡ pairing → is_some (game_under s.games key) ≡ false → IsLater (with_imported s moment new) t
-      → game_under t.games key ≡ Some (record { id = length s.games + 1; pairing = pairing })
+      → game_under t.games key ≡ Some (record { game = length s.games + 1; pairing = pairing })
   keyed-later key pairing new has of fresh later =
       let (game, at, is_later) = later.games (length s.games) new (at-last s.games new) in
       let found = added-found key new has fresh later in

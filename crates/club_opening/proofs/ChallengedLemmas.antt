@@ -25,7 +25,7 @@ use Rattle.club_core.specs.declared.challenges.ChallengeState.TheVariants.{Open,
 use Rattle.club_core.specs.Challenges.{pairing_for}
 use Rattle.club_core.specs.Events.{Event}
 use Rattle.club_core.specs.Members.{Member}
-use Rattle.club_core.specs.Seats.{Pairing}
+use Rattle.club_core.specs.declared.seats.Pairing.{Pairing}
 use Rattle.club_rows.specs.ChallengeRows.{HasShortGame}
 use Rattle.club_rows.specs.EachOnce.{AreEachOnce}
 use Rattle.club_rows.specs.Tables.{challenge_row, event_row, member_row, number, numbered_from}

@@ -27,7 +27,7 @@ use Rattle.club_audit.specs.ChallengeAudit.{AreChallenges, IsGameAmong}
 use Rattle.club_core.specs.declared.challenges.Challenge.{Challenge}
 use Rattle.club_core.specs.Events.{Event}
 use Rattle.club_core.specs.Members.{Member}
-use Rattle.club_core.specs.Seats.{Pairing}
+use Rattle.club_core.specs.declared.seats.Pairing.{Pairing}
 use Rattle.club_rows.specs.FirstSchema.{tables_at}
 use Rattle.club_rows.specs.Tables.{number}
 use Rattle.club_opening.specs.Blames.{Names}

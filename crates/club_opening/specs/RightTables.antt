@@ -25,7 +25,7 @@ use Rattle.club_core.specs.declared.challenges.Challenge.{Challenge}
 use Rattle.club_core.specs.declared.challenges.ChallengeState.TheVariants.{Accepted}
 use Rattle.club_core.specs.Challenges.{goes_by, pairing_for}
 use Rattle.club_core.specs.LegalState.{AreApart, Each}
-use Rattle.club_core.specs.Seats.{Pairing}
+use Rattle.club_core.specs.declared.seats.Pairing.{Pairing}
 use Rattle.club_requests.specs.Limits.{is_challenge_number}
 use Rattle.club_audit.specs.Audit.{AreApartGames, HasPeople, until}
 use Rattle.club_audit.specs.ChallengeAudit.{AreChallenges}

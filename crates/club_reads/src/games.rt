@@ -5,7 +5,6 @@ ghost use Rattle.std.specs.Prelude.{length};
 ghost use Rattle.std.specs.Option.{option_map};
 ghost use Rattle.sqlite.specs.State.{HasCleanDisk};
 ghost use Rattle.sqlite.specs.Held.{state};
-ghost use Rattle.club_core.specs.Answer.{keyed_of};
 ghost use Rattle.club_core.specs.State.{place, game_under, keyed_game};
 ghost use Rattle.club_rows.specs.Tables.{number};
 ghost use Rattle.store_tables.specs.Cells.{game_cells};
@@ -31,7 +30,7 @@ use store_tables::GameRecord;
 pub fn ids_in(row: &GameRecord) -> Result<KeyedGame, CallFault>
     ensures { IfOk result (λ k. (s : ClubState) (id : ℕ) (game : ClubGame) →
         game_cells row.now ≡ game_in s id game →
-        Some (keyed_of k) ≡ keyed_game (Some game) id) }
+        Some k ≡ keyed_game (Some game) id) }
 {
     let (Some(game), Some(event), Some(first), Some(second)) = (
         id(row.id),
@@ -60,7 +59,7 @@ pub fn game_under<S: Alter>(
     ensures reads { Reads (is_ok result) (state S.Store conn.old) (state S.Store conn.new) }
     ensures found { HasCleanDisk (state S.Store conn.new) → IfOk result (λ k. (s : ClubState) → IsClub s →
         HasRows (tables s) (state S.Store conn.old) →
-        option_map keyed_of k ≡ game_under s.games key.now) }
+        k ≡ game_under s.games key.now) }
 {
     match first(find(alloc, conn, &GameKey { key })?) {
         Some(row) => Ok(Some(ids_in(&row)?)),

@@ -4,7 +4,6 @@ ghost use Rattle.std.specs.Prelude.{◌≡◌, ◌≤◌, ℕ, List, length, Opt
 ghost use Rattle.std.specs.Option.{option_map};
 ghost use Rattle.sqlite.specs.State.{HasCleanDisk};
 ghost use Rattle.sqlite.specs.Held.{state};
-ghost use Rattle.club_core.specs.Answer.{keyed_of};
 ghost use Rattle.club_core.specs.State.{game_under};
 ghost use Rattle.club_rows.specs.Club.{ClubState, IsClub, tables};
 ghost use Rattle.store_tables.specs.Beside.{HasRows};
@@ -44,7 +43,7 @@ pub(crate) fn stored_under<S: Alter>(
 // The ids of a stored game.
 fn keyed(under: &Option<StoredGame>) -> Result<Option<KeyedGame>, CallFault>
     ensures { IfOk result (λ k. (s : ClubState) (key : List ℕ) → IsUnder s key under.now →
-        option_map keyed_of k ≡ game_under s.games key) }
+        k ≡ game_under s.games key) }
 {
     match under {
         Some(stored) => Ok(Some(ids_in(&stored.row)?)),

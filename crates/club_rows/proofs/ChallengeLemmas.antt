@@ -15,7 +15,7 @@ use Rattle.club_core.specs.declared.challenges.ChallengeState.{ChallengeState}
 use Rattle.club_core.specs.declared.challenges.ChallengeState.TheVariants.{Open, Withdrawn, Refused, Accepted}
 use Rattle.club_core.specs.Challenges.{goes_by, is_under, challenge_under, put_challenge}
 use Rattle.club_core.specs.LegalState.{AreApart}
-use Rattle.club_core.specs.Seats.{Pairing}
+use Rattle.club_core.specs.declared.seats.Pairing.{Pairing}
 use Rattle.club_core.specs.State.{State, AnyGame, place, kind_at, seated_as, with_challenge, with_answer, with_imported}
 use Rattle.club_core.specs.State.{challenge_game}
 use Rattle.club_laws.proofs.Proved.{under-key, key-under, under-at, under-found, under-each, under-put, got-put}

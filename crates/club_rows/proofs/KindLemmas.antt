@@ -14,7 +14,7 @@ use Rattle.club_core.specs.Events.{Event}
 use Rattle.club_core.specs.Game.{Game}
 use Rattle.club_core.specs.LegalState.{IsGameOf, IsLegalIn}
 use Rattle.club_requests.specs.Outcome.{map_outcome}
-use Rattle.club_core.specs.Seats.{Pairing}
+use Rattle.club_core.specs.declared.seats.Pairing.{Pairing}
 use Rattle.club_core.specs.State.{AnyGame, draughts, shogi, place, kind_at, terms_at, pairing_of, seated, seated_as}
 use Rattle.club_core.specs.State.{with_game, step_game}
 use Rattle.club_core.specs.Step.{GameCommand, game_step}

@@ -14,7 +14,7 @@ use Rattle.store_tables.specs.declared.rows.SeenRow.{SeenRow}
 use Rattle.club_rules.specs.GameRules.{GameRules}
 use Rattle.club_core.specs.ClubRules.{ClubRules}
 use Rattle.club_core.specs.Game.{Game}
-use Rattle.club_core.specs.Seats.{Pairing}
+use Rattle.club_core.specs.declared.seats.Pairing.{Pairing}
 use Rattle.club_core.specs.State.{AnyGame, draughts, shogi, State, place, kind_at, seated_as, with_new_game}
 use Rattle.club_rows.specs.Tables.{number, gathered_from, rows_of_seen, tables_of}
 use Rattle.club_rows.specs.Seen.{texts_of, seen_rows, IsFound}

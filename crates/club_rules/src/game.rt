@@ -11,7 +11,8 @@ ghost use Rattle.club_rules.specs.Listed.{IsLegalList};
 
 use crate::names::EndName;
 use crate::refusals::MoveRefusal;
-use squares::{Memory, Score, Side};
+use memory::Memory;
+use squares::{Score, Side};
 use std::alloc::Global;
 
 /// The rules of a game: where it starts, which moves are legal and what they do, how moves and

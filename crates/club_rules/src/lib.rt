@@ -12,4 +12,4 @@ pub use names::{EndName, GameKind};
 pub use record_refusals::RecordRefusal;
 pub use records::{RecordFormat, RecordReading, RecordedGame, Records};
 pub use refusals::MoveRefusal;
-pub use squares::Memory;
+pub use memory::Memory;

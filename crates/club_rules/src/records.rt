@@ -5,7 +5,8 @@ ghost use Rattle.club_rules.specs.Records.{GameRecords, reading_of, ReadsGames};
 
 use crate::game::Rules;
 use crate::record_refusals::RecordRefusal;
-use squares::{Memory, Score};
+use memory::Memory;
+use squares::Score;
 use std::alloc::Global;
 
 /// A format of records.

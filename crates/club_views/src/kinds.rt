@@ -15,9 +15,8 @@ use crate::exported::{Names, Stopped, write_record};
 use crate::listed::legal;
 use crate::viewed::{Played, make_played};
 use club_changes::StoredGame;
-use club_games::{Draughts, Shogi};
+use club_games::by_kind;
 use club_reads::CallFault;
-use club_rules::GameKind;
 use sqlite::{Alter, Connection};
 use std::alloc::Global;
 use std::io::Write;
@@ -33,10 +32,7 @@ pub(crate) fn legal_in<S: Alter>(
         (game : ClubGame) → IsClub s → place s.games id ≡ Some game → IsStoredGame s id game stored.now →
         HasRows (tables s) (state S.Store conn.old) → AreMovesOf game (map (λ t. string_bytes t) texts.items)) }
 {
-    match stored.kind {
-        GameKind::Draughts => legal::<Draughts, S>(alloc, conn, stored),
-        GameKind::Shogi => legal::<Shogi, S>(alloc, conn, stored),
-    }
+    by_kind!(stored.kind, legal::<_, S>(alloc, conn, stored))
 }
 
 // What was played in a game of the club.
@@ -50,10 +46,7 @@ pub(crate) fn played_in<S: Alter>(
         (game : ClubGame) → IsClub s → place s.games id ≡ Some game → IsStoredGame s id game stored.now →
         HasRows (tables s) (state S.Store conn.old) → IsPlayedIn s game played) }
 {
-    match stored.kind {
-        GameKind::Draughts => make_played::<Draughts, S>(alloc, conn, stored),
-        GameKind::Shogi => make_played::<Shogi, S>(alloc, conn, stored),
-    }
+    by_kind!(stored.kind, make_played::<_, S>(alloc, conn, stored))
 }
 
 // Writes the record of a game of the club, by the format of its kind.
@@ -74,8 +67,8 @@ pub(crate) fn export_in<S: Alter, W: Write>(
         HasRows (tables s) (state S.Store conn.old) → (writer.new ≡ writer.old) ⊎
         BeginsGame names.now game (W.contents writer.old) (W.contents writer.new) }
 {
-    match stored.kind {
-        GameKind::Draughts => write_record::<Draughts, S, W>(alloc, conn, stored, names, writer),
-        GameKind::Shogi => write_record::<Shogi, S, W>(alloc, conn, stored, names, writer),
-    }
+    by_kind!(
+        stored.kind,
+        write_record::<_, S, W>(alloc, conn, stored, names, writer)
+    )
 }

@@ -8,7 +8,7 @@ ghost use Rattle.cross_tables.specs.Cells.{cell_of, points_cell, row_of};
 
 use crate::standings::{Standing, Standings};
 use crate::sums::Scored;
-use squares::Memory;
+use memory::Memory;
 use std::alloc::Global;
 use std::fmt;
 

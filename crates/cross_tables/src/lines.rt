@@ -8,7 +8,7 @@ ghost use Rattle.cross_tables.specs.Cells.{cell_text};
 
 use crate::cells::Cell;
 use crate::sums::Sums;
-use squares::Memory;
+use memory::Memory;
 use std::alloc::Global;
 
 // Blanks that fill a text up to a width.

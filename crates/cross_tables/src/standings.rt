@@ -12,7 +12,7 @@ ghost use Rattle.cross_tables.specs.Totals.{AreTotals, Fit, plus_sums, raised, t
 ghost use Rattle.cross_tables.specs.Places.{AreRanked, precedes};
 
 use crate::sums::{Scored, Sums};
-use squares::Memory;
+use memory::Memory;
 use std::alloc::{AllocFailed, Global};
 use std::cmp::Ordering;
 use std::error::Error;

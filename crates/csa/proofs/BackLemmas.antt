@@ -6,7 +6,7 @@ use Rattle.squares.specs.declared.sides.Side.TheVariants.{First, Second}
 use Rattle.squares.specs.declared.sides.Score.{Score}
 use Rattle.squares.specs.declared.sides.Score.TheVariants as score
 use Rattle.squares.specs.declared.shogi.moves.SMove.{SMove}
-use Rattle.squares.specs.Sides.{loses, other}
+use Rattle.squares.specs.Sides.{loses, other, same_score, same_score-itself}
 use Rattle.squares.specs.ShogiSets.{ShogiPosition}
 use Rattle.squares.specs.ShogiOpening.{opening}
 use Rattle.shogi_moves.specs.Declaring.{CanDeclareIs}
@@ -25,7 +25,7 @@ use Rattle.csa.specs.declared.head.CsaEnd.{CsaEnd}
 use Rattle.csa.specs.declared.head.CsaEnd.TheVariants as csa_end
 use Rattle.csa.specs.declared.lines.Placed.{Placed}
 use Rattle.csa.specs.declared.statements.Statement.TheVariants as statement
-use Rattle.csa.specs.Endings.{claimed, fits_rules, same_score, agrees, claim_settled, ending, says_declared}
+use Rattle.csa.specs.Endings.{claimed, fits_rules, agrees, claim_settled, ending, says_declared}
 use Rattle.csa.specs.Lines.{text_statements}
 use Rattle.csa.specs.Records.{Plays, score_in, IsRecordOf, RecordFails}
 use Rattle.csa.specs.Replays.{written_moves}
@@ -38,11 +38,6 @@ use Rattle.csa.proofs.OneTextLemmas.{same-score}
 use Rattle.csa.proofs.BackGameLemmas.{IsWhole, text-whole, played-all}
 
 -- ---- what the end is read as
-
-same-self : (s : Score) → same_score s s ≡ true
-same-self score.FirstWins = refl
-same-self score.Draw = refl
-same-self score.SecondWins = refl
 
 -- a claim that is settled
 settles : (w : EndWord) (p : ShogiPosition) (claim : Score) (end : Option SEnd) → claimed w p.turn ≡ Some claim
@@ -98,14 +93,14 @@ end-back declares (csa_end.Rule told) p (Some given) tells =
     settles (rule_word told) p (outcome_of told p.turn) (Some given) (rule-says told p.turn)
     (subst (λ e. fits_rules (rule_word told) p (Some e) ≡ true) tells (rule-fits told p))
     (ap (λ e. same_score (outcome_of told p.turn) (outcome_of e p.turn)) (sym tells)
-    ∙ same-self (outcome_of told p.turn))
+    ∙ same_score-itself (outcome_of told p.turn))
 end-back declares csa_end.Resigned p (Some given) tells = absurd tells
 end-back declares csa_end.Time p (Some given) tells = absurd tells
 end-back declares csa_end.Declared p (Some given) tells = absurd tells
 end-back declares (csa_end.Recorded claim) p (Some given) tells =
     settles (recorded_word claim p.turn) p claim (Some given) (recorded-says claim p.turn)
     (recorded-fits claim p.turn p (Some given))
-    (ap (same_score claim) (sym tells) ∙ same-self claim)
+    (ap (same_score claim) (sym tells) ∙ same_score-itself claim)
 
 -- the word of an end says a declaration exactly where the end is one
 rule-undeclared : (end : SEnd) → says_declared (Some (rule_word end)) ≡ false

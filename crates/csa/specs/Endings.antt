@@ -4,7 +4,7 @@ use Rattle.squares.specs.declared.sides.Side.{Side}
 use Rattle.squares.specs.declared.sides.Side.TheVariants.{First, Second}
 use Rattle.squares.specs.declared.sides.Score.{Score}
 use Rattle.squares.specs.declared.sides.Score.TheVariants as score
-use Rattle.squares.specs.Sides.{loses, other}
+use Rattle.squares.specs.Sides.{loses, other, same_score}
 use Rattle.squares.specs.ShogiSets.{ShogiPosition}
 use Rattle.shogi_moves.specs.Declaring.{can_declare}
 use Rattle.shogi_repetition.specs.declared.ends.SEnd.{SEnd}
@@ -38,12 +38,6 @@ fits_rules word.Repetition p (Some by_rule.Fourfold) = true
 fits_rules word.Repetition p _ = false
 fits_rules word.Declared p end = can_declare p
 fits_rules _ p end = true
-
-abbrev pub same_score : Score → Score → Bool
-same_score score.FirstWins score.FirstWins = true
-same_score score.Draw score.Draw = true
-same_score score.SecondWins score.SecondWins = true
-same_score _ _ = false
 
 -- where the rules ended the game, the score must be theirs
 abbrev pub agrees : Score → Side → Option SEnd → Bool

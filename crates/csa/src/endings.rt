@@ -1,6 +1,6 @@
 //! What the end of a record says of the score.
 ghost use Rattle.std.specs.Prelude.{◌≡◌};
-ghost use Rattle.csa.specs.Endings.{claimed, fits_rules, same_score, agrees, settled, ending, says_declared};
+ghost use Rattle.csa.specs.Endings.{claimed, fits_rules, agrees, settled, ending, says_declared};
 
 use crate::end_words::EndWord;
 use crate::faults::CsaFault;
@@ -43,24 +43,13 @@ fn fits_rules(word: EndWord, position: &SPos, end: Option<SEnd>) -> bool
     }
 }
 
-fn is_same(one: Score, other: Score) -> bool
-    ensures { result ≡ same_score one other }
-{
-    match (one, other) {
-        (Score::FirstWins, Score::FirstWins) => true,
-        (Score::Draw, Score::Draw) => true,
-        (Score::SecondWins, Score::SecondWins) => true,
-        _ => false,
-    }
-}
-
 // Whether the score is that of the rules, where they ended the game.
 fn agrees(score: Score, turn: Side, end: Option<SEnd>) -> bool
     ensures { result ≡ agrees score turn end }
 {
     match end {
         None => true,
-        Some(end) => is_same(score, end.outcome(turn)),
+        Some(end) => score == end.outcome(turn),
     }
 }
 

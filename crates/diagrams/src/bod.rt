@@ -8,7 +8,8 @@ ghost use Rattle.diagrams.specs.BodDiagram.{turn_line};
 ghost use Rattle.diagrams.specs.ShogiLines.{hand_kinds};
 
 use crate::shogi::piece_at;
-use squares::{Hand, HandKind, Memory, Role, SBoard, SPiece, SPos, Side};
+use memory::Memory;
+use squares::{Hand, HandKind, Role, SBoard, SPiece, SPos, Side};
 use std::alloc::Global;
 
 // The mark before a side's piece.

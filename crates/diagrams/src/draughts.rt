@@ -3,7 +3,8 @@ ghost use Rattle.std.specs.Prelude.{◌≡◌, ◌++◌, ◌∷◌, [], ◌<◌,
 ghost use Rattle.diagrams.specs.Numbers.{number_text, tens_sign};
 ghost use Rattle.diagrams.specs.DraughtsDiagram.{piece_letter, cell_sign, sign_at, cells_text, row_text, diagram_text};
 
-use squares::{DPiece, DPos, Dsq, Memory, Side};
+use memory::Memory;
+use squares::{DPiece, DPos, Dsq, Side};
 use std::alloc::Global;
 
 // The letter of a piece: a small one for a man, a capital for a king.

@@ -9,4 +9,4 @@ pub mod shogi;
 pub use bod::write_bod;
 pub use draughts::write_draughts;
 pub use shogi::write_shogi;
-pub use squares::Memory;
+pub use memory::Memory;

@@ -7,7 +7,8 @@ ghost use Rattle.diagrams.specs.ShogiDiagram.{squares_text, rank_text, heading, 
 ghost use Rattle.diagrams.specs.ShogiDiagram.{hand_text, hand_line, shogi_text};
 ghost use Rattle.diagrams.specs.ShogiLines.{hand_kinds};
 
-use squares::{Hand, HandKind, Kind, Memory, SBoard, SPiece, SPos, Side, Ssq};
+use memory::Memory;
+use squares::{Hand, HandKind, Kind, SBoard, SPiece, SPos, Side, Ssq};
 use std::alloc::Global;
 
 // The capital letter of a kind.

@@ -26,4 +26,4 @@ pub use most::own_at;
 pub use mover::Mover;
 pub use playing::play;
 pub use routing::routes;
-pub use squares::Memory;
+pub use memory::Memory;

@@ -11,7 +11,8 @@ use crate::beside::men_before;
 use crate::most::own_at;
 use crate::seeking::longest_captures;
 use crate::steps::steps_from;
-use squares::{DMove, DPos, DSet, Dsq, Memory};
+use memory::Memory;
+use squares::{DMove, DPos, DSet, Dsq};
 use std::alloc::{AllocError, Global};
 
 // Adds a move at the end; where there is room for it, without a call.

@@ -10,7 +10,8 @@ ghost use Rattle.draughts_moves.specs.Routes.{route_cmp, lists_in, landings_of};
 use crate::jumps::jumps_from;
 use crate::most::own_at;
 use crate::mover::Mover;
-use squares::{DMove, DPos, Dsq, Memory};
+use memory::Memory;
+use squares::{DMove, DPos, Dsq};
 use std::alloc::{AllocError, Global};
 use std::cmp::Ordering;
 

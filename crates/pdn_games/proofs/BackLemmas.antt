@@ -36,7 +36,8 @@ use Rattle.pdn_games.specs.Tokens.{tag, Placed, Lexes, takes}
 use Rattle.pdn_games.specs.Order.{or_else}
 use Rattle.pdn_games.specs.Contents.{first_tag, move_texts, result_in, BeginsEven}
 use Rattle.pdn_games.specs.Moves.{MeanAll, AreMoves}
-use Rattle.pdn_games.specs.Reading.{said, told, same_score, agrees, ruled, settled, score_in, IsTextOf}
+use Rattle.squares.specs.Sides.{same_score, same_score-itself}
+use Rattle.pdn_games.specs.Reading.{said, told, agrees, ruled, settled, score_in, IsTextOf}
 use Rattle.pdn_games.specs.Writing.{tag_line, date_text, ply_text, plies_text, end_text, game_text}
 use Rattle.pdn_games.proofs.TagLemmas.{tag-found}
 use Rattle.pdn_games.proofs.PlyLemmas.{written-read, past-feed, word_for, texts_of, AllLegal, AreOf, Found, score-found}
@@ -238,16 +239,11 @@ told-score score.FirstWins = refl
 told-score score.Draw = refl
 told-score score.SecondWins = refl
 
-same-itself : (s : Score) → same_score s s ≡ true
-same-itself score.FirstWins = refl
-same-itself score.Draw = refl
-same-itself score.SecondWins = refl
-
 settled-score : (s : Score) (rule : Option Score) → agrees s rule ≡ true
     → ◌≡◌ {A = Result Score PdnFault} (settled (Some s) rule (Some s)) (Ok s)
 settled-score s rule fits =
     ap (λ b. cond (b && same_score s s) (Ok s) (Err fault.ResultDiffers)) fits
-    ∙ ap (λ b. cond b (Ok s) (Err fault.ResultDiffers)) (same-itself s)
+    ∙ ap (λ b. cond b (Ok s) (Err fault.ResultDiffers)) (same_score-itself s)
 
 -- the parts of a head, one after another
 joined-head : (a b c d e f r : List ℕ) → (a ++ (b ++ (c ++ (d ++ (e ++ (f ++ 10 ∷ [])))))) ++ r ≡ a

@@ -3,7 +3,7 @@ use Rattle.std.specs.Prelude.{◌≡◌, ◌&&◌, ℕ, Bool, true, false, Optio
 use Rattle.std.specs.Prelude.{if◌then◌else◌}
 use Rattle.squares.specs.declared.sides.Side.{Side}
 use Rattle.squares.specs.declared.sides.Score.{Score}
-use Rattle.squares.specs.declared.sides.Score.TheVariants as score
+use Rattle.squares.specs.Sides.{same_score}
 use Rattle.squares.specs.declared.draughts.moves.DMove.{DMove}
 use Rattle.squares.specs.DraughtsOpening.{opening}
 use Rattle.draughts_draws.specs.declared.ends.DEnd.{DEnd}
@@ -28,12 +28,6 @@ said (Some w) = score_of w
 abbrev pub told : Option (List ℕ) → Option Score
 told None = None
 told (Some value) = said (result_word value)
-
-abbrev pub same_score : Score → Score → Bool
-same_score score.FirstWins score.FirstWins = true
-same_score score.Draw score.Draw = true
-same_score score.SecondWins score.SecondWins = true
-same_score _ _ = false
 
 -- a score differs from none, or from the same
 abbrev pub agrees : Score → Option Score → Bool

@@ -1,7 +1,7 @@
 //! What the end of a text says of the score.
 ghost use Rattle.std.specs.Prelude.{◌≡◌};
 ghost use Rattle.pdn_games.specs.Results as results;
-ghost use Rattle.pdn_games.specs.Reading.{said, same_score, agrees, ruled, settled};
+ghost use Rattle.pdn_games.specs.Reading.{said, agrees, ruled, settled};
 
 use crate::faults::PdnFault;
 use crate::results::{ResultWord, result_word};
@@ -25,24 +25,13 @@ pub fn score_told(value: &[u8]) -> Option<Score>
     said(result_word(value))
 }
 
-fn is_same(one: Score, other: Score) -> bool
-    ensures { result ≡ same_score one other }
-{
-    match (one, other) {
-        (Score::FirstWins, Score::FirstWins) => true,
-        (Score::Draw, Score::Draw) => true,
-        (Score::SecondWins, Score::SecondWins) => true,
-        _ => false,
-    }
-}
-
 // Whether a score differs from no other.
 fn agrees(score: Score, other: Option<Score>) -> bool
     ensures { result ≡ agrees score other }
 {
     match other {
         None => true,
-        Some(other) => is_same(score, other),
+        Some(other) => score == other,
     }
 }
 

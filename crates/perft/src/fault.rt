@@ -1,6 +1,6 @@
 //! Why lines are not counted.
 
-use squares::Memory;
+use memory::Memory;
 use std::alloc::AllocError;
 
 /// Why lines are not counted, or the counts not printed to their end.

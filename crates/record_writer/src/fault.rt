@@ -1,6 +1,6 @@
 //! Why a record was not written to its end.
 
-use squares::Memory;
+use memory::Memory;
 use std::io::Error;
 use std::{error, fmt};
 

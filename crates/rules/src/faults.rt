@@ -6,7 +6,7 @@ use pdn::{FenFault, MoveFault};
 use pdn_games::PdnFault;
 use record_writer::WriteFault;
 use shogi_moves::Illegal;
-use squares::Memory;
+use memory::Memory;
 use std::alloc::Global;
 use std::fmt::Display;
 use std::io::{Error, ErrorKind};

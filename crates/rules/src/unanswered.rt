@@ -1,6 +1,6 @@
 //! Why a question has no answer.
 
-use squares::Memory;
+use memory::Memory;
 use std::alloc::{AllocError, AllocFailed};
 use std::fmt;
 use std::num::ParseIntError;

@@ -14,7 +14,7 @@ pub mod writing_laws;
 
 pub use faults::SfenFault;
 pub use reading::read;
-pub use squares::Memory;
+pub use memory::Memory;
 pub use usi_reading::read_usi;
 pub use usi_writing::write_usi;
 pub use writing::{write, write_position};

@@ -3,7 +3,8 @@ ghost use Rattle.std.specs.Prelude.{◌≡◌, ◌++◌, OnOk, IfOk, string_byte
 ghost use Rattle.sfen.specs.UsiText.{square_text, promotion_text, usi_text};
 
 use crate::letters::capital;
-use squares::{Memory, SMove, Ssq};
+use memory::Memory;
+use squares::{SMove, Ssq};
 use std::alloc::Global;
 
 // Adds a square: the digit of its file and the letter of its rank.

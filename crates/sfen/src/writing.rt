@@ -9,7 +9,8 @@ ghost use Rattle.sfen.specs.SfenText.{gap_text, rank_text, board_text, held_text
 ghost use Rattle.sfen.specs.SfenText.{position_text, sfen_text};
 
 use crate::letters::{letter, turn_letter};
-use squares::{Hand, HandKind, Hands, Memory, SBoard, SPiece, SPos, Side, Ssq};
+use memory::Memory;
+use squares::{Hand, HandKind, Hands, SBoard, SPiece, SPos, Side, Ssq};
 use std::alloc::Global;
 
 // Adds a piece on the board: a `+` if it is promoted, and the letter of its kind.

@@ -23,4 +23,4 @@ pub use declaring::can_declare;
 pub use listing::legal;
 pub use mating::mated;
 pub use playing::play;
-pub use squares::Memory;
+pub use memory::Memory;

@@ -8,7 +8,8 @@ ghost use Rattle.shogi_moves.specs.Listing.{move_cmp};
 use crate::checking::is_legal;
 use crate::layout::Layout;
 use crate::seeking::{Seeker, seek};
-use squares::{Memory, SMove, SPos};
+use memory::Memory;
+use squares::{SMove, SPos};
 use std::alloc::{AllocError, Global};
 use std::marker::Model;
 

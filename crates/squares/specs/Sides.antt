@@ -1,5 +1,5 @@
 -- The two sides, and the score where one of them loses.
-use Rattle.std.specs.Prelude.{Bool, true, false, ℕ, List, codes}
+use Rattle.std.specs.Prelude.{◌≡◌, refl, Bool, true, false, ℕ, List, codes}
 use Rattle.squares.specs.declared.sides.Side.{Side}
 use Rattle.squares.specs.declared.sides.Side.TheVariants.{First, Second}
 use Rattle.squares.specs.declared.sides.Score.{Score}
@@ -26,3 +26,26 @@ abbrev pub score_text : Score → List ℕ
 score_text FirstWins = codes "2-0"
 score_text Draw = codes "1-1"
 score_text SecondWins = codes "0-2"
+
+-- whether two scores are one
+abbrev pub same_score : Score → Score → Bool
+same_score FirstWins FirstWins = true
+same_score Draw Draw = true
+same_score SecondWins SecondWins = true
+same_score _ _ = false
+
+pub same_score-itself : (score : Score) → same_score score score ≡ true
+same_score-itself FirstWins = refl
+same_score-itself Draw = refl
+same_score-itself SecondWins = refl
+
+pub same_score-same : (a b : Score) → same_score a b ≡ true → a ≡ b
+same_score-same FirstWins FirstWins is = refl
+same_score-same Draw Draw is = refl
+same_score-same SecondWins SecondWins is = refl
+same_score-same FirstWins Draw is = cc
+same_score-same FirstWins SecondWins is = cc
+same_score-same Draw FirstWins is = cc
+same_score-same Draw SecondWins is = cc
+same_score-same SecondWins FirstWins is = cc
+same_score-same SecondWins Draw is = cc

@@ -3,7 +3,6 @@
 #![tactic(auto)]
 
 pub mod draughts;
-pub mod memory;
 pub mod shogi;
 pub mod sides;
 
@@ -14,7 +13,6 @@ pub use draughts::piece::DPiece;
 pub use draughts::position::DPos;
 pub use draughts::set::DSet;
 pub use draughts::square::Dsq;
-pub use memory::Memory;
 pub use shogi::board::SBoard;
 pub use shogi::hand::{Hand, Hands};
 pub use shogi::moves::SMove;

@@ -5,7 +5,7 @@ ghost use Rattle.std.specs.Prelude.{string_bytes};
 ghost use Rattle.sqlite.specs.State.{HasCleanDisk};
 ghost use Rattle.sqlite.specs.Held.{state};
 ghost use Rattle.club_rules.specs.Records.{recorded_of, IsGameByRules};
-ghost use Rattle.club_core.specs.Answer.{events_of, import_of, pairing_of};
+ghost use Rattle.club_core.specs.Answer.{events_of, import_of};
 ghost use Rattle.club_core.specs.Game.{Game};
 ghost use Rattle.club_core.specs.Imports.{imported};
 ghost use Rattle.club_core.specs.State.{place, terms_at};
@@ -43,7 +43,7 @@ fn added<R: Rules, S: Alter>(
         HasRows content (state S.Store conn.old) → new.now.pairing.first ≢ new.now.pairing.second →
         PutsNewGame R.rules (terms_at (place (events_of events.now) new.now.pairing.event)) new.now.game moment
         (content 14)
-        (imported R.rules (Some key.now) (pairing_of new.now.pairing) moment (recorded_of new.now.recorded)) changes) }
+        (imported R.rules (Some key.now) new.now.pairing moment (recorded_of new.now.recorded)) changes) }
 {
     let event = event_at(events, new.pairing.event)?;
     let terms = terms_of(event);

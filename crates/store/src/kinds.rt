@@ -17,10 +17,9 @@ use crate::game::act;
 use crate::imports::import_as;
 use clocks::Moment;
 use club_changes::{Decided, Known, StoredGame, event_kind};
-use club_games::{Draughts, Shogi};
+use club_games::by_kind;
 use club_reads::CallFault;
 use club_requests::{Caller, GameCommand, Import};
-use club_rules::GameKind;
 use sqlite::{Alter, Connection};
 use std::alloc::Global;
 
@@ -40,10 +39,10 @@ pub(crate) fn act_in<S: Alter>(
         IsStoredGame s id game stored.now → HasRows (tables s) (state S.Store conn.old) →
         IsDecided s (caller_step s moment caller (on_game id (game_command_of command.now))) d) }
 {
-    match stored.kind {
-        GameKind::Draughts => act::<Draughts, S>(alloc, conn, stored, caller, command, moment),
-        GameKind::Shogi => act::<Shogi, S>(alloc, conn, stored, caller, command, moment),
-    }
+    by_kind!(
+        stored.kind,
+        act::<_, S>(alloc, conn, stored, caller, command, moment)
+    )
 }
 
 // What an import does, by the game of its event.
@@ -63,14 +62,9 @@ pub(crate) fn import_in<S: Alter>(
         IsKnown s (string_bytes command.now.key) known.now → HasRows (tables s) (state S.Store conn.old) →
         IsDecided s (caller_step s moment caller (import_record (import_of command.now))) d) }
 {
-    match event_kind(known.events.as_slice(), command.event.as_str()) {
-        GameKind::Draughts => {
-            let kind = GameKind::Draughts;
-            import_as::<Draughts, S>(alloc, conn, known, kind, caller, command, moment)
-        }
-        GameKind::Shogi => {
-            let kind = GameKind::Shogi;
-            import_as::<Shogi, S>(alloc, conn, known, kind, caller, command, moment)
-        }
-    }
+    let kind = event_kind(known.events.as_slice(), command.event.as_str());
+    by_kind!(
+        kind,
+        import_as::<_, S>(alloc, conn, known, kind, caller, command, moment)
+    )
 }

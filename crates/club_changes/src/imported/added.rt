@@ -2,7 +2,6 @@
 
 ghost use Rattle.std.specs.Prelude.{◌≡◌, Some, IfOk, IsTrue};
 ghost use Rattle.club_rules.specs.Records.{recorded_of, IsGameByRules};
-ghost use Rattle.club_core.specs.Answer.{pairing_of};
 ghost use Rattle.club_core.specs.Imports.{imported};
 ghost use Rattle.club_requests.specs.Limits.{is_budget, is_increment};
 ghost use Rattle.club_rows.specs.Replay.{terms_given};
@@ -38,7 +37,7 @@ pub fn new_rows<R: Rules>(
     requires budget { IsTrue (is_budget terms.budget) }
     requires increment { IsTrue (is_increment terms.increment) }
     ensures { IfOk result (AreNewRows R.rules (terms_given terms) new.now.game
-        (imported R.rules (Some key.now) (pairing_of new.now.pairing) moment (recorded_of new.now.recorded))) }
+        (imported R.rules (Some key.now) new.now.pairing moment (recorded_of new.now.recorded))) }
 {
     let moves = new.recorded.moves.as_slice();
     let row = imported_row::<R>(

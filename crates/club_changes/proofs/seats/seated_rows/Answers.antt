@@ -1,7 +1,7 @@
 use Rattle.std.proofs.Common.{◌≡◌, [], ◌∷◌, Some, ap, sym, subst, subst₂, ◌∙◌}
 use Rattle.std.specs.Option.{option_map}
 use Rattle.std.specs.Prelude.{IsTrue}
-use Rattle.club_core.specs.Answer.{event_of, events_of, pairing_of}
+use Rattle.club_core.specs.Answer.{event_of, events_of}
 use Rattle.club_core.specs.LegalState.{IsLegalEvent}
 use Rattle.club_requests.specs.Limits.{is_budget}
 use Rattle.club_core.specs.State.{place, kind_at, terms_at}
@@ -16,7 +16,7 @@ returns-clause-puts c legal =
     let key = option_map (λ k. k.now) c.args.key in
     let events = events_of c.args.events.now in
     let event = event_of c.in_ok-event.event.now in
-    let pairing = pairing_of c.args.new.pairing in
+    let pairing = c.args.new.pairing in
     let id = c.args.new.game in
     let at : place events pairing.event ≡ Some event = c.in_ok-event.ensures.at in
     let terms : terms_given c.terms_of.result ≡ terms_at (place events pairing.event) = c.terms_of.ensures
@@ -33,5 +33,5 @@ returns-clause-puts c legal =
 pub returns-clause-running : goal.returns-clause-running
 returns-clause-running c =
     let key = option_map (λ k. k.now) c.args.key in
-    ap (λ kind. first_meetings kind key (pairing_of c.args.new.pairing) c.args.moment)
+    ap (λ kind. first_meetings kind key c.args.new.pairing c.args.moment)
     (ap kind_at c.in_ok-event.ensures.at) ∙ c.in_ok-changes.ensures.running

@@ -1,7 +1,6 @@
 use Rattle.std.specs.Option.{option_map}
 use Rattle.std.proofs.Common.{None, ap, refl, sym, ◌∙◌}
 use Rattle.club_core.specs.Game.{end_with, score_with}
-use Rattle.club_core.specs.Answer.{pairing_of}
 use Rattle.club_core.specs.State.{seated}
 use Rattle.club_rows.specs.Replay.{terms_given}
 use Rattle.store_tables.specs.Cells.{game_cells, seen_cells}
@@ -12,7 +11,7 @@ use Rattle.club_changes.proofs.starts.start.Goals as goal
 pub returns-clause-puts : goal.returns-clause-puts
 returns-clause-puts g c legal =
     let cells = seated_cells g.R.Rules.rules c.in_ok-record_of.field-0 c.in_ok-row.row (terms_given c.args.terms)
-    (pairing_of c.args.new.pairing) c.args.new.game (option_map (λ k. k.now) c.args.key) c.args.moment legal
+    c.args.new.pairing c.args.new.game (option_map (λ k. k.now) c.args.key) c.args.moment legal
     c.in_ok-row.ensures c.in_ok-record_of.ensures in
     record {
       meta = c.at-changes.ensures.meta;
@@ -27,7 +26,7 @@ returns-clause-puts g c legal =
           _ c.at-changes.ensures.seen_are c.in_ok-push-2.ensures.items refl
           ∙ sym
           (c.in_ok-first_seen.ensures
-          (seated (option_map (λ k. k.now) c.args.key) (pairing_of c.args.new.pairing) c.args.moment) refl);
+          (seated (option_map (λ k. k.now) c.args.key) c.args.new.pairing c.args.moment) refl);
       scores_are = c.at-changes.ensures.scores_are;
     }
 

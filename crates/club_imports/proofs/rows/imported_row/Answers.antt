@@ -1,7 +1,6 @@
 use Rattle.std.proofs.Common.{◌≤◌, ◌∙◌, Some, length, refl, sym, ap, subst, arith}
 use Rattle.club_rules.specs.Line.{position_after, line_track}
 use Rattle.club_rules.specs.Records.{recorded_of}
-use Rattle.club_core.specs.Answer.{pairing_of}
 use Rattle.club_core.specs.Game.{spend_all}
 use Rattle.club_requests.specs.Limits.{most_plies}
 use Rattle.club_core.proofs.Proved.{are_rules}
@@ -39,7 +38,7 @@ returns g c = λ declares.
     let laws = g.R.Rules.rules in
     let r = recorded_of c.args.recorded.now in
     let key = Some c.args.key.now in
-    let pairing = pairing_of c.args.pairing in
+    let pairing = c.args.pairing in
     let value = c.as_slice-moves.ensures.value in
     let line_state = c.line_state_after-line_state.ensures in
     let position = line_state.position ∙ ap (position_after laws laws.start) value in

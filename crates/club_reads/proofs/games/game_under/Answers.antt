@@ -1,6 +1,5 @@
 use Rattle.std.proofs.Common.{map, sym, ◌∙◌}
 use Rattle.store_tables.specs.Cells.{game_cells}
-use Rattle.club_core.specs.Answer.{keyed_of}
 use Rattle.club_rows.specs.Club.{tables}
 use Rattle.club_changes.proofs.Proved.{under_some, under_none, first_mapped, none_mapped}
 use Rattle.club_reads.proofs.games.game_under.Goals as goal
@@ -9,7 +8,7 @@ pub returns-in_ok-ids_in-in-Some-clause-found : goal.returns-in_ok-ids_in-in-Som
 returns-in_ok-ids_in-in-Some-clause-found g c clean s is_club k =
     let rows = c.in_ok-find.field-0.items in
     under_some s is_club c.args.key.now (map game_cells rows) (game_cells c.in-Some.row)
-    (keyed_of c.in_ok-ids_in-in-Some.field-0) (c.in_ok-find.ensures.rows clean (tables s) k)
+    c.in_ok-ids_in-in-Some.field-0 (c.in_ok-find.ensures.rows clean (tables s) k)
     (first_mapped game_cells rows c.in-Some.row (sym c.first.ensures ∙ c.in-Some.is))
     (c.in_ok-ids_in-in-Some.ensures s)
 

@@ -1,5 +1,5 @@
 use Rattle.std.proofs.Common.{◌≡◌, Some, ap, sym, ◌∙◌}
-use Rattle.club_core.specs.Answer.{event_of, keyed_of}
+use Rattle.club_core.specs.Answer.{event_of}
 use Rattle.club_core.specs.State.{place, kind_at, terms_at, pairing_of}
 use Rattle.club_changes.proofs.Proved.{ids_read, event_stands}
 use Rattle.club_reads.proofs.games.read_game.Goals as goal
@@ -8,7 +8,7 @@ pub returns-clause-found : goal.returns-clause-found
 returns-clause-found g c clean s id game is_club at cells k =
     let ids = c.in_ok-ids.ids in
     let event = c.in_ok-event.event in
-    let (id_is, event_is) = ids_read (keyed_of ids) id game (c.in_ok-ids.ensures s id game cells) in
+    let (id_is, event_is) = ids_read ids id game (c.in_ok-ids.ensures s id game cells) in
     let (known, there) = event_stands s is_club id game at in
     let stands : place s.events (pairing_of game).event ≡ Some (event_of event) =
     there

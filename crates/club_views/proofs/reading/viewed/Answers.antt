@@ -1,6 +1,5 @@
 use Rattle.std.proofs.Common.{Some, ap, sym, ◌∙◌}
 use Rattle.std.specs.Option.{option_map}
-use Rattle.club_core.specs.Answer.{keyed_of}
 use Rattle.club_core.specs.Events.{Event}
 use Rattle.club_core.specs.Members.{Member}
 use Rattle.club_core.specs.State.{place}
@@ -23,7 +22,7 @@ returns-clause-viewed g c clean s id game is_club at is k =
     let k2 = rows_after c.in_ok-first.ensures.reads two (tables s) k1 in
     let k3 = rows_after c.in_ok-second.ensures.reads three (tables s) k2 in
     let ids = c.in_ok-ids.ids in
-    let same = pairing_same (keyed_of ids) id game (c.in_ok-ids.ensures s id game is.row) in
+    let same = pairing_same ids id game (c.in_ok-ids.ensures s id game is.row) in
     let (event, event_at) = event_stands s is_club id game at in
     let (first, second, first_at, second_at) = players_stand s is_club id game at in
     record {

@@ -3,7 +3,7 @@ use Rattle.sqlite.specs.Held.{state}
 use Rattle.sqlite.specs.State.{HasCleanDisk}
 use Rattle.club_requests.specs.declared.answers.Outcome.TheVariants as given
 use Rattle.club_requests.specs.declared.answers.Answer.TheVariants as answer
-use Rattle.club_core.specs.Answer.{answered, events_of, pairing_of}
+use Rattle.club_core.specs.Answer.{answered, events_of}
 use Rattle.club_core.specs.LegalState.{Each, IsLegalEvent}
 use Rattle.club_core.specs.Seats.{seat_step}
 use Rattle.club_core.specs.State.{game_under, with_new_game}
@@ -30,7 +30,7 @@ returns-in_ok-changes-in-Starts-clause-step g c clean s is_club ms es k =
     omega (arith, c.in-Ok.ensures, count, numbered_length (game_in s) 1 s.games) in
     let same = seat_same _ who key event first second _ s.members _ s.events _ (game_under s.games key) _
     (length s.games) c.in-Starts.ensures ms es under games in
-    let p = pairing_of c.in-Starts.new.pairing in
+    let p = c.in-Starts.new.pairing in
     let legal = subst (Each IsLegalEvent) (sym es) is_club.events in
     let id = c.in-Starts.new.game in
     let by_events =

@@ -1,6 +1,6 @@
 use Rattle.std.proofs.Common.{◌≡◌, Some, ap, sym, subst, ◌∙◌}
 use Rattle.club_rules.specs.Records.{recorded_of}
-use Rattle.club_core.specs.Answer.{events_of, pairing_of}
+use Rattle.club_core.specs.Answer.{events_of}
 use Rattle.club_core.specs.Imports.{imported}
 use Rattle.club_core.specs.State.{place, terms_at}
 use Rattle.club_laws.proofs.Proved.{imported-result}
@@ -18,7 +18,7 @@ returns-clause-puts g c clean content k apart =
     let new = c.args.new.now in
     let r = recorded_of new.recorded in
     let key = Some c.args.key.now in
-    let pairing = pairing_of new.pairing in
+    let pairing = new.pairing in
     let game = imported laws key pairing c.args.moment r in
     let terms : terms_given c.terms_of-terms.result ≡ terms_at (place (events_of c.args.events.now) new.pairing.event) =
     c.terms_of-terms.ensures ∙ ap terms_at (sym c.in_ok-event.ensures.at) in

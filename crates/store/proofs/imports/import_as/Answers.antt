@@ -3,7 +3,7 @@ use Rattle.std.specs.Option.{option_map}
 use Rattle.sqlite.specs.Held.{state}
 use Rattle.sqlite.specs.State.{HasCleanDisk}
 use Rattle.club_rules.specs.Records.{recorded_of}
-use Rattle.club_core.specs.Answer.{members_of, events_of, keyed_of, import_of, pairing_of}
+use Rattle.club_core.specs.Answer.{members_of, events_of, import_of}
 use Rattle.club_core.specs.Imports.{imported}
 use Rattle.club_core.specs.Events.{has_event_name, event_declares}
 use Rattle.club_core.specs.Members.{find_id}
@@ -29,19 +29,19 @@ returns-in-Adds-clause-step g c clean content old k of =
     let same = value ∙ by_known laws records known who given old c.as_slice-members.result.now
     c.as_slice-events.result.now c.as_slice-members.ensures.value c.as_slice-events.ensures.value in
     let adds = officer_adds laws records given (find_id (has_member_name given.first) (members_of known.members.items))
-    (find_id (has_member_name given.second) (members_of known.members.items)) (option_map keyed_of known.keyed) old
-    known.games (record { pairing = pairing_of new.pairing; recorded = recorded_of new.recorded }) new.game who
+    (find_id (has_member_name given.second) (members_of known.members.items)) known.keyed old
+    known.games (record { pairing = new.pairing; recorded = recorded_of new.recorded }) new.game who
     (event_declares (events_of known.events.items) given.event)
     (find_id (has_event_name given.event) (events_of known.events.items)) same in
     let kept = still_rows _ _ (c.in_ok-played.ensures.reads.kept refl looked) content k in
     let puts = c.in_ok-changes-in-Adds.ensures.puts clean content kept adds.apart in
     added_in laws (events_of known.events.items) given.key known.games c.args.moment (content 14)
     (imported_by laws records known who given old)
-    (record { pairing = pairing_of new.pairing; recorded = recorded_of new.recorded }) new.game
+    (record { pairing = new.pairing; recorded = recorded_of new.recorded }) new.game
     c.in_ok-changes-in-Adds.changes same adds.next
     (subst₂
     (λ l key. PutsNewGame laws (terms_at (place (events_of l) new.pairing.event)) new.game c.args.moment
-    (content 14) (imported laws (Some key) (pairing_of new.pairing) c.args.moment (recorded_of new.recorded))
+    (content 14) (imported laws (Some key) new.pairing c.args.moment (recorded_of new.recorded))
     c.in_ok-changes-in-Adds.changes) c.as_slice-events.ensures.value c.as_str.ensures.value puts)
 
 pub returns-in-Repeated-clause-step : goal.returns-in-Repeated-clause-step

@@ -2,7 +2,6 @@ use Rattle.std.proofs.Common.{◌≡◌, ◌≤◌, ◌<◌, ◌^◌, Some, leng
 use Rattle.std.proofs.lemmas.List.{length-map}
 use Rattle.club_rules.specs.Line.{positions}
 use Rattle.club_rules.specs.Records.{recorded_of}
-use Rattle.club_core.specs.Answer.{pairing_of}
 use Rattle.club_core.specs.Imports.{imported}
 use Rattle.club_requests.specs.Limits.{most_plies}
 use Rattle.club_core.specs.View.{IsRowOf}
@@ -29,7 +28,7 @@ returns g c =
     let are = are_rules laws met.first_starts met.turn_passes met.same_is met.ends_at_limit in
     let r = recorded_of c.args.new.now.recorded in
     let key = Some c.args.key.now in
-    let pairing = pairing_of c.args.new.now.pairing in
+    let pairing = c.args.new.now.pairing in
     let moment = c.args.moment in
     let terms = terms_given c.args.terms in
     let id = c.args.new.now.game in

@@ -1,4 +1,5 @@
 //! The failure to get memory.
+#![tactic(auto)]
 
 use std::alloc::{AllocError, AllocFailed};
 use std::error::Error;
