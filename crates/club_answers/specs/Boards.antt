@@ -1,5 +1,6 @@
 -- A game of the club as a person looks at it.
 use Rattle.std.specs.Prelude.{◌≡◌, ℕ, List, Bool, true, false, Some}
+use Rattle.squares.specs.DraughtsBoard.{Position}
 use Rattle.squares.specs.ShogiSets.{ShogiPosition}
 use Rattle.club_core.specs.Game.{last_position, moves_of}
 use Rattle.club_core.specs.declared.seats.Pairing.{Pairing}
@@ -13,6 +14,10 @@ use Rattle.club_lists.specs.Board.{Board, board_text}
 use Rattle.club_lists.specs.Listing.{event_name, member_name}
 use Rattle.club_answers.specs.Games.{moment_in, told_of}
 
+-- a position of draughts, which has one diagram
+abbrev pub draughts_diagram : Bool → Position → List ℕ
+draughts_diagram letters p = diagram_text p.board
+
 -- a position of shogi, by letters or as Japanese programs write it
 abbrev pub shogi_diagram : Bool → ShogiPosition → List ℕ
 shogi_diagram true p = shogi_text p
@@ -20,7 +25,7 @@ shogi_diagram false p = bod_text p
 
 -- the diagram of the last position
 abbrev pub diagram_of : Bool → ClubGame → List ℕ
-diagram_of letters (draughts game) = diagram_text (last_position both_games.draughts game).board
+diagram_of letters (draughts game) = draughts_diagram letters (last_position both_games.draughts game)
 diagram_of letters (shogi game) = shogi_diagram letters (last_position both_games.shogi game)
 
 -- the moves, each as it is written where it was played

@@ -1,16 +1,19 @@
 //! A game of the club as a person looks at it.
 
-ghost use Rattle.std.specs.Prelude.{◌≡◌, ℕ, Some, IfOk, is_ok, string_bytes};
+ghost use Rattle.std.specs.Prelude.{◌≡◌, ℕ, Bool, List, Some, IfOk, is_ok, string_bytes};
 ghost use Rattle.sqlite.specs.State.{HasCleanDisk};
 ghost use Rattle.sqlite.specs.Held.{state};
 ghost use Rattle.store_tables.specs.Beside.{HasRows};
+ghost use Rattle.store_tables.specs.Contents.{Content};
 ghost use Rattle.store_tables.specs.Reading.{Reads};
-ghost use Rattle.club_rules.specs.declared.names.GameKind.TheVariants as kinds;
+ghost use Rattle.club_core.specs.Game.{Game, last_position};
 ghost use Rattle.club_core.specs.State.{place};
 ghost use Rattle.club_rows.specs.Club.{ClubGame, ClubState, IsClub, tables};
+ghost use Rattle.club_rows.specs.Replay.{terms_given};
+ghost use Rattle.club_changes.specs.Steps.{IsRecordOf, TellsSeen};
 ghost use Rattle.club_changes.specs.Stored.{IsStoredGame};
 ghost use Rattle.club_lists.specs.Board.{board_by};
-ghost use Rattle.club_answers.specs.Boards.{board_of, diagram_of, shogi_diagram, IsBoardText};
+ghost use Rattle.club_answers.specs.Boards.{board_of, diagram_of, draughts_diagram, shogi_diagram, IsBoardText};
 ghost use Rattle.club_answers.specs.Found.{IsFoundAs};
 ghost use Rattle.club_answers.specs.AnswerTexts.{IsNoGame};
 
@@ -18,60 +21,61 @@ use crate::found::Found;
 use crate::games::told_in;
 use clocks::Moment;
 use club_changes::StoredGame;
-use club_games::{Draughts, Shogi};
+use club_games::{Draughts, Shogi, by_kind};
 use club_lists::{BoardView, board_text};
 use club_reads::{CallFault, last_moment, stored_game, view};
 use club_requests::Refusal;
-use club_rules::GameKind;
+use club_rules::Rules;
 use club_views::view_of;
 use diagrams::{Memory, write_bod, write_draughts, write_shogi};
 use sqlite::{Alter, Connection};
-use squares::SPos;
+use squares::{DPos, SPos};
 use std::alloc::Global;
 
-// The diagram of the last position of a game of draughts.
-fn draughts_diagram<S: Alter>(
-    alloc: Global,
-    conn: &mut Connection<S>,
-    stored: &StoredGame,
-    letters: bool,
-) -> Result<String, CallFault>
-    ensures reads { Reads (is_ok result) (state S.Store conn.old) (state S.Store conn.new) }
-    ensures shown { HasCleanDisk (state S.Store conn.new) → IfOk result (λ text. (s : ClubState) (id : ℕ)
-        (game : ClubGame) → IsClub s → place s.games id ≡ Some game → IsStoredGame s id game stored.now →
-        stored.now.kind ≡ kinds.Draughts → HasRows (tables s) (state S.Store conn.old) →
-        string_bytes text ≡ diagram_of letters game) }
-{
-    let view = view::<Draughts, S>(alloc, conn, stored)?;
-    let text = write_draughts(alloc, &view.position)?;
-    Ok(text)
+/// Rules whose positions are shown as diagrams.
+pub(crate) trait Diagrams: Rules {
+    ghost diagram: { Bool → Self.Position → List ℕ };
+
+    /// The diagram of a position; pieces of shogi by letters or as Japanese programs write them.
+    fn diagram(alloc: Global, position: &Self::Position, letters: bool) -> Result<String, Memory>
+        ensures { IfOk result (λ text. string_bytes text ≡ diagram letters position.now) };
 }
 
-// A position of shogi, by letters or as Japanese programs write it.
-fn shogi_text(alloc: Global, position: &SPos, letters: bool) -> Result<String, Memory>
-    ensures { IfOk result (λ text. string_bytes text ≡ shogi_diagram letters position.now) }
-{
-    if letters {
-        return write_shogi(alloc, position);
+impl Diagrams for Draughts {
+    ghost diagram = { draughts_diagram };
+
+    fn diagram(alloc: Global, position: &DPos, _letters: bool) -> Result<String, Memory> {
+        write_draughts(alloc, position)
     }
-    write_bod(alloc, position)
 }
 
-// The diagram of the last position of a game of shogi.
-fn shogi_diagram<S: Alter>(
+impl Diagrams for Shogi {
+    ghost diagram = { shogi_diagram };
+
+    fn diagram(alloc: Global, position: &SPos, letters: bool) -> Result<String, Memory> {
+        if letters {
+            return write_shogi(alloc, position);
+        }
+        write_bod(alloc, position)
+    }
+}
+
+// The diagram of the last position of a stored game, by its rules.
+fn diagram_by<R: Diagrams, S: Alter>(
     alloc: Global,
     conn: &mut Connection<S>,
     stored: &StoredGame,
     letters: bool,
 ) -> Result<String, CallFault>
     ensures reads { Reads (is_ok result) (state S.Store conn.old) (state S.Store conn.new) }
-    ensures shown { HasCleanDisk (state S.Store conn.new) → IfOk result (λ text. (s : ClubState) (id : ℕ)
-        (game : ClubGame) → IsClub s → place s.games id ≡ Some game → IsStoredGame s id game stored.now →
-        stored.now.kind ≡ kinds.Shogi → HasRows (tables s) (state S.Store conn.old) →
-        string_bytes text ≡ diagram_of letters game) }
+    ensures shown { HasCleanDisk (state S.Store conn.new) →
+        IfOk result (λ text. (content : Content) (game : Game R.Move) →
+        HasRows content (state S.Store conn.old) → TellsSeen R.rules stored.now.id game content →
+        IsRecordOf R.rules (terms_given stored.now.terms) stored.now.id stored.now.row game →
+        string_bytes text ≡ R.diagram letters (last_position R.rules game)) }
 {
-    let view = view::<Shogi, S>(alloc, conn, stored)?;
-    let text = shogi_text(alloc, &view.position, letters)?;
+    let view = view::<R, S>(alloc, conn, stored)?;
+    let text = R::diagram(alloc, &view.position, letters)?;
     Ok(text)
 }
 
@@ -87,10 +91,10 @@ fn diagram_in<S: Alter>(
         (game : ClubGame) → IsClub s → place s.games id ≡ Some game → IsStoredGame s id game stored.now →
         HasRows (tables s) (state S.Store conn.old) → string_bytes text ≡ diagram_of letters game) }
 {
-    match stored.kind {
-        GameKind::Draughts => draughts_diagram(alloc, conn, stored, letters),
-        GameKind::Shogi => shogi_diagram(alloc, conn, stored, letters),
-    }
+    by_kind!(
+        stored.kind,
+        diagram_by::<_, S>(alloc, conn, stored, letters)
+    )
 }
 
 // What is shown of a game beside what lists tell of it.

@@ -1,6 +1,6 @@
 //! The records of an event, written one after another.
 
-ghost use Rattle.std.specs.Prelude.{◌≡◌, ℕ, List, IfOk, OnOk};
+ghost use Rattle.std.specs.Prelude.{◌≡◌, IfOk, OnOk};
 ghost use Rattle.std.specs.Io.KnownBytes.{Appends};
 ghost use Rattle.record_writer.specs.Pieces.{AppendsSome};
 ghost use Rattle.sqlite.specs.State.{HasCleanDisk};

@@ -126,7 +126,9 @@ fn repeat_of_accept<R: Rules>(view: &GameView<R>, side: Side, ply: u64) -> Optio
     ensures { (game : Game R.Move) → Shows R.rules game view.now → IsLegalGame R.rules (terms_of view.now) game →
         option_map reply_of result ≡ repeat_of_accept R.rules game side ply }
 {
-    if is_ended_by(&view.row.end, OutsideEnd::Agreed) && has_offer(view.row.offer, side.other(), ply) {
+    if is_ended_by(&view.row.end, OutsideEnd::Agreed)
+        && has_offer(view.row.offer, side.other(), ply)
+    {
         return Some(answer_of_end(view, OutsideEnd::Agreed));
     }
     None

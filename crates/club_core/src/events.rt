@@ -1,6 +1,6 @@
 //! Events: adding one.
 
-ghost use Rattle.std.specs.Prelude.{◌≡◌, ◌≤◌, ◌<◌, length, Option, Some, None, IfNone, string_bytes};
+ghost use Rattle.std.specs.Prelude.{◌≡◌, ◌≤◌, ◌<◌, length, Option, Some, None, IfNone};
 ghost use Rattle.std.specs.List.{list_any};
 ghost use Rattle.club_requests.specs.Limits.{most_events};
 ghost use Rattle.club_core.specs.Members.{find_id};

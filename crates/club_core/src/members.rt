@@ -1,9 +1,7 @@
 //! Members: adding one, and finding the one who shows a key.
 
-ghost use Rattle.std.specs.Prelude.{◌≡◌, ◌≤◌, ◌<◌, ◌&&◌, ◌||◌, length, Option, Some, None, IfNone, IfSome};
+ghost use Rattle.std.specs.Prelude.{◌≡◌, ◌≤◌, ◌<◌, ◌&&◌, ◌||◌, length, Option, Some, None, IfNone};
 ghost use Rattle.std.specs.Prelude.{string_bytes};
-ghost use Rattle.std.specs.Str.{bytes_eq};
-ghost use Rattle.std.specs.Option.{option_map};
 ghost use Rattle.std.specs.List.{list_any};
 ghost use Rattle.club_requests.specs.Limits.{most_members, is_name, is_member_key};
 ghost use Rattle.club_core.specs.Members.{find_id, is_member, has_name_or_key, member_refusal, member_step};

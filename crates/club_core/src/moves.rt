@@ -1,9 +1,8 @@
 //! A move in one game: played, refused, or a repeat of one that was played.
 
-ghost use Rattle.std.specs.Prelude.{◌≡◌, ℕ, Ok, ◌+◌, ◌-◌, ◌^◌, ◌<◌, ◌≤◌, Option, Some, None, IfOk, IfErr, IfNone};
-ghost use Rattle.std.specs.Prelude.{IfSome, string_bytes, length};
+ghost use Rattle.std.specs.Prelude.{◌≡◌, ℕ, Ok, ◌+◌, ◌-◌, ◌^◌, ◌<◌, ◌≤◌, Option, Some, None, IfOk, IfErr};
+ghost use Rattle.std.specs.Prelude.{string_bytes};
 ghost use Rattle.std.specs.Option.{option_map};
-ghost use Rattle.club_requests.specs.Limits.{most_text_bytes};
 ghost use Rattle.club_core.specs.Answer.{reply_of};
 ghost use Rattle.club_core.specs.Game.{Game, spend, left_of, left_after};
 ghost use Rattle.club_core.specs.Legal.{IsLegalGame};

@@ -1,6 +1,6 @@
 //! Seating two members for a game.
 
-ghost use Rattle.std.specs.Prelude.{◌≡◌, ◌≤◌, ◌<◌, ◌+◌, length, ℕ, Option, Some, None, IfOk, IfNone, IfSome};
+ghost use Rattle.std.specs.Prelude.{◌≡◌, ◌≤◌, ◌<◌, ◌+◌, length, ℕ, Option, Some, None, IfOk, IfNone};
 ghost use Rattle.std.specs.Prelude.{string_bytes, Bool};
 ghost use Rattle.std.specs.Option.{option_map};
 ghost use Rattle.club_requests.specs.Limits.{most_members, most_events, most_games};

@@ -1,6 +1,6 @@
 //! A game that is written entry by entry, by the texts of its moves.
 
-ghost use Rattle.std.specs.Prelude.{◌≡◌, ◌<◌, ◌≤◌, ◌^◌, ℕ, [], ◌∷◌, ◌++◌, List, Option, Some, Ok, IfOk, IfSome, OnOk};
+ghost use Rattle.std.specs.Prelude.{◌≡◌, ◌<◌, ℕ, [], ◌∷◌, ◌++◌, List, Option, Some, Ok, IfOk, IfSome, OnOk};
 ghost use Rattle.std.specs.Prelude.{length, map, true};
 ghost use Rattle.club_core.specs.Game.{Entry};
 ghost use Rattle.club_requests.specs.Limits.{most_plies};

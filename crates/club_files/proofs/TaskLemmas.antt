@@ -1,10 +1,10 @@
 -- What is said of one task, of one report or of what is told of a stretch goes on.
-use Rattle.std.proofs.Common.{◌≡◌, ◌≢◌, Option, Some, None, refl}
+use Rattle.std.proofs.Common.{◌≢◌, Option, Some, None, refl}
 use Rattle.club_words.specs.declared.words.Task.{Task}
 use Rattle.club_words.specs.declared.words.Task.TheVariants as task
 use Rattle.club_opening.specs.declared.fault.OpenFault.{OpenFault}
 use Rattle.club_orders.specs.declared.report.Report.{Report}
-use Rattle.club_orders.specs.declared.report.Report.TheVariants.{Copied, Sound, Stopped, Uncopied, Unopened}
+use Rattle.club_orders.specs.declared.report.Report.TheVariants.{Sound, Unopened}
 use Rattle.club_orders.specs.Report as of_report
 use Rattle.club_orders.specs.Report.{IfUnopened, IfVerify, IsOfCopy, IsPassed}
 use Rattle.club_orders.specs.Refused.{IfTakesOver, IfUpgrade}

@@ -1,6 +1,6 @@
 -- Each side of both games has a move in the opening: a man of First goes forward, and a pawn of First does.
 use Rattle.std.proofs.Common.{◌≡◌, ℕ, zero, suc, Bool, true, false, cond, ◌||◌, ◌&&◌, List, [], ◌∷◌, length, Option}
-use Rattle.std.proofs.Common.{Some, None, Ok, refl, ap, ◌∙◌, arith, get_or, IsTrue}
+use Rattle.std.proofs.Common.{Some, None, Ok, refl, ap, ◌∙◌, arith, get_or}
 use Rattle.std.specs.Prelude.{if◌then◌else◌, nat_lt, is_none, ◌==◌, map as list_map}
 use Rattle.std.specs.List.{list_any, range_with_len}
 use Rattle.std.specs.Option.{option_map_or, option_and_then}

@@ -1,7 +1,7 @@
 //! Records of draughts, in Portable Draughts Notation.
 
 ghost use Rattle.std.specs.Prelude.{◌≡◌, ◌≢◌, IfOk};
-ghost use Rattle.club_rules.specs.Records.{recorded_of, reading_of};
+ghost use Rattle.club_rules.specs.Records.{recorded_of};
 ghost use Rattle.club_games.specs.PdnReading.{pdn_refusal, game_of};
 
 use crate::draughts::{Draughts, refusal_of};

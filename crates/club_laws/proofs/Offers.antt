@@ -1,6 +1,6 @@
 -- An accepted offer of a draw that comes again once a move came since is refused.
 use Rattle.std.proofs.Common.{◌≡◌, ◌≢◌, ℕ, zero, suc, ◌+◌, ◌-◌, List, length, Option, Some, None, Bool, true, false}
-use Rattle.std.proofs.Common.{not, ◌&&◌, refl, ap, sym, ◌∙◌, arith, IfSome}
+use Rattle.std.proofs.Common.{◌&&◌, refl, ap, sym, ◌∙◌, arith, IfSome}
 use Rattle.std.specs.Prelude.{max, slice_get, slice_set, if◌then◌else◌}
 use Rattle.squares.specs.DraughtsMarks.{nat_eq_other}
 use Rattle.squares.specs.declared.sides.Side.{Side}
@@ -21,7 +21,7 @@ use Rattle.club_core.specs.LegalState.{IsGameOf, IsLegalIn, IsLegalState}
 use Rattle.club_core.specs.Step.{offer_draw, may_give, asked_ply, caller_side, has_offer, is_over, is_next_ply}
 use Rattle.club_core.specs.Step.{step_offer, by_side, game_step}
 use Rattle.club_core.specs.State.{AnyGame, draughts, shogi, State, Command, on_game, Request, place, terms_at}
-use Rattle.club_core.specs.State.{with_game, caller_of, state_after, step_game, step_command, step_by, step, next, fold}
+use Rattle.club_core.specs.State.{with_game, caller_of, state_after, step_game, step_by, step, next, fold}
 use Rattle.club_laws.specs.Laws.{HasNextPly, passed_offer, is_over_in}
 use Rattle.club_laws.proofs.Accepts.{if-accepted}
 use Rattle.club_laws.proofs.LegalSteps.{in-place}

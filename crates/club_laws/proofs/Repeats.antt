@@ -11,8 +11,7 @@ use Rattle.std.proofs.lemmas.Bool.{eq-eqb}
 use Rattle.std.proofs.lemmas.Bool.Decides.{nat_tests}
 use Rattle.std.proofs.lemmas.List.{map-append, take-append-le}
 use Rattle.squares.specs.declared.sides.Side.{Side}
-use Rattle.squares.specs.declared.sides.Side.TheVariants.{First, Second}
-use Rattle.squares.specs.Sides.{other, same_side}
+use Rattle.squares.specs.Sides.{other, same_side, same_side-itself}
 use Rattle.club_rules.specs.declared.refusals.MoveRefusal.{MoveRefusal}
 use Rattle.club_rules.specs.declared.names.GameKind.{GameKind}
 use Rattle.club_rules.specs.declared.names.GameKind.TheVariants.{Draughts, Shogi}
@@ -441,10 +440,6 @@ module _ {P M E T : Type 0} (laws : GameRules P M E T) (terms : Terms) (game : G
       read-as n m (Err refusal) is = cc
       read-as n m (Ok u) is = cc
 
-same_side-refl : (side : Side) → same_side side side ≡ true
-same_side-refl First = refl
-same_side-refl Second = refl
-
 -- a command on a game of one kind still repeats
 abbrev StillRepeatsIn : {M : Type 0} → GameCommand → Game M → Type 0
 StillRepeatsIn (offer_draw ply) later = ply ≡ length later.entries + 1
@@ -522,7 +517,7 @@ module _ {P M E T : Type 0} (laws : GameRules P M E T) (are_rules : AreRules law
       let same : length later.entries ≡ length game.entries = omega (arith, still, next) in
       let offer : later.offer ≡ Some (record { side = side; ply = ply }) =
       from.offered (record { side = side; ply = ply }) refl next same in
-      let own : (same_side side side && ply == ply) ≡ true = and-true _ _ (same_side-refl side) (eq-eqb ply ply refl) in
+      let own : (same_side side side && ply == ply) ≡ true = and-true _ _ (same_side-itself side) (eq-eqb ply ply refl) in
       rw (draws, offer, own, answer) refl
 
   accept-again : (side : Side) (ply : ℕ) (new : Game M) (reply : Reply)

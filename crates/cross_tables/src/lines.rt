@@ -1,7 +1,6 @@
 //! The lines of the table.
 
 ghost use Rattle.std.specs.Prelude.{◌≡◌, ◌++◌, OnOk, IfOk, string_bytes};
-ghost use Rattle.std.specs.Fmt.{decimal};
 ghost use Rattle.cross_tables.specs.Lines.{filler, right_in, left_in, number_in};
 ghost use Rattle.cross_tables.specs.Lines.{sums_text, cells_text, header_text, line_text};
 ghost use Rattle.cross_tables.specs.Cells.{cell_text};

@@ -1,5 +1,5 @@
 //! The codes of pieces, and squares by two digits.
-ghost use Rattle.std.specs.Prelude.{◌≡◌, IfSome, ◌<◌};
+ghost use Rattle.std.specs.Prelude.{◌≡◌, ◌<◌};
 ghost use Rattle.csa.specs.Codes.{role_of, code_of, is_digit, is_place, square_of};
 
 use squares::{Role, Ssq};

@@ -1,7 +1,7 @@
 //! The statements that end a record.
 ghost use Rattle.std.specs.Prelude.{◌≡◌, find};
 ghost use Rattle.std.specs.Str.{bytes_eq};
-ghost use Rattle.csa.specs.EndWords.{word_text, end_words, end_word};
+ghost use Rattle.csa.specs.EndWords.{word_text, end_word};
 
 /// How a record says that its game ended.
 #[derive(Clone, Copy, Debug, PartialEq, Eq)]

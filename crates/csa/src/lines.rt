@@ -1,5 +1,5 @@
 //! The statements of a text, line by line.
-ghost use Rattle.std.specs.Prelude.{◌≡◌, ◌+◌, ◌++◌, ◌≤◌, ◌<◌, ◌==◌, IfOk, OnOk, MatchOption, map, length};
+ghost use Rattle.std.specs.Prelude.{◌≡◌, ◌+◌, ◌++◌, ◌<◌, ◌==◌, IfOk, OnOk, map, length};
 ghost use Rattle.std.specs.List.{slice_split};
 ghost use Rattle.std.specs.Str.Lines.{strip_carriage_return, lines_of_parts};
 ghost use Rattle.csa.specs.Lines.{is_comment, is_header, placed_of, placed_all, line_at, statements_from};

@@ -1,5 +1,5 @@
 //! The moves that written moves mean.
-ghost use Rattle.std.specs.Prelude.{◌≡◌, ◌↔◌, ◌≢◌, IsTrue, IfSome, IfNone, Bool};
+ghost use Rattle.std.specs.Prelude.{◌≡◌, ◌↔◌, IsTrue, IfSome, IfNone, Bool};
 ghost use Rattle.squares.specs.declared.shogi.moves.SMove.{SMove};
 ghost use Rattle.squares.specs.declared.shogi.piece.HandKind.{HandKind};
 ghost use Rattle.shogi_moves.specs.Rules.{dropped_role};

@@ -1,6 +1,5 @@
 //! Statements that say how a game begins: the even opening, rows of the board, and pieces on squares.
 ghost use Rattle.std.specs.Prelude.{◌≡◌, ◌≤◌, length};
-ghost use Rattle.std.specs.Str.{bytes_eq};
 ghost use Rattle.csa.specs.Openings.{is_cell, are_cells, are_blanks, is_piece, are_pieces, even_row, is_long_row};
 ghost use Rattle.csa.specs.Openings.{is_row, is_even_row};
 

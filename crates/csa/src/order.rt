@@ -1,5 +1,5 @@
 //! The order in which the statements of a record stand.
-ghost use Rattle.std.specs.Prelude.{◌≡◌, ◌≤◌};
+ghost use Rattle.std.specs.Prelude.{◌≡◌};
 ghost use Rattle.csa.specs.declared.order.Place.TheVariants as place;
 ghost use Rattle.csa.specs.Order.{after_header, after_version, after_opening, after_row, after_pieces, after_turn};
 ghost use Rattle.csa.specs.Order.{after_move, after_seconds, after_end, next, first_stray};

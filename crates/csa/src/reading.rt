@@ -1,7 +1,6 @@
 //! Texts as games.
 ghost use Rattle.std.specs.Prelude.{◌≡◌, ◌≤◌, IfOk, IfErr, OnOk, length, map, take};
 ghost use Rattle.std.specs.List.{slice_split};
-ghost use Rattle.csa.specs.Records.{IsRecordOf, RecordFails};
 ghost use Rattle.csa.specs.Reading.{is_parting, is_header_statement, first_statement, has_statement, without_bare_last};
 ghost use Rattle.csa.specs.Reading.{records_of, AreOrdered, AreRecordsOf, FailsOrMemory, Refuses, IsTextOf, IsRefused};
 

@@ -2,7 +2,7 @@
 ghost use Rattle.std.specs.Prelude.{◌≡◌, ◌<◌, ◌++◌, ◌∷◌, [], OnOk, string_bytes};
 ghost use Rattle.shogi_moves.specs.Rules.{arrived, dropped_role};
 ghost use Rattle.csa.specs.Writing.{line_of, two_digits, then_two, date_text, side_sign, square_text, source_text};
-ghost use Rattle.csa.specs.Writing.{target_text, move_text, entry_text, recorded_word, rule_word, word_of, end_text};
+ghost use Rattle.csa.specs.Writing.{target_text, entry_text, recorded_word, rule_word, word_of, end_text};
 ghost use Rattle.csa.specs.Writer.{lines_text};
 
 use crate::codes::code_of;

@@ -1,6 +1,5 @@
 //! Positions in which a lone king stands against few pieces.
 ghost use Rattle.std.specs.Prelude.{◌≡◌};
-ghost use Rattle.std.specs.FinMap as map;
 ghost use Rattle.draughts_draws.specs.Ends.{is_piece_of, is_king_of, count_of_pieces, count_of_kings, has_lone_king};
 ghost use Rattle.draughts_draws.specs.Ends.{has_three, has_two, is_three_to_one, is_two_to_one};
 

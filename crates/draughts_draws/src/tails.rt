@@ -1,5 +1,5 @@
 //! Two numbers of a line by which its last ply is judged, without the plies before it.
-ghost use Rattle.std.specs.Prelude.{◌≡◌, ◌<◌, ◌^◌};
+ghost use Rattle.std.specs.Prelude.{◌≡◌, ◌<◌};
 ghost use Rattle.draughts_draws.specs.Ends.{is_king_move, is_three_to_one, is_two_to_one};
 ghost use Rattle.draughts_draws.specs.Tails.{in_class, class_of, class_count, first_tail, next_tail, class_end, end_by};
 

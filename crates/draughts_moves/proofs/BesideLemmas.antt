@@ -10,7 +10,7 @@ use Rattle.squares.specs.declared.draughts.direction.Direction.TheVariants.{UpLe
 use Rattle.squares.specs.declared.draughts.piece.DPiece.{DPiece}
 use Rattle.squares.specs.declared.sides.Side.{Side}
 use Rattle.squares.specs.declared.sides.Side.TheVariants.{First, Second}
-use Rattle.squares.specs.Sides.{same_side, other}
+use Rattle.squares.specs.Sides.{same_side, other, same_side-of}
 use Rattle.std.specs.Cmp.{nat_cmp_total}
 use Rattle.squares.specs.DraughtsBoard.{Position, is_of}
 use Rattle.squares.specs.DraughtsSets.{Squares}
@@ -20,7 +20,7 @@ use Rattle.squares.proofs.Proved.{two_steps-apart}
 use Rattle.draughts_moves.specs.Capture.{Cells, is_enemy, without}
 use Rattle.draughts_moves.specs.Search.{takes, king_jumps, man_jumps, line_jumps, greatest, own_at, greatest_at}
 use Rattle.draughts_moves.specs.Search.{AreEnemies, next_in, next_before, is_beside}
-use Rattle.draughts_moves.proofs.MostLemmas.{own_at-is, greatest_at-none, same_side-itself}
+use Rattle.draughts_moves.proofs.MostLemmas.{own_at-is, greatest_at-none}
 use Rattle.draughts_moves.proofs.FirstJumpLemmas.{any, man-none, man-takes, jumps-last, greatest-none}
 
 enemy_sides : (mine theirs : Side) → not (same_side mine theirs) ≡ same_side theirs (other mine)
@@ -146,7 +146,7 @@ module _ (p : Position) (own enemies empty near men kings able : Squares)
         | Some q ↦ λ is.
             let stands = own_at-is p n q is in
             let there : set.contains own n ≡ true = are_own n ∙ ap (is_of p.turn) stands.0
-            ∙ same_side-itself q.side p.turn stands.1 in
+            ∙ same_side-of q.side p.turn stands.1 in
             let both = or_false (set.contains own n && set.contains near n) (set.contains kings n)
             (sym (parts n) ∙ e) in
             let far = and_right (set.contains own n) (set.contains near n) there both.0 in

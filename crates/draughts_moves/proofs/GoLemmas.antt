@@ -20,12 +20,13 @@ use Rattle.squares.specs.DraughtsMarks.{nat_eq_other}
 use Rattle.squares.specs.DraughtsSets.{Squares}
 use Rattle.squares.specs.DraughtsGeometry.{OnBoard, step, ray, line-step, line-edge}
 use Rattle.squares.specs.DraughtsOnBoard.{step-on_board}
+use Rattle.squares.specs.Sides.{same_side-of}
 use Rattle.draughts_moves.specs.Capture.{Cells}
 use Rattle.draughts_moves.specs.Legal.{is_forward}
 use Rattle.draughts_moves.specs.Listing.{quiet_in_order}
 use Rattle.draughts_moves.specs.Search.{clear_front, steps_along, steps, own_at, next_in, is_before}
 use Rattle.draughts_moves.proofs.BesideLemmas.{AreEmpty, or_false, and_right}
-use Rattle.draughts_moves.proofs.MostLemmas.{own_at-is, same_side-itself}
+use Rattle.draughts_moves.proofs.MostLemmas.{own_at-is}
 use Rattle.draughts_moves.proofs.QuietLemmas.{quiet-none, quiet-no_step}
 use Rattle.draughts_moves.proofs.WalkLemmas.{is_in}
 
@@ -155,7 +156,7 @@ module _ (p : Position) (own empty before kings able : Squares)
         | Some q ↦ λ is.
             let stands = own_at-is p n q is in
             let there : set.contains own n ≡ true = are_own n ∙ ap (is_of p.turn) stands.0
-            ∙ same_side-itself q.side p.turn stands.1 in
+            ∙ same_side-of q.side p.turn stands.1 in
             let rest = and_right (set.contains own n) (set.contains before n || set.contains kings n) there
             (sym (parts n) ∙ e) in
             let both = or_false (set.contains before n) (set.contains kings n) rest in

@@ -8,30 +8,16 @@ use Rattle.std.specs.Ordering.{nat_cmp}
 use Rattle.std.specs.FinSet as set
 use Rattle.std.specs.FinMap as map
 use Rattle.squares.specs.declared.draughts.piece.DPiece.{DPiece}
-use Rattle.squares.specs.declared.sides.Side.{Side}
-use Rattle.squares.specs.declared.sides.Side.TheVariants.{First, Second}
 use Rattle.squares.specs.DraughtsBoard.{Position}
 use Rattle.squares.specs.DraughtsSets.{Squares}
 use Rattle.squares.specs.DraughtsGeometry.{OnBoard}
 use Rattle.squares.specs.DraughtsOnBoard.{ray-off}
 use Rattle.draughts_moves.specs.Capture.{Cells, Jump, Capture, IsMost, without}
-use Rattle.squares.specs.Sides.{same_side}
+use Rattle.squares.specs.Sides.{same_side, same_side-same, same_side-of}
 use Rattle.draughts_moves.specs.Search.{greatest, own_at, greatest_at, most}
 use Rattle.draughts_moves.proofs.MaxLemmas.{most-above, most-reached}
 use Rattle.draughts_moves.proofs.Prey.{In-range}
 use Rattle.draughts_moves.proofs.RouteLemmas.{Route-len, greatest-bounds, greatest-reached}
-
-pub same_side-itself : (a b : Side) → a ≡ b → same_side a b ≡ true
-same_side-itself First First e = refl
-same_side-itself First Second e = cc
-same_side-itself Second First e = cc
-same_side-itself Second Second e = refl
-
-same_side-same : (a b : Side) → same_side a b ≡ true → a ≡ b
-same_side-same First First e = refl
-same_side-same First Second e = cc
-same_side-same Second First e = cc
-same_side-same Second Second e = refl
 
 pub not_empty : (before rest : List ℕ) (v : ℕ) → before ++ v ∷ rest ≡ [] → ⊥
 not_empty [] rest v e = cc
@@ -45,7 +31,7 @@ module _ (p : Position) (x : ℕ) (q : DPiece) where
   pub own_at-own : map.get p.board x ≡ Some q → q.side ≡ p.turn → own_at p x ≡ Some q
   own_at-own stands own =
       ap (option_and_then (λ r. cond (same_side r.side p.turn) (Some r) None)) stands
-      ∙ ap (λ c. cond c (Some q) None) (same_side-itself q.side p.turn own)
+      ∙ ap (λ c. cond c (Some q) None) (same_side-of q.side p.turn own)
 
   if_own : (r : DPiece) (c : Bool) → same_side r.side p.turn ≡ c → cond c (Some r) None ≡ Some q → (r ≡ q)
       × (q.side ≡ p.turn)

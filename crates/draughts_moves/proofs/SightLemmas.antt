@@ -10,7 +10,7 @@ use Rattle.std.specs.FinSet as set
 use Rattle.squares.specs.declared.draughts.direction.Direction.{Direction}
 use Rattle.squares.specs.declared.draughts.direction.Direction.TheVariants.{UpLeft, UpRight, DownLeft, DownRight}
 use Rattle.squares.specs.declared.draughts.piece.DPiece.{DPiece}
-use Rattle.squares.specs.Sides.{other}
+use Rattle.squares.specs.Sides.{other, same_side-of}
 use Rattle.squares.specs.DraughtsBoard.{Position, is_of}
 use Rattle.squares.specs.DraughtsKept.{is_king}
 use Rattle.squares.specs.DraughtsMarks.{nat_eq-same}
@@ -25,7 +25,7 @@ use Rattle.draughts_moves.proofs.BesideLemmas.{AreEmpty, enemy-is, or_false}
 use Rattle.draughts_moves.proofs.ClearLemmas.{found_in, not_back}
 use Rattle.draughts_moves.proofs.FirstJumpLemmas.{any, jumps-last, greatest-none}
 use Rattle.draughts_moves.proofs.KingLemmas.{king-none, king-takes}
-use Rattle.draughts_moves.proofs.MostLemmas.{own_at-is, same_side-itself}
+use Rattle.draughts_moves.proofs.MostLemmas.{own_at-is}
 use Rattle.draughts_moves.proofs.WalkLemmas.{is_in}
 
 -- the pieces but one are those that stand once it has left
@@ -168,7 +168,7 @@ pub first_able : (p : Position) (own kings able : Squares)
 first_able p own kings able are_own are_kings both n q is king e =
     let stands = own_at-is p n q is in
     let mine : set.contains own n ≡ true = are_own n ∙ ap (is_of p.turn) stands.0
-    ∙ same_side-itself q.side p.turn stands.1 in
+    ∙ same_side-of q.side p.turn stands.1 in
     let crowned : set.contains kings n ≡ true = are_kings n ∙ ap is_king stands.0 ∙ king in
     let there = ap (λ s. set.contains s n) both ∙ set.contains-intersection nat_cmp_total own kings n
     ∙ (λ i. mine i && crowned i) in

@@ -1,8 +1,7 @@
 //! Which moves are legal.
-ghost use Rattle.std.specs.Prelude.{◌≡◌, ◌↔◌, ◌≢◌, ◌<◌, ℕ, IsTrue, IsOk, Err};
+ghost use Rattle.std.specs.Prelude.{◌≡◌, ◌↔◌, ◌≢◌, ◌<◌, IsTrue, IsOk, Err};
 ghost use Rattle.std.specs.FinSet as set;
 ghost use Rattle.squares.specs.declared.draughts.moves.DMove.{DMove};
-ghost use Rattle.squares.specs.DraughtsBoard.{Position};
 ghost use Rattle.draughts_moves.specs.Capture.{HasCapture};
 ghost use Rattle.draughts_moves.specs.Legal.{IsQuiet, IsCapture, IsShortCapture, Legal, HasMove};
 ghost use Rattle.draughts_moves.specs.Search.{is_step, can_move, has_move};

@@ -1,5 +1,5 @@
 //! Whether a piece can jump.
-ghost use Rattle.std.specs.Prelude.{◌≡◌, is_none, false, length, nat_lt, ◌||◌};
+ghost use Rattle.std.specs.Prelude.{◌≡◌, is_none, false, length, nat_lt};
 ghost use Rattle.std.specs.Option.{option_map_or};
 ghost use Rattle.draughts_moves.specs.Capture.{without};
 ghost use Rattle.squares.specs.DraughtsGeometry.{ray, step};

@@ -1,5 +1,5 @@
 //! Whether jumps lead to a square with given squares taken.
-ghost use Rattle.std.specs.Prelude.{◌≡◌, ◌↔◌, IsTrue};
+ghost use Rattle.std.specs.Prelude.{◌↔◌, IsTrue};
 ghost use Rattle.draughts_moves.specs.Capture.{without, Reaches};
 
 use crate::jumps::jumps_from;

@@ -1,5 +1,5 @@
 //! What the body of a request asks for.
-ghost use Rattle.std.specs.Prelude.{◌≡◌, ◌↔◌, IsTrue, IfOk, option_map, option_and_then, codes, string_bytes};
+ghost use Rattle.std.specs.Prelude.{◌≡◌, ◌↔◌, IsTrue, IfOk, option_map, string_bytes};
 ghost use Rattle.serde_json.specs.View.{view};
 ghost use Rattle.serde_json.specs.Errors.{IsMemory};
 ghost use Rattle.club_core.specs.Answer.{command_of};

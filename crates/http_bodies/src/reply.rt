@@ -1,5 +1,5 @@
 //! The bytes of replies.
-ghost use Rattle.std.specs.Prelude.{◌≡◌, ◌++◌, IfOk, string_bytes, Some, None, unwrap_or, [], false};
+ghost use Rattle.std.specs.Prelude.{◌≡◌, IfOk, string_bytes, Some, None, unwrap_or, [], false};
 ghost use Rattle.http.specs.StatusCode.{IsStatusCode, reason_phrase};
 ghost use Rattle.serde_json.specs.Written.{compact_text, has_float};
 ghost use Rattle.serde_json.specs.View.{view};

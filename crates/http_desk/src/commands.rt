@@ -1,5 +1,5 @@
 //! Commands of members, as paths and bodies give them.
-ghost use Rattle.std.specs.Prelude.{◌≡◌, IfOk, option_map, string_bytes};
+ghost use Rattle.std.specs.Prelude.{◌≡◌, IfOk, option_map};
 ghost use Rattle.serde_json.specs.Written.{compact_text};
 ghost use Rattle.club_core.specs.Answer.{command_of, game_command_of, outcome_of, reply_of, who_of};
 ghost use Rattle.club_core.specs.State.{key_holder, on_game, withdraw_challenge};

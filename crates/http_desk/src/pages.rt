@@ -1,5 +1,4 @@
 //! The pages that a club shows.
-ghost use Rattle.std.specs.Prelude.{◌≡◌};
 ghost use Rattle.http_desk.specs.RouteViews.{asking_view};
 ghost use Rattle.http_desk.specs.Desk.{question_page, ServesDue};
 ghost use Rattle.http_desk.specs.DeskViews.{answer_view};

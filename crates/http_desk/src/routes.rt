@@ -1,12 +1,10 @@
 //! What a target asks for.
-ghost use Rattle.std.specs.Prelude.{◌≡◌, ◌≤◌, [], IfOk, OnOk, Ok, codes, length, map, option_map, take, drop};
-ghost use Rattle.std.specs.Str.{bytes_eq};
+ghost use Rattle.std.specs.Prelude.{◌≡◌, [], IfOk, Ok, codes, length, map, option_map};
 ghost use Rattle.matchit.specs.Params.{AllText, named};
-ghost use Rattle.matchit.specs.Route.{parse_route};
 ghost use Rattle.http_desk.specs.Routes.{before, begins, path_behind, path_of, with_routes};
 ghost use Rattle.http_desk.specs.Routes.{make_move, offer_draw, accept_draw, declare, text_of};
 ghost use Rattle.http_desk.specs.Routes.{action_asked, ply_asked, answer_asked, about_game, about_event};
-ghost use Rattle.http_desk.specs.Routes.{asked_of_path, asked_of, method_of, is_for_all};
+ghost use Rattle.http_desk.specs.Routes.{asked_of, method_of, is_for_all};
 ghost use Rattle.http_desk.specs.RouteViews.{action_view, asked_view};
 ghost use Rattle.http_desk.specs.Taken.{parts_taken, number_named, asked_by};
 

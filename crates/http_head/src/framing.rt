@@ -1,6 +1,5 @@
 //! Where the head of a request ends.
-ghost use Rattle.std.specs.Prelude.{◌≡◌, ◌≤◌, ◌+◌, ◌^◌, ◌<◌, ◌++◌, ℕ, List, length, Some, None, IfSome, IfNone};
-ghost use Rattle.std.specs.Prelude.{MatchOption, take, drop};
+ghost use Rattle.std.specs.Prelude.{◌≡◌, ◌≤◌, ◌+◌, ◌<◌, ◌++◌, ℕ, List, length, Some, None, IfSome, IfNone};
 ghost use Rattle.http_head.specs.Framing.{is_empty, longer, scan_start, ends_head, end_from, after};
 
 /// What stands so far of the line that a scan has come to.

@@ -1,5 +1,5 @@
 //! How far the bytes of a connection have been looked at.
-ghost use Rattle.std.specs.Prelude.{◌≡◌, ◌≤◌, ◌+◌, [], IsTrue};
+ghost use Rattle.std.specs.Prelude.{[], IsTrue};
 ghost use Rattle.http_head.specs.Intake.{IsIntake, IsBodyOf};
 ghost use Rattle.http_head.specs.Request.{IsDecided};
 

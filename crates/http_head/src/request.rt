@@ -1,5 +1,5 @@
 //! Requests, as far as their bytes have come.
-ghost use Rattle.std.specs.Prelude.{◌≡◌, ◌≤◌, ◌+◌, ◌++◌, ℕ, List, Ok, length, drop};
+ghost use Rattle.std.specs.Prelude.{◌≡◌, Ok, length};
 ghost use Rattle.http_head.specs.Head.{Outline as outline};
 ghost use Rattle.http_head.specs.HeadViews.{outline_view};
 ghost use Rattle.http_head.specs.Request.{Sees, Seen as seen, body_seen, behind_breaks, begin_with_head, asks_head};

@@ -1,5 +1,5 @@
 //! The bytes of a request, as a reader gives them.
-ghost use Rattle.std.specs.Prelude.{◌≡◌, ◌⊎◌, IfOk};
+ghost use Rattle.std.specs.Prelude.{◌⊎◌, IfOk};
 ghost use Rattle.std.specs.Io.KnownBytes.{IsAtEnd};
 ghost use Rattle.http_head.specs.Intake.{HasTaken};
 ghost use Rattle.http_head.specs.Request.{IsDecided};

@@ -1,6 +1,6 @@
 //! What a desk answers to an order, and how that is told over the door.
 
-ghost use Rattle.std.specs.Prelude.{◌≡◌, ◌≢◌, ◌++◌, ◌<◌, ◌^◌, ℕ, Bool, List, Some, IfOk, MatchOption, codes};
+ghost use Rattle.std.specs.Prelude.{◌≡◌, ◌≢◌, ◌++◌, ◌<◌, ℕ, Bool, List, Some, IfOk, MatchOption, codes};
 ghost use Rattle.std.specs.Prelude.{decimal, string_bytes};
 ghost use Rattle.officer_door.specs.Answers.{Hears, IsAnswerIn, status_text, told};
 

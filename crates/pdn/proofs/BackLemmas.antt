@@ -12,7 +12,7 @@ use Rattle.draughts_moves.specs.Legal.{QuietMove, Legal}
 use Rattle.draughts_moves.proofs.Proved.{is_positive, Capture-len, own_at-own}
 use Rattle.pdn.specs.Forms.{quiet, capture, read_form}
 use Rattle.pdn.specs.Subsequence.{IsSubsequence}
-use Rattle.pdn.specs.MoveText.{HasRival, IsFirstRoute, IsMoveText, quiet_text, capture_text, short, long}
+use Rattle.pdn.specs.MoveText.{HasRival, IsMoveText, capture_text, short, long}
 use Rattle.pdn.specs.MoveText as written
 use Rattle.pdn.specs.ReadMove.{Fits, StandsFor, IsRead}
 use Rattle.pdn.specs.Choice.{same_move}

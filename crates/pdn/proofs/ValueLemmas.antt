@@ -22,7 +22,7 @@ use Rattle.draughts_moves.specs.Routes.{route_cmp, landings_of}
 use Rattle.draughts_moves.specs.Legal.{Legal}
 use Rattle.draughts_moves.proofs.Proved.{moves-sound, moves-complete, IsMost-most, Capture-len, own_at-own, own_at-is}
 use Rattle.draughts_moves.proofs.Proved.{route_cmp-total, landings_of-sound, landings_of-complete}
-use Rattle.pdn.specs.MoveText.{IsRival, HasRival, IsFirstRoute, IsMoveText, is_like, quiet_text, capture_text, short}
+use Rattle.pdn.specs.MoveText.{HasRival, IsFirstRoute, IsMoveText, is_like, quiet_text, capture_text, short}
 use Rattle.pdn.specs.MoveText.{long}
 use Rattle.pdn.specs.MoveText as written
 use Rattle.pdn.specs.MoveValue.{legal_moves, routes_in, first_of, named, move_text}

@@ -1,6 +1,5 @@
 //! Texts as moves.
 ghost use Rattle.std.specs.Prelude.{◌≡◌, ◌↔◌, IfOk, IfErr, IsTrue};
-ghost use Rattle.squares.specs.In.{In};
 ghost use Rattle.pdn.specs.Forms.{quiet, capture};
 ghost use Rattle.pdn.specs.Choice.{IsChoice, IsChoiceFault, Joins, Parts, same_move};
 ghost use Rattle.pdn.specs.ReadMove.{Fits, NoneFits, StandsFor, IsRefused, IsFormFault, IsRead, HasReadFault};

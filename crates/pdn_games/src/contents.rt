@@ -1,6 +1,5 @@
 //! What the tokens of a game's text say.
-ghost use Rattle.std.specs.Prelude.{◌≡◌, MatchOption, Some, None, map};
-ghost use Rattle.std.specs.Option.{option_map};
+ghost use Rattle.std.specs.Prelude.{◌≡◌, MatchOption, Some, None};
 ghost use Rattle.pdn_games.specs.Contents.{value_in, first_tag, word_or, result_in, is_other, is_other_type};
 ghost use Rattle.pdn_games.specs.TokenValues.{token_of, all_placed};
 

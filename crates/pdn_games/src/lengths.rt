@@ -1,6 +1,5 @@
 //! How many bytes of a text's beginning are a square, a move, or a move's number.
 ghost use Rattle.std.specs.Prelude.{◌≡◌, ◌+◌, ◌≤◌, ◌<◌, ◌^◌, length, drop};
-ghost use Rattle.pdn.specs.Forms.{is_cross};
 ghost use Rattle.pdn.specs.SquareText as square_text;
 ghost use Rattle.pdn_games.specs.Lengths.{both, either, with_second, plain_len, square_len, step_len, landing_len};
 ghost use Rattle.pdn_games.specs.Lengths.{landings_len, tail_len, move_len, is_dot, digits_len, dots_len, number_len};

@@ -5,7 +5,7 @@ ghost use Rattle.squares.specs.DraughtsSamePosition.{same_position};
 ghost use Rattle.pdn.specs.ReadFen.{IsFen};
 ghost use Rattle.pdn_games.specs.Contents.{first_tag, is_other_type, move_texts, HasOpening};
 ghost use Rattle.pdn_games.specs.Moves.{MeanAll};
-ghost use Rattle.pdn_games.specs.Reading.{told, IsOfClub, IsGameOf, Fails, AreTokens, IsTextOf, IsRefused};
+ghost use Rattle.pdn_games.specs.Reading.{told, IsOfClub, IsGameOf, Fails, IsTextOf, IsRefused};
 ghost use Rattle.pdn_games.specs.Replaying.{HaveForms, IsConsistent};
 ghost use Rattle.pdn_games.specs.TokenValues.{all_placed};
 

@@ -1,7 +1,7 @@
 //! The results that end a game's text.
 ghost use Rattle.std.specs.Prelude.{◌≡◌, ◌<◌, length};
 ghost use Rattle.std.specs.Str.{bytes_eq};
-ghost use Rattle.pdn_games.specs.Results.{word_text, score_of, begins_with, result_at, result_word, words};
+ghost use Rattle.pdn_games.specs.Results.{word_text, score_of, begins_with, result_at, result_word};
 
 use squares::Score;
 

@@ -1,5 +1,5 @@
 //! What is skipped between the tokens of a game's text.
-ghost use Rattle.std.specs.Prelude.{◌≡◌, ◌+◌, ◌<◌, ◌≤◌, false, IfSome, MatchOption, Some, None, length, drop};
+ghost use Rattle.std.specs.Prelude.{◌≡◌, ◌+◌, ◌<◌, ◌≤◌, false, IfSome, MatchOption, Some, None, length};
 ghost use Rattle.std.specs.List.{prefix_len};
 ghost use Rattle.pdn_games.specs.Skips.{is_blank, is_mark, is_in_line, past_first, step, past_brackets, past_digits};
 ghost use Rattle.pdn_games.specs.Skips.{past_marks, past_line, past_skipped};

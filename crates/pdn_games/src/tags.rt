@@ -3,7 +3,7 @@ ghost use Rattle.std.specs.Prelude.{◌≡◌, ◌+◌, ◌<◌, ◌≤◌, fals
 ghost use Rattle.std.specs.List.{prefix_len};
 ghost use Rattle.pdn.specs.FenItems.{past_byte};
 ghost use Rattle.pdn_games.specs.Tags.{is_name_byte, is_space, past_spaces, name_front, quote_step, quote_at};
-ghost use Rattle.pdn_games.specs.Tags.{value_front, with_quote, with_name, with_value, tag_front};
+ghost use Rattle.pdn_games.specs.Tags.{value_front, with_name, tag_front};
 
 use crate::lengths::{after, is_digit};
 

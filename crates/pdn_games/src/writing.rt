@@ -1,5 +1,5 @@
 //! The parts of a written game.
-ghost use Rattle.std.specs.Prelude.{◌≡◌, ◌<◌, ◌+◌, ◌++◌, ◌^◌, OnOk, IfOk, string_bytes};
+ghost use Rattle.std.specs.Prelude.{◌≡◌, ◌<◌, ◌+◌, ◌++◌, OnOk, IfOk, string_bytes};
 ghost use Rattle.draughts_moves.specs.Legal.{Legal};
 ghost use Rattle.pdn.specs.MoveValue.{move_text};
 ghost use Rattle.pdn_games.specs.Writing.{tag_line, two_digits, date_text, result_text, ply_text, end_text};

@@ -13,8 +13,8 @@ mod writing;
 pub mod writing_laws;
 
 pub use faults::SfenFault;
-pub use reading::read;
 pub use memory::Memory;
+pub use reading::read;
 pub use usi_reading::read_usi;
 pub use usi_writing::write_usi;
 pub use writing::{write, write_position};

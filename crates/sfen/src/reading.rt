@@ -2,7 +2,7 @@
 ghost use Rattle.std.specs.Prelude.{◌≡◌, ◌↔◌, ◌<◌, ◌+◌, IsTrue, IfOk, IfErr, Some, None, true, false};
 ghost use Rattle.sfen.specs.Places.{IsSane};
 ghost use Rattle.sfen.specs.Reading.{holding, act, take_byte, run, beginning, StopsAt, Takes};
-ghost use Rattle.squares.specs.ShogiSets.{count_on, holds_kind, in_play, set_size};
+ghost use Rattle.squares.specs.ShogiSets.{in_play, set_size};
 ghost use Rattle.sfen.specs.SfenGrammar.{IsSfenText, IsRefused};
 
 use crate::faults::SfenFault;

@@ -2,7 +2,7 @@
 ghost use Rattle.std.specs.Prelude.{◌≡◌, ◌≤◌, IfOk, IfErr, length};
 ghost use Rattle.sfen.specs.UsiText.{IsUsiText, IsUsiRefused};
 ghost use Rattle.sfen.specs.UsiReading.{square_reading, kind_reading, step_of, drop_of, usi_reading, fits, reach};
-ghost use Rattle.sfen.specs.UsiReading.{step_places, drop_places, usi_reach};
+ghost use Rattle.sfen.specs.UsiReading.{usi_reach};
 
 use crate::faults::SfenFault;
 use squares::{HandKind, SMove, Ssq};

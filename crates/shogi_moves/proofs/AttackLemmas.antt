@@ -7,7 +7,7 @@ use Rattle.squares.specs.declared.sides.Side.{Side}
 use Rattle.squares.specs.declared.shogi.piece.SPiece.{SPiece}
 use Rattle.squares.specs.declared.shogi.piece.Role.{Role}
 use Rattle.squares.specs.declared.shogi.piece.Role.TheVariants as role
-use Rattle.squares.specs.Sides.{other, same_side}
+use Rattle.squares.specs.Sides.{other, same_side, same_side-of, same_side-same}
 use Rattle.squares.specs.ShogiBoard.{ShogiBoard}
 use Rattle.squares.specs.ShogiSets.{holds_king, is_king}
 use Rattle.squares.specs.In.{list_any-found, list_any-finds}
@@ -15,7 +15,7 @@ use Rattle.shogi_moves.specs.Reach.{Reach, Attacked, KingAttacked, king}
 use Rattle.shogi_moves.specs.Search.{all_squares, piece_reaches, side_reaches, attacked, king_attacked_at}
 use Rattle.shogi_moves.specs.Search.{king_attacked}
 use Rattle.shogi_moves.proofs.ReachLemmas.{piece_reaches-sound, piece_reaches-complete, Reach-on}
-use Rattle.shogi_moves.proofs.TruthLemmas.{and_true, true_and, same_side-itself, same_side-same, In-all_squares}
+use Rattle.shogi_moves.proofs.TruthLemmas.{and_true, true_and, In-all_squares}
 
 -- a piece of a side stands on x and reaches y
 record SideReaches (board : ShogiBoard) (side : Side) (y x : ℕ) : Type 0 where
@@ -46,7 +46,7 @@ module _ (board : ShogiBoard) (side : Side) (y x : ℕ) where
   unfolding side_reaches
   side_reaches-complete piece own r =
       ap (λ o. option_map_or (λ p. same_side p.side side && piece_reaches board p x y) o false) r.stands
-      ∙ true_and (same_side piece.side side) (piece_reaches board piece x y) (same_side-itself piece.side side own)
+      ∙ true_and (same_side piece.side side) (piece_reaches board piece x y) (same_side-of piece.side side own)
       (piece_reaches-complete board piece x y r)
 
 module _ (board : ShogiBoard) (side : Side) (square : ℕ) where
@@ -92,7 +92,7 @@ holds_king-king side (Some piece) e =
     λ i. Some (record { side = s i; role = r i })
 
 king-holds_king : (side : Side) (o : Option SPiece) → o ≡ Some (king side) → holds_king side o ≡ true
-king-holds_king side o e = ap (holds_king side) e ∙ same_side-itself side side refl
+king-holds_king side o e = ap (holds_king side) e ∙ same_side-of side side refl
 
 module _ (board : ShogiBoard) (side : Side) where
   king_attacked-sound : king_attacked board side ≡ true → KingAttacked board side

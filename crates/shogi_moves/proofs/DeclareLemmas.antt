@@ -10,7 +10,7 @@ use Rattle.std.proofs.lemmas.List.Sums.{sum_by_from, count_by-le-length}
 use Rattle.masks.specs.Words.{Numbers, passing, ascending}
 use Rattle.squares.specs.declared.sides.Side.{Side}
 use Rattle.squares.specs.declared.shogi.piece.SPiece.{SPiece}
-use Rattle.squares.specs.Sides.{same_side}
+use Rattle.squares.specs.Sides.{same_side, same_side-same, same_side-of}
 use Rattle.squares.specs.ShogiBoard.{ShogiBoard}
 use Rattle.squares.specs.ShogiSets.{is_king, holds_king}
 use Rattle.squares.specs.declared.shogi.piece.Role.{Role}
@@ -25,7 +25,7 @@ use Rattle.shogi_moves.specs.Declaring.{in_camp, has_entered, cell_points, enter
 use Rattle.shogi_moves.specs.Declaring.{king_entered_at, KingEntered, pieces_needed, points_needed, points, can_declare}
 use Rattle.shogi_moves.specs.Declaring.{CanDeclareIs}
 use Rattle.shogi_moves.proofs.AttackLemmas.{king_attacked-is}
-use Rattle.shogi_moves.proofs.TruthLemmas.{and_true, true_and, and-is, not-is, same_side-same, same_side-itself}
+use Rattle.shogi_moves.proofs.TruthLemmas.{and_true, true_and, and-is, not-is}
 use Rattle.shogi_moves.proofs.TruthLemmas.{In-all_squares, all_squares-In}
 use Rattle.shogi_moves.proofs.KingLemmas.{any-passing}
 
@@ -143,7 +143,7 @@ king-found board side = (
       },
   λ k.
       let holds : holds_king side (map.get board k.square) ≡ true =
-      ap (holds_king side) k.stands ∙ same_side-itself side side refl in
+      ap (holds_king side) k.stands ∙ same_side-of side side refl in
       list_any-finds (king_entered_at board side) all_squares k.square (In-all_squares k.square k.on_board)
       (true_and (holds_king side (map.get board k.square)) (in_camp side k.square) holds k.entered),
 )

@@ -13,7 +13,7 @@ use Rattle.squares.specs.declared.shogi.piece.SPiece.{SPiece}
 use Rattle.squares.specs.declared.shogi.hand.Hands.{Hands}
 use Rattle.squares.specs.declared.shogi.moves.SMove.{SMove}
 use Rattle.squares.specs.declared.shogi.moves.SMove.TheVariants.{Step, Drop}
-use Rattle.squares.specs.Sides.{same_side}
+use Rattle.squares.specs.Sides.{same_side, same_side-of}
 use Rattle.squares.specs.ShogiBoard.{ShogiBoard}
 use Rattle.squares.specs.ShogiPieces.{hand_kind}
 use Rattle.squares.specs.ShogiSets.{ShogiPosition, IsShogiPosition, count_on, holds_king, holds_kind, is_king, set_size}
@@ -22,7 +22,6 @@ use Rattle.shogi_moves.proofs.CountLemmas.{one_if, count_on-put, count_on-cleare
 use Rattle.shogi_moves.proofs.CountLemmas.{same_kind, is_of-kind, arrived-kind, arrived-king, dropped-kind}
 use Rattle.shogi_moves.proofs.CountLemmas.{dropped-no_king, fewer_in_hands, taken_in_hands}
 use Rattle.shogi_moves.proofs.ReachLemmas.{Reach-on}
-use Rattle.shogi_moves.proofs.TruthLemmas.{same_side-itself}
 
 no_and : (a : Bool) → (a && false) ≡ true → ⊥
 no_and true e = cc
@@ -43,7 +42,7 @@ module _ (p : ShogiPosition) (from to : ℕ) (promote : Bool) (g : Goes p from t
   to-from e =
       let there : may_land p.turn (Some g.piece) ≡ true =
       subst (λ o. may_land p.turn o ≡ true) (ap (map.get p.board) e ∙ g.reach.stands) g.lands in
-      let own = same_side-itself g.piece.side p.turn g.own in
+      let own = same_side-of g.piece.side p.turn g.own in
       let never : false ≡ true = ap (λ s. not s && not (is_king g.piece.role)) (sym own) ∙ there in
       cc
 

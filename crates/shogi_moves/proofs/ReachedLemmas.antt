@@ -16,7 +16,7 @@ use Rattle.squares.specs.declared.shogi.piece.SPiece.{SPiece}
 use Rattle.squares.specs.declared.shogi.moves.SMove.{SMove}
 use Rattle.squares.specs.declared.shogi.moves.SMove.TheVariants.{Step, Drop}
 use Rattle.squares.specs.declared.shogi.piece.HandKind.{HandKind}
-use Rattle.squares.specs.Sides.{same_side}
+use Rattle.squares.specs.Sides.{same_side, same_side-of}
 use Rattle.squares.specs.ShogiBoard.{ShogiBoard}
 use Rattle.squares.specs.ShogiSets.{ShogiPosition}
 use Rattle.squares.specs.ShogiWords.{is_side}
@@ -30,7 +30,6 @@ use Rattle.shogi_moves.specs.Computed.{leaves_king, escapes, mates_by_pawn, is_l
 use Rattle.shogi_moves.specs.Listing.{if_passes, steps_between, steps_from, all_steps, drops_on, drops_of}
 use Rattle.shogi_moves.specs.Steps.{step_passes}
 use Rattle.shogi_moves.proofs.HeadingLemmas.{walk-edge, walk-end, walk_first}
-use Rattle.shogi_moves.proofs.TruthLemmas.{same_side-itself}
 
 or_false : (a : Bool) → (a || false) ≡ a
 or_false true = refl
@@ -226,7 +225,7 @@ module _ (p : ShogiPosition) (piece : SPiece) (from : ℕ) (stands : map.get p.b
     goes-own promote =
         goes-is to promote
         ∙
-        (λ i. same_side-itself piece.side p.turn own i && lands i && (not promote || may_promote piece from to) &&
+        (λ i. same_side-of piece.side p.turn own i && lands i && (not promote || may_promote piece from to) &&
         reaches i) ∙ and_truth (not promote || may_promote piece from to)
 
     pub step-pseudo : (promote : Bool) → step_passes piece from to promote ≡ is_pseudo p (Step from to promote)

@@ -11,7 +11,7 @@ use Rattle.squares.specs.declared.shogi.piece.Role.TheVariants as role
 use Rattle.squares.specs.declared.shogi.piece.HandKind.TheVariants as in_hand
 use Rattle.squares.specs.declared.shogi.moves.SMove.{SMove}
 use Rattle.squares.specs.declared.shogi.moves.SMove.TheVariants.{Step, Drop}
-use Rattle.squares.specs.Sides.{same_side}
+use Rattle.squares.specs.Sides.{same_side, same_side-of, same_side-same}
 use Rattle.squares.specs.ShogiBoard.{ShogiBoard}
 use Rattle.squares.specs.ShogiSets.{ShogiPosition}
 use Rattle.squares.specs.ShogiGeometry.{file_of}
@@ -23,7 +23,7 @@ use Rattle.shogi_moves.specs.Computed.{goes, is_free, is_movement, lacks, stuck_
 use Rattle.shogi_moves.specs.Computed.{holds_pawn, pawn_on_file_at, pawn_on_file, drops_pawn, drops_second_pawn}
 use Rattle.shogi_moves.specs.Computed.{is_pseudo}
 use Rattle.shogi_moves.proofs.ReachLemmas.{piece_reaches-sound, piece_reaches-complete, is_none-none}
-use Rattle.shogi_moves.proofs.TruthLemmas.{and_true, true_and, same_side-itself, same_side-same, nat_eq-same}
+use Rattle.shogi_moves.proofs.TruthLemmas.{and_true, true_and, nat_eq-same}
 use Rattle.shogi_moves.proofs.TruthLemmas.{same-nat_eq, nat_lt-less, less-nat_lt, In-all_squares, all_squares-In}
 use Rattle.shogi_moves.proofs.TruthLemmas.{not-is, and-is}
 
@@ -71,7 +71,7 @@ module _ (p : ShogiPosition) (from to : ℕ) (promote : Bool) where
   goes-complete g =
       ap (λ o. option_map_or goes_as o false) g.reach.stands
       ∙ (λ i.
-      same_side-itself g.piece.side p.turn g.own i && g.lands i && promotes_if promote (may_promote g.piece from to)
+      same_side-of g.piece.side p.turn g.own i && g.lands i && promotes_if promote (may_promote g.piece from to)
       g.may i
       && piece_reaches-complete p.board g.piece from to g.reach i)
 
@@ -144,7 +144,7 @@ holds_pawn-pawn side (Some piece) e =
     λ i. Some (record { side = s i; role = r i })
 
 pawn-holds_pawn : (side : Side) (o : Option SPiece) → o ≡ Some (pawn side) → holds_pawn side o ≡ true
-pawn-holds_pawn side o e = ap (holds_pawn side) e ∙ same_side-itself side side refl
+pawn-holds_pawn side o e = ap (holds_pawn side) e ∙ same_side-of side side refl
 
 module _ (board : ShogiBoard) (side : Side) (square : ℕ) where
   pawn_on_file-sound : pawn_on_file board side square ≡ true → PawnOnFile board side square

@@ -4,9 +4,6 @@ use Rattle.std.proofs.Common.{inr, refl, sym, ap, subst, arith}
 use Rattle.std.specs.Prelude.{IsTrue, ◌↔◌, not}
 use Rattle.std.specs.List.{range_with_len}
 use Rattle.std.proofs.lemmas.Grind.{common_steps}
-use Rattle.squares.specs.declared.sides.Side.{Side}
-use Rattle.squares.specs.declared.sides.Side.TheVariants.{First, Second}
-use Rattle.squares.specs.Sides.{same_side}
 use Rattle.squares.specs.In.{In}
 use Rattle.shogi_moves.specs.Search.{all_squares}
 
@@ -27,18 +24,6 @@ or_true false b e = e
 pub or_cases : (a b : Bool) → (a || b) ≡ true → (a ≡ true) ⊎ (b ≡ true)
 or_cases true b e = inl refl
 or_cases false b e = inr e
-
-pub same_side-itself : (a b : Side) → a ≡ b → same_side a b ≡ true
-same_side-itself First First e = refl
-same_side-itself First Second e = cc
-same_side-itself Second First e = cc
-same_side-itself Second Second e = refl
-
-pub same_side-same : (a b : Side) → same_side a b ≡ true → a ≡ b
-same_side-same First First e = refl
-same_side-same First Second e = cc
-same_side-same Second First e = cc
-same_side-same Second Second e = refl
 
 pub nat_eq-same : (m n : ℕ) → nat_eq m n ≡ true → m ≡ n
 nat_eq-same m n e = grind (arith, common_steps)

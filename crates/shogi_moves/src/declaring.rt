@@ -1,5 +1,5 @@
 //! Whether the side to move may declare that its king has entered the enemy's camp.
-ghost use Rattle.std.specs.Prelude.{◌≡◌, ◌↔◌, ◌+◌, ◌<◌, ◌≤◌, ◌*◌, ℕ, IsTrue, Some, if◌then◌else◌};
+ghost use Rattle.std.specs.Prelude.{◌≡◌, ◌↔◌, ◌+◌, ◌<◌, ◌≤◌, ◌*◌, IsTrue, Some, if◌then◌else◌};
 ghost use Rattle.shogi_moves.specs.Declaring.{in_camp, worth, has_entered, cell_points, entered, camp_points};
 ghost use Rattle.shogi_moves.specs.Declaring.{hand_points, points_needed, has_enough, king_entered};
 ghost use Rattle.shogi_moves.specs.Declaring.{can_declare, CanDeclare};

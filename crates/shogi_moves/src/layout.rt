@@ -1,8 +1,8 @@
 //! What the rules look at, and what a move makes of it.
 ghost use Rattle.std.specs.Prelude.{◌≡◌, ◌&&◌, not};
 ghost use Rattle.squares.specs.ShogiSets.{IsShogiPosition};
-ghost use Rattle.shogi_moves.specs.Rules.{may_promote, held, with_held, dropped_role, arrived, board_after};
-ghost use Rattle.shogi_moves.specs.Rules.{hands_after, play};
+ghost use Rattle.shogi_moves.specs.Rules.{held, with_held, dropped_role, arrived, board_after};
+ghost use Rattle.shogi_moves.specs.Rules.{play};
 ghost use Rattle.squares.specs.declared.shogi.moves.SMove.TheVariants.{Step, Drop};
 ghost use Rattle.shogi_moves.specs.Search.{king_attacked};
 ghost use Rattle.shogi_moves.specs.Computed.{is_drop};

@@ -22,5 +22,5 @@ pub use checking::{Illegal, check, has_move};
 pub use declaring::can_declare;
 pub use listing::legal;
 pub use mating::mated;
-pub use playing::play;
 pub use memory::Memory;
+pub use playing::play;

@@ -1,5 +1,5 @@
 //! Where pieces may promote, must promote and may land.
-ghost use Rattle.std.specs.Prelude.{◌≡◌, ◌≤◌};
+ghost use Rattle.std.specs.Prelude.{◌≡◌};
 ghost use Rattle.squares.specs.ShogiSets.{is_king};
 ghost use Rattle.shogi_moves.specs.Rules.{far_rank, can_promote, may_promote, last_ranks, is_stuck, may_land};
 

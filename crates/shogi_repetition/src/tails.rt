@@ -1,6 +1,5 @@
 //! Two numbers of a line by which its last ply is judged, without the plies before it.
-ghost use Rattle.std.specs.Prelude.{◌≡◌, ◌<◌, IsTrue, ◌↔◌};
-ghost use Rattle.squares.specs.Sides.{other};
+ghost use Rattle.std.specs.Prelude.{◌≡◌, ◌<◌};
 ghost use Rattle.shogi_repetition.specs.Computed.{is_in_check, end_by_checks};
 ghost use Rattle.shogi_repetition.specs.Tails.{no_checks, count_on, next_tail, repetition_by, end_by};
 

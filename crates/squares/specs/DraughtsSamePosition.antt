@@ -5,9 +5,7 @@ use Rattle.std.proofs.Common.{refl, sym, ap}
 use Rattle.std.specs.Cmp.{IsEquivalence, IsPartialEquivalence, partial_equiv_from_equiv, both_ways}
 use Rattle.std.specs.FinMap as map
 use Rattle.squares.specs.declared.draughts.piece.DPiece.{DPiece}
-use Rattle.squares.specs.declared.sides.Side.{Side}
-use Rattle.squares.specs.declared.sides.Side.TheVariants.{First, Second}
-use Rattle.squares.specs.Sides.{same_side}
+use Rattle.squares.specs.Sides.{same_side, same_side-same, same_side-itself}
 use Rattle.squares.specs.DraughtsBoard.{Position}
 use Rattle.squares.specs.DraughtsMarks.{nat_eq_same, nat_eq-same}
 
@@ -43,16 +41,6 @@ same_position p q = same_side p.turn q.turn && same_entries (map.entries p.board
 and_true : (a b : Bool) → (a && b) ≡ true → (a ≡ true) × (b ≡ true)
 and_true true b e = (refl, e)
 and_true false b e = cc
-
-pub same_side-same : (a b : Side) → same_side a b ≡ true → a ≡ b
-same_side-same First First e = refl
-same_side-same First Second e = cc
-same_side-same Second First e = cc
-same_side-same Second Second e = refl
-
-pub same_side-itself : (a : Side) → same_side a a ≡ true
-same_side-itself First = refl
-same_side-itself Second = refl
 
 same_rank-same : (a b : Bool) → same_rank a b ≡ true → a ≡ b
 same_rank-same true true e = refl

@@ -9,11 +9,10 @@ use Rattle.squares.specs.declared.shogi.piece.Role.{Role}
 use Rattle.squares.specs.declared.shogi.piece.SPiece.{SPiece}
 use Rattle.squares.specs.declared.shogi.hand.Hand.{Hand}
 use Rattle.squares.specs.declared.shogi.hand.Hands.{Hands}
-use Rattle.squares.specs.Sides.{same_side}
+use Rattle.squares.specs.Sides.{same_side, same_side-same, same_side-itself}
 use Rattle.squares.specs.ShogiBoard.{ShogiBoard}
 use Rattle.squares.specs.ShogiSets.{ShogiPosition}
 use Rattle.squares.specs.DraughtsMarks.{nat_eq_same, nat_eq-same}
-use Rattle.squares.specs.DraughtsSamePosition.{same_side-same, same_side-itself}
 
 -- whether two roles are one, as `==` tells it
 abbrev pub same_role : Role → Role → Bool

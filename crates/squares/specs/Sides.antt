@@ -49,3 +49,21 @@ same_score-same Draw FirstWins is = cc
 same_score-same Draw SecondWins is = cc
 same_score-same SecondWins FirstWins is = cc
 same_score-same SecondWins Draw is = cc
+
+-- ---- laws of these
+
+pub same_side-same : (a b : Side) → same_side a b ≡ true → a ≡ b
+same_side-same First First e = refl
+same_side-same First Second e = cc
+same_side-same Second First e = cc
+same_side-same Second Second e = refl
+
+pub same_side-itself : (a : Side) → same_side a a ≡ true
+same_side-itself First = refl
+same_side-itself Second = refl
+
+pub same_side-of : (a b : Side) → a ≡ b → same_side a b ≡ true
+same_side-of First First e = refl
+same_side-of First Second e = cc
+same_side-of Second First e = cc
+same_side-of Second Second e = refl

@@ -1,5 +1,5 @@
 //! A position: a board and a turn.
-ghost use Rattle.std.specs.Prelude.{◌≡◌, ◌+◌, ◌<◌, ◌≤◌, ℕ, false, List, Option, length, not, IsTrue, ◌↔◌, ◌⊎◌, None};
+ghost use Rattle.std.specs.Prelude.{◌≡◌, ◌+◌, ◌<◌, ℕ, false, Option, length, not, IsTrue, ◌↔◌, ◌⊎◌, None};
 ghost use Rattle.std.specs.Prelude.{is_none};
 ghost use Rattle.std.specs.FinMap as map;
 ghost use Rattle.std.specs.FinSet as set;

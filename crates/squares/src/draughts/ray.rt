@@ -1,5 +1,5 @@
 //! The line from a square to the board's edge.
-ghost use Rattle.std.specs.Prelude.{◌≡◌, ◌==◌, ◌<◌, ◌≤◌, ℕ, List, length, take};
+ghost use Rattle.std.specs.Prelude.{◌≡◌, ◌==◌, ◌<◌, ℕ};
 ghost use Rattle.std.specs.FinSet as set;
 ghost use Rattle.std.specs.List.{find, list_any, slice_index};
 ghost use Rattle.squares.specs.DraughtsGeometry.{ray};

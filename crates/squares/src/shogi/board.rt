@@ -4,7 +4,7 @@ ghost use Rattle.std.specs.Prelude.{◌≡◌, ◌≤◌, ℕ, None, count_by, l
 ghost use Rattle.std.specs.FinMap as map;
 ghost use Rattle.std.specs.FinSet as set;
 ghost use Rattle.squares.specs.ShogiOrder.{board_cmp};
-ghost use Rattle.squares.specs.ShogiSets.{count_on, holds_kind, holds_king, is_of};
+ghost use Rattle.squares.specs.ShogiSets.{count_on, holds_kind, holds_king};
 ghost use Rattle.squares.specs.ShogiWords.{is_side, holds};
 
 use crate::shogi::piece::{HandKind, Role, SPiece};

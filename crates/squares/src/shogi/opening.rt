@@ -1,10 +1,7 @@
 //! The board and the hands with which a game begins.
 
-ghost use Rattle.std.specs.Prelude.{◌≡◌, ◌≤◌, ℕ, None, nat_eq, if◌then◌else◌, map};
-ghost use Rattle.std.specs.List.{range_with_len};
+ghost use Rattle.std.specs.Prelude.{◌≡◌, ◌≤◌, ℕ, None, nat_eq, if◌then◌else◌};
 ghost use Rattle.std.specs.FinMap as finite_map;
-ghost use Rattle.squares.specs.ShogiBoard.{shogi_board_of};
-ghost use Rattle.squares.specs.ShogiSets.{IsShogiPosition};
 ghost use Rattle.squares.specs.ShogiOpening.{back_role, second_role, army_role, opening_piece, opening_cell, opening};
 
 use crate::shogi::board::SBoard;

@@ -3,7 +3,7 @@
 ghost use Rattle.std.specs.Prelude.{◌≡◌, ◌↔◌, ◌≤◌, ◌+◌, ℕ, None, IsTrue, IsSome, IfSome};
 ghost use Rattle.std.specs.FinMap as map;
 ghost use Rattle.squares.specs.ShogiOpening.{opening};
-ghost use Rattle.squares.specs.ShogiSets.{IsShogiPosition, KeepsSets, HasKings, holds_king, holds_kind, in_play};
+ghost use Rattle.squares.specs.ShogiSets.{IsShogiPosition, KeepsSets, HasKings, in_play};
 ghost use Rattle.squares.specs.ShogiSets.{set_size};
 
 use crate::shogi::board::SBoard;

@@ -1,12 +1,26 @@
+use Rattle.std.proofs.Common.{ap, sym, subst, ◌∙◌}
 use Rattle.std.proofs.lemmas.Result.{IfOk-weaker}
+use Rattle.club_rows.proofs.Proved.{in_draughts, in_shogi}
+use Rattle.club_rows.specs.Club.{both_games, tables}
+use Rattle.club_changes.specs.Steps.{TellsSeen}
+use Rattle.club_changes.proofs.Proved.{stored_as, tells-seen}
+use Rattle.club_answers.specs.Boards.{diagram_of}
 use Rattle.club_answers.proofs.boards.diagram_in.Goals as goal
 
 pub returns-in-Draughts-clause-shown : goal.returns-in-Draughts-clause-shown
 returns-in-Draughts-clause-shown g c clean =
-    IfOk-weaker c.draughts_diagram.result _ _ (λ text told s id game is_club at is k.
-    told s id game is_club at is c.in-Draughts.is k) (c.draughts_diagram.ensures.shown clean)
+    IfOk-weaker c.diagram_by.result _ _ (λ text told s id game is_club at is k.
+    let (played, of) = stored_as in_draughts s is_club id game c.args.stored.now at is c.in-Draughts.is in
+    let seen = subst (λ i. TellsSeen both_games.draughts i played (tables s)) (sym is.id_is)
+    (tells-seen in_draughts s id played of.here) in
+    told (tables s) played k seen of.is_row ∙ sym (ap (diagram_of c.args.letters) of.same))
+    (c.diagram_by.ensures.shown clean)
 
 pub returns-in-Shogi-clause-shown : goal.returns-in-Shogi-clause-shown
 returns-in-Shogi-clause-shown g c clean =
-    IfOk-weaker c.shogi_diagram.result _ _ (λ text told s id game is_club at is k.
-    told s id game is_club at is c.in-Shogi.is k) (c.shogi_diagram.ensures.shown clean)
+    IfOk-weaker c.diagram_by-in-Shogi.result _ _ (λ text told s id game is_club at is k.
+    let (played, of) = stored_as in_shogi s is_club id game c.args.stored.now at is c.in-Shogi.is in
+    let seen = subst (λ i. TellsSeen both_games.shogi i played (tables s)) (sym is.id_is)
+    (tells-seen in_shogi s id played of.here) in
+    told (tables s) played k seen of.is_row ∙ sym (ap (diagram_of c.args.letters) of.same))
+    (c.diagram_by-in-Shogi.ensures.shown clean)

@@ -1,5 +1,4 @@
 use Rattle.std.proofs.Common.{ap, ◌∙◌}
-use Rattle.std.specs.Option.{option_map}
 use Rattle.club_rules.specs.Records.{reading_of}
 use Rattle.club_core.specs.Answer.{import_of}
 use Rattle.club_core.specs.Imports.{read_in, import_between}
