@@ -8,8 +8,8 @@ pub mod records;
 pub mod refusals;
 
 pub use game::Rules;
+pub use memory::Memory;
 pub use names::{EndName, GameKind};
 pub use record_refusals::RecordRefusal;
 pub use records::{RecordFormat, RecordReading, RecordedGame, Records};
 pub use refusals::MoveRefusal;
-pub use memory::Memory;

@@ -8,5 +8,5 @@ pub mod shogi;
 
 pub use bod::write_bod;
 pub use draughts::write_draughts;
-pub use shogi::write_shogi;
 pub use memory::Memory;
+pub use shogi::write_shogi;

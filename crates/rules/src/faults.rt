@@ -2,11 +2,11 @@
 
 use crate::unanswered::Unanswered;
 use csa::CsaFault;
+use memory::Memory;
 use pdn::{FenFault, MoveFault};
 use pdn_games::PdnFault;
 use record_writer::WriteFault;
 use shogi_moves::Illegal;
-use memory::Memory;
 use std::alloc::Global;
 use std::fmt::Display;
 use std::io::{Error, ErrorKind};
