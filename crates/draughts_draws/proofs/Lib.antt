@@ -1,3 +1,4 @@
 pub mod CountLemmas
+pub mod KingLemmas
 pub mod Proved
 pub mod TailLemmas

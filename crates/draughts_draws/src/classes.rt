@@ -65,16 +65,18 @@ fn has_two(side: Side, position: &DPos) -> bool
 pub(crate) fn is_three_to_one(position: &DPos) -> bool
     ensures { result ≡ is_three_to_one position.now }
 {
-    (has_three(Side::First, position) && has_lone_king(Side::Second, position))
-        || (has_three(Side::Second, position) && has_lone_king(Side::First, position))
+    !position.kings().is_empty()
+        && ((has_three(Side::First, position) && has_lone_king(Side::Second, position))
+            || (has_three(Side::Second, position) && has_lone_king(Side::First, position)))
 }
 
 // A king of either side, or two pieces with at least one king, against a lone king.
 pub(crate) fn is_two_to_one(position: &DPos) -> bool
     ensures { result ≡ is_two_to_one position.now }
 {
-    ((has_lone_king(Side::First, position) || has_two(Side::First, position))
-        && has_lone_king(Side::Second, position))
-        || ((has_lone_king(Side::Second, position) || has_two(Side::Second, position))
-            && has_lone_king(Side::First, position))
+    !position.kings().is_empty()
+        && (((has_lone_king(Side::First, position) || has_two(Side::First, position))
+            && has_lone_king(Side::Second, position))
+            || ((has_lone_king(Side::Second, position) || has_two(Side::Second, position))
+                && has_lone_king(Side::First, position)))
 }
