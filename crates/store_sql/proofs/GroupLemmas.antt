@@ -25,6 +25,7 @@ use Rattle.store_tables.specs.Content.{cells, same_key}
 use Rattle.store_tables.specs.Put.{selects}
 use Rattle.store_tables.specs.Queries.{AreShownBy, Finds, by_others}
 use Rattle.store_tables.specs.Reading.{IsNoInput}
+use Rattle.store_tables.specs.Texts.{ids_text, by_first_text}
 use Rattle.store_tables.proofs.Proved.{each_shown, select_unchanged, no_input, same_length, sorted_rows, has_index}
 use Rattle.store_tables.proofs.Proved.{has_mapped, has_turned}
 use Rattle.sqlite_rules.specs.Lists.{Has}
@@ -86,27 +87,27 @@ shown_passing f g p q shows picks (x ∷ xs) =
     go false rest = rest
 
 -- of the rowids that are shown there are as many as rows
-pub ids_number : (schema : Schema) (table : Table) (width : ℕ) (all ids group : List ℕ)
-    → AreShownBy schema table width all ids group → (sql : List ℕ) (params : Row) (old new : State)
-    → sql ≡ ids → params ≡ [] → (rows : List Row) → Shown sql params old new rows → old.now.schema ≡ schema
+pub ids_number : (schema : Schema) (table : Table) (width : ℕ) → AreShownBy schema table width → (sql : List ℕ)
+    (params : Row) (old new : State) → sql ≡ ids_text table → params ≡ [] → (rows : List Row) → Shown sql params old new rows → old.now.schema ≡ schema
     → length rows ≡ length (old.now.trees table.tree)
-ids_number schema table width all ids group is sql params old new text none rows shown has =
+ids_number schema table width is sql params old new text none rows shown has =
     let by = is.numbers in
     let here = subst₂ (λ s p. Shown s p old new rows) text none shown in
-    let reads = reads_as ids [] old new schema has _ by.command by.plain by.unlisted rows here in
+    let reads = reads_as (ids_text table) [] old new schema has _ by.command by.plain by.unlisted rows here in
     let once = each_shown old.now [] table.tree is.firsts by.order by.names rows by.overlaid reads in
     length_permutation _ rows once ∙ same_length (λ r. eval_all is.firsts ([] ∷ r ∷ [])) (old.now.trees table.tree)
 
-module _ (schema : Schema) (table : Table) (width : ℕ) (all ids group : List ℕ)
-    (is : AreShownBy schema table width all ids group) (sql : List ℕ) (params : Row) (old new : State) where
+module _ (schema : Schema) (table : Table) (width : ℕ) (is : AreShownBy schema table width) (sql : List ℕ)
+    (params : Row) (old new : State) where
   -- the rows that begin with a number, each of them once
-  pub group_told : sql ≡ group → (n : ℤ) → params ≡ Int n ∷ [] → (rows : List Row) → Shown sql params old new rows
+  pub group_told : sql ≡ by_first_text table → (n : ℤ) → params ≡ Int n ∷ [] → (rows : List Row) → Shown sql params old new rows
       → old.now.schema ≡ schema → AreReadOf table width n rows old new
   group_told text n given rows shown has =
       let wanted : Row = Int n ∷ [] in
-      let by : Finds schema table is.place (0 ∷ []) wanted wanted group (by_others width) = is.some n in
+      let by : Finds schema table is.place (0 ∷ []) wanted wanted (by_first_text table)
+      (by_others width) = is.some n in
       let here = subst₂ (λ s p. Shown s p old new rows) text given shown in
-      let reads = reads_as group wanted old new schema has _ by.command by.plain by.unlisted rows here in
+      let reads = reads_as (by_first_text table) wanted old new schema has _ by.command by.plain by.unlisted rows here in
       let once = each_passing old.now wanted table.tree by.filter by.project by.order by.names rows by.overlaid reads in
       record {
         once = subst (λ l. IsPermutation l rows)
@@ -115,12 +116,12 @@ module _ (schema : Schema) (table : Table) (width : ℕ) (all ids group : List �
             (old.now.trees table.tree)) once;
         sorted = sorted_rows old.now wanted table.tree by.filter by.project by.order by.names rows (by_others width)
             by.overlaid by.by reads;
-        same = select_unchanged group is.group_is wanted old new rows here;
+        same = select_unchanged (by_first_text table) is.group_is wanted old new rows here;
       }
 
-  pub group_known : sql ≡ group → (n : ℤ) → params ≡ Int n ∷ [] → (e : Error) → FailsToQuery sql params old new e
+  pub group_known : sql ≡ by_first_text table → (n : ℤ) → params ≡ Int n ∷ [] → (e : Error) → FailsToQuery sql params old new e
       → old.now.schema ≡ schema → IsNoInput e
-  group_known text n given e failed has = no_input schema group (Int n ∷ []) old new e (is.some n).plain has
+  group_known text n given e failed has = no_input schema (by_first_text table) (Int n ∷ []) old new e (is.some n).plain has
       (subst₂ (λ s p. FailsToQuery s p old new e) text given failed)
 
 -- each row that is shown is one of the table

@@ -13,15 +13,16 @@ use Rattle.sqlite_resolve.specs.declared.compiled.Compiled.{Compiled}
 use Rattle.sqlite_resolve.specs.declared.error.CompileError.{CompileError}
 use Rattle.store_tables.specs.Queries.{IsSelect}
 use Rattle.store_tables.specs.Reading.{IsNoInput}
-use Rattle.store_tables.specs.Tables.{first_schema}
-use Rattle.store_tables.specs.Texts as t
+use Rattle.store_tables.specs.Tables.{first_schema, standing}
+use Rattle.store_tables.specs.Texts.{by_first_text}
+use Rattle.store_tables.specs.declared.names.Table.TheVariants.{EventRules}
 use Rattle.store_tables.proofs.Proved.{select_plain}
 
 abbrev is_understood : Result Compiled CompileError → Bool
 is_understood (Ok c) = true
 is_understood (Err e) = false
 
-lacks_rules : is_understood (understood first_schema t.event_rules_by_first) ≡ false
+lacks_rules : is_understood (understood first_schema (by_first_text (standing EventRules))) ≡ false
 unfolding understood listing_schema everything
 lacks_rules = refl
 
@@ -33,7 +34,7 @@ no_store failure.Full why e = cc
 no_store failure.Broken why e = cc
 no_store failure.Unstorable why e = cc
 
-module _ (sql : List ℕ) (params : Row) (old new : State) (text : sql ≡ t.event_rules_by_first)
+module _ (sql : List ℕ) (params : Row) (old new : State) (text : sql ≡ (by_first_text (standing EventRules)))
     (has : old.now.schema ≡ first_schema) where
   not_understood : (c : Compiled) → understood old.now.schema sql ≡ Ok c → ⊥
   not_understood c is =

@@ -12,11 +12,7 @@ ghost use Rattle.store_tables.specs.Club.{IsExactly, Leaves};
 
 use crate::upsert::put_meta;
 use sqlite::{Alter, Connection, Error, Transaction};
-use store_tables::MetaRow;
-use store_tables::creates::{
-    CREATE_CHALLENGES, CREATE_EVENT_RULES, CREATE_EVENTS, CREATE_GAMES, CREATE_MEMBERS,
-    CREATE_META, CREATE_MOVES, CREATE_SCORES, CREATE_SEEN,
-};
+use store_tables::{MetaRow, Table};
 
 /// Runs one text that makes a table.
 pub(crate) fn make<S: Alter>(tx: &mut Transaction<'_, S>, sql: &str) -> Result<(), Error>
@@ -35,11 +31,11 @@ pub(crate) fn make<S: Alter>(tx: &mut Transaction<'_, S>, sql: &str) -> Result<(
     }
 }
 
-/// Makes the tables of what is in a club but its games.
-fn make_first<S: Alter>(tx: &mut Transaction<'_, S>) -> Result<(), Error>
+/// Makes the tables, one after the other.
+fn make_tables<S: Alter>(tx: &mut Transaction<'_, S>) -> Result<(), Error>
     ensures same_reference { tx.new.conn.ghost_name ≡ tx.old.conn.ghost_name }
     ensures made { HasCleanDisk (state S.Store tx.new.conn.now) → IsTrue
-        (state S.Store tx.old.conn.now).in_transaction → OnOk result (Makes 0 4 (state S.Store tx.old.conn.now)
+        (state S.Store tx.old.conn.now).in_transaction → OnOk result (Makes 0 9 (state S.Store tx.old.conn.now)
         (state S.Store tx.new.conn.now)) }
     ensures refuses { HasCleanDisk (state S.Store tx.new.conn.now) → IsTrue
         (state S.Store tx.old.conn.now).in_transaction →
@@ -51,30 +47,9 @@ fn make_first<S: Alter>(tx: &mut Transaction<'_, S>) -> Result<(), Error>
         IfErr result IsNoInput }
     ensures survives { Survives (state S.Store tx.old.conn.now) (state S.Store tx.new.conn.now) (λ _. ⊥) }
 {
-    make(tx, CREATE_META)?;
-    make(tx, CREATE_MEMBERS)?;
-    make(tx, CREATE_EVENTS)?;
-    make(tx, CREATE_CHALLENGES)?;
-    Ok(())
-}
-
-/// Makes the tables of games, and at last that of the rules of events.
-fn make_last<S: Alter>(tx: &mut Transaction<'_, S>) -> Result<(), Error>
-    ensures same_reference { tx.new.conn.ghost_name ≡ tx.old.conn.ghost_name }
-    ensures made { HasCleanDisk (state S.Store tx.new.conn.now) → IsTrue
-        (state S.Store tx.old.conn.now).in_transaction → OnOk result (Makes 4 9 (state S.Store tx.old.conn.now)
-        (state S.Store tx.new.conn.now)) }
-    // Where the tables before them were made, and are empty.
-    ensures known { HasCleanDisk (state S.Store tx.new.conn.now) → IsTrue
-        (state S.Store tx.old.conn.now).in_transaction → AreMade (schema_after 4) (state S.Store tx.old.conn.now).now →
-        IfErr result IsNoInput }
-    ensures survives { Survives (state S.Store tx.old.conn.now) (state S.Store tx.new.conn.now) (λ _. ⊥) }
-{
-    make(tx, CREATE_MOVES)?;
-    make(tx, CREATE_GAMES)?;
-    make(tx, CREATE_SEEN)?;
-    make(tx, CREATE_SCORES)?;
-    make(tx, CREATE_EVENT_RULES)?;
+    'tables: for table in Table::ALL {
+        make(tx, table.create())?;
+    }
     Ok(())
 }
 
@@ -94,8 +69,7 @@ pub(crate) fn create_inside<S: Alter>(tx: &mut Transaction<'_, S>) -> Result<(),
         IfErr result IsNoInput }
     ensures survives { Survives (state S.Store tx.old.conn.now) (state S.Store tx.new.conn.now) (λ _. ⊥) }
 {
-    make_first(tx)?;
-    make_last(tx)?;
+    make_tables(tx)?;
     let meta = MetaRow {
         id: 1,
         schema: 2,

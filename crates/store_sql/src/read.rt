@@ -28,7 +28,7 @@ pub fn show_all<T: Select, S: Alter>(conn: &mut Connection<S>) -> Result<Vec<Row
     ensures known { HasCleanDisk (state S.Store conn.new) → IfErr result (λ e.
         IsBeside T.club (state S.Store conn.old).now.schema → IsNoInput e) }
 {
-    conn.query_all(T::all(), &[])
+    conn.query_all(T::kept_in().all(), &[])
 }
 
 /// Shows the rowids of a table, in their order.
@@ -46,7 +46,7 @@ fn show_ids<T: Select, S: Alter>(conn: &mut Connection<S>) -> Result<Vec<Row>, E
         HasRows content (state S.Store conn.old) →
         BeginWithPlaces (content T.table.tree) → length rows.items ≡ length (content T.table.tree)) }
 {
-    conn.query_all(T::ids(), &[])
+    conn.query_all(T::kept_in().ids(), &[])
 }
 
 /// Shows the rows of a table whose first column is a given number.
@@ -65,7 +65,7 @@ fn show_by_first<T: Select, S: Alter>(
     ensures known { HasCleanDisk (state S.Store conn.new) → IfErr result (λ e.
         IsBeside T.club (state S.Store conn.old).now.schema → IsNoInput e) }
 {
-    conn.query_all(T::by_first(), params![first])
+    conn.query_all(T::kept_in().by_first(), params![first])
 }
 
 /// The rows of a table, from the values that it shows. Values of other types are no club's.

@@ -8,17 +8,17 @@ ghost use Rattle.store_tables.specs.Beside.{IsBeside};
 ghost use Rattle.store_tables.specs.Changed.{widened};
 ghost use Rattle.store_tables.specs.Contents as of_schema;
 ghost use Rattle.store_tables.specs.Club.{IsExactly, Leaves};
+ghost use Rattle.store_tables.specs.Names.{tree_of};
 ghost use Rattle.store_tables.specs.Reading.{Reads};
 ghost use Rattle.store_tables.specs.Tables.{club_schema, first_schema};
+ghost use Rattle.store_tables.specs.declared.names.Table.TheVariants.{EventRules};
 ghost use Rattle.store_sql.specs.Widened.{WidensTo};
 
 use crate::fault::{ReadFault, is_refused};
 use crate::make::make;
-use crate::texts::Select;
 use crate::upsert::{Put, put_all};
 use sqlite::{Alter, Connection, Error, Transaction, params};
-use store_tables::creates::CREATE_EVENT_RULES;
-use store_tables::{EventRuleRow, MetaRow};
+use store_tables::{EventRuleRow, MetaRow, Table};
 
 /// Makes the table of the rules of events and puts all rows, in a transaction that is open.
 fn widen_inside<S: Alter>(
@@ -32,7 +32,7 @@ fn widen_inside<S: Alter>(
         (state S.Store tx.old.conn.now) (state S.Store tx.new.conn.now)) }
     ensures survives { Survives (state S.Store tx.old.conn.now) (state S.Store tx.new.conn.now) (λ _. ⊥) }
 {
-    make(tx, CREATE_EVENT_RULES)?;
+    make(tx, Table::EventRules.create())?;
     put_all(tx, rules)?;
     meta.put(tx)?;
     Ok(())
@@ -48,15 +48,15 @@ pub fn widen<S: Alter>(
     requires { conn.old.in_transaction ≡ false }
     ensures idle { conn.new.in_transaction ≡ false }
     ensures clean { doubt (state S.Store conn.old).is_clean ≤ doubt (state S.Store conn.new).is_clean }
-    ensures stored { HasCleanDisk (state S.Store conn.new) → OnOk result ((content : _) → content 16 ≡ [] →
+    ensures stored { HasCleanDisk (state S.Store conn.new) → OnOk result ((content : _) → content (tree_of EventRules) ≡ [] →
         of_schema.IsExactly first_schema content (state S.Store conn.old) →
         IsExactly (widened rules.now meta.now content) (state S.Store conn.new)) }
-    ensures fault { HasCleanDisk (state S.Store conn.new) → OnErr result ((content : _) → content 16 ≡ [] →
+    ensures fault { HasCleanDisk (state S.Store conn.new) → OnErr result ((content : _) → content (tree_of EventRules) ≡ [] →
         of_schema.IsExactly first_schema content (state S.Store conn.old) → (db : _) →
         (state S.Store conn.new).may_leave db →
         of_schema.Leaves first_schema content db ⊎ Leaves (widened rules.now meta.now content) db) }
     ensures survives { Survives (state S.Store conn.old) (state S.Store conn.new) (λ db. (content : _) →
-        content 16 ≡ [] → of_schema.Holds first_schema (state S.Store conn.old).now content →
+        content (tree_of EventRules) ≡ [] → of_schema.Holds first_schema (state S.Store conn.old).now content →
         Leaves (widened rules.now meta.now content) db) }
 {
     let mut tx = conn.transaction();
@@ -77,7 +77,7 @@ pub fn has_event_rules<S: Alter>(conn: &mut Connection<S>) -> Result<bool, ReadF
         (state S.Store conn.old).now.schema ≡ first_schema → there ≡ false) }
     ensures store { IfErr result (λ e. e ≡ ReadFault.Store) }
 {
-    let error = match conn.query_all(EventRuleRow::by_first(), params![0_i64]) {
+    let error = match conn.query_all(Table::EventRules.by_first(), params![0_i64]) {
         Ok(_) => return Ok(true),
         Err(error) => error,
     };

@@ -185,32 +185,32 @@ module _ (c : Changes) (old : Content) where
 
   pub tables_altered : (new : Content) → AltersTables c old new → AreSame club_schema (changed c old) new
   tables_altered new it = (
-    by (0 ∷ []) _ _ _ _ (new 0) (maybe_at c.meta s8 0) (at_8 0 ∙ at_7 0 ∙ at_6 0 ∙ at_5 0 ∙ at_4 0 ∙ at_3 0
-        ∙ at_2 0 ∙ at_1 0) it.meta,
+    by (0 ∷ []) _ _ _ _ (new 0) (maybe_at c.meta s8 0) (at_8 0 ∙ at_7 0 ∙ at_6 0 ∙ at_5 0 ∙ at_4 0 ∙ at_3 0 ∙ at_2 0
+        ∙ at_1 0) it.meta,
     (
-      by (0 ∷ []) _ _ _ _ (new 1) (maybe_at c.meta s8 1 ∙ at_8 1 ∙ at_7 1 ∙ at_6 1 ∙ at_5 1 ∙ at_4 1 ∙ at_3 1
-          ∙ at_2 1 ∙ at_1 1) refl it.members,
+      by (0 ∷ []) _ _ _ _ (new 1) (maybe_at c.meta s8 1 ∙ at_8 1 ∙ at_7 1 ∙ at_6 1 ∙ at_5 1 ∙ at_4 1 ∙ at_3 1 ∙ at_2 1
+          ∙ at_1 1) refl it.members,
       (
-        by (0 ∷ []) _ _ _ _ (new 4) (maybe_at c.meta s8 4 ∙ at_8 4 ∙ at_7 4 ∙ at_6 4 ∙ at_5 4 ∙ at_4 4 ∙ at_3 4
-            ∙ at_2 4) (at_1 4) it.events,
+        by (0 ∷ []) _ _ _ _ (new 4) (maybe_at c.meta s8 4 ∙ at_8 4 ∙ at_7 4 ∙ at_6 4 ∙ at_5 4 ∙ at_4 4 ∙ at_3 4 ∙ at_2
+            4) (at_1 4) it.events,
         (
-          by (0 ∷ 1 ∷ []) _ _ _ _ (new 6) (maybe_at c.meta s8 6 ∙ at_8 6 ∙ at_7 6 ∙ at_6 6 ∙ at_5 6
-              ∙ at_4 6) (at_3 6 ∙ at_2 6 ∙ at_1 6) it.challenges,
+          by (0 ∷ 1 ∷ []) _ _ _ _ (new 6) (maybe_at c.meta s8 6 ∙ at_8 6 ∙ at_7 6 ∙ at_6 6 ∙ at_5 6 ∙ at_4 6) (at_3 6 ∙
+              at_2 6 ∙ at_1 6) it.challenges,
           (
-            by (0 ∷ 1 ∷ []) _ _ _ _ (new 8) (maybe_at c.meta s8 8 ∙ at_8 8 ∙ at_7 8 ∙ at_6 8) (at_5 8 ∙ at_4 8
-                ∙ at_3 8 ∙ at_2 8 ∙ at_1 8) it.moves,
+            by (0 ∷ 1 ∷ []) _ _ _ _ (new 8) (maybe_at c.meta s8 8 ∙ at_8 8 ∙ at_7 8 ∙ at_6 8) (at_5 8 ∙ at_4 8 ∙ at_3 8 ∙
+                at_2 8 ∙ at_1 8) it.moves,
             (
-              by (0 ∷ []) _ _ _ _ (new 10) (maybe_at c.meta s8 10 ∙ at_8 10 ∙ at_7 10 ∙ at_6 10 ∙ at_5 10) (at_4 10
-                  ∙ at_3 10 ∙ at_2 10 ∙ at_1 10) it.games,
+              by (0 ∷ []) _ _ _ _ (new 10) (maybe_at c.meta s8 10 ∙ at_8 10 ∙ at_7 10 ∙ at_6 10 ∙ at_5 10) (at_4 10 ∙ at_3 10
+                  ∙ at_2 10 ∙ at_1 10) it.games,
               (
-                by (0 ∷ 1 ∷ []) _ _ _ _ (new 12) (maybe_at c.meta s8 12 ∙ at_8 12 ∙ at_7 12) (at_6 12 ∙ at_5 12
-                    ∙ at_4 12 ∙ at_3 12 ∙ at_2 12 ∙ at_1 12) it.seen,
+                by (0 ∷ 1 ∷ []) _ _ _ _ (new 12) (maybe_at c.meta s8 12 ∙ at_8 12 ∙ at_7 12) (at_6 12 ∙ at_5 12 ∙ at_4 12 ∙ at_3
+                    12 ∙ at_2 12 ∙ at_1 12) it.seen,
                 (
-                  by (0 ∷ 1 ∷ 2 ∷ []) _ _ _ _ (new 14) (maybe_at c.meta s8 14 ∙ at_8 14) (at_7 14 ∙ at_6 14
-                      ∙ at_5 14 ∙ at_4 14 ∙ at_3 14 ∙ at_2 14 ∙ at_1 14) it.scores,
+                  by (0 ∷ 1 ∷ 2 ∷ []) _ _ _ _ (new 14) (maybe_at c.meta s8 14 ∙ at_8 14) (at_7 14 ∙ at_6 14 ∙ at_5 14 ∙ at_4 14 ∙
+                      at_3 14 ∙ at_2 14 ∙ at_1 14) it.scores,
                   (
-                    by (0 ∷ []) _ _ _ _ (new 16) (maybe_at c.meta s8 16 ∙ at_8 16 ∙ at_7 16 ∙ at_6 16 ∙ at_5 16
-                        ∙ at_4 16 ∙ at_3 16) (at_2 16 ∙ at_1 16) it.event_rules,
+                    by (0 ∷ []) _ _ _ _ (new 16) (maybe_at c.meta s8 16 ∙ at_8 16 ∙ at_7 16 ∙ at_6 16 ∙ at_5 16 ∙ at_4 16 ∙ at_3 16)
+                        (at_2 16 ∙ at_1 16) it.event_rules,
                     tt,
                   ),
                 ),

@@ -1,5 +1,5 @@
 -- What `excluded.NAME` stands for in ON CONFLICT DO UPDATE, whatever further tables the schema has.
-use Rattle.std.proofs.Common.{◌≡◌, ℕ, ◌+◌, Bool, true, false, List, [], ◌∷◌, ◌++◌, Option, Some, None, Ok, refl, sym}
+use Rattle.std.proofs.Common.{◌≡◌, ℕ, Bool, true, false, List, [], ◌∷◌, ◌++◌, Option, Some, None, Ok, refl, sym}
 use Rattle.std.proofs.Common.{ap, subst, ◌∙◌}
 use Rattle.std.proofs.Common.{slice_get, length, option_map, is_some, not, ◌||◌, ◌&&◌, codes}
 use Rattle.std.proofs.Common.{map}

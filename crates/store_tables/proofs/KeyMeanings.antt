@@ -1,210 +1,94 @@
 -- What the SELECTs by a whole key, or by a column that is UNIQUE, mean under the schema of a club, beside whatever else
 -- the database has, by computing.
-use Rattle.std.proofs.Common.{ℕ, ℤ, List, [], ◌∷◌, Equal, refl, codes}
+use Rattle.std.proofs.Common.{◌≡◌, ℕ, ℤ, List, [], ◌∷◌, Some, refl, slice_get}
 use Rattle.sqlite.specs.Listing.{understood}
-use Rattle.sqlite.specs.Term.{col, op2}
+use Rattle.sqlite.specs.Order.{Row}
+use Rattle.sqlite.specs.Query.{Query}
+use Rattle.sqlite.specs.Table.{Table}
 use Rattle.sqlite.specs.declared.types.Value.TheVariants.{Null, Int, Text}
-use Rattle.sqlite_sql.specs.declared.ops.BinaryOp.TheVariants.{Compare}
-use Rattle.sqlite_sql.specs.declared.ops.CompareOp.TheVariants.{Eq}
-use Rattle.sqlite.specs.Collation.TheVariants.{Binary}
 use Rattle.sqlite_tied.specs.Compute.{everything}
-use Rattle.sqlite_value.specs.Keys.{ascending, first_key}
-use Rattle.store_tables.specs.Queries.{Finds, IsSelect}
+use Rattle.sqlite_value.specs.Keys.{first_key}
+use Rattle.store_tables.specs.Put.{selects}
+use Rattle.store_tables.specs.Queries.{Asks}
 use Rattle.store_tables.specs.Beside.{Others, beside}
-use Rattle.store_tables.specs.Tables.{club_schema, members, events, challenges, moves, games, seen, scores}
-use Rattle.store_tables.specs.Texts as t
-use Rattle.store_tables.proofs.SelectMeanings.{members_columns, events_columns, challenges_columns, moves_columns}
-use Rattle.store_tables.proofs.SelectMeanings.{games_columns, seen_columns, scores_columns}
+use Rattle.store_tables.specs.Names.{place_of}
+use Rattle.store_tables.specs.Tables.{club_schema, standing}
+use Rattle.store_tables.specs.Texts.{names_of, question_text}
+use Rattle.store_tables.specs.declared.names.Table as of_club
+use Rattle.store_tables.specs.declared.names.Table.TheVariants.{Members, Events, Challenges, Moves, Games, Seen, Scores}
+use Rattle.store_tables.proofs.SelectMeanings.{IsBare, IsQuery, Picks, all_shown, as_given, columns_of}
 
-pub members_by_name_finds : (others : Others) (a : List ℕ)
-    → Finds (beside club_schema others) (members 1) 1 (1 ∷ []) (Null ∷ Text a ∷ []) (Text a ∷ [])
-    t.members_by_name (λ x y. Equal)
+-- the query by the columns that are stored at these places
+abbrev found_of : Table → List ℕ → Query
+found_of table stored = selects table.tree (as_given 0 stored) (columns_of table) []
+
+module _ (table : of_club.Table) (key stored : List ℕ) (wanted params : Row) where
+  -- what is found by computing
+  abbrev IsQuestion : Type 0
+  IsQuestion = (others : Others)
+      → (slice_get (beside club_schema others).tables (place_of table) ≡ Some (standing table))
+      × IsBare (standing table).tree
+      × IsQuery (beside club_schema others) (question_text (standing table) key) (found_of (standing table) stored)
+      (names_of (standing table))
+      × Picks (standing table) key (as_given 0 stored) wanted params
+
+  asks : IsQuestion → Asks table key wanted params
+  asks is others =
+      let (at, bare, text, picks) = is others in
+      record {
+        is_select = text.3;
+        finds = record {
+          at = at;
+          filter = as_given 0 stored;
+          project = columns_of (standing table);
+          order = [];
+          names = names_of (standing table);
+          command = text.0;
+          plain = text.1;
+          unlisted = text.2;
+          overlaid = bare;
+          shows = all_shown (standing table) params;
+          picks = picks;
+          by = λ r s. refl;
+        };
+      }
+
+pub members_by_name_asks : (a : List ℕ) → Asks Members (1 ∷ []) (Null ∷ Text a ∷ []) (Text a ∷ [])
 unfolding understood everything first_key
-members_by_name_finds others a = record {
-  at = refl;
-  filter = op2 (Compare Eq Binary) (col 1 2) (col 0 0) ∷ [];
-  project = members_columns;
-  order = [];
-  names = codes "id" ∷ codes "name" ∷ codes "key" ∷ [];
-  command = refl;
-  plain = (refl, refl);
-  unlisted = refl;
-  overlaid = λ d. refl;
-  shows = λ r. refl;
-  picks = λ r. refl;
-  by = λ r s. refl;
-}
+members_by_name_asks a = asks Members (1 ∷ []) (2 ∷ []) (Null ∷ Text a ∷ []) (Text a ∷ [])
+    (λ others. (refl, λ d. refl, (refl, (refl, refl), refl, refl), λ r. refl))
 
-pub members_by_name_select : IsSelect t.members_by_name
-unfolding understood everything
-members_by_name_select = refl
-
-pub members_by_key_finds : (others : Others) (a : List ℕ) →
-    Finds (beside club_schema others) (members 1) 1 (2 ∷ []) (Null ∷ Null ∷ Text a ∷ []) (Text a ∷ [])
-    t.members_by_key (λ x y. Equal)
+pub members_by_key_asks : (a : List ℕ) → Asks Members (2 ∷ []) (Null ∷ Null ∷ Text a ∷ []) (Text a ∷ [])
 unfolding understood everything first_key
-members_by_key_finds others a = record {
-  at = refl;
-  filter = op2 (Compare Eq Binary) (col 1 3) (col 0 0) ∷ [];
-  project = members_columns;
-  order = [];
-  names = codes "id" ∷ codes "name" ∷ codes "key" ∷ [];
-  command = refl;
-  plain = (refl, refl);
-  unlisted = refl;
-  overlaid = λ d. refl;
-  shows = λ r. refl;
-  picks = λ r. refl;
-  by = λ r s. refl;
-}
+members_by_key_asks a = asks Members (2 ∷ []) (3 ∷ []) (Null ∷ Null ∷ Text a ∷ []) (Text a ∷ [])
+    (λ others. (refl, λ d. refl, (refl, (refl, refl), refl, refl), λ r. refl))
 
-pub members_by_key_select : IsSelect t.members_by_key
-unfolding understood everything
-members_by_key_select = refl
-
-pub events_by_name_finds : (others : Others) (a : List ℕ) →
-    Finds (beside club_schema others) (events 4) 2 (1 ∷ []) (Null ∷ Text a ∷ []) (Text a ∷ [])
-    t.events_by_name (λ x y. Equal)
+pub events_by_name_asks : (a : List ℕ) → Asks Events (1 ∷ []) (Null ∷ Text a ∷ []) (Text a ∷ [])
 unfolding understood everything first_key
-events_by_name_finds others a = record {
-  at = refl;
-  filter = op2 (Compare Eq Binary) (col 1 2) (col 0 0) ∷ [];
-  project = events_columns;
-  order = [];
-  names = codes "id" ∷ codes "name" ∷ codes "game" ∷ codes "budget" ∷ codes "increment" ∷ [];
-  command = refl;
-  plain = (refl, refl);
-  unlisted = refl;
-  overlaid = λ d. refl;
-  shows = λ r. refl;
-  picks = λ r. refl;
-  by = λ r s. refl;
-}
+events_by_name_asks a = asks Events (1 ∷ []) (2 ∷ []) (Null ∷ Text a ∷ []) (Text a ∷ [])
+    (λ others. (refl, λ d. refl, (refl, (refl, refl), refl, refl), λ r. refl))
 
-pub events_by_name_select : IsSelect t.events_by_name
-unfolding understood everything
-events_by_name_select = refl
-
-pub games_by_key_finds : (others : Others) (a : List ℕ)
-    → Finds (beside club_schema others) (games 10) 5 (1 ∷ []) (Null ∷ Text a ∷ []) (Text a ∷ [])
-    t.games_by_key (λ x y. Equal)
+pub games_by_key_asks : (a : List ℕ) → Asks Games (1 ∷ []) (Null ∷ Text a ∷ []) (Text a ∷ [])
 unfolding understood everything first_key
-games_by_key_finds others a = record {
-  at = refl;
-  filter = op2 (Compare Eq Binary) (col 1 2) (col 0 0) ∷ [];
-  project = games_columns;
-  order = [];
-  names = codes "id" ∷ codes "key" ∷ codes "event" ∷ codes "first" ∷ codes "second" ∷ codes "start" ∷ codes "since"
-      ∷ codes "plies" ∷ codes "left1" ∷ codes "left2" ∷ codes "offer_side" ∷ codes "offer_ply" ∷ codes "end"
-      ∷ codes "result" ∷ codes "position" ∷ codes "track_a" ∷ codes "track_b" ∷ [];
-  command = refl;
-  plain = (refl, refl);
-  unlisted = refl;
-  overlaid = λ d. refl;
-  shows = λ r. refl;
-  picks = λ r. refl;
-  by = λ r s. refl;
-}
+games_by_key_asks a = asks Games (1 ∷ []) (2 ∷ []) (Null ∷ Text a ∷ []) (Text a ∷ [])
+    (λ others. (refl, λ d. refl, (refl, (refl, refl), refl, refl), λ r. refl))
 
-pub games_by_key_select : IsSelect t.games_by_key
-unfolding understood everything
-games_by_key_select = refl
-
-pub challenges_by_number_finds : (others : Others) (a : ℤ) (b : ℤ)
-    → Finds (beside club_schema others) (challenges 6) 3 (0 ∷ 1 ∷ []) (Int a ∷ Int b ∷ []) (Int a ∷ Int b ∷ [])
-    t.challenges_by_number
-    (λ x y. Equal)
+pub challenges_by_number_asks : (a b : ℤ) → Asks Challenges (0 ∷ 1 ∷ []) (Int a ∷ Int b ∷ []) (Int a ∷ Int b ∷ [])
 unfolding understood everything first_key
-challenges_by_number_finds others a b = record {
-  at = refl;
-  filter = op2 (Compare Eq Binary) (col 1 1) (col 0 0) ∷ op2 (Compare Eq Binary) (col 1 2) (col 0 1) ∷ [];
-  project = challenges_columns;
-  order = [];
-  names = codes "member" ∷ codes "number" ∷ codes "event" ∷ codes "other" ∷ codes "first" ∷ codes "state" ∷ codes
-      "game"
-      ∷ [];
-  command = refl;
-  plain = (refl, refl);
-  unlisted = refl;
-  overlaid = λ d. refl;
-  shows = λ r. refl;
-  picks = λ r. refl;
-  by = λ r s. refl;
-}
+challenges_by_number_asks a b = asks Challenges (0 ∷ 1 ∷ []) (1 ∷ 2 ∷ []) (Int a ∷ Int b ∷ []) (Int a ∷ Int b ∷ [])
+    (λ others. (refl, λ d. refl, (refl, (refl, refl), refl, refl), λ r. refl))
 
-pub challenges_by_number_select : IsSelect t.challenges_by_number
-unfolding understood everything
-challenges_by_number_select = refl
-
-pub moves_by_ply_finds : (others : Others) (a : ℤ) (b : ℤ)
-    → Finds (beside club_schema others) (moves 8) 4 (0 ∷ 1 ∷ []) (Int a ∷ Int b ∷ []) (Int a ∷ Int b ∷ [])
-    t.moves_by_ply (λ x y. Equal)
+pub moves_by_ply_asks : (a b : ℤ) → Asks Moves (0 ∷ 1 ∷ []) (Int a ∷ Int b ∷ []) (Int a ∷ Int b ∷ [])
 unfolding understood everything first_key
-moves_by_ply_finds others a b = record {
-  at = refl;
-  filter = op2 (Compare Eq Binary) (col 1 1) (col 0 0) ∷ op2 (Compare Eq Binary) (col 1 2) (col 0 1) ∷ [];
-  project = moves_columns;
-  order = [];
-  names = codes "game" ∷ codes "ply" ∷ codes "text" ∷ codes "moment" ∷ codes "left" ∷ codes "position" ∷ [];
-  command = refl;
-  plain = (refl, refl);
-  unlisted = refl;
-  overlaid = λ d. refl;
-  shows = λ r. refl;
-  picks = λ r. refl;
-  by = λ r s. refl;
-}
+moves_by_ply_asks a b = asks Moves (0 ∷ 1 ∷ []) (1 ∷ 2 ∷ []) (Int a ∷ Int b ∷ []) (Int a ∷ Int b ∷ [])
+    (λ others. (refl, λ d. refl, (refl, (refl, refl), refl, refl), λ r. refl))
 
-pub moves_by_ply_select : IsSelect t.moves_by_ply
-unfolding understood everything
-moves_by_ply_select = refl
-
-pub seen_by_position_finds : (others : Others) (a : ℤ) (b : List ℕ)
-    → Finds (beside club_schema others) (seen 12) 6 (0 ∷ 1 ∷ []) (Int a ∷ Text b ∷ []) (Int a ∷ Text b ∷ [])
-    t.seen_by_position
-    (λ x y. Equal)
+pub seen_by_position_asks : (a : ℤ) (b : List ℕ) → Asks Seen (0 ∷ 1 ∷ []) (Int a ∷ Text b ∷ []) (Int a ∷ Text b ∷ [])
 unfolding understood everything first_key
-seen_by_position_finds others a b = record {
-  at = refl;
-  filter = op2 (Compare Eq Binary) (col 1 1) (col 0 0) ∷ op2 (Compare Eq Binary) (col 1 2) (col 0 1) ∷ [];
-  project = seen_columns;
-  order = [];
-  names = codes "game" ∷ codes "position" ∷ codes "count" ∷ codes "first_ply" ∷ [];
-  command = refl;
-  plain = (refl, refl);
-  unlisted = refl;
-  overlaid = λ d. refl;
-  shows = λ r. refl;
-  picks = λ r. refl;
-  by = λ r s. refl;
-}
+seen_by_position_asks a b = asks Seen (0 ∷ 1 ∷ []) (1 ∷ 2 ∷ []) (Int a ∷ Text b ∷ []) (Int a ∷ Text b ∷ [])
+    (λ others. (refl, λ d. refl, (refl, (refl, refl), refl, refl), λ r. refl))
 
-pub seen_by_position_select : IsSelect t.seen_by_position
-unfolding understood everything
-seen_by_position_select = refl
-
-pub scores_by_pair_finds : (others : Others) (a : ℤ) (b : ℤ) (c : ℤ)
-    → Finds (beside club_schema others) (scores 14) 7 (0 ∷ 1 ∷ 2 ∷ []) (Int a ∷ Int b ∷ Int c ∷ [])
-    (Int a ∷ Int b ∷ Int c ∷ [])
-    t.scores_by_pair (λ x y. Equal)
+pub scores_by_pair_asks : (a b c : ℤ) → Asks Scores (0 ∷ 1 ∷ 2 ∷ []) (Int a ∷ Int b ∷ Int c ∷ []) (Int a ∷ Int b ∷ Int c ∷ [])
 unfolding understood everything first_key
-scores_by_pair_finds others a b c = record {
-  at = refl;
-  filter = op2 (Compare Eq Binary) (col 1 1) (col 0 0) ∷ op2 (Compare Eq Binary) (col 1 2) (col 0 1)
-      ∷ op2 (Compare Eq Binary) (col 1 3) (col 0 2) ∷ [];
-  project = scores_columns;
-  order = [];
-  names = codes "event" ∷ codes "member" ∷ codes "opponent" ∷ codes "points" ∷ codes "wins" ∷ codes "draws"
-      ∷ codes "losses" ∷ [];
-  command = refl;
-  plain = (refl, refl);
-  unlisted = refl;
-  overlaid = λ d. refl;
-  shows = λ r. refl;
-  picks = λ r. refl;
-  by = λ r s. refl;
-}
-
-pub scores_by_pair_select : IsSelect t.scores_by_pair
-unfolding understood everything
-scores_by_pair_select = refl
+scores_by_pair_asks a b c = asks Scores (0 ∷ 1 ∷ 2 ∷ []) (1 ∷ 2 ∷ 3 ∷ []) (Int a ∷ Int b ∷ Int c ∷ []) (Int a ∷ Int b ∷ Int c ∷ [])
+    (λ others. (refl, λ d. refl, (refl, (refl, refl), refl, refl), λ r. refl))

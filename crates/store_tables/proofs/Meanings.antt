@@ -1,278 +1,257 @@
 -- What each text means under the schema of a club, by computing.
-use Rattle.std.proofs.Common.{◌≡◌, [], ◌∷◌, Ok, refl, codes}
-use Rattle.sqlite.specs.Compile.{table_defined_by}
-use Rattle.sqlite.specs.Listing.{understood}
-use Rattle.sqlite.specs.Term.{lit, col}
-use Rattle.sqlite.specs.Change.{created}
-use Rattle.sqlite.specs.declared.types.Value.TheVariants.{Null}
-use Rattle.sqlite.specs.Source.TheVariants.{Values}
-use Rattle.sqlite.specs.Command.TheVariants.{InsertOr, CreateTable}
-use Rattle.sqlite_schema.specs.declared.command.Conflict.TheVariants.{Abort}
-use Rattle.sqlite_tied.specs.Compute.{everything}
+use Rattle.std.proofs.Common.{◌≡◌, ℕ, zero, suc, ◌+◌, ◌-◌, false, List, [], ◌∷◌, Option, Some, None, Ok, refl, length}
+use Rattle.std.proofs.Common.{slice_get}
 use Rattle.sqlite.proofs.Callers.{IsPlain, command_of, statement_of}
+use Rattle.sqlite.specs.Change.{created}
+use Rattle.sqlite.specs.Command.TheVariants.{InsertOr, CreateTable}
+use Rattle.sqlite.specs.Compile.{table_defined_by}
+use Rattle.sqlite.specs.Does.{lacks_sequence}
+use Rattle.sqlite.specs.Listing.{understood}
+use Rattle.sqlite.specs.Source.TheVariants.{Values}
+use Rattle.sqlite.specs.Table.{Table}
+use Rattle.sqlite.specs.Term.{Term, lit, col}
+use Rattle.sqlite.specs.declared.types.Value.TheVariants.{Null}
 use Rattle.sqlite_resolve.specs.Given.{given}
+use Rattle.sqlite_schema.specs.declared.command.Command.{Command}
+use Rattle.sqlite_schema.specs.declared.command.Conflict.TheVariants.{Abort}
+use Rattle.sqlite_schema.specs.declared.command.Source.{Source}
+use Rattle.sqlite_tied.specs.Compute.{everything}
 use Rattle.store_tables.specs.Beside.{Others, beside}
+use Rattle.store_tables.specs.Names.{place_of}
 use Rattle.store_tables.specs.Put.{on_key}
-use Rattle.store_tables.specs.Texts as t
+use Rattle.store_tables.specs.Tables.{schema_after, club_schema, made_as, standing}
+use Rattle.store_tables.specs.Texts.{create_of, names_of, put_text}
+use Rattle.store_tables.specs.declared.names.Table as of_club
+use Rattle.store_tables.specs.declared.names.Table.TheVariants.{Members, Events, EventRules, Challenges, Moves, Games}
+use Rattle.store_tables.specs.declared.names.Table.TheVariants.{Seen, Scores, Meta}
 use Rattle.store_tables.proofs.ExcludedLemmas.{of_new}
-use Rattle.store_tables.proofs.UpsertTexts.{IsUpsert, Put, put_text}
-use Rattle.store_tables.specs.Tables.{schema_after, club_schema, meta, members, events, challenges, moves, games}
-use Rattle.store_tables.specs.Tables.{seen}
-use Rattle.store_tables.specs.Tables.{scores, event_rules}
+use Rattle.store_tables.proofs.UpsertTexts.{IsUpsert, parts_of}
 
-pub meta_make : (command_of (understood (schema_after 0) t.meta_create) ≡ CreateTable)
-    × (statement_of t.meta_create (understood (schema_after 0) t.meta_create) ≡ t.meta_create)
-    × (table_defined_by t.meta_create ≡ Ok (meta 0))
-    × IsPlain (understood (schema_after 0) t.meta_create) × (created (schema_after 0) (meta 0) ≡ schema_after 1)
-unfolding understood everything
-meta_make = (refl, refl, refl, (refl, refl), refl)
+-- ---- what makes a table
 
-pub members_make : (command_of (understood (schema_after 1) t.members_create) ≡ CreateTable)
-    × (statement_of t.members_create (understood (schema_after 1) t.members_create) ≡ t.members_create)
-    × (table_defined_by t.members_create ≡ Ok (members 0))
-    × IsPlain (understood (schema_after 1) t.members_create) × (created (schema_after 1) (members 0) ≡ schema_after 2)
-unfolding understood everything
-members_make = (refl, refl, refl, (refl, refl), refl)
+-- Where the tables before it stand, the text makes the table and nothing else.
+pub record Creates (table : of_club.Table) : Type 0 where
+  pub command : command_of (understood (schema_after (place_of table)) (create_of table)) ≡ CreateTable
+  pub text : statement_of (create_of table) (understood (schema_after (place_of table)) (create_of table))
+      ≡ create_of table
+  pub defined : table_defined_by (create_of table) ≡ Ok (made_as table 0)
+  pub plain : IsPlain (understood (schema_after (place_of table)) (create_of table))
+  pub created : created (schema_after (place_of table)) (made_as table 0) ≡ schema_after (place_of table + 1)
+  pub uncounted : lacks_sequence (schema_after (place_of table + 1)) ≡ false
 
-pub events_make : (command_of (understood (schema_after 2) t.events_create) ≡ CreateTable)
-    × (statement_of t.events_create (understood (schema_after 2) t.events_create) ≡ t.events_create)
-    × (table_defined_by t.events_create ≡ Ok (events 0))
-    × IsPlain (understood (schema_after 2) t.events_create) × (created (schema_after 2) (events 0) ≡ schema_after 3)
+meta_creates : Creates Meta
 unfolding understood everything
-events_make = (refl, refl, refl, (refl, refl), refl)
+meta_creates =
+    record { command = refl; text = refl; defined = refl; plain = (refl, refl); created = refl; uncounted = refl }
 
-pub challenges_make : (command_of (understood (schema_after 3) t.challenges_create) ≡ CreateTable)
-    × (statement_of t.challenges_create (understood (schema_after 3) t.challenges_create) ≡ t.challenges_create)
-    × (table_defined_by t.challenges_create ≡ Ok (challenges 0))
-    × IsPlain (understood (schema_after 3) t.challenges_create)
-    × (created (schema_after 3) (challenges 0) ≡ schema_after 4)
+members_creates : Creates Members
 unfolding understood everything
-challenges_make = (refl, refl, refl, (refl, refl), refl)
+members_creates =
+    record { command = refl; text = refl; defined = refl; plain = (refl, refl); created = refl; uncounted = refl }
 
-pub moves_make : (command_of (understood (schema_after 4) t.moves_create) ≡ CreateTable)
-    × (statement_of t.moves_create (understood (schema_after 4) t.moves_create) ≡ t.moves_create)
-    × (table_defined_by t.moves_create ≡ Ok (moves 0))
-    × IsPlain (understood (schema_after 4) t.moves_create) × (created (schema_after 4) (moves 0) ≡ schema_after 5)
+events_creates : Creates Events
 unfolding understood everything
-moves_make = (refl, refl, refl, (refl, refl), refl)
+events_creates =
+    record { command = refl; text = refl; defined = refl; plain = (refl, refl); created = refl; uncounted = refl }
 
-pub games_make : (command_of (understood (schema_after 5) t.games_create) ≡ CreateTable)
-    × (statement_of t.games_create (understood (schema_after 5) t.games_create) ≡ t.games_create)
-    × (table_defined_by t.games_create ≡ Ok (games 0))
-    × IsPlain (understood (schema_after 5) t.games_create) × (created (schema_after 5) (games 0) ≡ schema_after 6)
+challenges_creates : Creates Challenges
 unfolding understood everything
-games_make = (refl, refl, refl, (refl, refl), refl)
+challenges_creates =
+    record { command = refl; text = refl; defined = refl; plain = (refl, refl); created = refl; uncounted = refl }
 
-pub seen_make : (command_of (understood (schema_after 6) t.seen_create) ≡ CreateTable)
-    × (statement_of t.seen_create (understood (schema_after 6) t.seen_create) ≡ t.seen_create)
-    × (table_defined_by t.seen_create ≡ Ok (seen 0))
-    × IsPlain (understood (schema_after 6) t.seen_create) × (created (schema_after 6) (seen 0) ≡ schema_after 7)
+moves_creates : Creates Moves
 unfolding understood everything
-seen_make = (refl, refl, refl, (refl, refl), refl)
+moves_creates =
+    record { command = refl; text = refl; defined = refl; plain = (refl, refl); created = refl; uncounted = refl }
 
-pub scores_make : (command_of (understood (schema_after 7) t.scores_create) ≡ CreateTable)
-    × (statement_of t.scores_create (understood (schema_after 7) t.scores_create) ≡ t.scores_create)
-    × (table_defined_by t.scores_create ≡ Ok (scores 0))
-    × IsPlain (understood (schema_after 7) t.scores_create) × (created (schema_after 7) (scores 0) ≡ schema_after 8)
+games_creates : Creates Games
 unfolding understood everything
-scores_make = (refl, refl, refl, (refl, refl), refl)
+games_creates =
+    record { command = refl; text = refl; defined = refl; plain = (refl, refl); created = refl; uncounted = refl }
 
-pub event_rules_make : (command_of (understood (schema_after 8) t.event_rules_create) ≡ CreateTable)
-    × (statement_of t.event_rules_create (understood (schema_after 8) t.event_rules_create) ≡ t.event_rules_create)
-    × (table_defined_by t.event_rules_create ≡ Ok (event_rules 0))
-    × IsPlain (understood (schema_after 8) t.event_rules_create)
-    × (created (schema_after 8) (event_rules 0) ≡ schema_after 9)
+seen_creates : Creates Seen
 unfolding understood everything
-event_rules_make = (refl, refl, refl, (refl, refl), refl)
+seen_creates =
+    record { command = refl; text = refl; defined = refl; plain = (refl, refl); created = refl; uncounted = refl }
+
+scores_creates : Creates Scores
+unfolding understood everything
+scores_creates =
+    record { command = refl; text = refl; defined = refl; plain = (refl, refl); created = refl; uncounted = refl }
+
+event_rules_creates : Creates EventRules
+unfolding understood everything
+event_rules_creates =
+    record { command = refl; text = refl; defined = refl; plain = (refl, refl); created = refl; uncounted = refl }
+
+pub creates : (table : of_club.Table) → Creates table
+creates Meta = meta_creates
+creates Members = members_creates
+creates Events = events_creates
+creates Challenges = challenges_creates
+creates Moves = moves_creates
+creates Games = games_creates
+creates Seen = seen_creates
+creates Scores = scores_creates
+creates EventRules = event_rules_creates
 
 -- ---- what puts a row, beside what other programs made
 
-abbrev pub meta_text : Put
-meta_text = put_text t.meta_put (codes "meta")
-    (codes "id" ∷ codes "schema" ∷ codes "last" ∷ [])
-    (codes "id" ∷ [])
+-- so many parameters from one on
+abbrev slots : ℕ → ℕ → List Term
+slots k zero = []
+slots k (suc n) = col 0 k ∷ slots (suc k) n
 
-pub meta_put_is : (others : Others)
-    → IsUpsert (beside club_schema others) meta_text 0 (meta 0) t.meta_put
-    (InsertOr 0 Abort (Values (col 0 0 ∷ lit Null ∷ col 0 1 ∷ col 0 2 ∷ []) 4)
-    (on_key (0 ∷ []) 0 3 (col 1 0 ∷ col 0 5 ∷ lit Null ∷ col 0 6 ∷ col 0 7 ∷ [])))
+-- Of a row of so many columns the rowid and then each column, which is NULL where it holds the rowid.
+abbrev row_from : Option ℕ → ℕ → List Term
+row_from (Some at) n = col 0 0 ∷ lit Null ∷ slots 1 (n - 1)
+row_from None n = lit Null ∷ slots 0 n
+
+-- the rowid of the row that stood, and then the row that is put
+abbrev updates_from : Option ℕ → ℕ → List Term
+updates_from (Some at) n = col 1 0 ∷ col 0 (n + 2) ∷ lit Null ∷ slots (n + 3) (n - 1)
+updates_from None n = col 1 0 ∷ col 1 0 ∷ slots (n + 2) n
+
+abbrev pub source_of : Table → Source
+source_of table = Values (row_from table.key (length table.columns)) (length table.columns + 1)
+
+abbrev pub updates_of : Table → List Term
+updates_of table = updates_from table.key (length table.columns)
+
+abbrev pub put_of : of_club.Table → Command
+put_of table =
+    InsertOr (place_of table) Abort (source_of (standing table))
+    (on_key (standing table).primary (standing table).tree (length (standing table).columns) (updates_of (standing table)))
+
+-- The text puts a row of the table, which stands in its place.
+abbrev pub Upserts : of_club.Table → Type 0
+Upserts table = (others : Others)
+    → (slice_get (beside club_schema others).tables (place_of table) ≡ Some (standing table))
+    × IsUpsert (beside club_schema others) (parts_of (standing table)) (place_of table) (standing table)
+    (put_text (standing table)) (put_of table)
+
+pub meta_upserts : Upserts Meta
 unfolding understood everything
-meta_put_is others = record {
-  placed =
-      record { parsed = refl; found = refl; stands = refl; timeless = refl; targeted = refl; sets = refl };
-  bare = refl;
-  all = of_new (given (meta 0) 3) meta_text.columns refl;
-  other = refl;
-  is = refl;
-  plain = (refl, refl);
-}
+meta_upserts others = (
+  refl,
+  record {
+    placed = record { parsed = refl; found = refl; stands = refl; timeless = refl; targeted = refl; sets = refl };
+    bare = refl;
+    all = of_new (given (standing Meta) 3) (names_of (standing Meta)) refl;
+    other = refl;
+    is = refl;
+    plain = (refl, refl);
+  },
+)
 
-abbrev pub members_text : Put
-members_text = put_text t.members_put (codes "members")
-    (codes "id" ∷ codes "name" ∷ codes "key" ∷ [])
-    (codes "id" ∷ [])
-
-pub members_put_is : (others : Others)
-    → IsUpsert (beside club_schema others) members_text 1 (members 1) t.members_put
-    (InsertOr 1 Abort (Values (col 0 0 ∷ lit Null ∷ col 0 1 ∷ col 0 2 ∷ []) 4)
-    (on_key (0 ∷ []) 1 3 (col 1 0 ∷ col 0 5 ∷ lit Null ∷ col 0 6 ∷ col 0 7 ∷ [])))
+pub members_upserts : Upserts Members
 unfolding understood everything
-members_put_is others = record {
-  placed =
-      record { parsed = refl; found = refl; stands = refl; timeless = refl; targeted = refl; sets = refl };
-  bare = refl;
-  all = of_new (given (members 1) 3) members_text.columns refl;
-  other = refl;
-  is = refl;
-  plain = (refl, refl);
-}
+members_upserts others = (
+  refl,
+  record {
+    placed = record { parsed = refl; found = refl; stands = refl; timeless = refl; targeted = refl; sets = refl };
+    bare = refl;
+    all = of_new (given (standing Members) 3) (names_of (standing Members)) refl;
+    other = refl;
+    is = refl;
+    plain = (refl, refl);
+  },
+)
 
-abbrev pub events_text : Put
-events_text = put_text t.events_put (codes "events")
-    (codes "id" ∷ codes "name" ∷ codes "game" ∷ codes "budget" ∷ codes "increment" ∷ [])
-    (codes "id" ∷ [])
-
-pub events_put_is : (others : Others)
-    → IsUpsert (beside club_schema others) events_text 2 (events 4) t.events_put
-    (InsertOr 2 Abort (Values (col 0 0 ∷ lit Null ∷ col 0 1 ∷ col 0 2 ∷ col 0 3 ∷ col 0 4 ∷ []) 6)
-    (on_key (0 ∷ []) 4 5 (col 1 0 ∷ col 0 7 ∷ lit Null ∷ col 0 8 ∷ col 0 9 ∷ col 0 10 ∷ col 0 11 ∷ [])))
+pub events_upserts : Upserts Events
 unfolding understood everything
-events_put_is others = record {
-  placed =
-      record { parsed = refl; found = refl; stands = refl; timeless = refl; targeted = refl; sets = refl };
-  bare = refl;
-  all = of_new (given (events 4) 5) events_text.columns refl;
-  other = refl;
-  is = refl;
-  plain = (refl, refl);
-}
+events_upserts others = (
+  refl,
+  record {
+    placed = record { parsed = refl; found = refl; stands = refl; timeless = refl; targeted = refl; sets = refl };
+    bare = refl;
+    all = of_new (given (standing Events) 5) (names_of (standing Events)) refl;
+    other = refl;
+    is = refl;
+    plain = (refl, refl);
+  },
+)
 
-abbrev pub event_rules_text : Put
-event_rules_text = put_text t.event_rules_put (codes "event_rules")
-    (codes "event" ∷ codes "declares" ∷ [])
-    (codes "event" ∷ [])
-
-pub event_rules_put_is : (others : Others)
-    → IsUpsert (beside club_schema others) event_rules_text 8 (event_rules 16) t.event_rules_put
-    (InsertOr 8 Abort (Values (col 0 0 ∷ lit Null ∷ col 0 1 ∷ []) 3)
-    (on_key (0 ∷ []) 16 2 (col 1 0 ∷ col 0 4 ∷ lit Null ∷ col 0 5 ∷ [])))
+pub challenges_upserts : Upserts Challenges
 unfolding understood everything
-event_rules_put_is others = record {
-  placed =
-      record { parsed = refl; found = refl; stands = refl; timeless = refl; targeted = refl; sets = refl };
-  bare = refl;
-  all = of_new (given (event_rules 16) 2) event_rules_text.columns refl;
-  other = refl;
-  is = refl;
-  plain = (refl, refl);
-}
+challenges_upserts others = (
+  refl,
+  record {
+    placed = record { parsed = refl; found = refl; stands = refl; timeless = refl; targeted = refl; sets = refl };
+    bare = refl;
+    all = of_new (given (standing Challenges) 7) (names_of (standing Challenges)) refl;
+    other = refl;
+    is = refl;
+    plain = (refl, refl);
+  },
+)
 
-abbrev pub moves_text : Put
-moves_text = put_text t.moves_put (codes "moves")
-    (codes "game" ∷ codes "ply" ∷ codes "text" ∷ codes "moment" ∷ codes "left" ∷ codes "position" ∷ [])
-    (codes "game" ∷ codes "ply" ∷ [])
-
-pub moves_put_is : (others : Others)
-    → IsUpsert (beside club_schema others) moves_text 4 (moves 8) t.moves_put
-    (InsertOr 4 Abort (Values (lit Null ∷ col 0 0 ∷ col 0 1 ∷ col 0 2 ∷ col 0 3 ∷ col 0 4 ∷ col 0 5 ∷ []) 7)
-    (on_key (1 ∷ 2 ∷ []) 8 6 (col 1 0 ∷ col 1 0 ∷ col 0 8 ∷ col 0 9 ∷ col 0 10 ∷ col 0 11 ∷ col 0 12 ∷ col 0 13
-    ∷ [])))
+pub moves_upserts : Upserts Moves
 unfolding understood everything
-moves_put_is others = record {
-  placed =
-      record { parsed = refl; found = refl; stands = refl; timeless = refl; targeted = refl; sets = refl };
-  bare = refl;
-  all = of_new (given (moves 8) 6) moves_text.columns refl;
-  other = refl;
-  is = refl;
-  plain = (refl, refl);
-}
+moves_upserts others = (
+  refl,
+  record {
+    placed = record { parsed = refl; found = refl; stands = refl; timeless = refl; targeted = refl; sets = refl };
+    bare = refl;
+    all = of_new (given (standing Moves) 6) (names_of (standing Moves)) refl;
+    other = refl;
+    is = refl;
+    plain = (refl, refl);
+  },
+)
 
-abbrev pub games_text : Put
-games_text = put_text t.games_put (codes "games")
-    (codes "id" ∷ codes "key" ∷ codes "event" ∷ codes "first" ∷ codes "second" ∷ codes "start" ∷ codes "since" ∷
-    codes "plies" ∷ codes "left1" ∷ codes "left2" ∷ codes "offer_side" ∷ codes "offer_ply" ∷ codes "end" ∷ codes
-    "result" ∷ codes "position" ∷ codes "track_a" ∷ codes "track_b" ∷ [])
-    (codes "id" ∷ [])
-
-pub games_put_is : (others : Others)
-    → IsUpsert (beside club_schema others) games_text 5 (games 10) t.games_put
-    (InsertOr 5 Abort (Values (col 0 0 ∷ lit Null ∷ col 0 1 ∷ col 0 2 ∷ col 0 3 ∷ col 0 4 ∷ col 0 5 ∷ col 0 6 ∷ col
-    0 7 ∷ col 0 8 ∷ col 0 9 ∷ col 0 10 ∷ col 0 11 ∷ col 0 12 ∷ col 0 13 ∷ col 0 14 ∷ col 0 15 ∷ col 0 16 ∷ [])
-    18) (on_key (0 ∷ []) 10 17 (col 1 0 ∷ col 0 19 ∷ lit Null ∷ col 0 20 ∷ col 0 21 ∷ col 0 22 ∷ col 0 23 ∷ col
-    0 24 ∷ col 0 25 ∷ col 0 26 ∷ col 0 27 ∷ col 0 28 ∷ col 0 29 ∷ col 0 30 ∷ col 0 31 ∷ col 0 32 ∷ col 0 33 ∷
-    col 0 34 ∷ col 0 35 ∷ [])))
+pub games_upserts : Upserts Games
 unfolding understood everything
-games_put_is others = record {
-  placed =
-      record { parsed = refl; found = refl; stands = refl; timeless = refl; targeted = refl; sets = refl };
-  bare = refl;
-  all = of_new (given (games 10) 17) games_text.columns refl;
-  other = refl;
-  is = refl;
-  plain = (refl, refl);
-}
+games_upserts others = (
+  refl,
+  record {
+    placed = record { parsed = refl; found = refl; stands = refl; timeless = refl; targeted = refl; sets = refl };
+    bare = refl;
+    all = of_new (given (standing Games) 17) (names_of (standing Games)) refl;
+    other = refl;
+    is = refl;
+    plain = (refl, refl);
+  },
+)
 
-abbrev pub challenges_text : Put
-challenges_text = put_text t.challenges_put (codes "challenges")
-    (codes "member" ∷ codes "number" ∷ codes "event" ∷ codes "other" ∷ codes "first" ∷ codes "state" ∷ codes "game"
-    ∷ [])
-    (codes "member" ∷ codes "number" ∷ [])
-
-pub challenges_put_is : (others : Others)
-    → IsUpsert (beside club_schema others) challenges_text 3 (challenges 6) t.challenges_put
-    (InsertOr 3 Abort (Values (lit Null ∷ col 0 0 ∷ col 0 1 ∷ col 0 2 ∷ col 0 3 ∷ col 0 4 ∷ col 0 5 ∷ col 0 6 ∷ [])
-    8) (on_key (1 ∷ 2 ∷ []) 6 7 (col 1 0 ∷ col 1 0 ∷ col 0 9 ∷ col 0 10 ∷ col 0 11 ∷ col 0 12 ∷ col 0 13 ∷ col 0
-    14 ∷ col 0 15 ∷ [])))
+pub seen_upserts : Upserts Seen
 unfolding understood everything
-challenges_put_is others = record {
-  placed =
-      record { parsed = refl; found = refl; stands = refl; timeless = refl; targeted = refl; sets = refl };
-  bare = refl;
-  all = of_new (given (challenges 6) 7) challenges_text.columns refl;
-  other = refl;
-  is = refl;
-  plain = (refl, refl);
-}
+seen_upserts others = (
+  refl,
+  record {
+    placed = record { parsed = refl; found = refl; stands = refl; timeless = refl; targeted = refl; sets = refl };
+    bare = refl;
+    all = of_new (given (standing Seen) 4) (names_of (standing Seen)) refl;
+    other = refl;
+    is = refl;
+    plain = (refl, refl);
+  },
+)
 
-abbrev pub seen_text : Put
-seen_text = put_text t.seen_put (codes "seen")
-    (codes "game" ∷ codes "position" ∷ codes "count" ∷ codes "first_ply" ∷ [])
-    (codes "game" ∷ codes "position" ∷ [])
-
-pub seen_put_is : (others : Others)
-    → IsUpsert (beside club_schema others) seen_text 6 (seen 12) t.seen_put
-    (InsertOr 6 Abort (Values (lit Null ∷ col 0 0 ∷ col 0 1 ∷ col 0 2 ∷ col 0 3 ∷ []) 5)
-    (on_key (1 ∷ 2 ∷ []) 12 4 (col 1 0 ∷ col 1 0 ∷ col 0 6 ∷ col 0 7 ∷ col 0 8 ∷ col 0 9 ∷ [])))
+pub scores_upserts : Upserts Scores
 unfolding understood everything
-seen_put_is others = record {
-  placed =
-      record { parsed = refl; found = refl; stands = refl; timeless = refl; targeted = refl; sets = refl };
-  bare = refl;
-  all = of_new (given (seen 12) 4) seen_text.columns refl;
-  other = refl;
-  is = refl;
-  plain = (refl, refl);
-}
+scores_upserts others = (
+  refl,
+  record {
+    placed = record { parsed = refl; found = refl; stands = refl; timeless = refl; targeted = refl; sets = refl };
+    bare = refl;
+    all = of_new (given (standing Scores) 7) (names_of (standing Scores)) refl;
+    other = refl;
+    is = refl;
+    plain = (refl, refl);
+  },
+)
 
-abbrev pub scores_text : Put
-scores_text = put_text t.scores_put (codes "scores")
-    (codes "event" ∷ codes "member" ∷ codes "opponent" ∷ codes "points" ∷ codes "wins" ∷ codes "draws" ∷ codes
-    "losses" ∷ [])
-    (codes "event" ∷ codes "member" ∷ codes "opponent" ∷ [])
-
-pub scores_put_is : (others : Others)
-    → IsUpsert (beside club_schema others) scores_text 7 (scores 14) t.scores_put
-    (InsertOr 7 Abort (Values (lit Null ∷ col 0 0 ∷ col 0 1 ∷ col 0 2 ∷ col 0 3 ∷ col 0 4 ∷ col 0 5 ∷ col 0 6 ∷ [])
-    8) (on_key (1 ∷ 2 ∷ 3 ∷ []) 14 7 (col 1 0 ∷ col 1 0 ∷ col 0 9 ∷ col 0 10 ∷ col 0 11 ∷ col 0 12 ∷ col 0 13 ∷
-    col 0 14 ∷ col 0 15 ∷ [])))
+pub event_rules_upserts : Upserts EventRules
 unfolding understood everything
-scores_put_is others = record {
-  placed =
-      record { parsed = refl; found = refl; stands = refl; timeless = refl; targeted = refl; sets = refl };
-  bare = refl;
-  all = of_new (given (scores 14) 7) scores_text.columns refl;
-  other = refl;
-  is = refl;
-  plain = (refl, refl);
-}
+event_rules_upserts others = (
+  refl,
+  record {
+    placed = record { parsed = refl; found = refl; stands = refl; timeless = refl; targeted = refl; sets = refl };
+    bare = refl;
+    all = of_new (given (standing EventRules) 2) (names_of (standing EventRules)) refl;
+    other = refl;
+    is = refl;
+    plain = (refl, refl);
+  },
+)

@@ -9,14 +9,16 @@ use Rattle.sqlite.specs.State.{State}
 use Rattle.sqlite.specs.Schema.{Schema}
 use Rattle.sqlite.specs.Table.{Table}
 use Rattle.sqlite.specs.Tree.{Trees}
-use Rattle.store_tables.specs.Beside.{HasRows}
+use Rattle.store_tables.specs.Beside.{HasRows, Others, beside}
 use Rattle.store_tables.specs.Changed.{changed, put_maybe}
 use Rattle.store_tables.specs.Changes.{HaveSame, AreSame}
 use Rattle.store_tables.specs.Content.{put, Keeps}
 use Rattle.store_tables.specs.Contents as of_schema
-use Rattle.store_tables.specs.Contents.{Content, Stores, nothing, put_in, put_each}
+use Rattle.store_tables.specs.Contents.{AreStored, Content, Stores, nothing, put_in, put_each}
 use Rattle.store_tables.specs.Club.{IsExactly, Leaves}
-use Rattle.store_tables.specs.Tables.{club_schema}
+use Rattle.store_tables.specs.Tables.{club_schema, standing}
+use Rattle.store_tables.specs.declared.names.Table.TheVariants.{Members, Events, EventRules, Challenges, Moves, Games}
+use Rattle.store_tables.specs.declared.names.Table.TheVariants.{Seen, Scores, Meta}
 use Rattle.store_tables.specs.Reading.{KeepsContent}
 use Rattle.store_tables.specs.declared.rows.Changes.{Changes}
 use Rattle.store_tables.specs.declared.rows.MetaRow.{MetaRow}
@@ -83,11 +85,11 @@ changed_past c content t is =
     let here : content t ≡ content t = refl in
     search (maybe_past, each_past, here, p0, p1, p4, p6, p8, p10, p12, p14, p16) depth 12
 
-or_rest : (a b : Bool) → (a || b) ≡ true → a ≡ false → b ≡ true
+pub or_rest : (a b : Bool) → (a || b) ≡ true → a ≡ false → b ≡ true
 or_rest true b is other = absurd (true≢false other)
 or_rest false b is other = is
 
-same_at : (tables : List Table) (one other : Content)
+pub same_at : (tables : List Table) (one other : Content)
     → AllByRecursion (λ table. HaveSame (one table.tree) (other table.tree)) tables → (t : ℕ)
     → has_tree tables t ≡ true → HaveSame (one t) (other t)
 same_at [] one other all t is = absurd (true≢false (sym is))
@@ -167,7 +169,13 @@ same_alone content = (
           same_itself (content 8),
           (
             same_itself (content 10),
-            (same_itself (content 12), (same_itself (content 14), (same_itself (content 16), tt))),
+            (
+              same_itself (content 12),
+              (
+                same_itself (content 14),
+                (same_itself (content 16), tt),
+              ),
+            ),
           ),
         ),
       ),
@@ -220,3 +228,34 @@ module _ (c : Changes) (one other rest : Content) (same : AreSame club_schema (c
   pub leaves_changed : (schema : Schema) (db : Trees) → of_schema.Leaves schema (changed c (over one rest)) db
       → of_schema.Leaves schema (over other rest) db
   leaves_changed = leaves_alike (changed c (over one rest)) (over other rest) (over_changed c one other rest same)
+
+-- ---- the rows of a club among those of all tables
+
+stores_over : (content rest : Content) (trees : Trees) (table : Table) → over content rest table.tree ≡ content table.tree
+    → Stores table trees (over content rest) → Stores table trees content
+stores_over content rest trees table same s =
+    record { rows = subst (Keeps table trees) same s.rows; apart = s.apart }
+
+pub club_stored : (content rest : Content) (others : Others) (trees : Trees)
+    → AreStored (beside club_schema others) trees (over content rest) → AreStored club_schema trees content
+club_stored content rest others trees stored =
+    let (a, (b, (c, (d, (e, (f, (g, (h, (i, more))))))))) = stored in
+    let it = stores_over content rest trees in (
+      it (standing Meta) refl a,
+      (
+        it (standing Members) refl b,
+        (
+          it (standing Events) refl c,
+          (
+            it (standing Challenges) refl d,
+            (
+              it (standing Moves) refl e,
+              (
+                it (standing Games) refl f,
+                (it (standing Seen) refl g, (it (standing Scores) refl h, (it (standing EventRules) refl i, tt))),
+              ),
+            ),
+          ),
+        ),
+      ),
+    )

@@ -9,14 +9,9 @@ pub use Rattle.store_tables.proofs.TellLemmas.{ids_of, apart_of, stored_at}
 pub use Rattle.store_tables.proofs.SchemaLemmas.{current_itself, first_within, first_of_club, at_schema}
 pub use Rattle.store_tables.proofs.SelectMeanings.{meta_read, members_read, events_read, challenges_read, moves_read}
 pub use Rattle.store_tables.proofs.SelectMeanings.{games_read, seen_read, scores_read, event_rules_read}
-pub use Rattle.store_tables.proofs.KeyMeanings.{members_by_name_finds, members_by_key_finds, events_by_name_finds}
-pub use Rattle.store_tables.proofs.KeyMeanings.{games_by_key_finds}
-pub use Rattle.store_tables.proofs.KeyMeanings.{challenges_by_number_finds, moves_by_ply_finds}
-pub use Rattle.store_tables.proofs.KeyMeanings.{seen_by_position_finds, scores_by_pair_finds}
-pub use Rattle.store_tables.proofs.KeyMeanings.{members_by_name_select, members_by_key_select, events_by_name_select}
-pub use Rattle.store_tables.proofs.KeyMeanings.{games_by_key_select}
-pub use Rattle.store_tables.proofs.KeyMeanings.{challenges_by_number_select, moves_by_ply_select}
-pub use Rattle.store_tables.proofs.KeyMeanings.{seen_by_position_select, scores_by_pair_select}
+pub use Rattle.store_tables.proofs.KeyMeanings.{members_by_name_asks, members_by_key_asks, events_by_name_asks}
+pub use Rattle.store_tables.proofs.KeyMeanings.{games_by_key_asks, challenges_by_number_asks, moves_by_ply_asks}
+pub use Rattle.store_tables.proofs.KeyMeanings.{seen_by_position_asks, scores_by_pair_asks}
 -- Contents that are held alike, and tables of which no two rows have one key.
 pub use Rattle.store_tables.proofs.SameLemmas.{leaves_same, exactly_same}
 pub use Rattle.store_tables.proofs.UpsertLemmas.{same_rowid}
@@ -31,18 +26,17 @@ pub use Rattle.store_tables.proofs.BesideLemmas.{takes_itself}
 -- Rows that are put, in a transaction that is committed.
 pub use Rattle.store_tables.proofs.StepLemmas.{meta_put_of, member_put_of, event_put_of, challenge_put_of, move_put_of}
 pub use Rattle.store_tables.proofs.StepLemmas.{event_rule_put_of, game_put_of, seen_put_of, score_put_of}
-pub use Rattle.store_tables.proofs.StepLemmas.{steps_then, one_more, leaves_of, commits, fills}
+pub use Rattle.store_tables.proofs.StepLemmas.{meta_put_means, steps_then, one_more, leaves_of, commits, fills}
 pub use Rattle.store_tables.proofs.AlterLemmas.{same_itself, same_by, same_then, put_had, put_kept, altered, unaltered}
 pub use Rattle.store_tables.proofs.AlterLemmas.{each_at, tables_altered}
 -- Tables that are made.
-pub use Rattle.store_tables.proofs.MakeLemmas.{makes_meta, makes_members, makes_events, makes_challenges, makes_moves}
-pub use Rattle.store_tables.proofs.MakeLemmas.{makes_games, makes_seen, makes_scores, makes_event_rules, makes_then}
-pub use Rattle.store_tables.proofs.MakeLemmas.{never_made, widens}
+pub use Rattle.store_tables.proofs.Meanings.{Creates, creates, put_of, source_of, updates_of}
+pub use Rattle.store_tables.proofs.MakeLemmas.{makes, makes_then, never_made, widens}
 pub use Rattle.store_tables.proofs.ApartLemmas.{each_shown}
 pub use Rattle.store_tables.proofs.OrderLemmas.{has_index, sorted_rows}
 pub use Rattle.store_tables.proofs.ReadLemmas.{has_map, has_mapped, has_turned}
 -- A club beside its neighbours.
-pub use Rattle.store_tables.proofs.OverLemmas.{over_changed, exactly_alike, leaves_alike, exactly_changed}
+pub use Rattle.store_tables.proofs.OverLemmas.{club_stored, same_at, or_rest, over_changed, exactly_alike, leaves_alike, exactly_changed}
 pub use Rattle.store_tables.proofs.OverLemmas.{leaves_changed}
 pub use Rattle.store_tables.proofs.OverLemmas.{beside_alone, alone_exactly, left_alone, alone_leaves, leaves_beside}
 pub use Rattle.store_tables.proofs.OverLemmas.{still_beside, rows_beside}

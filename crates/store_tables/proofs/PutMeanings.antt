@@ -1,12 +1,18 @@
 -- The texts that put a row, each by computing.
-use Rattle.std.proofs.Common.{◌≡◌, ℕ, ℤ, Bool, true, false, cond, List, [], ◌∷◌, Option, refl, sym, ap, subst}
-use Rattle.std.proofs.Common.{subst₂, ◌∙◌, Some, None, inl, inr, string_bytes}
+use Rattle.std.proofs.Common.{◌≡◌, ℕ, ℤ, Bool, true, false, cond, List, [], ◌∷◌, ◌++◌, Option, refl, sym, ap, subst}
+use Rattle.std.proofs.Common.{subst₂, ◌∙◌, Some, None, string_bytes, length, slice_get, drop, ◌||◌, ◌+◌}
 use Rattle.std.proofs.lemmas.Bool.{false_from_ne_true, not-true, and_parts, and_from, both_ways}
-use Rattle.sqlite.specs.Term.{lit, col}
+use Rattle.std.specs.List.{list_any, range_with_len}
+use Rattle.sqlite.specs.Effect.{IsSource}
+use Rattle.sqlite.specs.Program.{overlay}
+use Rattle.sqlite.specs.Rows.{stamped, shown}
+use Rattle.sqlite.specs.Term.{eval_all}
 use Rattle.sqlite.specs.Values.{or_null}
+use Rattle.sqlite_value.specs.declared.value.Value.{Value}
+use Rattle.sqlite_rules.specs.Keys.{conflicts, shares}
+use Rattle.sqlite_rules.specs.declared.error.Rowids.TheVariants.{Chosen}
 use Rattle.sqlite.specs.declared.types.Value.TheVariants.{Null, Int, Text as Words}
-use Rattle.sqlite.specs.Source.TheVariants.{Values}
-use Rattle.sqlite.specs.Order.{Row}
+use Rattle.sqlite.specs.Order.{Row, column}
 use Rattle.sqlite.specs.Kind.TheVariants.{Integer, Text}
 use Rattle.sqlite.specs.Table.{Table}
 use Rattle.sqlite.specs.Schema.{Schema}
@@ -17,9 +23,9 @@ use Rattle.sqlite_schema.specs.declared.schema.Index.{Index}
 use Rattle.sqlite_schema.specs.Rules.{equal, Keeps as KeepsRule, guards, agree, differ}
 use Rattle.sqlite_trees.specs.Tree.{rowid}
 use Rattle.sqlite_rules.specs.Lists.{Has}
-use Rattle.sqlite_rules.specs.Cast.{cast}
-use Rattle.sqlite_rules.specs.Edit.{next_rowid}
-use Rattle.sqlite_rules.proofs.ListLemmas.{test_has, some_from}
+use Rattle.sqlite_rules.specs.Cast.{cast, cast_row}
+use Rattle.sqlite_rules.specs.Edit.{next_rowid, with_rowid}
+use Rattle.sqlite_rules.proofs.ListLemmas.{test_has, some_from, has_got, has_left}
 use Rattle.sqlite_rules.proofs.RuleLemmas.{keeps_at}
 use Rattle.sqlite_catalog.specs.Listing.{automatic}
 use Rattle.sqlite_value.specs.Keys.{first_key}
@@ -29,10 +35,14 @@ use Rattle.store_tables.specs.Cells.{event_rule_cells, seen_cells, score_cells}
 use Rattle.sqlite_rules.specs.Action.{works}
 use Rattle.sqlite_schema.specs.declared.schema.Keys.TheVariants.{Enforced}
 use Rattle.store_tables.specs.Beside.{Others, beside, StandsClear}
-use Rattle.store_tables.specs.Content.{same_key}
+use Rattle.store_tables.specs.Content.{cells, same_key}
 use Rattle.store_tables.specs.Put.{IsPut}
-use Rattle.store_tables.specs.Tables.{meta, members, events, event_rules, challenges, moves, games, seen, scores}
-use Rattle.store_tables.specs.Tables.{club_schema}
+use Rattle.store_tables.specs.Names.{place_of, tree_of}
+use Rattle.store_tables.specs.Tables.{club_schema, standing}
+use Rattle.store_tables.specs.declared.names.Table as of_club
+use Rattle.store_tables.specs.declared.names.Table.TheVariants.{Members, Events, EventRules, Challenges, Moves, Games}
+use Rattle.store_tables.specs.declared.names.Table.TheVariants.{Seen, Scores, Meta}
+use Rattle.store_tables.proofs.Meanings.{source_of, updates_of}
 use Rattle.store_tables.proofs.BesideLemmas.{no_works, or_none, unshared}
 use Rattle.store_tables.specs.declared.rows.MetaRow.{MetaRow}
 use Rattle.store_tables.specs.declared.rows.MemberRow.{MemberRow}
@@ -87,240 +97,258 @@ cast_maybe_text : {X : Type 0} (f : X → List ℕ) (o : Option X)
 cast_maybe_text f None = refl
 cast_maybe_text f (Some x) = refl
 
-pub move_puts : (others : Others) (clear : StandsClear club_schema others) (r : MoveRow)
-    → IsPut (beside club_schema others) (moves 8) (0 ∷ 1 ∷ []) (move_cells r) (move_cells r)
-    (Values (lit Null ∷ col 0 0 ∷ col 0 1 ∷ col 0 2 ∷ col 0 3 ∷ col 0 4 ∷ col 0 5 ∷ []) 7) (1 ∷ 2 ∷ []) 6
-    (col 1 0 ∷ col 1 0 ∷ col 0 8 ∷ col 0 9 ∷ col 0 10 ∷ col 0 11 ∷ col 0 12 ∷ col 0 13 ∷ [])
-move_puts others clear r = record {
-  source = Null ∷ move_cells r;
-  stored = λ n. Int n ∷ move_cells r;
-  sourced = λ db rows h. h.1;
-  uncounted = refl;
-  idle = λ olds news. idle others clear (moves 8) (inr (inr (inr (inr (inl refl))))) olds news;
-  overlaid = λ db. refl;
-  placed = λ rows. (next_rowid rows, simp (cast_null, cast_int));
-  recast = λ n. simp cast_int;
-  shows = λ n. refl;
-  meets = λ s n. or_none _ _ (unshared club_schema (moves 8) (inr (inr (inr (inr (inl refl)))))
-      (Int n ∷ move_cells r) s others.indexes clear.keys);
-  based = λ there n. refl;
-  updated = λ there was n m id. ap (λ v. v ∷ v ∷ move_cells r) id;
-  named = λ was m id same. refl;
-  distinct = λ next s n m keeps id there here same.
-      ap Int
-      (by_index (beside club_schema others) (moves 8) (automatic (moves 8) 0 (1 ∷ 2 ∷ []) 9)
-      (inr (inr (inr (inr (inl refl)))))
-      (inr (inr (inr (inr (inl refl))))) refl next s (Int n ∷ move_cells r) m n keeps id refl there here same) ∙ sym
-      id;
-}
+-- ---- a row that is put
 
-pub challenge_puts : (others : Others) (clear : StandsClear club_schema others) (r : ChallengeRow)
-    → IsPut (beside club_schema others) (challenges 6) (0 ∷ 1 ∷ []) (challenge_cells r) (challenge_cells r)
-    (Values (lit Null ∷ col 0 0 ∷ col 0 1 ∷ col 0 2 ∷ col 0 3 ∷ col 0 4 ∷ col 0 5 ∷ col 0 6 ∷ []) 8) (1 ∷ 2 ∷ []) 7
-    (col 1 0 ∷ col 1 0 ∷ col 0 9 ∷ col 0 10 ∷ col 0 11 ∷ col 0 12 ∷ col 0 13 ∷ col 0 14 ∷ col 0 15 ∷ [])
-challenge_puts others clear r = record {
-  source = Null ∷ challenge_cells r;
-  stored = λ n. Int n ∷ challenge_cells r;
-  sourced = λ db rows h. h.1;
-  uncounted = refl;
-  idle = λ olds news. idle others clear (challenges 6) (inr (inr (inr (inl refl)))) olds news;
-  overlaid = λ db. refl;
-  placed = λ rows. (next_rowid rows, simp (cast_null, cast_int, cast_maybe_int));
-  recast = λ n. simp (cast_null, cast_int, cast_maybe_int);
-  shows = λ n. refl;
-  meets = λ s n. or_none _ _ (unshared club_schema (challenges 6) (inr (inr (inr (inl refl))))
-      (Int n ∷ challenge_cells r) s others.indexes clear.keys);
-  based = λ there n. refl;
-  updated = λ there was n m id. ap (λ v. v ∷ v ∷ challenge_cells r) id;
-  named = λ was m id same. refl;
-  distinct = λ next s n m keeps id there here same.
-      ap Int
-      (by_index (beside club_schema others) (challenges 6) (automatic (challenges 6) 0 (1 ∷ 2 ∷ []) 7)
-      (inr (inr (inr (inl refl))))
-      (inr (inr (inr (inl refl)))) refl next s (Int n ∷ challenge_cells r) m n keeps id refl there here same) ∙ sym
-      id;
-}
+-- the columns of the primary key, which come first
+abbrev pub key_of : of_club.Table → List ℕ
+key_of table = range_with_len 0 (length (standing table).primary)
 
-pub seen_puts : (others : Others) (clear : StandsClear club_schema others) (r : SeenRow)
-    → IsPut (beside club_schema others) (seen 12) (0 ∷ 1 ∷ []) (seen_cells r) (seen_cells r)
-    (Values (lit Null ∷ col 0 0 ∷ col 0 1 ∷ col 0 2 ∷ col 0 3 ∷ []) 5) (1 ∷ 2 ∷ []) 4
-    (col 1 0 ∷ col 1 0 ∷ col 0 6 ∷ col 0 7 ∷ col 0 8 ∷ col 0 9 ∷ [])
-seen_puts others clear r = record {
-  source = Null ∷ seen_cells r;
-  stored = λ n. Int n ∷ seen_cells r;
-  sourced = λ db rows h. h.1;
-  uncounted = refl;
-  idle = λ olds news. idle others clear (seen 12) (inr (inr (inr (inr (inr (inr (inl refl))))))) olds news;
-  overlaid = λ db. refl;
-  placed = λ rows. (next_rowid rows, simp (cast_null, cast_int));
-  recast = λ n. simp (cast_null, cast_int);
-  shows = λ n. refl;
-  meets = λ s n. or_none _ _ (unshared club_schema (seen 12) (inr (inr (inr (inr (inr (inr (inl refl)))))))
-      (Int n ∷ seen_cells r) s others.indexes clear.keys);
-  based = λ there n. refl;
-  updated = λ there was n m id. ap (λ v. v ∷ v ∷ seen_cells r) id;
-  named = λ was m id same. refl;
-  distinct = λ next s n m keeps id there here same.
-      ap Int
-      (by_index (beside club_schema others) (seen 12) (automatic (seen 12) 0 (1 ∷ 2 ∷ []) 13)
-      (inr (inr (inr (inr (inr (inr (inl refl))))))) (inr (inr (inr (inr (inr (inr (inl refl))))))) refl next s
-      (Int n ∷ seen_cells r) m n keeps id refl there here same) ∙ sym id;
-}
+-- the text of the table puts this row
+abbrev PutsBeside : Others → of_club.Table → Row → Type 0
+PutsBeside others table row =
+    IsPut (beside club_schema others) (standing table) (key_of table) row row (source_of (standing table))
+    (standing table).primary (length (standing table).columns) (updates_of (standing table))
 
-pub score_puts : (others : Others) (clear : StandsClear club_schema others) (r : ScoreRow)
-    → IsPut (beside club_schema others) (scores 14) (0 ∷ 1 ∷ 2 ∷ []) (score_cells r) (score_cells r)
-    (Values (lit Null ∷ col 0 0 ∷ col 0 1 ∷ col 0 2 ∷ col 0 3 ∷ col 0 4 ∷ col 0 5 ∷ col 0 6 ∷ []) 8)
-    (1 ∷ 2 ∷ 3 ∷ []) 7
-    (col 1 0 ∷ col 1 0 ∷ col 0 9 ∷ col 0 10 ∷ col 0 11 ∷ col 0 12 ∷ col 0 13 ∷ col 0 14 ∷ col 0 15 ∷ [])
-score_puts others clear r = record {
-  source = Null ∷ score_cells r;
-  stored = λ n. Int n ∷ score_cells r;
-  sourced = λ db rows h. h.1;
-  uncounted = refl;
-  idle = λ olds news. idle others clear (scores 14) (inr (inr (inr (inr (inr (inr (inr (inl refl)))))))) olds news;
-  overlaid = λ db. refl;
-  placed = λ rows. (next_rowid rows, simp (cast_null, cast_int));
-  recast = λ n. simp (cast_null, cast_int);
-  shows = λ n. refl;
-  meets = λ s n. or_none _ _ (unshared club_schema (scores 14) (inr (inr (inr (inr (inr (inr (inr (inl refl))))))))
-      (Int n ∷ score_cells r) s others.indexes clear.keys);
-  based = λ there n. refl;
-  updated = λ there was n m id. ap (λ v. v ∷ v ∷ score_cells r) id;
-  named = λ was m id same. refl;
-  distinct = λ next s n m keeps id there here same.
-      ap Int
-      (by_index (beside club_schema others) (scores 14) (automatic (scores 14) 0 (1 ∷ 2 ∷ 3 ∷ []) 15)
-      (inr (inr (inr (inr (inr (inr (inr (inl refl)))))))) (inr (inr (inr (inr (inr (inr (inr (inl refl)))))))) refl
-      next s (Int n ∷ score_cells r) m n keeps id refl there here same) ∙ sym id;
-}
+abbrev pub Puts : of_club.Table → Row → Type 0
+Puts table row = (others : Others) → StandsClear club_schema others → PutsBeside others table row
 
--- a row whose id is the rowid
-by_id : (s : Row) (m id : ℤ) → rowid s ≡ Int m → same_key (0 ∷ []) (rowid s ∷ []) (Int id ∷ []) ≡ true → m ≡ id
+-- The row is made of its source, and stored by its rowid.
+module _ (others : Others) (table : of_club.Table) (row source : Row) (stored : Value → Row) where
+  abbrev there : Table
+  there = standing table
+
+  abbrev here : Schema
+  here = beside club_schema others
+
+  -- what DO UPDATE reads, where this row was
+  abbrev read_over : Row → ℤ → Row
+  read_over was n = row ++ rowid was ∷ shown there (stored (Int n))
+
+  -- what is found by computing
+  abbrev IsComputed : Type 0
+  IsComputed =
+      (slice_get club_schema.tables (place_of table) ≡ Some there)
+      × ((db : Trees) (rows : List Row)
+      → IsSource (record { schema = here; trees = db }) (stamped there row) (source_of there) rows
+      → rows ≡ source ∷ [])
+      × (there.is_counted ≡ false) × ((db : Trees) → overlay db [] there.tree ≡ db there.tree)
+      × ((rows : List Row) → (n : ℤ) × (with_rowid Chosen rows (cast_row there source) ≡ stored (Int n)))
+      × ((n : ℤ) → cast_row there (stored (Int n)) ≡ stored (Int n))
+      × ((n : ℤ) → cells there (stored (Int n)) ≡ row)
+      × ((r : Row) (n : ℤ) → conflicts (Some there.primary) here.indexes there (stored (Int n)) r
+      ≡ (same_key (key_of table) (cells there r) row
+      || list_any (shares (Some there.primary) there (stored (Int n)) r) others.indexes))
+      × ((was : Row) (n : ℤ) → column (read_over was n) (length there.columns) ≡ rowid was)
+      × ((stood was : Row) (n : ℤ) → eval_all (updates_of there) (read_over stood n ∷ was ∷ [])
+      ≡ rowid was ∷ stored (rowid was))
+
+  -- The row that has its key has its rowid.
+  abbrev IsNamed : Type 0
+  IsNamed = (was : Row) (m : ℤ) → rowid was ≡ Int m → same_key (key_of table) (cells there was) row ≡ true
+      → rowid (stored (Int m)) ≡ Int m
+
+  abbrev IsDistinct : Type 0
+  IsDistinct = (next : Trees) (r : Row) (n m : ℤ) → KeepsRule Unique here next → rowid r ≡ Int m
+      → Has (next there.tree) r → Has (next there.tree) (stored (Int n))
+      → same_key (key_of table) (cells there r) row ≡ true → rowid (stored (Int n)) ≡ rowid r
+
+  puts : StandsClear club_schema others → IsComputed → IsNamed → IsDistinct → PutsBeside others table row
+  puts clear (at, sourced, uncounted, bare, placed, recast, shows, meets, based, updated) named distinct =
+      let listed = has_got club_schema.tables (place_of table) there at in
+      record {
+        source = source;
+        stored = λ n. stored (Int n);
+        sourced = sourced;
+        uncounted = uncounted;
+        idle = idle others clear there listed;
+        overlaid = bare;
+        placed = placed;
+        recast = recast;
+        shows = shows;
+        meets = λ r n. meets r n ∙ or_none _ _
+            (unshared club_schema there listed (stored (Int n)) r others.indexes clear.keys);
+        based = based;
+        updated = λ stood was n m id. updated stood was n ∙ ap (λ v. v ∷ stored v) id;
+        named = named;
+        distinct = distinct;
+      }
+
+-- ---- a row whose id is the rowid
+
+by_id : (s : Row) (m id : ℤ) → rowid s ≡ Int m → same_key (0 ∷ []) (rowid s ∷ []) (Int id ∷ []) ≡ true → id ≡ m
 unfolding first_key
-by_id s m id is same = equal_ints m id (subst (λ v. equal Binary v (Int id) ≡ true) is (and_parts _ _ same).0)
+by_id s m id is same =
+    sym (equal_ints m id (subst (λ v. equal Binary v (Int id) ≡ true) is (and_parts _ _ same).0))
 
-pub meta_puts : (others : Others) (clear : StandsClear club_schema others) (r : MetaRow)
-    → IsPut (beside club_schema others) (meta 0) (0 ∷ []) (meta_cells r) (meta_cells r)
-    (Values (col 0 0 ∷ lit Null ∷ col 0 1 ∷ col 0 2 ∷ []) 4) (0 ∷ []) 3
-    (col 1 0 ∷ col 0 5 ∷ lit Null ∷ col 0 6 ∷ col 0 7 ∷ [])
-meta_puts others clear r =
-    let rest = Int r.schema ∷ Int r.last ∷ [] in
-    record {
-      source = Int r.id ∷ Null ∷ rest;
-      stored = λ n. Int r.id ∷ Null ∷ rest;
-      sourced = λ db rows h. h.1;
-      uncounted = refl;
-      idle = λ olds news. idle others clear (meta 0) (inl refl) olds news;
-      overlaid = λ db. refl;
-      placed = λ rows. (r.id, simp (cast_null, cast_int));
-      recast = λ n. simp (cast_null, cast_int);
-      shows = λ n. refl;
-      meets = λ s n. or_none _ _ (unshared club_schema (meta 0) (inl refl) (Int r.id ∷ Null ∷ rest) s others.indexes
-          clear.keys);
-      based = λ there n. refl;
-      updated = λ there was n m is. ap (λ v. v ∷ Int r.id ∷ Null ∷ rest) is;
-      named = λ was m is same. ap Int (sym (by_id was m r.id is same));
-      distinct = λ next s n m keeps is there here same. ap Int (sym (by_id s m r.id is same)) ∙ sym is;
-    }
+module _ (table : of_club.Table) (id : ℤ) (rest : Row) where
+  puts_by_id : ((others : Others) → IsComputed others table (Int id ∷ rest) (Int id ∷ Null ∷ rest)
+      (λ v. Int id ∷ Null ∷ rest))
+      → ((r : Row) → same_key (key_of table) (cells (standing table) r) (Int id ∷ rest)
+      ≡ same_key (0 ∷ []) (rowid r ∷ []) (Int id ∷ []))
+      → Puts table (Int id ∷ rest)
+  puts_by_id computed same others clear =
+      let the_id = λ (was : Row) (m : ℤ) (is : rowid was ≡ Int m)
+      (alike : same_key (key_of table) (cells (standing table) was) (Int id ∷ rest) ≡ true).
+      ap Int (by_id was m id is (sym (same was) ∙ alike)) in
+      puts others table (Int id ∷ rest) (Int id ∷ Null ∷ rest) (λ v. Int id ∷ Null ∷ rest) clear (computed others)
+      the_id (λ next r n m keeps is found put alike. the_id r m is alike ∙ sym is)
 
-pub member_puts : (others : Others) (clear : StandsClear club_schema others) (r : MemberRow)
-    → IsPut (beside club_schema others) (members 1) (0 ∷ []) (member_cells r) (member_cells r)
-    (Values (col 0 0 ∷ lit Null ∷ col 0 1 ∷ col 0 2 ∷ []) 4) (0 ∷ []) 3
-    (col 1 0 ∷ col 0 5 ∷ lit Null ∷ col 0 6 ∷ col 0 7 ∷ [])
-member_puts others clear r =
-    let rest = Words (string_bytes r.name) ∷ Words (string_bytes r.key) ∷ [] in
-    record {
-      source = Int r.id ∷ Null ∷ rest;
-      stored = λ n. Int r.id ∷ Null ∷ rest;
-      sourced = λ db rows h. h.1;
-      uncounted = refl;
-      idle = λ olds news. idle others clear (members 1) (inr (inl refl)) olds news;
-      overlaid = λ db. refl;
-      placed = λ rows. (r.id, simp (cast_null, cast_int));
-      recast = λ n. simp (cast_null, cast_int);
-      shows = λ n. refl;
-      meets = λ s n. or_none _ _ (unshared club_schema (members 1) (inr (inl refl)) (Int r.id ∷ Null ∷ rest) s
-          others.indexes clear.keys);
-      based = λ there n. refl;
-      updated = λ there was n m is. ap (λ v. v ∷ Int r.id ∷ Null ∷ rest) is;
-      named = λ was m is same. ap Int (sym (by_id was m r.id is same));
-      distinct = λ next s n m keeps is there here same. ap Int (sym (by_id s m r.id is same)) ∙ sym is;
-    }
+-- ---- a row whose key has an index
 
-pub event_puts : (others : Others) (clear : StandsClear club_schema others) (r : EventRow)
-    → IsPut (beside club_schema others) (events 4) (0 ∷ []) (event_cells r) (event_cells r)
-    (Values (col 0 0 ∷ lit Null ∷ col 0 1 ∷ col 0 2 ∷ col 0 3 ∷ col 0 4 ∷ []) 6) (0 ∷ []) 5
-    (col 1 0 ∷ col 0 7 ∷ lit Null ∷ col 0 8 ∷ col 0 9 ∷ col 0 10 ∷ col 0 11 ∷ [])
-event_puts others clear r =
-    let rest = Words (string_bytes r.name) ∷ Int r.game ∷ Int r.budget ∷ Int r.increment ∷ [] in
-    record {
-      source = Int r.id ∷ Null ∷ rest;
-      stored = λ n. Int r.id ∷ Null ∷ rest;
-      sourced = λ db rows h. h.1;
-      uncounted = refl;
-      idle = λ olds news. idle others clear (events 4) (inr (inr (inl refl))) olds news;
-      overlaid = λ db. refl;
-      placed = λ rows. (r.id, simp (cast_null, cast_int));
-      recast = λ n. simp (cast_null, cast_int);
-      shows = λ n. refl;
-      meets = λ s n. or_none _ _ (unshared club_schema (events 4) (inr (inr (inl refl))) (Int r.id ∷ Null ∷ rest) s
-          others.indexes clear.keys);
-      based = λ there n. refl;
-      updated = λ there was n m is. ap (λ v. v ∷ Int r.id ∷ Null ∷ rest) is;
-      named = λ was m is same. ap Int (sym (by_id was m r.id is same));
-      distinct = λ next s n m keeps is there here same. ap Int (sym (by_id s m r.id is same)) ∙ sym is;
-    }
+module _ (table : of_club.Table) (row : Row) where
+  abbrev index : Index
+  index = automatic (standing table) 0 (standing table).primary (tree_of table + 1)
 
-pub event_rule_puts : (others : Others) (clear : StandsClear club_schema others) (r : EventRuleRow)
-    → IsPut (beside club_schema others) (event_rules 16) (0 ∷ []) (event_rule_cells r) (event_rule_cells r)
-    (Values (col 0 0 ∷ lit Null ∷ col 0 1 ∷ []) 3) (0 ∷ []) 2 (col 1 0 ∷ col 0 4 ∷ lit Null ∷ col 0 5 ∷ [])
-event_rule_puts others clear r =
-    let rest = Int r.declares ∷ [] in
-    record {
-      source = Int r.event ∷ Null ∷ rest;
-      stored = λ n. Int r.event ∷ Null ∷ rest;
-      sourced = λ db rows h. h.1;
-      uncounted = refl;
-      idle = λ olds news. idle others clear (event_rules 16)
-          (inr (inr (inr (inr (inr (inr (inr (inr (inl refl))))))))) olds news;
-      overlaid = λ db. refl;
-      placed = λ rows. (r.event, simp (cast_null, cast_int));
-      recast = λ n. simp (cast_null, cast_int);
-      shows = λ n. refl;
-      meets = λ s n. or_none _ _ (unshared club_schema (event_rules 16)
-          (inr (inr (inr (inr (inr (inr (inr (inr (inl refl))))))))) (Int r.event ∷ Null ∷ rest) s others.indexes
-          clear.keys);
-      based = λ there n. refl;
-      updated = λ there was n m is. ap (λ v. v ∷ Int r.event ∷ Null ∷ rest) is;
-      named = λ was m is same. ap Int (sym (by_id was m r.event is same));
-      distinct = λ next s n m keeps is there here same. ap Int (sym (by_id s m r.event is same)) ∙ sym is;
-    }
+  puts_by_key : ((others : Others) → IsComputed others table row (Null ∷ row) (λ v. v ∷ row))
+      → ((others : Others) → slice_get (beside club_schema others).indexes (place_of table) ≡ Some index)
+      → guards index (standing table) ≡ true
+      → ((r : Row) (n : ℤ) → same_key (key_of table) (cells (standing table) r) row
+      ≡ agree index.order index.columns r index.columns (Int n ∷ row))
+      → Puts table row
+  puts_by_key computed at guard same others clear =
+      let here = beside club_schema others in
+      puts others table row (Null ∷ row) (λ v. v ∷ row) clear (computed others) (λ was m id alike. refl)
+      (λ next r n m keeps id found put alike.
+      ap Int
+      (by_index here (standing table) index
+      (has_left club_schema.tables others.tables (standing table)
+      (has_got club_schema.tables (place_of table) (standing table) (computed others).0))
+      (has_got here.indexes (place_of table) index (at others)) guard next r (Int n ∷ row) m n keeps id refl found put
+      (sym (same r n) ∙ alike)) ∙ sym id)
 
-pub game_puts : (others : Others) (clear : StandsClear club_schema others) (r : GameRecord)
-    → IsPut (beside club_schema others) (games 10) (0 ∷ []) (game_cells r) (game_cells r)
-    (Values (col 0 0 ∷ lit Null ∷ col 0 1 ∷ col 0 2 ∷ col 0 3 ∷ col 0 4 ∷ col 0 5 ∷ col 0 6 ∷ col 0 7 ∷ col 0 8
-    ∷ col 0 9 ∷ col 0 10 ∷ col 0 11 ∷ col 0 12 ∷ col 0 13 ∷ col 0 14 ∷ col 0 15 ∷ col 0 16 ∷ []) 18) (0 ∷ []) 17
-    (col 1 0 ∷ col 0 19 ∷ lit Null ∷ col 0 20 ∷ col 0 21 ∷ col 0 22 ∷ col 0 23 ∷ col 0 24 ∷ col 0 25 ∷ col 0 26
-    ∷ col 0 27 ∷ col 0 28 ∷ col 0 29 ∷ col 0 30 ∷ col 0 31 ∷ col 0 32 ∷ col 0 33 ∷ col 0 34 ∷ col 0 35 ∷ [])
-game_puts others clear r =
-    let rest = or_null (λ s. Words (string_bytes s)) r.key ∷ Int r.event ∷ Int r.first ∷ Int r.second ∷ Int r.start
-    ∷ Int r.since ∷ Int r.plies ∷ Int r.left1 ∷ Int r.left2 ∷ or_null Int r.offer_side ∷ or_null Int r.offer_ply
-    ∷ or_null (λ s. Words (string_bytes s)) r.end ∷ or_null (λ s. Words (string_bytes s)) r.result
-    ∷ Words (string_bytes r.position) ∷ Int r.track_a ∷ Int r.track_b ∷ [] in
-    record {
-      source = Int r.id ∷ Null ∷ rest;
-      stored = λ n. Int r.id ∷ Null ∷ rest;
-      sourced = λ db rows h. h.1;
-      uncounted = refl;
-      idle = λ olds news. idle others clear (games 10) (inr (inr (inr (inr (inr (inl refl)))))) olds news;
-      overlaid = λ db. refl;
-      placed = λ rows. (r.id, simp (cast_null, cast_int, cast_maybe_int, cast_maybe_text));
-      recast = λ n. simp (cast_null, cast_int, cast_maybe_int, cast_maybe_text);
-      shows = λ n. refl;
-      meets = λ s n. or_none _ _ (unshared club_schema (games 10) (inr (inr (inr (inr (inr (inl refl))))))
-          (Int r.id ∷ Null ∷ rest) s others.indexes clear.keys);
-      based = λ there n. refl;
-      updated = λ there was n m is. ap (λ v. v ∷ Int r.id ∷ Null ∷ rest) is;
-      named = λ was m is same. ap Int (sym (by_id was m r.id is same));
-      distinct = λ next s n m keeps is there here same. ap Int (sym (by_id s m r.id is same)) ∙ sym is;
-    }
+-- ---- the rows of each table
+
+pub meta_puts : (r : MetaRow) → Puts Meta (meta_cells r)
+meta_puts r = puts_by_id Meta r.id (Int r.schema ∷ Int r.last ∷ []) (λ others. (
+  refl,
+  λ db rows h. h.1,
+  refl,
+  λ db. refl,
+  λ rows. (r.id, simp (cast_null, cast_int)),
+  λ n. simp (cast_null, cast_int),
+  λ n. refl,
+  λ s n. refl,
+  λ was n. refl,
+  λ stood was n. refl,
+))
+    (λ s. refl)
+
+pub member_puts : (r : MemberRow) → Puts Members (member_cells r)
+member_puts r = puts_by_id Members r.id (Words (string_bytes r.name) ∷ Words (string_bytes r.key) ∷ []) (λ others. (
+  refl,
+  λ db rows h. h.1,
+  refl,
+  λ db. refl,
+  λ rows. (r.id, simp (cast_null, cast_int)),
+  λ n. simp (cast_null, cast_int),
+  λ n. refl,
+  λ s n. refl,
+  λ was n. refl,
+  λ stood was n. refl,
+))
+    (λ s. refl)
+
+pub event_puts : (r : EventRow) → Puts Events (event_cells r)
+event_puts r = puts_by_id Events r.id (Words (string_bytes r.name) ∷ Int r.game ∷ Int r.budget ∷ Int r.increment ∷ []) (λ others. (
+  refl,
+  λ db rows h. h.1,
+  refl,
+  λ db. refl,
+  λ rows. (r.id, simp (cast_null, cast_int)),
+  λ n. simp (cast_null, cast_int),
+  λ n. refl,
+  λ s n. refl,
+  λ was n. refl,
+  λ stood was n. refl,
+))
+    (λ s. refl)
+
+pub event_rule_puts : (r : EventRuleRow) → Puts EventRules (event_rule_cells r)
+event_rule_puts r = puts_by_id EventRules r.event (Int r.declares ∷ []) (λ others. (
+  refl,
+  λ db rows h. h.1,
+  refl,
+  λ db. refl,
+  λ rows. (r.event, simp (cast_null, cast_int)),
+  λ n. simp (cast_null, cast_int),
+  λ n. refl,
+  λ s n. refl,
+  λ was n. refl,
+  λ stood was n. refl,
+))
+    (λ s. refl)
+
+pub game_puts : (r : GameRecord) → Puts Games (game_cells r)
+game_puts r = puts_by_id Games r.id (drop 1 (game_cells r)) (λ others. (
+  refl,
+  λ db rows h. h.1,
+  refl,
+  λ db. refl,
+  λ rows. (r.id, simp (cast_null, cast_int, cast_maybe_int, cast_maybe_text)),
+  λ n. simp (cast_null, cast_int, cast_maybe_int, cast_maybe_text),
+  λ n. refl,
+  λ s n. refl,
+  λ was n. refl,
+  λ stood was n. refl,
+))
+    (λ s. refl)
+
+pub challenge_puts : (r : ChallengeRow) → Puts Challenges (challenge_cells r)
+challenge_puts r = puts_by_key Challenges (challenge_cells r) (λ others. (
+  refl,
+  λ db rows h. h.1,
+  refl,
+  λ db. refl,
+  λ rows. (next_rowid rows, simp (cast_null, cast_int, cast_maybe_int)),
+  λ n. simp (cast_int, cast_maybe_int),
+  λ n. refl,
+  λ s n. refl,
+  λ was n. refl,
+  λ stood was n. refl,
+))
+    (λ others. refl) refl (λ s n. refl)
+
+pub move_puts : (r : MoveRow) → Puts Moves (move_cells r)
+move_puts r = puts_by_key Moves (move_cells r) (λ others. (
+  refl,
+  λ db rows h. h.1,
+  refl,
+  λ db. refl,
+  λ rows. (next_rowid rows, simp (cast_null, cast_int)),
+  λ n. simp (cast_int),
+  λ n. refl,
+  λ s n. refl,
+  λ was n. refl,
+  λ stood was n. refl,
+))
+    (λ others. refl) refl (λ s n. refl)
+
+pub seen_puts : (r : SeenRow) → Puts Seen (seen_cells r)
+seen_puts r = puts_by_key Seen (seen_cells r) (λ others. (
+  refl,
+  λ db rows h. h.1,
+  refl,
+  λ db. refl,
+  λ rows. (next_rowid rows, simp (cast_null, cast_int)),
+  λ n. simp (cast_int),
+  λ n. refl,
+  λ s n. refl,
+  λ was n. refl,
+  λ stood was n. refl,
+))
+    (λ others. refl) refl (λ s n. refl)
+
+pub score_puts : (r : ScoreRow) → Puts Scores (score_cells r)
+score_puts r = puts_by_key Scores (score_cells r) (λ others. (
+  refl,
+  λ db rows h. h.1,
+  refl,
+  λ db. refl,
+  λ rows. (next_rowid rows, simp (cast_null, cast_int)),
+  λ n. simp (cast_int),
+  λ n. refl,
+  λ s n. refl,
+  λ was n. refl,
+  λ stood was n. refl,
+))
+    (λ others. refl) refl (λ s n. refl)

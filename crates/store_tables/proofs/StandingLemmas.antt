@@ -1,5 +1,5 @@
 -- A table that stands is not made again, whatever else stands in the schema.
-use Rattle.std.proofs.Common.{◌≡◌, ℕ, Bool, true, false, List, [], ◌∷◌, Ok, Err, Result, Option, Some, None, refl, sym}
+use Rattle.std.proofs.Common.{◌≡◌, ℕ, Bool, true, false, List, [], Ok, Err, Option, Some, None, refl, sym}
 use Rattle.std.proofs.Common.{ap, subst, codes, inl, inr}
 use Rattle.std.specs.Prelude.{is_ok, is_some, if◌then◌else◌}
 use Rattle.std.specs.Option.{option_or}
@@ -8,10 +8,8 @@ use Rattle.sqlite_ast.specs.declared.CreateTable.{CreateTable}
 use Rattle.sqlite_ast.specs.declared.Statement.{Statement}
 use Rattle.sqlite_ast.specs.declared.Statement.TheVariants as written
 use Rattle.sqlite_syntax.specs.declared.statement.Parsed.{Parsed}
-use Rattle.sqlite_schema.specs.declared.command.Command.{Command}
 use Rattle.sqlite_schema.specs.Names.{table_named}
-use Rattle.sqlite_resolve.specs.declared.error.CompileError.{CompileError}
-use Rattle.sqlite_resolve.specs.declared.error.CompileError.TheVariants.{Exists, Misuse, Unsupported}
+use Rattle.sqlite_resolve.specs.declared.error.CompileError.TheVariants.{Exists, Misuse}
 use Rattle.sqlite_resolve.specs.Compile.{command, compiled, create_table, creates, first, is_attached, is_reserved}
 use Rattle.sqlite_resolve.specs.Compile.{meaning, planned, returning}
 use Rattle.sqlite_resolve.specs.Lowering.{Checked, and_then}
@@ -20,7 +18,8 @@ use Rattle.sqlite.specs.Listing.{if_select, listing_schema, reads_listing, under
 use Rattle.sqlite.specs.Schema.{Schema}
 use Rattle.store_tables.specs.Beside.{Others, beside}
 use Rattle.store_tables.specs.Tables.{first_schema}
-use Rattle.store_tables.specs.Texts as t
+use Rattle.store_tables.specs.Texts.{create_of}
+use Rattle.store_tables.specs.declared.names.Table.TheVariants.{Meta}
 
 -- ---- what fails in a part fails
 
@@ -112,7 +111,7 @@ abbrev made_in : Checked Parsed → Option (List ℕ × Bool)
 made_in (Ok p) = made_by p.statement
 made_in (Err e) = None
 
-meta_is_made : made_in (first t.meta_create) ≡ Some (codes "meta", false)
+meta_is_made : made_in (first (create_of Meta)) ≡ Some (codes "meta", false)
 unfolding first everything
 meta_is_made = refl
 
@@ -120,20 +119,20 @@ meta_is_there : (others : Others) → is_some (table_named (beside first_schema 
 unfolding everything
 meta_is_there others = refl
 
-no_listing : is_ok (if_select (compiled listing_schema t.meta_create)) ≡ false
+no_listing : is_ok (if_select (compiled listing_schema (create_of Meta))) ≡ false
 unfolding everything listing_schema
 no_listing = refl
 
-pub meta_stands : (others : Others) → is_ok (understood (beside first_schema others) t.meta_create) ≡ false
+pub meta_stands : (others : Others) → is_ok (understood (beside first_schema others) (create_of Meta)) ≡ false
 unfolding understood
 meta_stands others =
     let schema : Schema = beside first_schema others in
-    let plain : is_ok (compiled schema t.meta_create) ≡ false =
-    no_text schema (codes "meta") (meta_is_there others) (first t.meta_create) t.meta_create refl
+    let plain : is_ok (compiled schema (create_of Meta)) ≡ false =
+    no_text schema (codes "meta") (meta_is_there others) (first (create_of Meta)) (create_of Meta) refl
     (λ p read. makes_of p.statement (codes "meta")
     (subst (λ r. made_in r ≡ Some (codes "meta", false)) read meta_is_made))
     in
-    elim (cases_Bool (reads_listing schema t.meta_create)) [
+    elim (cases_Bool (reads_listing schema (create_of Meta))) [
       | inl lists ↦ rw lists no_listing
       | inr plainly ↦ rw plainly plain
     ]

@@ -1,17 +1,14 @@
 -- What each statement that puts a row does inside a transaction, and what a commit makes of it.
-use Rattle.std.proofs.Common.{◌≡◌, ℕ, List, [], ◌∷◌, ◌++◌, Ok, refl, sym, subst, subst₂, ◌∙◌, ap, IsTrue, false, Some}
-use Rattle.std.proofs.Common.{slice_get}
+use Rattle.std.proofs.Common.{◌≡◌, ℕ, List, [], ◌∷◌, ◌++◌, Ok, refl, sym, subst, subst₂, ◌∙◌, ap, IsTrue, false}
+use Rattle.std.proofs.Common.{length}
 use Rattle.sqlite.specs.Order.{Row}
 use Rattle.sqlite.specs.Tree.{Trees}
-use Rattle.sqlite.specs.Table.{Table}
 use Rattle.sqlite.specs.Schema.{Schema}
 use Rattle.sqlite.specs.Effect.{Database}
-use Rattle.sqlite.specs.Command.TheVariants.{InsertOr}
+use Rattle.sqlite.specs.Listing.{understood}
 use Rattle.sqlite.specs.State.{State, ExecutesInside, Shows}
+use Rattle.sqlite.proofs.Callers.{IsPlain, command_of}
 use Rattle.sqlite_catalog.specs.Listing.{IsSound}
-use Rattle.sqlite_schema.specs.declared.command.Source.{Source}
-use Rattle.sqlite_schema.specs.declared.command.Conflict.TheVariants.{Abort}
-use Rattle.sqlite_sql.specs.Term.{Term}
 use Rattle.sqlite_rules.proofs.ListLemmas.{all_has, has_got}
 use Rattle.store_tables.specs.Beside.{Others, no_others, beside, StandsClear, StepsBeside}
 use Rattle.store_tables.specs.Cells.{meta_cells, member_cells, event_cells, challenge_cells, move_cells, game_cells}
@@ -19,10 +16,12 @@ use Rattle.store_tables.specs.Cells.{event_rule_cells, seen_cells, score_cells}
 use Rattle.store_tables.specs.Contents.{Content, put_in, put_each, nothing, opening_meta, Stores, Holds, Steps}
 use Rattle.store_tables.specs.Contents.{Leaves}
 use Rattle.store_tables.specs.Contents.{IsExactly, Makes, Fills}
-use Rattle.store_tables.specs.Put.{IsPut, on_key}
-use Rattle.store_tables.specs.Tables.{meta, members, events, event_rules, challenges, moves, games, seen, scores}
-use Rattle.store_tables.specs.Tables.{club_schema}
-use Rattle.store_tables.specs.Texts as t
+use Rattle.store_tables.specs.Names.{place_of}
+use Rattle.store_tables.specs.Tables.{club_schema, standing}
+use Rattle.store_tables.specs.Texts.{put_text}
+use Rattle.store_tables.specs.declared.names.Table as of_club
+use Rattle.store_tables.specs.declared.names.Table.TheVariants.{Members, Events, EventRules, Challenges, Moves, Games}
+use Rattle.store_tables.specs.declared.names.Table.TheVariants.{Seen, Scores, Meta}
 use Rattle.store_tables.specs.declared.rows.MetaRow.{MetaRow}
 use Rattle.store_tables.specs.declared.rows.MemberRow.{MemberRow}
 use Rattle.store_tables.specs.declared.rows.EventRow.{EventRow}
@@ -34,43 +33,45 @@ use Rattle.store_tables.specs.declared.rows.SeenRow.{SeenRow}
 use Rattle.store_tables.specs.declared.rows.ScoreRow.{ScoreRow}
 use Rattle.store_tables.proofs.BesideLemmas.{clear_alone, takes_itself}
 use Rattle.store_tables.proofs.ContentLemmas.{put_by, turn_by}
-use Rattle.store_tables.proofs.Meanings.{meta_put_is, meta_text, members_put_is, members_text, events_put_is}
-use Rattle.store_tables.proofs.Meanings.{events_text, challenges_put_is, challenges_text, moves_put_is, moves_text}
-use Rattle.store_tables.proofs.Meanings.{games_put_is, games_text, seen_put_is, seen_text, scores_put_is, scores_text}
-use Rattle.store_tables.proofs.Meanings.{event_rules_put_is, event_rules_text}
-use Rattle.store_tables.proofs.UpsertTexts.{IsUpsert, Put, upsert_is, upsert_plain}
+use Rattle.store_tables.proofs.Meanings.{Upserts, put_of, source_of, updates_of}
+use Rattle.store_tables.proofs.Meanings.{meta_upserts, members_upserts, events_upserts, challenges_upserts}
+use Rattle.store_tables.proofs.Meanings.{moves_upserts, games_upserts, seen_upserts, scores_upserts}
+use Rattle.store_tables.proofs.Meanings.{event_rules_upserts}
+use Rattle.store_tables.proofs.UpsertTexts.{parts_of, upsert_is, upsert_plain}
 use Rattle.store_tables.proofs.MakeLemmas.{holds_nothing}
+use Rattle.store_tables.proofs.PutMeanings.{Puts, key_of}
 use Rattle.store_tables.proofs.PutMeanings.{meta_puts, member_puts, event_puts, challenge_puts, move_puts, game_puts}
 use Rattle.store_tables.proofs.PutMeanings.{event_rule_puts, seen_puts, score_puts}
 
-module _ (others : Others) (clear : StandsClear club_schema others) (table : Table) (params row : Row) (key : List ℕ)
-    (from : Source) (places : List ℕ) (base : ℕ) (project : List Term)
-    (is : IsPut (beside club_schema others) table key params row from places base project) (text : Put) (sql : List ℕ)
-    (at : ℕ) (it : IsUpsert (beside club_schema others) text at table sql
-    (InsertOr at Abort from (on_key places table.tree base project)))
-    (place : slice_get (beside club_schema others).tables at ≡ Some table) where
+module _ (table : of_club.Table) (row : Row) (is_put : Puts table row) (upserts : Upserts table) (others : Others)
+    (clear : StandsClear club_schema others) where
   abbrev here : Schema
   here = beside club_schema others
 
-  put_inside : (old new : State) (count : ℕ) → ExecutesInside 0 sql params old new (Ok count)
-      → Steps here (put_in table.tree key row) old new
+  put_inside : (old new : State) (count : ℕ) → ExecutesInside 0 (put_text (standing table)) row old new (Ok count)
+      → Steps here (put_in (standing table).tree (key_of table) row) old new
   put_inside old new count h =
-      let does = InsertOr at Abort from (on_key places table.tree base project) in
-      let command = upsert_is here text at table sql does it in
-      let plain = upsert_plain here text at table sql does it in
+      let there = standing table in
+      let parts = parts_of there in
+      let sql = put_text there in
+      let (place, it) = upserts others in
+      let command = upsert_is here parts (place_of table) there sql (put_of table) it in
+      let plain = upsert_plain here parts (place_of table) there sql (put_of table) it in
       record {
         holds = λ content k.
-            let stored : Stores table old.now.trees content =
-            all_has (λ t. Stores t old.now.trees content) here.tables table k.tables
-            (has_got here.tables at table place)
+            let stored : Stores there old.now.trees content =
+            all_has (λ t. Stores t old.now.trees content) here.tables there k.tables
+            (has_got here.tables (place_of table) there place)
             in
-            let did = put_by here clear.trees table params row key from places base project is sql at command plain
+            let did = put_by here clear.trees there row row (key_of table) (source_of there) there.primary
+            (length there.columns) (updates_of there) (is_put others clear) sql (place_of table) command plain
             place old new count k.schema stored.apart h.0 in
             record {
               schema = did.0;
               sound = did.2;
               tables =
-                  turn_by here clear.trees table params row key from places base project is sql at command plain place
+                  turn_by here clear.trees there row row (key_of table) (source_of there) there.primary
+                  (length there.columns) (updates_of there) (is_put others clear) sql (place_of table) command plain place
                   old.now.trees new.now.trees content did.1 k.tables;
             };
         committed = h.1.committed_is;
@@ -91,88 +92,44 @@ steps_beside f old new each =
       inside = alone.inside;
     }
 
-pub meta_put_of : (r : MetaRow) (sql : List ℕ) (params : Row) (old new : State) (count : ℕ) → sql ≡ t.meta_put
-    → params ≡ meta_cells r → ExecutesInside 0 sql params old new (Ok count)
-    → StepsBeside (put_in 0 (0 ∷ []) (meta_cells r)) old new
-meta_put_of r sql params old new count text given h = steps_beside (put_in 0 (0 ∷ []) (meta_cells r)) old new
-    (λ others clear.
-    put_inside others clear (meta 0) (meta_cells r) (meta_cells r) (0 ∷ []) _ (0 ∷ []) 3 _
-    (meta_puts others clear r) meta_text t.meta_put 0
-    (meta_put_is others) refl old new count (subst₂ (λ s p. ExecutesInside 0 s p old new (Ok count)) text given h))
+-- a call that puts the row
+abbrev Put : of_club.Table → Row → Type 1
+Put table row = (sql : List ℕ) (params : Row) (old new : State) (count : ℕ) → sql ≡ put_text (standing table)
+    → params ≡ row → ExecutesInside 0 sql params old new (Ok count)
+    → StepsBeside (put_in (standing table).tree (key_of table) row) old new
 
-pub member_put_of : (r : MemberRow) (sql : List ℕ) (params : Row) (old new : State) (count : ℕ) → sql ≡ t.members_put
-    → params ≡ member_cells r → ExecutesInside 0 sql params old new (Ok count)
-    → StepsBeside (put_in 1 (0 ∷ []) (member_cells r)) old new
-member_put_of r sql params old new count text given h = steps_beside (put_in 1 (0 ∷ []) (member_cells r)) old new
-    (λ others clear.
-    put_inside others clear (members 1) (member_cells r) (member_cells r) (0 ∷ []) _ (0 ∷ []) 3 _
-    (member_puts others clear r) members_text t.members_put 1
-    (members_put_is others) refl old new count (subst₂ (λ s p. ExecutesInside 0 s p old new (Ok count)) text given h))
+put_row : (table : of_club.Table) (row : Row) → Puts table row → Upserts table → Put table row
+put_row table row is_put upserts sql params old new count text given h =
+    steps_beside (put_in (standing table).tree (key_of table) row) old new (λ others clear.
+    put_inside table row is_put upserts others clear old new count
+    (subst₂ (λ s p. ExecutesInside 0 s p old new (Ok count)) text given h))
 
-pub event_put_of : (r : EventRow) (sql : List ℕ) (params : Row) (old new : State) (count : ℕ) → sql ≡ t.events_put
-    → params ≡ event_cells r → ExecutesInside 0 sql params old new (Ok count)
-    → StepsBeside (put_in 4 (0 ∷ []) (event_cells r)) old new
-event_put_of r sql params old new count text given h = steps_beside (put_in 4 (0 ∷ []) (event_cells r)) old new
-    (λ others clear.
-    put_inside others clear (events 4) (event_cells r) (event_cells r) (0 ∷ []) _ (0 ∷ []) 5 _
-    (event_puts others clear r) events_text t.events_put 2
-    (events_put_is others) refl old new count (subst₂ (λ s p. ExecutesInside 0 s p old new (Ok count)) text given h))
+pub meta_put_of : (r : MetaRow) → Put Meta (meta_cells r)
+meta_put_of r = put_row Meta (meta_cells r) (meta_puts r) meta_upserts
 
-pub event_rule_put_of : (r : EventRuleRow) (sql : List ℕ) (params : Row) (old new : State) (count : ℕ)
-    → sql ≡ t.event_rules_put → params ≡ event_rule_cells r → ExecutesInside 0 sql params old new (Ok count)
-    → StepsBeside (put_in 16 (0 ∷ []) (event_rule_cells r)) old new
-event_rule_put_of r sql params old new count text given h = steps_beside (put_in 16 (0 ∷ []) (event_rule_cells r))
-    old new (λ others clear.
-    put_inside others clear (event_rules 16) (event_rule_cells r) (event_rule_cells r) (0 ∷ []) _ (0 ∷ []) 2 _
-    (event_rule_puts others clear r) event_rules_text t.event_rules_put 8
-    (event_rules_put_is others) refl old new count (subst₂ (λ s p. ExecutesInside 0 s p old new (Ok count)) text
-    given h))
+pub member_put_of : (r : MemberRow) → Put Members (member_cells r)
+member_put_of r = put_row Members (member_cells r) (member_puts r) members_upserts
 
-pub move_put_of : (r : MoveRow) (sql : List ℕ) (params : Row) (old new : State) (count : ℕ) → sql ≡ t.moves_put
-    → params ≡ move_cells r → ExecutesInside 0 sql params old new (Ok count)
-    → StepsBeside (put_in 8 (0 ∷ 1 ∷ []) (move_cells r)) old new
-move_put_of r sql params old new count text given h = steps_beside (put_in 8 (0 ∷ 1 ∷ []) (move_cells r)) old new
-    (λ others clear.
-    put_inside others clear (moves 8) (move_cells r) (move_cells r) (0 ∷ 1 ∷ []) _ (1 ∷ 2 ∷ []) 6 _
-    (move_puts others clear r) moves_text t.moves_put 4
-    (moves_put_is others) refl old new count (subst₂ (λ s p. ExecutesInside 0 s p old new (Ok count)) text given h))
+pub event_put_of : (r : EventRow) → Put Events (event_cells r)
+event_put_of r = put_row Events (event_cells r) (event_puts r) events_upserts
 
-pub challenge_put_of : (r : ChallengeRow) (sql : List ℕ) (params : Row) (old new : State) (count : ℕ)
-    → sql ≡ t.challenges_put → params ≡ challenge_cells r → ExecutesInside 0 sql params old new (Ok count)
-    → StepsBeside (put_in 6 (0 ∷ 1 ∷ []) (challenge_cells r)) old new
-challenge_put_of r sql params old new count text given h = steps_beside (put_in 6 (0 ∷ 1 ∷ []) (challenge_cells r))
-    old new (λ others clear.
-    put_inside others clear (challenges 6) (challenge_cells r) (challenge_cells r) (0 ∷ 1 ∷ []) _ (1 ∷ 2 ∷ []) 7 _
-    (challenge_puts others clear r) challenges_text t.challenges_put 3
-    (challenges_put_is others) refl old new count (subst₂ (λ s p. ExecutesInside 0 s p old new (Ok count)) text
-    given h))
+pub event_rule_put_of : (r : EventRuleRow) → Put EventRules (event_rule_cells r)
+event_rule_put_of r = put_row EventRules (event_rule_cells r) (event_rule_puts r) event_rules_upserts
 
-pub seen_put_of : (r : SeenRow) (sql : List ℕ) (params : Row) (old new : State) (count : ℕ) → sql ≡ t.seen_put
-    → params ≡ seen_cells r → ExecutesInside 0 sql params old new (Ok count)
-    → StepsBeside (put_in 12 (0 ∷ 1 ∷ []) (seen_cells r)) old new
-seen_put_of r sql params old new count text given h = steps_beside (put_in 12 (0 ∷ 1 ∷ []) (seen_cells r)) old new
-    (λ others clear.
-    put_inside others clear (seen 12) (seen_cells r) (seen_cells r) (0 ∷ 1 ∷ []) _ (1 ∷ 2 ∷ []) 4 _
-    (seen_puts others clear r) seen_text t.seen_put 6
-    (seen_put_is others) refl old new count (subst₂ (λ s p. ExecutesInside 0 s p old new (Ok count)) text given h))
+pub move_put_of : (r : MoveRow) → Put Moves (move_cells r)
+move_put_of r = put_row Moves (move_cells r) (move_puts r) moves_upserts
 
-pub score_put_of : (r : ScoreRow) (sql : List ℕ) (params : Row) (old new : State) (count : ℕ) → sql ≡ t.scores_put
-    → params ≡ score_cells r → ExecutesInside 0 sql params old new (Ok count)
-    → StepsBeside (put_in 14 (0 ∷ 1 ∷ 2 ∷ []) (score_cells r)) old new
-score_put_of r sql params old new count text given h = steps_beside (put_in 14 (0 ∷ 1 ∷ 2 ∷ []) (score_cells r)) old
-    new (λ others clear.
-    put_inside others clear (scores 14) (score_cells r) (score_cells r) (0 ∷ 1 ∷ 2 ∷ []) _ (1 ∷ 2 ∷ 3 ∷ []) 7 _
-    (score_puts others clear r) scores_text t.scores_put 7
-    (scores_put_is others) refl old new count (subst₂ (λ s p. ExecutesInside 0 s p old new (Ok count)) text given h))
+pub challenge_put_of : (r : ChallengeRow) → Put Challenges (challenge_cells r)
+challenge_put_of r = put_row Challenges (challenge_cells r) (challenge_puts r) challenges_upserts
 
-pub game_put_of : (r : GameRecord) (sql : List ℕ) (params : Row) (old new : State) (count : ℕ) → sql ≡ t.games_put
-    → params ≡ game_cells r → ExecutesInside 0 sql params old new (Ok count)
-    → StepsBeside (put_in 10 (0 ∷ []) (game_cells r)) old new
-game_put_of r sql params old new count text given h = steps_beside (put_in 10 (0 ∷ []) (game_cells r)) old new
-    (λ others clear.
-    put_inside others clear (games 10) (game_cells r) (game_cells r) (0 ∷ []) _ (0 ∷ []) 17 _
-    (game_puts others clear r) games_text t.games_put 5
-    (games_put_is others) refl old new count (subst₂ (λ s p. ExecutesInside 0 s p old new (Ok count)) text given h))
+pub seen_put_of : (r : SeenRow) → Put Seen (seen_cells r)
+seen_put_of r = put_row Seen (seen_cells r) (seen_puts r) seen_upserts
+
+pub score_put_of : (r : ScoreRow) → Put Scores (score_cells r)
+score_put_of r = put_row Scores (score_cells r) (score_puts r) scores_upserts
+
+pub game_put_of : (r : GameRecord) → Put Games (game_cells r)
+game_put_of r = put_row Games (game_cells r) (game_puts r) games_upserts
 
 pub steps_then : (f g : Content → Content) (a b c : State) → StepsBeside f a b → StepsBeside g b c
     → StepsBeside (λ content. g (f content)) a c
@@ -221,7 +178,16 @@ commits schema content last new h shown settled =
 
 pub fills : (a b c : State) → Makes 0 9 a b → StepsBeside (put_in 0 (0 ∷ []) opening_meta) b c → Fills a c
 fills a b c one two = record {
-  holds = λ k. two.holds club_schema takes_itself nothing (holds_nothing b.now (one.made k));
+  holds = λ k. two.holds club_schema takes_itself nothing (holds_nothing club_schema b.now (one.made k));
   committed = two.committed ∙ one.committed;
   inside = two.inside;
 }
+
+-- what the text of the row of `meta` is where the tables of a club stand
+pub meta_put_means : (command_of (understood club_schema (put_text (standing Meta))) ≡ put_of Meta)
+    × IsPlain (understood club_schema (put_text (standing Meta)))
+meta_put_means =
+    let it = (meta_upserts no_others).1 in (
+      upsert_is (beside club_schema no_others) (parts_of (standing Meta)) 0 (standing Meta) _ (put_of Meta) it,
+      upsert_plain (beside club_schema no_others) (parts_of (standing Meta)) 0 (standing Meta) _ (put_of Meta) it,
+    )

@@ -1,6 +1,6 @@
 -- A text that puts a row, in a schema with further tables.
 use Rattle.std.proofs.Common.{◌≡◌, ℕ, zero, suc, ◌+◌, ◌==◌, false, not, ◌&&◌, List, [], ◌∷◌, Option, Some, None}
-use Rattle.std.proofs.Common.{Ok, Err, sym, ap, subst, ◌∙◌, length, map, take, codes}
+use Rattle.std.proofs.Common.{Ok, Err, sym, ap, subst, ◌∙◌, length, map}
 use Rattle.std.specs.Prelude.{if◌then◌else◌}
 use Rattle.sqlite_ast.specs.declared.Conflict.TheVariants as conflict
 use Rattle.sqlite_ast.specs.declared.Expr.{Expr}
@@ -33,6 +33,7 @@ use Rattle.sqlite_resolve.specs.Scope.{Name}
 use Rattle.sqlite.specs.Listing.{understood, listing_schema, misses_table, if_select}
 use Rattle.sqlite.proofs.Callers.{IsPlain, command_of}
 use Rattle.store_tables.specs.Tables.{club_schema}
+use Rattle.store_tables.specs.Texts.{names_of, key_names, parameters_of, put_text}
 use Rattle.store_tables.proofs.ExcludedLemmas.{AreOfNew, new_of, new_row, update_same}
 
 -- ---- the parts of a text that puts a row
@@ -67,23 +68,17 @@ abbrev parameters_from : ℕ → ℕ → List Expr
 parameters_from k zero = []
 parameters_from k (suc n) = expr.Parameter k ∷ parameters_from (k + 1) n
 
-abbrev parameter_names : List Name
-parameter_names =
-    codes "?1" ∷ codes "?2" ∷ codes "?3" ∷ codes "?4" ∷ codes "?5" ∷ codes "?6" ∷ codes "?7" ∷ codes "?8" ∷ codes "?9"
-    ∷ codes "?10" ∷ codes "?11" ∷ codes "?12" ∷ codes "?13" ∷ codes "?14" ∷ codes "?15" ∷ codes "?16" ∷ codes "?17"
-    ∷ []
-
--- a text that puts a row of these columns, by the columns of a key
-abbrev pub put_text : List ℕ → Name → List Name → List Name → Put
-put_text sql name columns key = record {
-  name = name;
-  columns = columns;
-  rows = rows.Values (parameters_from 1 (length columns) ∷ []);
-  clause = record { target = key; sets = map new_of columns; filter = None };
-  names = take (length columns) parameter_names;
+-- the text that puts a row of the table
+abbrev pub parts_of : Table → Put
+parts_of table = record {
+  name = table.name;
+  columns = names_of table;
+  rows = rows.Values (parameters_from 1 (length table.columns) ∷ []);
+  clause = record { target = key_names table; sets = map new_of (names_of table); filter = None };
+  names = parameters_of table;
   start = 0;
-  end = length sql;
-  tail = length sql;
+  end = length (put_text table);
+  tail = length (put_text table);
 }
 
 module _ (s : Schema) (p : Put) (at : ℕ) (table : Table) where

@@ -5,28 +5,31 @@ use Rattle.store_tables.specs.Changes.{Alters}
 use Rattle.store_tables.specs.Cells.{meta_cells, member_cells, event_cells, challenge_cells, move_cells, game_cells}
 use Rattle.store_tables.specs.Cells.{event_rule_cells, seen_cells, score_cells}
 use Rattle.store_tables.specs.Contents.{Content, put_in, put_each}
+use Rattle.store_tables.specs.Names.{tree_of}
+use Rattle.store_tables.specs.declared.names.Table.TheVariants.{Members, Events, EventRules, Challenges, Moves, Games}
+use Rattle.store_tables.specs.declared.names.Table.TheVariants.{Seen, Scores, Meta}
 use Rattle.store_tables.specs.declared.rows.EventRuleRow.{EventRuleRow}
 use Rattle.store_tables.specs.declared.rows.MetaRow.{MetaRow}
 use Rattle.store_tables.specs.declared.rows.Changes.{Changes}
 
 abbrev pub people_put : Changes → Content → Content
 people_put c content =
-    put_each 6 (0 ∷ 1 ∷ []) (map challenge_cells c.challenges.items)
-    (put_each 16 (0 ∷ []) (map event_rule_cells c.event_rules.items)
-    (put_each 4 (0 ∷ []) (map event_cells c.events.items)
-    (put_each 1 (0 ∷ []) (map member_cells c.members.items) content)))
+    put_each (tree_of Challenges) (0 ∷ 1 ∷ []) (map challenge_cells c.challenges.items)
+    (put_each (tree_of EventRules) (0 ∷ []) (map event_rule_cells c.event_rules.items)
+    (put_each (tree_of Events) (0 ∷ []) (map event_cells c.events.items)
+    (put_each (tree_of Members) (0 ∷ []) (map member_cells c.members.items) content)))
 
 abbrev pub play_put : Changes → Content → Content
-play_put c content = put_each 8 (0 ∷ 1 ∷ []) (map move_cells c.moves.items)
-    (put_each 10 (0 ∷ []) (map game_cells c.games.items) content)
+play_put c content = put_each (tree_of Moves) (0 ∷ 1 ∷ []) (map move_cells c.moves.items)
+    (put_each (tree_of Games) (0 ∷ []) (map game_cells c.games.items) content)
 
 abbrev pub counts_put : Changes → Content → Content
-counts_put c content = put_each 14 (0 ∷ 1 ∷ 2 ∷ []) (map score_cells c.scores.items)
-    (put_each 12 (0 ∷ 1 ∷ []) (map seen_cells c.seen.items) content)
+counts_put c content = put_each (tree_of Scores) (0 ∷ 1 ∷ 2 ∷ []) (map score_cells c.scores.items)
+    (put_each (tree_of Seen) (0 ∷ 1 ∷ []) (map seen_cells c.seen.items) content)
 
 abbrev pub put_maybe : Option MetaRow → Content → Content
 put_maybe None content = content
-put_maybe (Some meta) content = put_in 0 (0 ∷ []) (meta_cells meta) content
+put_maybe (Some meta) content = put_in (tree_of Meta) (0 ∷ []) (meta_cells meta) content
 
 abbrev pub meta_put : Changes → Content → Content
 meta_put c content = put_maybe c.meta content
@@ -37,8 +40,8 @@ changed c content = meta_put c (counts_put c (play_put c (people_put c content))
 
 -- the rows of schema 1 with these rules of events and this row of `meta`
 abbrev pub widened : List EventRuleRow → MetaRow → Content → Content
-widened rules meta content = put_in 0 (0 ∷ []) (meta_cells meta)
-    (put_each 16 (0 ∷ []) (map event_rule_cells rules) content)
+widened rules meta content = put_in (tree_of Meta) (0 ∷ []) (meta_cells meta)
+    (put_each (tree_of EventRules) (0 ∷ []) (map event_rule_cells rules) content)
 
 abbrev pub maybe_row : Option MetaRow → List Row
 maybe_row None = []
@@ -46,12 +49,15 @@ maybe_row (Some meta) = meta_cells meta ∷ []
 
 -- Each table of the new content is that of the old with its changed rows. Any of them may have none.
 pub record AltersTables (changes : Changes) (old new : Content) : Type 0 where
-  pub meta : Alters (0 ∷ []) (maybe_row changes.meta) (old 0) (new 0)
-  pub members : Alters (0 ∷ []) (map member_cells changes.members.items) (old 1) (new 1)
-  pub events : Alters (0 ∷ []) (map event_cells changes.events.items) (old 4) (new 4)
-  pub event_rules : Alters (0 ∷ []) (map event_rule_cells changes.event_rules.items) (old 16) (new 16)
-  pub challenges : Alters (0 ∷ 1 ∷ []) (map challenge_cells changes.challenges.items) (old 6) (new 6)
-  pub moves : Alters (0 ∷ 1 ∷ []) (map move_cells changes.moves.items) (old 8) (new 8)
-  pub games : Alters (0 ∷ []) (map game_cells changes.games.items) (old 10) (new 10)
-  pub seen : Alters (0 ∷ 1 ∷ []) (map seen_cells changes.seen.items) (old 12) (new 12)
-  pub scores : Alters (0 ∷ 1 ∷ 2 ∷ []) (map score_cells changes.scores.items) (old 14) (new 14)
+  pub meta : Alters (0 ∷ []) (maybe_row changes.meta) (old (tree_of Meta)) (new (tree_of Meta))
+  pub members : Alters (0 ∷ []) (map member_cells changes.members.items) (old (tree_of Members)) (new (tree_of Members))
+  pub events : Alters (0 ∷ []) (map event_cells changes.events.items) (old (tree_of Events)) (new (tree_of Events))
+  pub event_rules : Alters (0 ∷ []) (map event_rule_cells changes.event_rules.items)
+      (old (tree_of EventRules)) (new (tree_of EventRules))
+  pub challenges : Alters (0 ∷ 1 ∷ []) (map challenge_cells changes.challenges.items)
+      (old (tree_of Challenges)) (new (tree_of Challenges))
+  pub moves : Alters (0 ∷ 1 ∷ []) (map move_cells changes.moves.items) (old (tree_of Moves)) (new (tree_of Moves))
+  pub games : Alters (0 ∷ []) (map game_cells changes.games.items) (old (tree_of Games)) (new (tree_of Games))
+  pub seen : Alters (0 ∷ 1 ∷ []) (map seen_cells changes.seen.items) (old (tree_of Seen)) (new (tree_of Seen))
+  pub scores : Alters (0 ∷ 1 ∷ 2 ∷ []) (map score_cells changes.scores.items)
+      (old (tree_of Scores)) (new (tree_of Scores))

@@ -11,6 +11,8 @@ use Rattle.sqlite.specs.State.{State, ExecutesInside}
 use Rattle.sqlite_catalog.specs.Listing.{IsSound}
 use Rattle.sqlite_rules.specs.Lists.{Has}
 use Rattle.store_tables.specs.Content.{same_key, AreApart, Keeps, put}
+use Rattle.store_tables.specs.Names.{tree_of}
+use Rattle.store_tables.specs.declared.names.Table.TheVariants.{EventRules, Meta}
 use Rattle.store_tables.specs.Tables.{club_schema, first_schema, schema_after}
 
 -- the rows of each table, by the number of its tree
@@ -35,7 +37,7 @@ opening_meta = Int (pos 1) ∷ Int (pos 2) ∷ Int (pos 0) ∷ []
 
 -- the tables of a club with nothing in it: schema 2, and no command accepted
 abbrev pub opening : Content
-opening = put_in 0 (0 ∷ []) opening_meta nothing
+opening = put_in (tree_of Meta) (0 ∷ []) opening_meta nothing
 
 pub record Stores (table : Table) (trees : Trees) (content : Content) : Type 0 where
   pub rows : Keeps table trees (content table.tree)
@@ -105,7 +107,7 @@ pub record Fills (old new : State) : Type 0 where
 
 -- Inside a transaction the table of rules of events was made beside the rows of schema 1, and nothing was committed.
 pub record Widens (old new : State) : Type 0 where
-  pub holds : (content : Content) → content 16 ≡ [] → Holds first_schema old.now content
+  pub holds : (content : Content) → content (tree_of EventRules) ≡ [] → Holds first_schema old.now content
       → Holds club_schema new.now content
   pub committed : new.committed ≡ old.committed
   pub inside : new.in_transaction ≡ true

@@ -1,5 +1,5 @@
--- The names of the tables.
-use Rattle.std.specs.Prelude.{ℕ, List, codes}
+-- The names of the tables, and where each stands.
+use Rattle.std.specs.Prelude.{ℕ, List, [], ◌∷◌, codes}
 use Rattle.store_tables.specs.declared.names.Table.{Table}
 use Rattle.store_tables.specs.declared.names.Table.TheVariants.{Members, Events, EventRules, Challenges, Moves, Games}
 use Rattle.store_tables.specs.declared.names.Table.TheVariants.{Seen, Scores, Meta}
@@ -14,3 +14,31 @@ table_name Games = codes "games"
 table_name Seen = codes "seen"
 table_name Scores = codes "scores"
 table_name Meta = codes "meta"
+
+-- the tables in the order in which they are made
+abbrev pub in_order : List Table
+in_order = Meta ∷ Members ∷ Events ∷ Challenges ∷ Moves ∷ Games ∷ Seen ∷ Scores ∷ EventRules ∷ []
+
+-- how many tables are made before it
+abbrev pub place_of : Table → ℕ
+place_of Meta = 0
+place_of Members = 1
+place_of Events = 2
+place_of Challenges = 3
+place_of Moves = 4
+place_of Games = 5
+place_of Seen = 6
+place_of Scores = 7
+place_of EventRules = 8
+
+-- The number of its tree. The indexes of a table have the trees that follow it.
+abbrev pub tree_of : Table → ℕ
+tree_of Meta = 0
+tree_of Members = 1
+tree_of Events = 4
+tree_of Challenges = 6
+tree_of Moves = 8
+tree_of Games = 10
+tree_of Seen = 12
+tree_of Scores = 14
+tree_of EventRules = 16

@@ -2,6 +2,7 @@
 use Rattle.std.specs.Prelude.{◌≡◌, ℕ, ℤ, ◌-◌, Bool, true, false, List, [], ◌∷◌, Some, Ok, Err, slice_get}
 use Rattle.std.specs.List.{list_all}
 use Rattle.std.specs.declared.cmp.Ordering.{Ordering}
+use Rattle.std.specs.declared.cmp.Ordering.TheVariants.{Equal}
 use Rattle.sqlite_ast.specs.declared.Statement.{Statement}
 use Rattle.sqlite_ast.specs.declared.Statement.TheVariants as written
 use Rattle.sqlite_syntax.specs.declared.statement.Parsed.{Parsed}
@@ -23,6 +24,11 @@ use Rattle.sqlite_trees.specs.Tree.{rowid}
 use Rattle.store_tables.specs.Content.{cells, same_key}
 use Rattle.store_tables.specs.Put.{selects}
 use Rattle.store_tables.specs.Reading.{by_columns, rising}
+use Rattle.store_tables.specs.Beside.{Others, beside}
+use Rattle.store_tables.specs.Names.{place_of}
+use Rattle.store_tables.specs.Tables.{club_schema, standing}
+use Rattle.store_tables.specs.Texts.{all_text, ids_text, by_first_text, question_text}
+use Rattle.store_tables.specs.declared.names.Table as of_club
 
 -- ---- by the grammar alone
 
@@ -73,22 +79,33 @@ pub record Finds (schema : Schema) (table : Table) (place : ℕ) (key : List ℕ
       (output (selects table.tree filter project order) (params ∷ s ∷ []))
       ≡ cmp (eval_all project (params ∷ r ∷ [])) (eval_all project (params ∷ s ∷ []))
 
+-- The text of a question by these columns finds the rows of a club that have the wanted values in them, beside whatever
+-- stands there.
+pub record AsksBeside (others : Others) (table : of_club.Table) (key : List ℕ) (wanted params : Row) : Type 0 where
+  pub is_select : IsSelect (question_text (standing table) key)
+  pub finds : Finds (beside club_schema others) (standing table) (place_of table) key wanted params
+      (question_text (standing table) key) (λ x y. Equal)
+
+abbrev pub Asks : of_club.Table → List ℕ → Row → Row → Type 0
+Asks table key wanted params = (others : Others) → AsksBeside others table key wanted params
+
 -- the order of a key of so many columns, among rows whose first column is the same
 abbrev pub by_others : ℕ → Row → Row → Ordering
 by_others width = key_cmp 1 (rising (width - 1))
 
 -- One text shows all rows of the table in the order of its key, one the rowids in their order, and one the rows whose
 -- first column has a given number.
-pub record AreShownBy (schema : Schema) (table : Table) (width : ℕ) (all ids group : List ℕ) : Type 0 where
+pub record AreShownBy (schema : Schema) (table : Table) (width : ℕ) : Type 0 where
   pub place : ℕ
   pub at : slice_get schema.tables place ≡ Some table
   pub columns : List Term
-  pub rows : Selects schema table.tree width all columns
+  pub rows : Selects schema table.tree width (all_text table) columns
   pub whole : (r : Row) → eval_all columns ([] ∷ r ∷ []) ≡ cells table r
   pub firsts : List Term
-  pub numbers : Selects schema table.tree 1 ids firsts
+  pub numbers : Selects schema table.tree 1 (ids_text table) firsts
   pub first : (r : Row) → eval_all firsts ([] ∷ r ∷ []) ≡ rowid r ∷ []
-  pub some : (n : ℤ) → Finds schema table place (0 ∷ []) (Int n ∷ []) (Int n ∷ []) group (by_others width)
-  pub all_is : IsSelect all
-  pub ids_is : IsSelect ids
-  pub group_is : IsSelect group
+  pub some : (n : ℤ) → Finds schema table place (0 ∷ []) (Int n ∷ []) (Int n ∷ []) (by_first_text table)
+      (by_others width)
+  pub all_is : IsSelect (all_text table)
+  pub ids_is : IsSelect (ids_text table)
+  pub group_is : IsSelect (by_first_text table)

@@ -12,6 +12,9 @@ use Rattle.sqlite_value.specs.Keys.{plain}
 use Rattle.sqlite.specs.Schema.{Schema}
 use Rattle.sqlite.specs.Kind.TheVariants.{Integer, Text}
 use Rattle.sqlite_catalog.specs.Change.{automatics}
+use Rattle.store_tables.specs.Names.{in_order, tree_of}
+use Rattle.store_tables.specs.declared.names.Table as of_club
+use Rattle.store_tables.specs.declared.names.Table.TheVariants as variant
 use Rattle.store_tables.specs.declared.names.Version.{Version}
 use Rattle.store_tables.specs.declared.names.Version.TheVariants.{First, Current}
 
@@ -97,8 +100,24 @@ abbrev pub event_rules : ℕ → Table
 event_rules tree = table_of (codes "event_rules") tree
     (column_of (codes "event") Integer false ∷ column_of (codes "declares") Integer true ∷ []) (Some 0) (0 ∷ []) []
 
+-- a table of the club, with this tree
+abbrev pub made_as : of_club.Table → ℕ → Table
+made_as variant.Meta = meta
+made_as variant.Members = members
+made_as variant.Events = events
+made_as variant.Challenges = challenges
+made_as variant.Moves = moves
+made_as variant.Games = games
+made_as variant.Seen = seen
+made_as variant.Scores = scores
+made_as variant.EventRules = event_rules
+
+-- as it stands in a club
+abbrev pub standing : of_club.Table → Table
+standing table = made_as table (tree_of table)
+
 abbrev pub tables : List Table
-tables = meta 0 ∷ members 1 ∷ events 4 ∷ challenges 6 ∷ moves 8 ∷ games 10 ∷ seen 12 ∷ scores 14 ∷ event_rules 16 ∷ []
+tables = map standing in_order
 
 abbrev pub indexes_of : Table → List Index
 indexes_of table = automatics table 0 (table.tree + 1) table.uniques

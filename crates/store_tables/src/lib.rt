@@ -1,11 +1,11 @@
 //! The tables of a club: their rows as types, and what their texts of SQL mean.
 #![tactic(auto)]
 
-pub mod creates;
 mod ids;
 mod names;
 mod parse;
 mod rows;
+mod texts;
 
 pub use ids::check_ids;
 pub use names::{Table, Version};

@@ -29,6 +29,19 @@ impl Table {
     ghost use Rattle.std.specs.Prelude.{◌≡◌};
     ghost use Rattle.store_tables.specs.Names.{table_name};
 
+    /// The tables in the order in which they are made. Schema 1 has all but the last.
+    pub const ALL: [Table; 9] = [
+        Table::Meta,
+        Table::Members,
+        Table::Events,
+        Table::Challenges,
+        Table::Moves,
+        Table::Games,
+        Table::Seen,
+        Table::Scores,
+        Table::EventRules,
+    ];
+
     /// The table's name.
     pub fn name(self) -> &'static str
         ensures { result.now ≡ table_name self }

@@ -1,11 +1,13 @@
 -- Whether the tables of a database answer as those of a club, which another program may have made by other texts: what
 -- would change an answer counts, and nothing else.
-use Rattle.std.specs.Prelude.{◌==◌, ◌&&◌, Bool, length}
-use Rattle.std.specs.List.{list_any}
+use Rattle.std.specs.Prelude.{◌==◌, ◌&&◌, Bool, List, length, take}
+use Rattle.std.specs.List.{list_all, list_any}
 use Rattle.sqlite_schema.specs.declared.schema.Schema.{Schema}
 use Rattle.sqlite_schema.specs.declared.schema.Table.{Table}
 use Rattle.sqlite_schema.specs.Names.{same_name}
-use Rattle.store_tables.specs.Tables.{challenges, events, event_rules, games, members, meta, moves, scores, seen}
+use Rattle.store_tables.specs.Names.{in_order}
+use Rattle.store_tables.specs.Tables.{event_rules, made_as}
+use Rattle.store_tables.specs.declared.names.Table as of_club
 use Rattle.store_tables.specs.declared.names.Version.{Version}
 use Rattle.store_tables.specs.declared.names.Version.TheVariants.{First, Current}
 use Rattle.table_shapes.specs.Columns.{key_name, has_columns_as}
@@ -26,21 +28,13 @@ answers_as schema ours theirs =
 abbrev pub has_table : Schema → Table → Bool
 has_table schema ours = list_any (answers_as schema ours) schema.tables
 
--- what is in a club but its games
-abbrev pub have_first : Schema → Bool
-have_first schema =
-    has_table schema (meta 0) && has_table schema (members 0) && has_table schema (events 0)
-    && has_table schema (challenges 0)
-
--- its games
-abbrev pub have_last : Schema → Bool
-have_last schema =
-    has_table schema (moves 0) && has_table schema (games 0) && has_table schema (seen 0)
-    && has_table schema (scores 0)
+-- each of these tables of a club stands in the schema, or one that answers as it
+abbrev pub have_tables : Schema → List of_club.Table → Bool
+have_tables schema tables = list_all (λ table. has_table schema (made_as table 0)) tables
 
 -- the tables that each version has
 abbrev pub have_both : Schema → Bool
-have_both schema = have_first schema && have_last schema
+have_both schema = have_tables schema (take 8 in_order)
 
 -- each table of a club of this version stands in the schema, or one that answers as it, beside whatever further ones
 abbrev pub is_of_club : Version → Schema → Bool

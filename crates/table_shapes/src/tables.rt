@@ -4,7 +4,7 @@ ghost use Rattle.std.specs.Prelude.{◌≡◌, ◌==◌, ◌&&◌, Ok, IfOk, len
 ghost use Rattle.sqlite.specs.Held.{state};
 ghost use Rattle.sqlite.specs.Compile.{table_defined_by};
 ghost use Rattle.sqlite_schema.specs.declared.schema.Table as made;
-ghost use Rattle.store_tables.specs.Tables.{event_rules};
+ghost use Rattle.store_tables.specs.Tables.{event_rules, made_as};
 ghost use Rattle.store_tables.specs.declared.names.Version.{Version};
 ghost use Rattle.table_shapes.specs.Shapes as spec;
 ghost use Rattle.table_shapes.specs.TableVersions.{has_version};
@@ -18,10 +18,6 @@ use sqlite_schema::names::same_name;
 use sqlite_schema::schema::{Schema, Table};
 use std::alloc::{AllocError, Global};
 use store_tables::Version;
-use store_tables::creates::{
-    CREATE_CHALLENGES, CREATE_EVENT_RULES, CREATE_EVENTS, CREATE_GAMES, CREATE_MEMBERS,
-    CREATE_META, CREATE_MOVES, CREATE_SCORES, CREATE_SEEN,
-};
 
 /// Whether no rule is stated by the terms.
 fn are_none(alloc: Global, terms: &Terms) -> Result<bool, AllocError>
@@ -70,7 +66,7 @@ fn has_table(alloc: Global, schema: &Schema, ours: &Table) -> Result<bool, Alloc
 }
 
 /// Whether the table that this text of ours makes stands in the schema, or one that answers as it.
-fn stands(alloc: Global, schema: &Schema, sql: &str) -> Result<bool, AllocError>
+fn made_stands(alloc: Global, schema: &Schema, sql: &str) -> Result<bool, AllocError>
     ensures { IfOk result (λ stands. (ours : made.Table) → table_defined_by sql.now ≡ Ok ours →
         stands ≡ spec.has_table schema.now ours) }
 {
@@ -81,53 +77,27 @@ fn stands(alloc: Global, schema: &Schema, sql: &str) -> Result<bool, AllocError>
     has_table(alloc, schema, &ours)
 }
 
-/// Whether the tables of what is in a club but its games stand there.
-fn first_stand(alloc: Global, schema: &Schema) -> Result<bool, AllocError>
-    ensures { IfOk result (λ stand. stand ≡ spec.have_first schema.now) }
+/// Whether this table of a club stands in the schema, or one that answers as it.
+fn stands(alloc: Global, schema: &Schema, table: store_tables::Table) -> Result<bool, AllocError>
+    ensures { IfOk result (λ stands. stands ≡ spec.has_table schema.now (made_as table 0)) }
 {
-    if !stands(alloc, schema, CREATE_META)? {
-        return Ok(false);
-    }
-    if !stands(alloc, schema, CREATE_MEMBERS)? {
-        return Ok(false);
-    }
-    if !stands(alloc, schema, CREATE_EVENTS)? {
-        return Ok(false);
-    }
-    stands(alloc, schema, CREATE_CHALLENGES)
+    made_stands(alloc, schema, table.create())
 }
 
-/// Whether the tables of games stand there.
-fn last_stand(alloc: Global, schema: &Schema) -> Result<bool, AllocError>
-    ensures { IfOk result (λ stand. stand ≡ spec.have_last schema.now) }
+/// Whether each of these tables stands there.
+fn all_stand(
+    alloc: Global,
+    schema: &Schema,
+    tables: &[store_tables::Table],
+) -> Result<bool, AllocError>
+    ensures { IfOk result (λ stand. stand ≡ spec.have_tables schema.now tables.now) }
 {
-    if !stands(alloc, schema, CREATE_MOVES)? {
-        return Ok(false);
+    for table in tables {
+        if !stands(alloc, schema, *table)? {
+            return Ok(false);
+        }
     }
-    if !stands(alloc, schema, CREATE_GAMES)? {
-        return Ok(false);
-    }
-    if !stands(alloc, schema, CREATE_SEEN)? {
-        return Ok(false);
-    }
-    stands(alloc, schema, CREATE_SCORES)
-}
-
-/// Whether the tables stand there that each version has.
-fn both_stand(alloc: Global, schema: &Schema) -> Result<bool, AllocError>
-    ensures { IfOk result (λ stand. stand ≡ spec.have_both schema.now) }
-{
-    if !first_stand(alloc, schema)? {
-        return Ok(false);
-    }
-    last_stand(alloc, schema)
-}
-
-/// Whether the table of the rules of events stands there.
-fn rules_stand(alloc: Global, schema: &Schema) -> Result<bool, AllocError>
-    ensures { IfOk result (λ stand. stand ≡ spec.has_table schema.now (event_rules 0)) }
-{
-    stands(alloc, schema, CREATE_EVENT_RULES)
+    Ok(true)
 }
 
 /// The versions of a club for which the tables of a database may be taken.
@@ -157,8 +127,8 @@ fn versions_in(alloc: Global, schema: &Schema) -> Result<Versions, AllocError>
     ensures current { IfOk result (λ found. found.current ≡
         (spec.have_both schema.now && spec.has_table schema.now (event_rules 0))) }
 {
-    let first = both_stand(alloc, schema)?;
-    let rules = rules_stand(alloc, schema)?;
+    let first = all_stand(alloc, schema, &store_tables::Table::ALL[..8])?;
+    let rules = stands(alloc, schema, store_tables::Table::EventRules)?;
     Ok(Versions {
         first,
         current: first && rules,

@@ -22,12 +22,10 @@ returns-in-Ok-clause-rows g c clean =
     search rules in
     IfOk-weaker c.parsed.result (λ found. c.in-Ok.shown.items ≡ map g.T.TableRow.cells found.items) _
     (λ found shows id content k places.
-    let rows = club_rows g.T.Select.club g.T.Select.table g.T.Select.width g.T.Select.all_text g.T.Select.ids_text
-    g.T.Select.by_first_text g.met.T.Select.read (g.met.T.Select.current club_schema (no_others, refl)) content
+    let rows = club_rows g.T.Select.club g.T.Select.table g.T.Select.width g.met.T.Select.read g.met.T.Select.current content
     (state g.S.Store c.args.conn.now) k in
     let here = g.met.T.Select.current k.0 k.2 in
-    let is = shown_at g.T.Select.club g.T.Select.table g.T.Select.width g.T.Select.all_text g.T.Select.ids_text
-    g.T.Select.by_first_text g.met.T.Select.read k.0 here in
+    let is = shown_at g.T.Select.club g.T.Select.table g.T.Select.width g.met.T.Select.read k.0 here in
     sym shows ∙ told_rows k.0 g.T.Select.table g.T.Select.width is.place is.at (g.met.T.Select.numbered id).0
     (g.met.T.Select.numbered id).1 k.1 old new c.in-Ok.shown.items k.4
     (c.in-Ok.ensures.rows clean (subst (IsBeside g.T.Select.club) (sym k.4.now.schema) here)) (subst BeginWithPlaces
@@ -41,12 +39,10 @@ returns-in-Ok-clause-same g c clean =
     search rules in
     IfOk-weaker c.parsed.result (λ found. c.in-Ok.shown.items ≡ map g.T.TableRow.cells found.items) _
     (λ found shows content k.
-    let rows = club_rows g.T.Select.club g.T.Select.table g.T.Select.width g.T.Select.all_text g.T.Select.ids_text
-    g.T.Select.by_first_text g.met.T.Select.read (g.met.T.Select.current club_schema (no_others, refl)) content
+    let rows = club_rows g.T.Select.club g.T.Select.table g.T.Select.width g.met.T.Select.read g.met.T.Select.current content
     (state g.S.Store c.args.conn.now) k in
     let here = g.met.T.Select.current k.0 k.2 in
-    let is = shown_at g.T.Select.club g.T.Select.table g.T.Select.width g.T.Select.all_text g.T.Select.ids_text
-    g.T.Select.by_first_text g.met.T.Select.read k.0 here in
+    let is = shown_at g.T.Select.club g.T.Select.table g.T.Select.width g.met.T.Select.read k.0 here in
     subst₂ HaveSame shows rows
     (same_rows k.0 g.T.Select.table g.T.Select.width is.place is.at k.1 old new c.in-Ok.shown.items k.4
     (c.in-Ok.ensures.rows clean (subst (IsBeside g.T.Select.club) (sym k.4.now.schema) here)))) have

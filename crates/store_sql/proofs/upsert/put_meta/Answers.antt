@@ -1,4 +1,4 @@
-use Rattle.std.proofs.Common.{rules, refl}
+use Rattle.std.proofs.Common.{rules}
 use Rattle.sqlite.specs.Held.{state}
 use Rattle.store_tables.proofs.Proved.{meta_put_of}
 use Rattle.store_sql.proofs.CreateLemmas.{put_known}
@@ -7,10 +7,10 @@ use Rattle.store_sql.proofs.upsert.put_meta.Goals as goal
 pub returns-in-Ok-clause-put : goal.returns-in-Ok-clause-put
 returns-in-Ok-clause-put g c clean inside =
     meta_put_of c.args.row.now _ _ (state g.S.Store c.args.tx.now.conn.now)
-    (state g.S.Store c.execute.new.self.conn.now) c.in-Ok.field-0 refl (search rules)
+    (state g.S.Store c.execute.new.self.conn.now) c.in-Ok.field-0 c.put.ensures (search rules)
     (rw c.in-Ok.is at c.execute.ensures.runs clean inside)
 
 pub returns-in-Err-clause-known : goal.returns-in-Err-clause-known
 returns-in-Err-clause-known g c clean inside has =
-    put_known _ _ (state g.S.Store c.args.tx.now.conn.now) (state g.S.Store c.execute.new.self.conn.now) refl has
+    put_known _ _ (state g.S.Store c.args.tx.now.conn.now) (state g.S.Store c.execute.new.self.conn.now) c.put.ensures has
     c.in-Err.error (rw c.in-Err.is at c.execute.ensures.runs clean inside)

@@ -1,4 +1,4 @@
-use Rattle.std.proofs.Common.{arith, refl, ◌∙◌}
+use Rattle.std.proofs.Common.{arith, ◌∙◌}
 use Rattle.sqlite.specs.Held.{state}
 use Rattle.store_tables.specs.Tables.{club_schema}
 use Rattle.store_tables.proofs.Proved.{takes_itself, widens}
@@ -9,7 +9,7 @@ returns-clause-widened g c clean inside =
     let a = state g.S.Store c.args.tx.now.conn.now in
     let b = state g.S.Store c.make.new.tx.conn.now in
     let one =
-    widens a b _ refl
+    widens a b _ c.create.ensures
     (c.in_ok-make.ensures.ran (omega (arith, c.put_all.ensures.survives.clean, c.put.ensures.survives.clean)) inside)
     in
     let two = c.in_ok-put_all.ensures.put (omega (arith, c.put.ensures.survives.clean)) one.inside in

@@ -1,36 +1,18 @@
-use Rattle.std.proofs.Common.{[], ◌∷◌, rules, Equal, refl, subst}
-use Rattle.std.proofs.lemmas.Result.{IfOk-weaker}
+use Rattle.std.proofs.Common.{[], ◌∷◌, rules}
 use Rattle.sqlite.specs.Held.{state}
-use Rattle.sqlite.specs.Order.{Row}
-use Rattle.sqlite.specs.declared.types.Value.TheVariants.{Null, Text}
-use Rattle.store_tables.specs.Tables.{club_schema, games}
-use Rattle.store_tables.specs.Texts.{games_by_key}
-use Rattle.store_tables.specs.Contents.{AreThose}
-use Rattle.store_tables.specs.Queries.{Finds}
-use Rattle.store_tables.proofs.Proved.{at_schema, rows_of}
-use Rattle.store_tables.proofs.Proved.{finds, survives_given, shown_given, games_by_key_finds}
-use Rattle.store_tables.proofs.Proved.{games_by_key_select}
-use Rattle.store_sql.proofs.SelectLemmas.{select_reads}
+use Rattle.store_tables.specs.declared.names.Table.TheVariants.{Games}
+use Rattle.store_tables.proofs.Proved.{games_by_key_asks}
+use Rattle.store_sql.proofs.SelectLemmas.{question_reads, question_rows}
 use Rattle.store_sql.proofs.keys.GameKeyQuestion.show.Goals as goal
 
 pub returns-clause-reads : goal.returns-clause-reads
 returns-clause-reads g c =
-    select_reads games_by_key games_by_key_select _ (state g.S.Store c.args.conn.now)
-    (state g.S.Store c.query_all.new.self) (λ rows. rows.items) c.query_all.result c.query_all.ensures.mode
-    c.query_all.ensures.survives c.query_all.ensures.ok c.query_all.ensures.err
+    question_reads Games (1 ∷ []) _ _ (games_by_key_asks c.args.self.now.key.now) _ (search rules)
+    (state g.S.Store c.args.conn.now) (state g.S.Store c.query_all.new.self) (λ rows. rows.items) c.query_all.result
+    c.query_all.ensures.mode c.query_all.ensures.survives c.query_all.ensures.ok c.query_all.ensures.err
 
 pub returns-clause-rows : goal.returns-clause-rows
 returns-clause-rows g c clean =
-    let wanted : Row = Null ∷ Text c.args.self.now.key.now ∷ [] in
-    let given : Row = Text c.args.self.now.key.now ∷ [] in
-    IfOk-weaker c.query_all.result _ _ (λ rows shown content k.
-    subst (λ l. AreThose (1 ∷ []) wanted l rows.items)
-    (rows_of content (state g.S.Store c.args.conn.now) k 5 (games 10) refl)
-    (finds k.0 (games 10) 5 (1 ∷ []) wanted given games_by_key (λ x y. Equal)
-    (at_schema club_schema (λ s. Finds s (games 10) 5 (1 ∷ []) wanted given games_by_key (λ x y. Equal))
-    (λ others. games_by_key_finds others c.args.self.now.key.now) k.0 k.2) (state g.S.Store c.args.conn.now)
-    (state g.S.Store c.query_all.new.self) rows.items
-    (survives_given games_by_key _ given (state g.S.Store c.args.conn.now) (state g.S.Store c.query_all.new.self)
-    (search rules) c.query_all.ensures.survives) clean
-    (shown_given games_by_key _ given (state g.S.Store c.args.conn.now) (state g.S.Store c.query_all.new.self)
-    rows.items (search rules) shown) k.1 k.4).0) (c.query_all.ensures.ok clean)
+    question_rows Games (1 ∷ []) _ _ (games_by_key_asks c.args.self.now.key.now) _ (search rules)
+    (state g.S.Store c.args.conn.now) (state g.S.Store c.query_all.new.self) (λ rows. rows.items) c.query_all.result
+    c.query_all.ensures.survives clean (c.query_all.ensures.ok clean)

@@ -1,37 +1,18 @@
-use Rattle.std.proofs.Common.{[], ◌∷◌, rules, Equal, refl, subst}
-use Rattle.std.proofs.lemmas.Result.{IfOk-weaker}
+use Rattle.std.proofs.Common.{[], ◌∷◌, rules}
 use Rattle.sqlite.specs.Held.{state}
-use Rattle.sqlite.specs.Order.{Row}
-use Rattle.sqlite.specs.declared.types.Value.TheVariants.{Int}
-use Rattle.store_tables.specs.Tables.{club_schema, moves}
-use Rattle.store_tables.specs.Texts.{moves_by_ply}
-use Rattle.store_tables.specs.Contents.{AreThose}
-use Rattle.store_tables.specs.Queries.{Finds}
-use Rattle.store_tables.proofs.Proved.{at_schema, rows_of}
-use Rattle.store_tables.proofs.Proved.{finds, survives_given, shown_given, moves_by_ply_finds}
-use Rattle.store_tables.proofs.Proved.{moves_by_ply_select}
-use Rattle.store_sql.proofs.SelectLemmas.{select_reads}
+use Rattle.store_tables.specs.declared.names.Table.TheVariants.{Moves}
+use Rattle.store_tables.proofs.Proved.{moves_by_ply_asks}
+use Rattle.store_sql.proofs.SelectLemmas.{question_reads, question_rows}
 use Rattle.store_sql.proofs.keys.MovePlyQuestion.show.Goals as goal
 
 pub returns-clause-reads : goal.returns-clause-reads
 returns-clause-reads g c =
-    select_reads moves_by_ply moves_by_ply_select _ (state g.S.Store c.args.conn.now)
-    (state g.S.Store c.query_all.new.self) (λ rows. rows.items) c.query_all.result c.query_all.ensures.mode
-    c.query_all.ensures.survives c.query_all.ensures.ok c.query_all.ensures.err
+    question_reads Moves (0 ∷ 1 ∷ []) _ _ (moves_by_ply_asks c.args.self.now.game c.args.self.now.ply) _ (search rules)
+    (state g.S.Store c.args.conn.now) (state g.S.Store c.query_all.new.self) (λ rows. rows.items) c.query_all.result
+    c.query_all.ensures.mode c.query_all.ensures.survives c.query_all.ensures.ok c.query_all.ensures.err
 
 pub returns-clause-rows : goal.returns-clause-rows
 returns-clause-rows g c clean =
-    let wanted : Row = Int c.args.self.now.game ∷ Int c.args.self.now.ply ∷ [] in
-    let given : Row = Int c.args.self.now.game ∷ Int c.args.self.now.ply ∷ [] in
-    IfOk-weaker c.query_all.result _ _ (λ rows shown content k.
-    subst (λ l. AreThose (0 ∷ 1 ∷ []) wanted l rows.items)
-    (rows_of content (state g.S.Store c.args.conn.now) k 4 (moves 8) refl)
-    (finds k.0 (moves 8) 4 (0 ∷ 1 ∷ []) wanted given moves_by_ply (λ x y. Equal)
-    (at_schema club_schema (λ s. Finds s (moves 8) 4 (0 ∷ 1 ∷ []) wanted given moves_by_ply (λ x y. Equal))
-    (λ others. moves_by_ply_finds others c.args.self.now.game c.args.self.now.ply) k.0 k.2)
-    (state g.S.Store c.args.conn.now)
-    (state g.S.Store c.query_all.new.self) rows.items
-    (survives_given moves_by_ply _ given (state g.S.Store c.args.conn.now) (state g.S.Store c.query_all.new.self)
-    (search rules) c.query_all.ensures.survives) clean
-    (shown_given moves_by_ply _ given (state g.S.Store c.args.conn.now) (state g.S.Store c.query_all.new.self)
-    rows.items (search rules) shown) k.1 k.4).0) (c.query_all.ensures.ok clean)
+    question_rows Moves (0 ∷ 1 ∷ []) _ _ (moves_by_ply_asks c.args.self.now.game c.args.self.now.ply) _ (search rules)
+    (state g.S.Store c.args.conn.now) (state g.S.Store c.query_all.new.self) (λ rows. rows.items) c.query_all.result
+    c.query_all.ensures.survives clean (c.query_all.ensures.ok clean)

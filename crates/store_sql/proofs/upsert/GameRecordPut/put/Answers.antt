@@ -8,7 +8,7 @@ pub returns-clause-put : goal.returns-clause-put
 returns-clause-put g c clean inside =
     let row = c.args.self.now in
     game_put_of row _ _ (state g.S.Store c.args.tx.now.conn.now) (state g.S.Store c.execute.new.self.conn.now)
-    c.in_ok-execute.field-0 refl
+    c.in_ok-execute.field-0 c.put.ensures
     (cons_is (search rules)
     (cons_is (let plain = maybe_text string_bytes row.key in search rules)
     (cons_is (search rules)

@@ -1,4 +1,4 @@
-use Rattle.std.proofs.Common.{rules, refl}
+use Rattle.std.proofs.Common.{rules}
 use Rattle.sqlite.specs.Held.{state}
 use Rattle.store_tables.proofs.Proved.{member_put_of}
 use Rattle.store_sql.proofs.upsert.MemberRowPut.put.Goals as goal
@@ -6,5 +6,5 @@ use Rattle.store_sql.proofs.upsert.MemberRowPut.put.Goals as goal
 pub returns-clause-put : goal.returns-clause-put
 returns-clause-put g c clean inside =
     member_put_of c.args.self.now _ _ (state g.S.Store c.args.tx.now.conn.now)
-    (state g.S.Store c.execute.new.self.conn.now) c.in_ok-execute.field-0 refl (search rules)
+    (state g.S.Store c.execute.new.self.conn.now) c.in_ok-execute.field-0 c.put.ensures (search rules)
     (c.in_ok-execute.ensures.runs clean inside)
