@@ -1,14 +1,13 @@
--- What sessions led to, over a connection that was only read.
+-- What sessions led to, and what stands where they led.
 use Rattle.std.proofs.Common.{List, [], ◌++◌, append-nil, sym, subst, inl}
 use Rattle.sqlite.specs.Tree.{Trees}
 use Rattle.sqlite.specs.State.{State}
 use Rattle.store_tables.specs.Beside.{IsBeside}
 use Rattle.store_tables.specs.Over.{Neighbours}
-use Rattle.store_tables.specs.Reading.{KeepsContent}
 use Rattle.store_tables.specs.Tables.{first_schema}
 use Rattle.store_tables.specs.declared.names.Version.{Version}
 use Rattle.store_tables.specs.declared.names.Version.TheVariants.{First, Current}
-use Rattle.store_tables.proofs.Proved.{first_of_club, first_within, still_beside}
+use Rattle.store_tables.proofs.Proved.{first_of_club, first_within, leaves_beside}
 use Rattle.club_rows.specs.Club.{ClubState, tables}
 use Rattle.club_rows.specs.FirstSchema.{IsFirstClub}
 use Rattle.club_opening.specs.Versions.{IsExactlyClub}
@@ -19,15 +18,15 @@ pub led_still : (them : Neighbours) (sessions : List Chapter) (db : Trees) → I
     → IsReachable them (sessions ++ []) db
 led_still them sessions db led = subst (λ xs. IsReachable them xs db) (sym (append-nil sessions)) led
 
--- where the tables stayed as they were
-pub stands_still : (them : Neighbours) (sessions : List Chapter) (old new : State) → KeepsContent old new
-    → IsHistory them sessions old → IsHistory them sessions new
-stands_still them sessions old new kept at = record {
+-- what a stop leaves of tables that sessions led to is what they led to
+pub left_led : (them : Neighbours) (sessions : List Chapter) (s : State) → IsHistory them sessions s
+    → (db : Trees) → s.may_leave db → IsReachable them sessions db
+left_led them sessions s at db left = record {
   from = at.from;
-  after = at.after;
+  after = record { version = Current; state = at.after };
   legal = at.legal;
   leads = at.leads;
-  exactly = still_beside old new kept them (tables at.after) at.exactly;
+  leaves = leaves_beside them (tables at.after) s at.exactly db left;
 }
 
 -- tables that are not those of schema 1 stand where the sessions lead in schema 2

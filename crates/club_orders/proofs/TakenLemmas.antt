@@ -5,7 +5,7 @@ use Rattle.sqlite.specs.State.{State}
 use Rattle.store_tables.specs.Beside.{HasRows, IsBeside}
 use Rattle.store_tables.specs.Contents as of_schema
 use Rattle.store_tables.specs.Contents.{Content}
-use Rattle.store_tables.specs.Over.{Neighbours, IsBesideThem}
+use Rattle.store_tables.specs.Over.{IsBesideThem}
 use Rattle.store_tables.specs.Reading.{KeepsContent}
 use Rattle.store_tables.specs.Tables.{club_schema}
 use Rattle.store_tables.specs.declared.names.Version.TheVariants.{First, Current}
@@ -20,45 +20,12 @@ use Rattle.club_orders.specs.declared.report.Report.{Report}
 use Rattle.club_orders.specs.declared.report.Report.TheVariants.{Unopened}
 use Rattle.club_orders.specs.Report.{IfTaken}
 use Rattle.store.specs.Histories.{HasState}
+use Rattle.store.proofs.Proved.{holds_beside}
 
 -- what a later opening would find the connection holds exactly
 abbrev pub IsExact : State → Type 0
 IsExact s = (schema : Schema) (content : Content) → of_schema.Leaves schema content s.committed.trees
     → of_schema.IsExactly schema content s
-
-held_rows : (them : Neighbours) (content : Content) (s : State) → IsBesideThem them content s
-    → HoldsRows Current content s.now
-held_rows them content s at =
-    let t = at.exactly.now.tables in
-    record {
-      schema = (them.made, at.exactly.now.schema);
-      sound = at.exactly.now.sound;
-      tables = (
-        record { rows = t.0.rows; apart = t.0.apart },
-        (
-          record { rows = t.1.0.rows; apart = t.1.0.apart },
-          (
-            record { rows = t.1.1.0.rows; apart = t.1.1.0.apart },
-            (
-              record { rows = t.1.1.1.0.rows; apart = t.1.1.1.0.apart },
-              (
-                record { rows = t.1.1.1.1.0.rows; apart = t.1.1.1.1.0.apart },
-                (
-                  record { rows = t.1.1.1.1.1.0.rows; apart = t.1.1.1.1.1.0.apart },
-                  (
-                    record { rows = t.1.1.1.1.1.1.0.rows; apart = t.1.1.1.1.1.1.0.apart },
-                    (
-                      record { rows = t.1.1.1.1.1.1.1.0.rows; apart = t.1.1.1.1.1.1.1.0.apart },
-                      (record { rows = t.1.1.1.1.1.1.1.1.0.rows; apart = t.1.1.1.1.1.1.1.1.0.apart }, tt),
-                    ),
-                  ),
-                ),
-              ),
-            ),
-          ),
-        ),
-      );
-    }
 
 module _ (club : ClubState) (s : State) (exact : IsExact s) (has : HasState club s.committed.trees) where
   pub stands_beside : IsBesideThem has.them (tables club) s
@@ -69,7 +36,7 @@ module _ (club : ClubState) (s : State) (exact : IsExact s) (has : HasState club
       → (HoldsRows Current (tables club) s.now → is_of_club Current s.now.schema ≡ true → P) → P
   is_taken P takes =
       let at = stands_beside in
-      takes (held_rows has.them (tables club) s at) (ap (is_of_club Current) at.exactly.now.schema ∙ has.shape)
+      takes (holds_beside has.them (tables club) s at) (ap (is_of_club Current) at.exactly.now.schema ∙ has.shape)
 
   pub stand_beside : IsBeside club_schema s.now.schema
   stand_beside = (has.them.made, stands_beside.exactly.now.schema)

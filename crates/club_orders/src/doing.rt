@@ -1,6 +1,6 @@
 //! What an order does over a connection.
 
-ghost use Rattle.std.specs.Prelude.{◌≡◌, ◌≢◌, ◌≤◌, ◌⊎◌, ◌++◌, ◌∷◌, [], false, true, ⊤};
+ghost use Rattle.std.specs.Prelude.{◌≡◌, ◌≢◌, ◌≤◌, ◌++◌, ◌∷◌, [], false, true, refl, ⊤};
 ghost use Rattle.sqlite.specs.State.{HasCleanDisk, Opens, IsLive};
 ghost use Rattle.sqlite.specs.Held.{state};
 ghost use Rattle.sqlite_trees.specs.View.{doubt};
@@ -22,19 +22,18 @@ ghost use Rattle.club_opening.specs.Refused.{HoldClub, IsKept, IsRefusal};
 ghost use Rattle.club_opening.specs.Versions.{HasClubTables};
 ghost use Rattle.club_orders.specs.Refused.{HasFirst, IfTakesOver, IfUpgrade, IsOlder, IsUpgradeRefusal};
 
-use crate::batch::give_batch;
 use crate::report::Report;
-use crate::taking::take_over;
+use crate::taking::{ClubTask, do_in_club, take_over};
 use clocks::Moment;
 use club_questions::Question;
 use club_requests::{Command, Outcome, Refusal, Who};
 use club_words::Task;
 use sqlite::{Alter, Connection};
 use std::alloc::Global;
-use std::io::Write;
+use std::io::{Write, sink};
 use store::{
-    AskFault, OpenFault, Upgrade, create, holds_exactly, holds_nothing, holds_what_sessions_left,
-    leaves_what_sessions_left, upgrade,
+    AskFault, Club, OpenFault, Upgrade, create, holds_exactly, holds_nothing,
+    holds_what_sessions_left, leaves_what_sessions_left, upgrade,
 };
 
 // Makes the tables of a club.
@@ -66,41 +65,28 @@ fn init<S: Alter>(alloc: Global, conn: Connection<S>) -> (Report, Connection<S>)
     }
 }
 
-// Gives the club a command of the officer's.
-fn request<S: Alter>(
-    alloc: Global,
-    conn: Connection<S>,
-    command: &Command,
-    moment: Moment,
-) -> (Report, Connection<S>)
-    requires { conn.in_transaction ≡ false }
-    ensures idle { result.1.in_transaction ≡ false }
-    ensures clean { doubt (state S.Store conn).is_clean ≤ doubt (state S.Store result.1).is_clean }
-    ensures answer { HasCleanDisk (state S.Store result.1) → Opens (state S.Store conn) → IsLive (state S.Store conn) →
-        (s : ClubState) → IsClub s → HasState s (state S.Store conn).committed.trees →
-        Answers result.0 (λ outcome. outcome_of outcome ≡ answered (club_step s (given command.now moment))) }
-    // By whatever texts its tables were made, those that were taken over answer as a club's.
-    ensures shape { IfTaken result.0 (is_of_club Current (state S.Store conn).now.schema ≡ true) }
-    ensures refuses { HasCleanDisk (state S.Store result.1) →
-        IfUnopened result.0 (IsRefusal (state S.Store conn) (state S.Store result.1)) }
-    ensures older { HasCleanDisk (state S.Store result.1) → Opens (state S.Store conn) → IsLive (state S.Store conn) →
-        (s : ClubState) → HasFirst s (state S.Store conn).committed.trees → OnlyUnopened result.0 IsOlder }
-    ensures led { HasCleanDisk (state S.Store result.1) → Opens (state S.Store conn) → IsLive (state S.Store conn) →
-        (them : _) (sessions : _) → IsReachable them sessions (state S.Store conn).committed.trees →
-        (db : _) → (state S.Store result.1).may_leave db →
-        IsReachable them (sessions ++ request_sessions (given command.now moment) result.0) db }
-{
-    let mut club = match take_over(alloc, conn) {
-        Ok(club) => club,
-        Err(unopened) => return (Report::Unopened(unopened.fault), unopened.conn),
-    };
-    match club.apply(alloc, &Who::Officer, command, moment) {
-        Ok(outcome) => {
-            let conn = club.into_connection();
-            leaves_what_sessions_left(&conn);
-            (Report::Answered(outcome), conn)
+impl ClubTask for Command {
+    ghost IsAnswer = { λ c s moment before now report. Answers report (λ outcome.
+        outcome_of outcome ≡ answered (club_step s (given c moment))) };
+
+    ghost chapters = { λ c moment report. request_sessions (given c moment) report };
+
+    ghost untaken = { λ c s moment bytes fault is. is };
+
+    ghost no_chapter = { λ c moment fault. refl };
+
+    // The officer gives it.
+    fn do_in<S: Alter, W: Write>(
+        &self,
+        alloc: Global,
+        club: &mut Club<S>,
+        moment: Moment,
+        _out: &mut W,
+    ) -> Report {
+        match club.apply(alloc, &Who::Officer, self, moment) {
+            Ok(outcome) => Report::Answered(outcome),
+            Err(fault) => Report::Stopped(fault),
         }
-        Err(fault) => (Report::Stopped(fault), club.into_connection()),
     }
 }
 
@@ -117,36 +103,24 @@ fn asked(answer: Result<Option<Refusal>, AskFault>) -> Report
     }
 }
 
-// Asks the club a question, and writes what it is shown.
-fn ask<S: Alter, W: Write>(
-    alloc: Global,
-    conn: Connection<S>,
-    question: &Question,
-    moment: Moment,
-    out: &mut W,
-) -> (Report, Connection<S>)
-    requires { conn.in_transaction ≡ false }
-    ensures idle { result.1.in_transaction ≡ false }
-    ensures clean { doubt (state S.Store conn).is_clean ≤ doubt (state S.Store result.1).is_clean }
-    ensures asked { HasCleanDisk (state S.Store result.1) → Opens (state S.Store conn) → IsLive (state S.Store conn) →
-        (s : ClubState) → IsClub s → HasState s (state S.Store conn).committed.trees →
-        Shows s moment question.now (W.contents out.old) (W.contents out.new) result.0 }
-    // By whatever texts its tables were made, those that were taken over answer as a club's.
-    ensures shape { IfTaken result.0 (is_of_club Current (state S.Store conn).now.schema ≡ true) }
-    ensures refuses { HasCleanDisk (state S.Store result.1) →
-        IfUnopened result.0 (IsRefusal (state S.Store conn) (state S.Store result.1)) }
-    ensures older { HasCleanDisk (state S.Store result.1) → Opens (state S.Store conn) → IsLive (state S.Store conn) →
-        (s : ClubState) → HasFirst s (state S.Store conn).committed.trees → OnlyUnopened result.0 IsOlder }
-    ensures led { HasCleanDisk (state S.Store result.1) → Opens (state S.Store conn) → IsLive (state S.Store conn) →
-        (them : _) (sessions : _) → IsReachable them sessions (state S.Store conn).committed.trees →
-        (db : _) → (state S.Store result.1).may_leave db → IsReachable them sessions db }
-{
-    let mut club = match take_over(alloc, conn) {
-        Ok(club) => club,
-        Err(unopened) => return (Report::Unopened(unopened.fault), unopened.conn),
-    };
-    let answer = club.ask(alloc, question, moment, out);
-    (asked(answer), club.into_connection())
+impl ClubTask for Question {
+    ghost IsAnswer = { λ question s moment before now report. Shows s moment question before now report };
+
+    ghost chapters = { λ question moment report. [] };
+
+    ghost untaken = { λ question s moment bytes fault is. (is, refl) };
+
+    ghost no_chapter = { λ question moment fault. refl };
+
+    fn do_in<S: Alter, W: Write>(
+        &self,
+        alloc: Global,
+        club: &mut Club<S>,
+        moment: Moment,
+        out: &mut W,
+    ) -> Report {
+        asked(club.ask(alloc, self, moment, out))
+    }
 }
 
 // Carries a club of schema 1 over to schema 2.
@@ -293,11 +267,11 @@ pub fn act<S: Alter, W: Write>(
 {
     match task {
         Task::Init => init(alloc, conn),
-        Task::Request(command) => request(alloc, conn, command, moment),
-        Task::Ask(question) => ask(alloc, conn, question, moment, out),
+        Task::Request(command) => do_in_club(alloc, conn, command, moment, &mut sink()),
+        Task::Ask(question) => do_in_club(alloc, conn, question, moment, out),
         Task::Verify => verify(alloc, conn),
         Task::Upgrade => carry(alloc, conn),
         Task::Backup(_) => verify(alloc, conn),
-        Task::Batch(batch) => give_batch(alloc, conn, batch, moment),
+        Task::Batch(batch) => do_in_club(alloc, conn, batch, moment, &mut sink()),
     }
 }

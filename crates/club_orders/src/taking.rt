@@ -1,19 +1,25 @@
-//! A club that an order takes over.
+//! A club that an order takes over, and what is done with it.
 
-ghost use Rattle.std.specs.Prelude.{◌≡◌, ◌⊎◌, false, true, IfOk, IfErr};
+ghost use Rattle.std.specs.Prelude.{◌≡◌, ◌≤◌, ◌⊎◌, ◌++◌, ℕ, List, [], Option, false, true, IfOk, IfErr};
 ghost use Rattle.sqlite.specs.State.{HasCleanDisk, Opens, IsLive};
 ghost use Rattle.sqlite.specs.Held.{state};
+ghost use Rattle.sqlite_trees.specs.View.{doubt};
 ghost use Rattle.store_tables.specs.Club.{IsExactly, IsOpened};
+ghost use Rattle.store_tables.specs.Over.{IsBesideThem};
 ghost use Rattle.store_tables.specs.Reading.{OnlyReads, Reads};
 ghost use Rattle.store_tables.specs.declared.names.Version.TheVariants.{Current};
 ghost use Rattle.table_shapes.specs.Shapes.{is_of_club};
 ghost use Rattle.club_rows.specs.Club.{ClubState, IsClub, tables};
 ghost use Rattle.club_opening.specs.Refused.{IsRefusal};
-ghost use Rattle.store.specs.Histories.{HasState, IsReachable};
+ghost use Rattle.store.specs.Histories.{Chapter, HasState, IsHistory, IsReachable};
 ghost use Rattle.club_orders.specs.Refused.{HasFirst, IsOlder, IsTakenOver};
+ghost use Rattle.club_orders.specs.Report.{IfTaken, IfUnopened, OnlyUnopened};
 
+use crate::report::Report;
+use clocks::Moment;
 use sqlite::{Alter, Connection};
 use std::alloc::Global;
+use std::io::Write;
 use store::{
     Club, OpenFault, Unopened, adopt, holds_exactly, holds_what_sessions_left,
     leaves_what_sessions_left,
@@ -54,4 +60,81 @@ pub(crate) fn take_over<S: Alter>(
     holds_what_sessions_left(&conn);
     leaves_what_sessions_left(&conn);
     adopt(alloc, conn)
+}
+
+/// A task that is done with a club which was taken over.
+pub(crate) trait ClubTask {
+    ghost use Rattle.club_opening.specs.declared.fault.OpenFault.{OpenFault};
+    ghost use Rattle.club_opening.specs.declared.fault.OpenFault.TheVariants as open_fault;
+    ghost use Rattle.club_orders.specs.declared.report.Report.{Report};
+    ghost use Rattle.club_orders.specs.declared.report.Report.TheVariants.{Unopened};
+
+    /// What is reported of the task is the answer of a club in this state, at this moment, where a writer had these
+    /// bytes before and has these after it.
+    ghost IsAnswer: { Self → ClubState → ℕ → Option (List ℕ) → Option (List ℕ) → Report → Type 0 };
+
+    /// What the task adds to the history of the club.
+    ghost chapters: { Self → ℕ → Report → List Chapter };
+
+    /// Does the task at a moment, and tells what it came to.
+    fn do_in<S: Alter, W: Write>(
+        &self,
+        alloc: Global,
+        club: &mut Club<S>,
+        moment: Moment,
+        out: &mut W,
+    ) -> Report
+        requires { club.old.needs_reopening ≡ false }
+        ensures taken { IfUnopened result (λ fault. ⊥) }
+        ensures clean { doubt (state S.Store club.old.connection).is_clean ≤ doubt
+            (state S.Store club.new.connection).is_clean }
+        ensures answer { HasCleanDisk (state S.Store club.new.connection) → (them : _) (s : ClubState) →
+            IsClub s → IsBesideThem them (tables s) (state S.Store club.old.connection) →
+            IsAnswer self.now s moment (W.contents out.old) (W.contents out.new) result }
+        ensures led { HasCleanDisk (state S.Store club.new.connection) → (them : _) (sessions : _) →
+            IsHistory them sessions (state S.Store club.old.connection) →
+            (db : _) → (state S.Store club.new.connection).may_leave db →
+            IsReachable them (sessions ++ chapters self.now moment result) db };
+
+    /// Where a call of the database failed or memory was refused before the club was taken over, that is its answer.
+    ghost untaken: { (task : Self) (s : ClubState) (moment : ℕ) (bytes : Option (List ℕ)) (fault : OpenFault) →
+        (fault ≡ open_fault.Store) ⊎ (fault ≡ open_fault.Memory) →
+        IsAnswer task s moment bytes bytes (Unopened fault) };
+
+    /// A club that was not taken over has no chapter more.
+    ghost no_chapter: { (task : Self) (moment : ℕ) (fault : OpenFault) → chapters task moment (Unopened fault) ≡ [] };
+}
+
+/// Takes the club that stands there over and does a task with it, or tells why it was not taken; and gives the
+/// connection back.
+pub(crate) fn do_in_club<S: Alter, T: ClubTask, W: Write>(
+    alloc: Global,
+    conn: Connection<S>,
+    task: &T,
+    moment: Moment,
+    out: &mut W,
+) -> (Report, Connection<S>)
+    requires { conn.in_transaction ≡ false }
+    ensures idle { result.1.in_transaction ≡ false }
+    ensures clean { doubt (state S.Store conn).is_clean ≤ doubt (state S.Store result.1).is_clean }
+    ensures answer { HasCleanDisk (state S.Store result.1) → Opens (state S.Store conn) → IsLive (state S.Store conn) →
+        (s : ClubState) → IsClub s → HasState s (state S.Store conn).committed.trees →
+        T.IsAnswer task.now s moment (W.contents out.old) (W.contents out.new) result.0 }
+    // By whatever texts its tables were made, those that were taken over answer as a club's.
+    ensures shape { IfTaken result.0 (is_of_club Current (state S.Store conn).now.schema ≡ true) }
+    ensures refuses { HasCleanDisk (state S.Store result.1) →
+        IfUnopened result.0 (IsRefusal (state S.Store conn) (state S.Store result.1)) }
+    ensures older { HasCleanDisk (state S.Store result.1) → Opens (state S.Store conn) → IsLive (state S.Store conn) →
+        (s : ClubState) → HasFirst s (state S.Store conn).committed.trees → OnlyUnopened result.0 IsOlder }
+    ensures led { HasCleanDisk (state S.Store result.1) → Opens (state S.Store conn) → IsLive (state S.Store conn) →
+        (them : _) (sessions : _) → IsReachable them sessions (state S.Store conn).committed.trees →
+        (db : _) → (state S.Store result.1).may_leave db →
+        IsReachable them (sessions ++ T.chapters task.now moment result.0) db }
+{
+    let mut club = match take_over(alloc, conn) {
+        Ok(club) => club,
+        Err(unopened) => return (Report::Unopened(unopened.fault), unopened.conn),
+    };
+    let report = task.do_in(alloc, &mut club, moment, out);
+    (report, club.into_connection())
 }

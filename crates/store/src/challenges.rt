@@ -13,9 +13,8 @@ ghost use Rattle.club_core.specs.State.{open_challenge, withdraw_challenge, answ
 ghost use Rattle.club_rows.specs.Club.{ClubState, IsClub, tables};
 ghost use Rattle.store_tables.specs.Beside.{HasRows};
 ghost use Rattle.store_tables.specs.Reading.{Reads};
-ghost use Rattle.club_changes.specs.Steps.{caller_step, IsDecided};
-ghost use Rattle.club_changes.specs.Whole.{IsWhole};
 
+use crate::decides::Decides;
 use clocks::Moment;
 use club_changes::{Decided, put_answered, put_challenge};
 use club_core::seats::find_member;
@@ -35,44 +34,37 @@ fn member_id(caller: Caller) -> Option<u32>
     }
 }
 
-// What a challenge does.
-pub(crate) fn on_challenge<S: Alter>(
-    alloc: Global,
-    conn: &mut Connection<S>,
-    caller: Caller,
-    command: &OpenChallenge,
-    moment: Moment,
-) -> Result<Decided, CallFault>
-    ensures reads { Reads (is_ok result) (state S.Store conn.old) (state S.Store conn.new) }
-    ensures acts { IfOk result IsWhole }
-    ensures step { HasCleanDisk (state S.Store conn.new) → IfOk result (λ d. (s : ClubState) → IsClub s →
-        HasRows (tables s) (state S.Store conn.old) →
-        IsDecided s (caller_step s moment caller (open_challenge command.now.number (string_bytes command.now.event)
-        (string_bytes command.now.other) command.now.first)) d) }
-{
-    let under = challenge_by(alloc, conn, member_id(caller), command.number)?;
-    let members = all_members(alloc, conn)?;
-    let events = all_events(alloc, conn)?;
-    let decision = open_challenge(&members, &events, under, caller, command);
-    Ok(put_challenge(alloc, decision, moment)?)
+impl Decides for OpenChallenge {
+    ghost command = { λ c. open_challenge c.number (string_bytes c.event) (string_bytes c.other) c.first };
+
+    fn decide<S: Alter>(
+        &self,
+        alloc: Global,
+        conn: &mut Connection<S>,
+        caller: Caller,
+        moment: Moment,
+    ) -> Result<Decided, CallFault> {
+        let under = challenge_by(alloc, conn, member_id(caller), self.number)?;
+        let members = all_members(alloc, conn)?;
+        let events = all_events(alloc, conn)?;
+        let decision = open_challenge(&members, &events, under, caller, self);
+        Ok(put_challenge(alloc, decision, moment)?)
+    }
 }
 
-// What a withdrawal does.
-pub(crate) fn on_withdraw<S: Alter>(
-    alloc: Global,
-    conn: &mut Connection<S>,
-    caller: Caller,
-    command: &Withdraw,
-    moment: Moment,
-) -> Result<Decided, CallFault>
-    ensures reads { Reads (is_ok result) (state S.Store conn.old) (state S.Store conn.new) }
-    ensures acts { IfOk result IsWhole }
-    ensures step { HasCleanDisk (state S.Store conn.new) → IfOk result (λ d. (s : ClubState) → IsClub s →
-        HasRows (tables s) (state S.Store conn.old) →
-        IsDecided s (caller_step s moment caller (withdraw_challenge command.now.number)) d) }
-{
-    let under = challenge_by(alloc, conn, member_id(caller), command.number)?;
-    Ok(put_challenge(alloc, withdraw(under, caller), moment)?)
+impl Decides for Withdraw {
+    ghost command = { λ c. withdraw_challenge c.number };
+
+    fn decide<S: Alter>(
+        &self,
+        alloc: Global,
+        conn: &mut Connection<S>,
+        caller: Caller,
+        moment: Moment,
+    ) -> Result<Decided, CallFault> {
+        let under = challenge_by(alloc, conn, member_id(caller), self.number)?;
+        Ok(put_challenge(alloc, withdraw(under, caller), moment)?)
+    }
 }
 
 // What is decided of an answer, by the members.
@@ -97,23 +89,19 @@ fn decided_answer<S: Alter>(
     Ok(answer_challenge(under, games, caller, command.accept))
 }
 
-// What an answer does.
-pub(crate) fn on_answer<S: Alter>(
-    alloc: Global,
-    conn: &mut Connection<S>,
-    caller: Caller,
-    command: &AnswerChallenge,
-    moment: Moment,
-) -> Result<Decided, CallFault>
-    ensures reads { Reads (is_ok result) (state S.Store conn.old) (state S.Store conn.new) }
-    ensures acts { IfOk result IsWhole }
-    ensures step { HasCleanDisk (state S.Store conn.new) → IfOk result (λ d. (s : ClubState) → IsClub s →
-        HasRows (tables s) (state S.Store conn.old) →
-        IsDecided s (caller_step s moment caller (answer_challenge (string_bytes command.now.challenger)
-        command.now.number command.now.accept)) d) }
-{
-    let members = all_members(alloc, conn)?;
-    let events = all_events(alloc, conn)?;
-    let decision = decided_answer(alloc, conn, &members, caller, command)?;
-    Ok(put_answered(alloc, &events, decision, moment)?)
+impl Decides for AnswerChallenge {
+    ghost command = { λ c. answer_challenge (string_bytes c.challenger) c.number c.accept };
+
+    fn decide<S: Alter>(
+        &self,
+        alloc: Global,
+        conn: &mut Connection<S>,
+        caller: Caller,
+        moment: Moment,
+    ) -> Result<Decided, CallFault> {
+        let members = all_members(alloc, conn)?;
+        let events = all_events(alloc, conn)?;
+        let decision = decided_answer(alloc, conn, &members, caller, self)?;
+        Ok(put_answered(alloc, &events, decision, moment)?)
+    }
 }

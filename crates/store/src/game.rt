@@ -6,6 +6,7 @@ ghost use Rattle.club_core.specs.Events as core;
 ghost use Rattle.club_core.specs.Game.{Game, clocks_of};
 ghost use Rattle.club_core.specs.Legal.{IsLegalGame};
 ghost use Rattle.club_requests.specs.Limits.{is_budget, is_increment};
+ghost use Rattle.club_core.specs.State.{on_game};
 ghost use Rattle.club_core.specs.Step as machine;
 ghost use Rattle.club_core.specs.Step.{asked_ply, game_step};
 ghost use Rattle.club_core.specs.View.{IsConcluded, IsDecision, IsSound, Shows, ShowsPly, terms_of};
@@ -19,11 +20,13 @@ ghost use Rattle.club_changes.specs.Steps.{IsDecidedIn, IsRecordOf, IsSeenAfter,
 ghost use Rattle.club_changes.specs.Steps.{TellsMoves, TellsSeen};
 ghost use Rattle.club_changes.specs.Whole.{IsWhole};
 
+use crate::decides::Decides;
 use clocks::Moment;
-use club_changes::{Decided, DerivedRows, StoredGame, put_decision};
-use club_core::{Decision, GameView, asked_ply, conclude, decide, settle};
-use club_reads::{CallFault, asked_view, scores_by, seen_by, stood_by};
-use club_requests::{Caller, GameCommand};
+use club_changes::{Decided, DerivedRows, StoredGame, put_decision, unchanged};
+use club_core::{Decision, GameView, asked_ply, conclude, decide, refusal_without_game, settle};
+use club_games::by_kind;
+use club_reads::{CallFault, asked_view, scores_by, seen_by, stood_by, stored_game};
+use club_requests::{Caller, GameCommand, OnGame, Outcome};
 use club_rules::Rules;
 use sqlite::{Alter, Connection};
 use std::alloc::Global;
@@ -95,7 +98,7 @@ fn on_view<R: Rules, S: Alter>(
 }
 
 // What a command does in a stored game.
-pub(crate) fn act<R: Rules, S: Alter>(
+fn act<R: Rules, S: Alter>(
     alloc: Global,
     conn: &mut Connection<S>,
     stored: &StoredGame,
@@ -116,4 +119,27 @@ pub(crate) fn act<R: Rules, S: Alter>(
     let ply = asked_ply(command);
     let view = asked_view::<R, S>(alloc, conn, stored, ply)?;
     on_view(alloc, conn, stored.id, &view, caller, command, moment)
+}
+
+impl Decides for OnGame {
+    ghost command = { λ c. on_game c.game (game_command_of c.command) };
+
+    fn decide<S: Alter>(
+        &self,
+        alloc: Global,
+        conn: &mut Connection<S>,
+        caller: Caller,
+        moment: Moment,
+    ) -> Result<Decided, CallFault> {
+        match stored_game(alloc, conn, self.game)? {
+            Some(stored) => by_kind!(
+                stored.kind,
+                act::<_, S>(alloc, conn, &stored, caller, &self.command, moment)
+            ),
+            None => {
+                let refusal = refusal_without_game(caller, &self.command);
+                Ok(unchanged(Outcome::Refused(refusal)))
+            }
+        }
+    }
 }

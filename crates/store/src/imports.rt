@@ -8,7 +8,7 @@ ghost use Rattle.club_rules.specs.Records.{recorded_of, IsGameByRules};
 ghost use Rattle.club_core.specs.Answer.{events_of, import_of};
 ghost use Rattle.club_core.specs.Game.{Game};
 ghost use Rattle.club_core.specs.Imports.{imported};
-ghost use Rattle.club_core.specs.State.{place, terms_at};
+ghost use Rattle.club_core.specs.State.{import_record, place, terms_at};
 ghost use Rattle.club_rows.specs.Club.{tables};
 ghost use Rattle.store_tables.specs.Beside.{HasRows};
 ghost use Rattle.store_tables.specs.Contents.{Content};
@@ -16,11 +16,13 @@ ghost use Rattle.store_tables.specs.Reading.{Reads};
 ghost use Rattle.club_changes.specs.Importing.{IsOfKind, IsImportedIn, PutsNewGame, imported_by};
 ghost use Rattle.club_changes.specs.Whole.{IsWhole};
 
+use crate::decides::Decides;
 use clocks::Moment;
-use club_changes::{Decided, Known, event_at, new_rows, put_rows, terms_of, unchanged};
+use club_changes::{Decided, Known, event_at, event_kind, new_rows, put_rows, terms_of, unchanged};
 use club_core::Event;
+use club_games::by_kind;
 use club_imports::{Importing, NewGame, import};
-use club_reads::{CallFault, played_under, scores_with};
+use club_reads::{CallFault, played_under, read_known, scores_with};
 use club_requests::values::{is_budget, is_increment};
 use club_requests::{Answer, Caller, Import, Outcome};
 use club_rules::{GameKind, Records, Rules};
@@ -68,7 +70,7 @@ fn added<R: Rules, S: Alter>(
 }
 
 // What an import into an event of this kind does.
-pub(crate) fn import_as<R: Records, S: Alter>(
+fn import_as<R: Records, S: Alter>(
     alloc: Global,
     conn: &mut Connection<S>,
     known: &Known,
@@ -110,5 +112,24 @@ pub(crate) fn import_as<R: Records, S: Alter>(
         }
         Importing::Repeated(game) => Ok(unchanged(Outcome::Repeated(Answer::Game(game)))),
         Importing::Refused(refusal) => Ok(unchanged(Outcome::Refused(refusal))),
+    }
+}
+
+impl Decides for Import {
+    ghost command = { λ c. import_record (import_of c) };
+
+    fn decide<S: Alter>(
+        &self,
+        alloc: Global,
+        conn: &mut Connection<S>,
+        caller: Caller,
+        moment: Moment,
+    ) -> Result<Decided, CallFault> {
+        let known = read_known(alloc, conn, self.key.as_str())?;
+        let kind = event_kind(known.events.as_slice(), self.event.as_str());
+        by_kind!(
+            kind,
+            import_as::<_, S>(alloc, conn, &known, kind, caller, self, moment)
+        )
     }
 }

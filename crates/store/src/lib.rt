@@ -4,13 +4,14 @@
 mod challenges;
 mod club;
 mod command;
+mod decides;
 mod fault;
 mod found;
 mod game;
 mod imports;
-mod kinds;
 pub mod laws;
 mod reopen;
+mod seats;
 mod sweep;
 mod upgrades;
 

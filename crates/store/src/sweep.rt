@@ -11,6 +11,7 @@ ghost use Rattle.store_tables.specs.Reading.{Reads};
 ghost use Rattle.club_changes.specs.Steps.{caller_step, IsDecided};
 ghost use Rattle.club_changes.specs.Whole.{IsWhole};
 
+use crate::decides::Decides;
 use clocks::Moment;
 use club_changes::{Decided, sweep_games, unchanged};
 use club_reads::CallFault;
@@ -37,20 +38,24 @@ fn swept<S: Alter>(
     Ok(decided)
 }
 
-// What a sweep does: it is the officer's.
-pub(crate) fn on_sweep<S: Alter>(
-    alloc: Global,
-    conn: &mut Connection<S>,
-    caller: Caller,
-    moment: Moment,
-) -> Result<Decided, CallFault>
-    ensures reads { Reads (is_ok result) (state S.Store conn.old) (state S.Store conn.new) }
-    ensures acts { IfOk result IsWhole }
-    ensures step { HasCleanDisk (state S.Store conn.new) → IfOk result (λ d. (s : ClubState) → IsClub s →
-        HasRows (tables s) (state S.Store conn.old) → IsDecided s (caller_step s moment caller sweep) d) }
-{
-    match caller {
-        Caller::Officer => swept(alloc, conn, moment),
-        Caller::Member(_) => Ok(unchanged(Outcome::Refused(Refusal::NotAllowed))),
+/// The command to end by time every running game whose side to move has used more seconds than it had left. It is the
+/// officer's.
+#[derive(Drop)]
+pub(crate) struct Sweep;
+
+impl Decides for Sweep {
+    ghost command = { λ c. sweep };
+
+    fn decide<S: Alter>(
+        &self,
+        alloc: Global,
+        conn: &mut Connection<S>,
+        caller: Caller,
+        moment: Moment,
+    ) -> Result<Decided, CallFault> {
+        match caller {
+            Caller::Officer => swept(alloc, conn, moment),
+            Caller::Member(_) => Ok(unchanged(Outcome::Refused(Refusal::NotAllowed))),
+        }
     }
 }

@@ -3,8 +3,9 @@ use Rattle.std.proofs.lemmas.Result.{IfOk-weaker, IfErr-weaker}
 use Rattle.sqlite.specs.Held.{state}
 use Rattle.store_tables.proofs.Proved.{still_beside}
 use Rattle.club_rows.specs.Club.{tables}
+use Rattle.store.proofs.Proved.{still_stands}
 use Rattle.club_orders.proofs.RefusalLemmas.{stood}
-use Rattle.club_orders.proofs.SessionLemmas.{newer_history, stands_still}
+use Rattle.club_orders.proofs.SessionLemmas.{newer_history}
 use Rattle.club_orders.proofs.TakenLemmas.{both_err, both_ok, is_taken, stands_beside, still_there}
 use Rattle.club_orders.proofs.taking.take_over.Goals as goal
 
@@ -29,7 +30,7 @@ returns-clause-taken g c =
       rows = λ s has. still_there s old exact has new (reads.kept refl clean);
       history = λ them sessions led.
           let (version, at) = found them sessions led in
-          stands_still them sessions old new (reads.kept refl clean)
+          still_stands them sessions old new (reads.kept refl clean)
           (newer_history version them sessions old (older clean) at);
       leads = λ them sessions led db left.
           let (version, at) = found them sessions led in

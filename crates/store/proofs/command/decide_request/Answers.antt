@@ -11,10 +11,10 @@ use Rattle.store.proofs.command.decide_request.Goals as goal
 pub returns-in-Some-clause-step : goal.returns-in-Some-clause-step
 returns-in-Some-clause-step g c clean =
     let after_caller : HasCleanDisk (state g.S.Store c.caller_by.new.conn) =
-    omega (arith, c.on_command.ensures.reads.clean) in
+    omega (arith, c.decide.ensures.reads.clean) in
     let after_last : HasCleanDisk (state g.S.Store c.last_moment.new.conn) =
-    omega (arith, c.caller_by.ensures.reads.clean, c.on_command.ensures.reads.clean) in
-    IfOk-weaker c.on_command.result _ _ (λ d step s is_club k.
+    omega (arith, c.caller_by.ensures.reads.clean, c.decide.ensures.reads.clean) in
+    IfOk-weaker c.decide.result _ _ (λ d step s is_club k.
     let kept = still_rows _ _ (c.in_ok-last.ensures.reads.kept refl after_last) (tables s) k in
     let last = c.in_ok-last.ensures.last after_last s k in
     let moment = c.later.ensures ∙ ap (max c.args.moment) last in
@@ -22,7 +22,7 @@ returns-in-Some-clause-step g c clean =
     caller_decided s c.args.moment c.later.result c.args.who.now c.in-Some.caller c.args.command.now d moment caller
     (step s is_club (omega (arith, moment))
     (still_rows _ _ (c.in_ok-caller.ensures.reads.kept refl after_caller) (tables s) kept)))
-    (c.on_command.ensures.step clean)
+    (c.decide.ensures.step clean)
 
 pub returns-in-None-clause-step : goal.returns-in-None-clause-step
 returns-in-None-clause-step g c clean s is_club k =
@@ -36,7 +36,7 @@ returns-in-None-clause-step g c clean s is_club k =
 pub returns-in-Some-clause-reads : goal.returns-in-Some-clause-reads
 returns-in-Some-clause-reads g c =
     read_then _ _ _ _ c.in_ok-last.ensures.reads
-    (read_then _ _ _ _ c.in_ok-caller.ensures.reads c.on_command.ensures.reads)
+    (read_then _ _ _ _ c.in_ok-caller.ensures.reads c.decide.ensures.reads)
 
 pub returns-in-None-clause-reads : goal.returns-in-None-clause-reads
 returns-in-None-clause-reads g c =

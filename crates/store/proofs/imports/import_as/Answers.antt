@@ -1,5 +1,4 @@
 use Rattle.std.proofs.Common.{Some, ap, sym, subst₂, ◌∙◌, arith, refl}
-use Rattle.std.specs.Option.{option_map}
 use Rattle.sqlite.specs.Held.{state}
 use Rattle.sqlite.specs.State.{HasCleanDisk}
 use Rattle.club_rules.specs.Records.{recorded_of}

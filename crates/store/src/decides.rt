@@ -1,0 +1,39 @@
+//! What every command promises that a caller gives.
+
+ghost use Rattle.std.specs.Prelude.{◌≤◌, IfOk, is_ok};
+ghost use Rattle.sqlite.specs.State.{HasCleanDisk};
+ghost use Rattle.sqlite.specs.Held.{state};
+ghost use Rattle.club_core.specs.State.{Command};
+ghost use Rattle.club_rows.specs.Club.{ClubState, IsClub, tables};
+ghost use Rattle.store_tables.specs.Beside.{HasRows};
+ghost use Rattle.store_tables.specs.Reading.{Reads};
+ghost use Rattle.club_changes.specs.Steps.{caller_step, IsDecided};
+ghost use Rattle.club_changes.specs.Whole.{IsWhole};
+
+use clocks::Moment;
+use club_changes::Decided;
+use club_reads::CallFault;
+use club_requests::Caller;
+use sqlite::{Alter, Connection};
+use std::alloc::Global;
+
+/// A command that a caller gives.
+pub(crate) trait Decides {
+    /// The command as the machine knows it.
+    ghost command: { Self → Command };
+
+    /// What the command does at the effective moment: its outcome, and the rows to put where it is accepted. It reads
+    /// the tables, and puts nothing.
+    fn decide<S: Alter>(
+        &self,
+        alloc: Global,
+        conn: &mut Connection<S>,
+        caller: Caller,
+        moment: Moment,
+    ) -> Result<Decided, CallFault>
+        ensures reads { Reads (is_ok result) (state S.Store conn.old) (state S.Store conn.new) }
+        ensures acts { IfOk result IsWhole }
+        ensures step { HasCleanDisk (state S.Store conn.new) → IfOk result (λ d. (s : ClubState) → IsClub s →
+            s.last ≤ moment → HasRows (tables s) (state S.Store conn.old) →
+            IsDecided s (caller_step s moment caller (command self.now)) d) };
+}
