@@ -11,8 +11,7 @@ use Rattle.store_tables.specs.declared.rows.GameRecord.{GameRecord}
 use Rattle.store_tables.specs.declared.rows.MoveRow.{MoveRow}
 use Rattle.store_tables.specs.declared.rows.SeenRow.{SeenRow}
 use Rattle.store_tables.specs.declared.names.Table.{Table}
-use Rattle.store_tables.specs.declared.names.Table.TheVariants.{Members, Events, EventRules, Challenges, Moves}
-use Rattle.store_tables.specs.declared.names.Table.TheVariants.{Games, Seen, Scores, Meta}
+use Rattle.store_tables.specs.declared.names.Table.TheVariants.{Members, Events, Moves, Games, Seen, Meta}
 use Rattle.club_rows.specs.Club.{both_games}
 use Rattle.club_rows.specs.Tables.{kind_number}
 use Rattle.club_rows.proofs.Proved.{kinds-alike, same-pos}
@@ -84,7 +83,6 @@ module _ (event : EventRow) (declares : Bool) (last : Option ℕ) (row : GameRec
     unit-of-events Shogi terms = tt
 
     pub to-event : (t : Table) → Of t → In t
-    to-event Members right = by-any Members right
     to-event Events right = record {
       kind = kind;
       kind_is = kind_is;
@@ -92,24 +90,11 @@ module _ (event : EventRow) (declares : Bool) (last : Option ℕ) (row : GameRec
       increment = increment;
       terms = gives;
     }
-    to-event EventRules right = by-any EventRules right
-    to-event Challenges right = by-any Challenges right
-    to-event Moves right = by-any Moves right
-    to-event Games right = by-any Games right
-    to-event Seen right = by-any Seen right
-    to-event Scores right = by-any Scores right
-    to-event Meta right = by-any Meta right
+    to-event t right = by-any t right
 
     from-event : (t : Table) → In t → Of t
-    from-event Members right = right kind budget increment kind_is gives
     from-event Events right = unit-of-events kind (terms_told budget increment declares)
-    from-event EventRules right = right kind budget increment kind_is gives
-    from-event Challenges right = right kind budget increment kind_is gives
-    from-event Moves right = right kind budget increment kind_is gives
-    from-event Games right = right kind budget increment kind_is gives
-    from-event Seen right = right kind budget increment kind_is gives
-    from-event Scores right = right kind budget increment kind_is gives
-    from-event Meta right = right kind budget increment kind_is gives
+    from-event _ right = right kind budget increment kind_is gives
 
     -- the first wrong table by its rules is the first of the event
     pub event-first : (wrong : Option Table) → IsFirstWrong Of wrong → IsFirstWrong In wrong
@@ -145,10 +130,6 @@ module _ (event : EventRow) (declares : Bool) (last : ℕ) (low : last ≤ 25340
   module _ {P M E T : Type 0} (rules : GameRules P M E T) (terms : Terms)
       (have : HaveAll rules terms last row moves seen) where
     by-rules : (t : Table) → IsRightIn rules terms (Some last) row moves seen t
-    by-rules Members = tt
-    by-rules Events = tt
-    by-rules EventRules = tt
-    by-rules Challenges = tt
     by-rules Moves = moves-of rules terms row moves have.id have.game have.are
     by-rules Games = record {
       id = have.id;
@@ -157,9 +138,9 @@ module _ (event : EventRow) (declares : Bool) (last : ℕ) (low : last ≤ 25340
       within = ends-later rules terms last 253402300799 have.game low have.within;
     }
     by-rules Seen = have-later rules terms last 253402300799 row moves seen low have
-    by-rules Scores = tt
     by-rules Meta = λ n is most.
         subst (λ k. HaveAll rules terms k row moves seen) (same_Some last n is) have
+    by-rules _ = tt
 
   by-kind : (kind : GameKind) (terms : Terms) → HaveAllOf kind terms last row moves seen → (t : Table)
       → IsRightOf kind terms (Some last) row moves seen t

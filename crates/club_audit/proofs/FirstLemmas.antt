@@ -1,9 +1,8 @@
 -- The first of the tables that is wrong: one of them named, and the first of two.
-use Rattle.std.proofs.Common.{◌≡◌, ◌⊎◌, ◌<◌, ◌≤◌, ℕ, Option, Some, None, refl, sym, subst, ◌∙◌, arith, inl, inr}
-use Rattle.std.specs.Prelude.{IfSome}
+use Rattle.std.proofs.Common.{◌≡◌, ◌<◌, ℕ, Option, Some, None, refl, sym, subst, arith}
 use Rattle.store_tables.specs.declared.names.Table.{Table}
-use Rattle.store_tables.specs.declared.names.Table.TheVariants.{Members, Events, EventRules, Challenges, Moves}
-use Rattle.store_tables.specs.declared.names.Table.TheVariants.{Games, Seen, Scores, Meta}
+use Rattle.store_tables.specs.declared.names.Table.TheVariants.{Members, Events, EventRules, Challenges, Moves, Games}
+use Rattle.store_tables.specs.declared.names.Table.TheVariants.{Seen, Scores, Meta}
 use Rattle.club_audit.specs.FirstWrong.{IsFirstWrong, Precedes, order}
 
 -- ---- one table
@@ -22,15 +21,6 @@ module _ (R : Table → Type 0) where
   by-order n a b c d e f g h i Seen low = g low
   by-order n a b c d e f g h i Scores low = h low
   by-order n a b c d e f g h i Meta low = i low
-
-  pub first-members : ¬ R Members → IsFirstWrong R (Some Members)
-  first-members wrong = record {
-    before = by-order 0 (λ l. absurd (omega (arith, l))) (λ l. absurd (omega (arith, l)))
-        (λ l. absurd (omega (arith, l))) (λ l. absurd (omega (arith, l))) (λ l. absurd (omega (arith, l)))
-        (λ l. absurd (omega (arith, l))) (λ l. absurd (omega (arith, l))) (λ l. absurd (omega (arith, l)))
-        (λ l. absurd (omega (arith, l)));
-    named = wrong;
-  }
 
   pub first-events : R Members → ¬ R Events → IsFirstWrong R (Some Events)
   first-events a wrong = record {
@@ -80,14 +70,6 @@ module _ (R : Table → Type 0) where
     named = wrong;
   }
 
-  pub first-scores : R Members → R Events → R EventRules → R Challenges → R Moves → R Games → R Seen → ¬ R Scores
-      → IsFirstWrong R (Some Scores)
-  first-scores a b c d e f g wrong = record {
-    before = by-order 7 (λ l. a) (λ l. b) (λ l. c) (λ l. d) (λ l. e) (λ l. f) (λ l. g)
-        (λ l. absurd (omega (arith, l))) (λ l. absurd (omega (arith, l)));
-    named = wrong;
-  }
-
   pub first-meta : R Members → R Events → R EventRules → R Challenges → R Moves → R Games → R Seen → R Scores
       → ¬ R Meta → IsFirstWrong R (Some Meta)
   first-meta a b c d e f g h wrong = record {
@@ -131,46 +113,3 @@ pub first-as : (P Q : Table → Type 0) (wrong : Option Table) → ((t : Table) 
 first-as P Q None to back first = record { before = λ t low. to t (first.before t low); named = tt }
 first-as P Q (Some u) to back first =
     record { before = λ t low. to t (first.before t low); named = λ right. first.named (back u right) }
-
--- Of two wrong tables this is the first, and none where there is none.
-pub record IsFirstOf (one other first : Option Table) : Type 0 where
-  pub none : first ≡ None → (one ≡ None) × (other ≡ None)
-  pub some : (t : Table) → first ≡ Some t → (one ≡ Some t) ⊎ (other ≡ Some t)
-  pub least : (t u : Table) → first ≡ Some t → (one ≡ Some u) ⊎ (other ≡ Some u) → order t ≤ order u
-
-module _ (one other first : Option Table) (of : IsFirstOf one other first) where
-  pub precedes-one : (t : Table) → Precedes t first → Precedes t one
-  precedes-one t low = go one first refl refl low
-    where
-      go : (o f : Option Table) → o ≡ one → f ≡ first → Precedes t f → Precedes t o
-      go None f o_is f_is low = tt
-      go (Some u) None o_is f_is low = let both = o_is ∙ (of.none (sym f_is)).0 in absurd cc
-      go (Some u) (Some v) o_is f_is low =
-          let least = of.least v u (sym f_is) (inl (sym o_is)) in omega (arith, least, low)
-
-  pub precedes-other : (t : Table) → Precedes t first → Precedes t other
-  precedes-other t low = go other first refl refl low
-    where
-      go : (o f : Option Table) → o ≡ other → f ≡ first → Precedes t f → Precedes t o
-      go None f o_is f_is low = tt
-      go (Some u) None o_is f_is low = let both = o_is ∙ (of.none (sym f_is)).1 in absurd cc
-      go (Some u) (Some v) o_is f_is low =
-          let least = of.least v u (sym f_is) (inr (sym o_is)) in omega (arith, least, low)
-
-  -- the first of two is the first by both tests
-  pub first-of-both : (P Q : Table → Type 0) → IsFirstWrong P one → IsFirstWrong Q other
-      → IsFirstWrong (λ t. P t × Q t) first
-  first-of-both P Q p q = record {
-    before = λ t low. (p.before t (precedes-one t low), q.before t (precedes-other t low));
-    named = go first refl;
-  }
-    where
-      named-in : (R : Table → Type 0) (o : Option Table) (t : Table) → o ≡ Some t → IfSome o (λ u. ¬ R u) → ¬ R t
-      named-in R o t is named = subst (λ x. IfSome x (λ u. ¬ R u)) is named
-
-      go : (f : Option Table) → f ≡ first → IfSome f (λ t. ¬ (P t × Q t))
-      go None is = tt
-      go (Some t) is = λ both. elim (of.some t (sym is)) [
-        | inl here ↦ named-in P one t here p.named both.0
-        | inr here ↦ named-in Q other t here q.named both.1
-      ]

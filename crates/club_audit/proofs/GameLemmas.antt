@@ -8,7 +8,6 @@ use Rattle.squares.specs.declared.sides.Side.{Side}
 use Rattle.squares.specs.declared.sides.Side.TheVariants.{First}
 use Rattle.squares.specs.Sides.{other}
 use Rattle.club_rules.specs.declared.names.GameKind.{GameKind}
-use Rattle.club_rules.specs.declared.names.GameKind.TheVariants.{Draughts, Shogi}
 use Rattle.club_rules.specs.GameRules.{GameRules}
 use Rattle.club_core.specs.declared.rows.GameEnd.TheVariants.{Outside}
 use Rattle.club_core.specs.declared.rows.GameView.{GameView}
@@ -22,15 +21,13 @@ use Rattle.club_core.specs.Legal.{IsTimely, IsLegalGame}
 use Rattle.club_core.specs.LegalState.{Each, IsGameOf}
 use Rattle.club_core.specs.State.{draughts, shogi, place, kind_at, terms_at}
 use Rattle.club_core.specs.View.{IsRowOf, Shows, clocks_in, terms_of}
-use Rattle.club_laws.proofs.Proved.{in-place}
-use Rattle.store_tables.specs.Cells.{event_cells, event_rule_cells, seen_cells}
+use Rattle.store_tables.specs.Cells.{event_cells, event_rule_cells, seen_cells, member_cells}
 use Rattle.store_tables.specs.declared.rows.EventRow.{EventRow}
 use Rattle.store_tables.specs.declared.rows.EventRuleRow.{EventRuleRow}
 use Rattle.store_tables.specs.declared.rows.GameRecord.{GameRecord}
 use Rattle.store_tables.specs.declared.rows.MemberRow.{MemberRow}
 use Rattle.store_tables.specs.declared.rows.MoveRow.{MoveRow}
 use Rattle.store_tables.specs.declared.rows.Rows.{Rows}
-use Rattle.store_tables.specs.Cells.{member_cells}
 use Rattle.club_audit.specs.Audit.{AreAllOf, AreMembers, AreEvents, GivesTerms, HasPeople, NamesEvent, IsWithin, EndsBy}
 use Rattle.club_audit.specs.Audit.{AreRulesOf, HaveGame, IsGameAt, NamesRule, SaysDeclares, terms_told}
 use Rattle.club_audit.specs.GameAudit.{HaveAll, StandsAt}
@@ -38,8 +35,8 @@ use Rattle.club_rows.specs.EachOnce.{AreEachOnce}
 use Rattle.store_tables.specs.declared.rows.SeenRow.{SeenRow}
 use Rattle.club_rows.specs.Club.{ClubGame, ClubState, both_games}
 use Rattle.club_rows.specs.LegalRows.{AreRowsOf}
-use Rattle.club_rows.specs.Tables.{declares_number, rule_row}
-use Rattle.club_rows.specs.Tables.{event_row, member_row, kind_number, game_row, move_rows, rows_of_seen}
+use Rattle.club_rows.specs.Tables.{declares_number, rule_row, event_row, member_row, kind_number, game_row, move_rows}
+use Rattle.club_rows.specs.Tables.{rows_of_seen}
 use Rattle.club_rows.specs.Seen.{seen_rows}
 use Rattle.club_rows.proofs.Proved.{Kind, event_in, in_draughts, in_shogi, kinds-alike, IsToldBy, columns-told}
 use Rattle.club_rows.proofs.Proved.{declares-alike, same-pos, since-rises, spend-since}
@@ -235,8 +232,7 @@ module _ (s : ClubState) (rows : Rows) (people : HasPeople s rows) (index : ℕ)
         let id_same : have.id ≡ index + 1 = same-pos _ _ (sym told.numbers.id ∙ stands_at.id) in
         let event_same : game.event ≡ event = same-pos _ _ (sym told.numbers.event ∙ named.event_is) in
         let first_same : game.first ≡ stands_at.first = same-pos _ _ (sym told.numbers.first ∙ players.first_is) in
-        let second_same : game.second ≡ stands_at.second = same-pos _ _ (sym told.numbers.second ∙ players.second_is)
-        in
+        let second_same : game.second ≡ stands_at.second = same-pos _ _ (sym told.numbers.second ∙ players.second_is) in
         let (known, at, parts) = event-at s.events rows.events.items people.events event e named.row_is in
         let stands : place s.events game.event ≡ Some known = ap (place s.events) event_same ∙ at in
         let same : known.terms ≡ terms = terms-are known e event budget increment declares parts gives
@@ -308,13 +304,6 @@ module _ (s : ClubState) (rows : Rows) (people : HasPeople s rows) (index : ℕ)
         of-game.in_event in
         (e, record { event_is = told-at.numbers.event; row_is = stands })
 
-    -- and the rules of its event one
-    pub names-rule : NamesRule rows row g.event of-game.event.terms.declares
-    names-rule =
-        let (rule, stands, says) = rule-back s.events rows.event_rules.items people.rules g.event of-game.event
-        of-game.in_event in
-        record { event_is = told-at.numbers.event; rule = rule; rule_is = stands; says = says }
-
     -- it has its place, and its players exist
     pub game-stands-at : index < 5000 → StandsAt rows index row
     game-stands-at low =
@@ -344,22 +333,6 @@ module _ (s : ClubState) (rows : Rows) (people : HasPeople s rows) (index : ℕ)
           let (known, at, parts) = event-at s.events rows.events.items people.events g.event e
           (subst (λ n. place rows.events.items n ≡ Some e) same named.row_is) in
           subst (λ x. EventParts g.event x e) (same_Some known of-game.event (sym at ∙ of-game.in_event)) parts
-
-      -- the event gives seconds
-      pub gives-terms : GivesTerms e of-game.event.terms.budget of-game.event.terms.increment
-      gives-terms =
-          let parts = named-parts in
-          let legal = in-place _ s.events g.event of-game.event people.events.legal of-game.in_event in
-          record {
-            budget_is = parts.budget_is;
-            increment_is = parts.increment_is;
-            has_budget =
-                legal.budget;
-            has_increment = legal.increment;
-          }
-
-      pub has-kind : HasKind e kind
-      has-kind = named-parts.game_is ∙ ap (λ x. pos (kind_number x)) of-game.of_kind
 
       module _ (budget increment : ℕ) (declares : Bool) (ruled : NamesRule rows row event declares)
           (gives : GivesTerms e budget increment) where
@@ -418,25 +391,11 @@ module _ (s : ClubState) (rows : Rows) (people : HasPeople s rows) (index : ℕ)
   any-names (draughts g) is = let (e, named) = names-event in_draughts g is in (g.event, e, named)
   any-names (shogi g) is = let (e, named) = names-event in_shogi g is in (g.event, e, named)
 
-  pub any-rules : (g : ClubGame) → IsGameAt s (index + 1) row moves g → (event : ℕ) × (declares : Bool)
-      × NamesRule rows row event declares
-  any-rules (draughts g) is = (g.event, _, names-rule in_draughts g is)
-  any-rules (shogi g) is = (g.event, _, names-rule in_shogi g is)
-
   pub any-stands : (g : ClubGame) → IsGameAt s (index + 1) row moves g → index < 5000 → StandsAt rows index row
   any-stands (draughts g) is low = game-stands-at in_draughts g is low
   any-stands (shogi g) is low = game-stands-at in_shogi g is low
 
   module _ (event : ℕ) (e : EventRow) (named : NamesEvent rows row event e) where
-    pub any-gives : (g : ClubGame) → IsGameAt s (index + 1) row moves g → (budget increment : ℕ)
-        × GivesTerms e budget increment
-    any-gives (draughts g) is = (_, _, gives-terms in_draughts g is event e named)
-    any-gives (shogi g) is = (_, _, gives-terms in_shogi g is event e named)
-
-    pub any-kind : (g : ClubGame) → IsGameAt s (index + 1) row moves g → (kind : GameKind) × HasKind e kind
-    any-kind (draughts g) is = (Draughts, has-kind in_draughts g is event e named)
-    any-kind (shogi g) is = (Shogi, has-kind in_shogi g is event e named)
-
     any-event : (g : ClubGame) → IsGameAt s (index + 1) row moves g → (known : Event)
         × (place s.events (event_in g) ≡ Some known) × (e.game ≡ pos (kind_number known.game))
     any-event (draughts g) is =
@@ -483,8 +442,3 @@ module _ (s : ClubState) (rows : Rows) (people : HasPeople s rows) (index : ℕ)
                 subst (AreEachOnce (map seen_cells seen))
                 (ap (rows_of_seen both_games (index + 1)) same ∙ k.seen (index + 1) game) is.seen_are;
           }
-
-  -- the row has the game's id
-  pub any-id : (g : ClubGame) → IsGameAt s (index + 1) row moves g → row.id ≡ pos (index + 1)
-  any-id (draughts g) is = (told-at in_draughts g is).numbers.id
-  any-id (shogi g) is = (told-at in_shogi g is).numbers.id

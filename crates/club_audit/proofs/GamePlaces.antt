@@ -1,25 +1,6 @@
 -- Which table is the first wrong one, by all rows of a game at its place in a club.
-use Rattle.std.proofs.Common.{
-  ◌≡◌,
-  ◌≢◌,
-  ◌+◌,
-  ◌<◌,
-  ◌≤◌,
-  ℕ,
-  pos,
-  List,
-  Option,
-  Some,
-  None,
-  Bool,
-  true,
-  false,
-  refl,
-  ap,
-  sym,
-  subst,
-}
-use Rattle.std.proofs.Common.{◌∙◌, arith, inl, inr, ◌⊎◌}
+use Rattle.std.proofs.Common.{◌≡◌, ◌≢◌, ◌+◌, ◌<◌, ◌≤◌, ℕ, pos, List, Option, Some, None, Bool, true, false, refl, ap}
+use Rattle.std.proofs.Common.{sym, subst, ◌∙◌, arith, inl, inr, ◌⊎◌}
 use Rattle.std.proofs.lemmas.Bool.{cases_Bool}
 use Rattle.std.proofs.lemmas.Option.{same_Some}
 use Rattle.club_rules.specs.declared.names.GameKind.{GameKind}
@@ -34,13 +15,12 @@ use Rattle.store_tables.specs.declared.rows.MoveRow.{MoveRow}
 use Rattle.store_tables.specs.declared.rows.Rows.{Rows}
 use Rattle.store_tables.specs.declared.rows.SeenRow.{SeenRow}
 use Rattle.store_tables.specs.declared.names.Table.{Table}
-use Rattle.store_tables.specs.declared.names.Table.TheVariants.{Members, Events, EventRules, Challenges, Moves}
-use Rattle.store_tables.specs.declared.names.Table.TheVariants.{Games, Seen, Scores, Meta}
+use Rattle.store_tables.specs.declared.names.Table.TheVariants.{Members, Events, EventRules, Challenges, Moves, Games}
+use Rattle.store_tables.specs.declared.names.Table.TheVariants.{Seen, Scores, Meta}
 use Rattle.club_rows.specs.Club.{ClubGame, ClubState, both_games}
 use Rattle.club_rows.specs.Tables.{kind_number}
 use Rattle.club_rows.proofs.Proved.{declares-alike, in_draughts, in_shogi, same-pos}
-use Rattle.club_audit.specs.Audit.{AreAllOf, GivesTerms, HasPeople, IsGameAt, NamesEvent, NamesRule, terms_told}
-use Rattle.club_audit.specs.Audit.{until}
+use Rattle.club_audit.specs.Audit.{AreAllOf, GivesTerms, HasPeople, IsGameAt, NamesEvent, NamesRule, terms_told, until}
 use Rattle.club_audit.specs.FirstWrong.{IsFirstWrong, Precedes}
 use Rattle.club_audit.specs.GameAudit.{GivesRules, IsRightAt, IsRightBy, IsRightInEvent, IsRightOf, StandsAt}
 use Rattle.club_audit.proofs.FirstLemmas.{first-as, first-games, first-moves}
@@ -99,8 +79,7 @@ module _ (s : ClubState) (rows : Rows) (people : HasPeople s rows) (index : ℕ)
         let same : id ≡ n = same-pos _ _ (sym ruled.event_is ∙ other.event_is) in
         let rule : ruled.rule ≡ other.rule =
         same_Some ruled.rule other.rule
-        (sym ruled.rule_is ∙ (ap (place rows.event_rules.items) same ∙ other.rule_is))
-        in
+        (sym ruled.rule_is ∙ (ap (place rows.event_rules.items) same ∙ other.rule_is)) in
         declares-alike declares d
         (same-pos _ _ (sym ruled.says ∙ (ap (λ (r : EventRuleRow). r.declares) rule ∙ other.says)))
 
@@ -200,10 +179,6 @@ module _ (s : ClubState) (rows : Rows) (people : HasPeople s rows) (index : ℕ)
       -- ---- table by table
 
       to-place : (t : Table) → In t → At t
-      to-place Members right = tt
-      to-place Events right = tt
-      to-place EventRules right = tt
-      to-place Challenges right = tt
       to-place Moves right = moves-at right
       to-place Games right =
           let r = rules-of in
@@ -213,10 +188,10 @@ module _ (s : ClubState) (rows : Rows) (people : HasPeople s rows) (index : ℕ)
       to-place Seen right =
           let r = rules-of in
           all-of r.kind r.budget r.increment r.kind_is r.terms (right r.kind r.budget r.increment r.kind_is r.terms)
-      to-place Scores right = tt
       to-place Meta right =
           let r = rules-of in
           end-of r.kind r.budget r.increment r.kind_is r.terms (right r.kind r.budget r.increment r.kind_is r.terms)
+      to-place _ right = tt
 
       from-place : (t : Table) → At t → In t
       from-place Members right = members-in
@@ -243,10 +218,7 @@ module _ (s : ClubState) (rows : Rows) (people : HasPeople s rows) (index : ℕ)
     moves-come (Some EventRules) first other = absurd (first.named rules-in)
     moves-come (Some Challenges) first other = absurd (first.named challenges-in)
     moves-come (Some Moves) first other = absurd (other refl)
-    moves-come (Some Games) first other = omega arith
-    moves-come (Some Seen) first other = omega arith
-    moves-come (Some Scores) first other = omega arith
-    moves-come (Some Meta) first other = omega arith
+    moves-come (Some _) first other = omega arith
 
     -- a game without its place is wrong, where its moves are not
     pub misplaced : (wrong : Option Table) → IsFirstWrong In wrong → wrong ≢ Some Moves
@@ -257,16 +229,9 @@ module _ (s : ClubState) (rows : Rows) (people : HasPeople s rows) (index : ℕ)
         none (any-stands (until 253402300799 s) rows (people-until 253402300799) index row moves g is low))
 
     moves-or-not : (wrong : Option Table) → (wrong ≡ Some Moves) ⊎ (wrong ≢ Some Moves)
-    moves-or-not None = inr (λ is. cc)
-    moves-or-not (Some Members) = inr (λ is. cc)
-    moves-or-not (Some Events) = inr (λ is. cc)
-    moves-or-not (Some EventRules) = inr (λ is. cc)
-    moves-or-not (Some Challenges) = inr (λ is. cc)
     moves-or-not (Some Moves) = inl refl
-    moves-or-not (Some Games) = inr (λ is. cc)
-    moves-or-not (Some Seen) = inr (λ is. cc)
-    moves-or-not (Some Scores) = inr (λ is. cc)
-    moves-or-not (Some Meta) = inr (λ is. cc)
+    moves-or-not None = inr (λ is. cc)
+    moves-or-not (Some _) = inr (λ is. cc)
 
     -- with or without its place
     pub placed-first : (wrong result : Option Table) (stands : Bool) → IsFirstWrong In wrong
@@ -338,10 +303,6 @@ module _ (s : ClubState) (rows : Rows) (people : HasPeople s rows) (index : ℕ)
   -- all tables are right by the rows of a game of the club, up to its last moment
   pub club-right : index < 5000 → (g : ClubGame) → AreAllOf s (index + 1) row moves seen g
       → ((n : ℕ) → last ≡ Some n → s.last ≡ n) → (t : Table) → IsRightAt s rows index row moves seen last t
-  club-right low g all moment Members = tt
-  club-right low g all moment Events = tt
-  club-right low g all moment EventRules = tt
-  club-right low g all moment Challenges = tt
   club-right low g all moment Moves = by-kind
     where
       by-kind : (id : ℕ) (e : EventRow) (declares : Bool) → NamesEvent rows row id e → NamesRule rows row id declares
@@ -361,10 +322,10 @@ module _ (s : ClubState) (rows : Rows) (people : HasPeople s rows) (index : ℕ)
   club-right low g all moment Games =
       (low, g, later-game s 253402300799 within (index + 1) row moves g all.at)
   club-right low g all moment Seen = (g, later-all s 253402300799 within (index + 1) row moves seen g all)
-  club-right low g all moment Scores = tt
   club-right low g all moment Meta = λ n is most.
       let same = moment n is in
       (g, later-all s n (omega (arith, same)) (index + 1) row moves seen g all)
+  club-right low g all moment _ = tt
 
   -- and a club whose last moment is given has the game of rows by which all tables are right
   pub right-club : last ≡ Some s.last → IsRightAt s rows index row moves seen last Meta → (g : ClubGame)

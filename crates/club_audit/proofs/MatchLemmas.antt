@@ -1,6 +1,6 @@
 -- Rows that are compared with what was counted, where each row takes what was counted for its key.
-use Rattle.std.proofs.Common.{◌≡◌, ℕ, ◌+◌, ◌<◌, ◌⊎◌, inl, inr, List, Bool, true, false, cond, Option, Some, None, refl}
-use Rattle.std.proofs.Common.{ap, sym, subst, ◌∙◌, arith, true≢false}
+use Rattle.std.proofs.Common.{◌≡◌, ℕ, ◌+◌, ◌<◌, ◌⊎◌, inl, inr, List, Bool, true, false, cond, Option, Some, None, ap}
+use Rattle.std.proofs.Common.{sym, subst, ◌∙◌, arith, true≢false}
 use Rattle.std.specs.Prelude.{slice_get}
 use Rattle.std.proofs.lemmas.Bool.{cases_Bool, cases_eq}
 use Rattle.std.proofs.lemmas.Option.{same_Some}
@@ -18,15 +18,6 @@ module _ {Item Key Count : Type 0} (key : Item → Key) (Fits : Item → Option 
       pub taken : (n : ℕ) (r : Item) → n < index → slice_get rows n ≡ Some r → found (key r) ≡ None
       pub left : (k : Key) → ((n : ℕ) (r : Item) → n < index → slice_get rows n ≡ Some r → key r ≡ k → ⊥)
           → found k ≡ counts k
-
-  pub took-start : (counts : Key → Option Count) (rows : List Item) → Took counts rows 0 counts
-  took-start counts rows = record {
-    had = λ n r low. absurd (omega (arith, low));
-    apart = λ i j r q low. absurd (omega (arith, low));
-    gone = λ k none. inl none;
-    taken = λ n r low. absurd (omega (arith, low));
-    left = λ k none. refl;
-  }
 
   module _ (same : Key → Key → Bool) (same-is : (a b : Key) → same a b ≡ true → a ≡ b)
       (is-same : (a b : Key) → a ≡ b → same a b ≡ true)

@@ -23,13 +23,6 @@ pub record AreNumbered {A K : Type 0} (key : A → K) (xs : List A) (index : ℕ
   pub known : (i : ℕ) (x : A) → i < index → slice_get xs i ≡ Some x → has (key x) ≡ true
 
 module _ {A K : Type 0} (key : A → K) (xs : List A) where
-  pub numbered-start : (has : K → Bool) → ((q : K) → has q ≡ false) → AreNumbered key xs 0 has
-  numbered-start has none = record {
-    apart = λ i j x y low high. absurd (omega arith);
-    taken = λ q is. let never = none q in absurd cc;
-    known = λ i x low. absurd (omega arith);
-  }
-
   -- an element whose key was in no element before it
   pub numbered-more : (same : K → K → Bool) → ((a b : K) → same a b ≡ true → a ≡ b)
       → ((a b : K) → a ≡ b → same a b ≡ true)

@@ -1,7 +1,6 @@
 -- The members and the events that rows show.
 use Rattle.std.proofs.Common.{◌≡◌, ◌≢◌, ℕ, zero, suc, pos, ◌+◌, ◌≤◌, List, [], ◌∷◌, length, map, Bool, Some, ap, sym}
-use Rattle.std.proofs.Common.{false, refl, subst, ◌∙◌, arith}
-use Rattle.std.proofs.Common.{inl, inr}
+use Rattle.std.proofs.Common.{false, refl, subst, ◌∙◌, arith, inl, inr}
 use Rattle.std.specs.Prelude.{ℤ, slice_get, string_bytes}
 use Rattle.std.proofs.lemmas.Bool.{cases_eq}
 use Rattle.std.proofs.lemmas.Option.{same_Some}
@@ -14,9 +13,9 @@ use Rattle.store_tables.specs.Cells.{member_cells, event_cells, event_rule_cells
 use Rattle.store_tables.specs.declared.rows.MemberRow.{MemberRow}
 use Rattle.store_tables.specs.declared.rows.EventRow.{EventRow}
 use Rattle.store_tables.specs.declared.rows.EventRuleRow.{EventRuleRow}
-use Rattle.club_audit.specs.Audit.{IsMemberAt, AreMembers, IsEventAt, AreEvents, AreRules, AreRulesOf}
-use Rattle.club_audit.specs.Audit.{IsRuleAt, SaysDeclares, terms_told}
-use Rattle.club_rows.specs.Tables.{member_row, event_row, rule_row, declares_number, kind_number, numbered_from}
+use Rattle.club_audit.specs.Audit.{IsMemberAt, AreMembers, IsEventAt, AreEvents, AreRules, AreRulesOf, SaysDeclares}
+use Rattle.club_audit.specs.Audit.{terms_told}
+use Rattle.club_rows.specs.Tables.{member_row, event_row, rule_row, kind_number, numbered_from}
 use Rattle.club_audit.proofs.PlacedLemmas.{each-cons, numbered-of, numbered-at, numbered-back, numbered-length}
 
 same-by : (i j : ℕ) → (i ≢ j → ⊥) → i ≡ j

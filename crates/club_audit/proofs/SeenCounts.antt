@@ -19,7 +19,7 @@ use Rattle.club_rows.specs.EachOnce.{AreEachOnce}
 use Rattle.club_audit.specs.SeenAudit.{AreCounted, IsCountOf, HasCounted}
 use Rattle.club_rows.specs.Tally.{stood_seldom, stood_then}
 use Rattle.club_rows.specs.declared.tally.Stood.{Stood}
-use Rattle.club_audit.proofs.MatchLemmas.{Took, took-start, took-more}
+use Rattle.club_audit.proofs.MatchLemmas.{Took, took-more}
 use Rattle.club_rows.proofs.Proved.{times-none, Texts, row-had, row-has, one-row, one-first, times-new, times-other}
 use Rattle.club_rows.proofs.Proved.{first-more, first-new}
 
@@ -104,9 +104,6 @@ abbrev pub Matched : ℕ → Found → List SeenRow → ℕ → Found → Type 0
 Matched id counts rows index found = Took text_of (HasCounted id) counts rows index found
 
 module _ (id : ℕ) (counts : Found) (rows : List SeenRow) where
-  pub matched-start : Matched id counts rows 0 counts
-  matched-start = took-start text_of (HasCounted id) counts rows
-
   -- a row more
   pub matched-more : (index : ℕ) (row : SeenRow) (found : Found) → Matched id counts rows index found
       → slice_get rows index ≡ Some row → (now : Found) → HasCounted id row (found (text_of row))

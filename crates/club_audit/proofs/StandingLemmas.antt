@@ -72,8 +72,7 @@ module _ {S : Type 0} (old : HashMap Pair Sums S) (pair : Pair) (own : OwnScore)
           scores_append pair ms (meeting pair own ∷ []) ∙ ap (λ ss. scores_of pair ms ++ ss) (own_score pair own) in
           ap Some more
           ∙ (sym (some_last (scores_of pair ms) own)
-          ∙
-          (ap some_sums (sym here) ∙ ap (λ p. some_sums (scores_of p (ms ++ meeting pair own ∷ [])))
+          ∙ (ap some_sums (sym here) ∙ ap (λ p. some_sums (scores_of p (ms ++ meeting pair own ∷ [])))
           (pair_same pair q same)))
       by false apart =
           let there : scores_of q (ms ++ meeting pair own ∷ []) ≡ scores_of q ms =
@@ -171,8 +170,7 @@ counted_next old new games i game ms at low adds was =
       after = rest;
       parts = whole;
       left = more;
-      counted =
-          adds was.before own was.counted told (omega (arith, low, long));
+      counted = adds was.before own was.counted told (omega (arith, low, long));
     }
 
 pub counted_all : {S : Type 0} (standings : HashMap Pair Sums S) (games : List GameRecord) (i : ℕ) (ms : List Meeting)
@@ -226,8 +224,7 @@ no_row =
       points = pos 0;
       wins = pos 0;
       draws = pos 0;
-      losses =
-          pos 0;
+      losses = pos 0;
     }
 
 module _ (sums f : Pair → Option Sums) (rows : List ScoreRow) (i : ℕ) (was : IsLeft sums f rows i)
@@ -250,11 +247,6 @@ module _ (sums f : Pair → Option Sums) (rows : List ScoreRow) (i : ℕ) (was :
   left_none none all = let clash : None ≡ Some (sums_found (Some row)) = sym (sym (ap f pair_is) ∙ none)
       ∙ clears_had f rows i row at (was.on all) in absurd cc
 
-  pub left_other : (own : Sums) → f pair ≡ Some own → (own ≡ sums_found (Some row) → ⊥) → Clears sums rows → ⊥
-  left_other own had other all =
-      other (let both : Some own ≡ Some (sums_found (Some row)) = sym (sym (ap f pair_is) ∙ had)
-      ∙ clears_had f rows i row at (was.on all) in cc)
-
 module _ (sums f : Pair → Option Sums) (rows : List ScoreRow) (i : ℕ) (was : IsLeft sums f rows i) where
   -- all are cleared where nothing is left in the end
   pub left_end : length rows ≤ i → (((p : Pair) → f p ≡ None) → Clears sums rows)
@@ -263,15 +255,6 @@ module _ (sums f : Pair → Option Sums) (rows : List ScoreRow) (i : ℕ) (was :
     λ none. was.back (subst (Clears f) (sym (dropped_all rows i past)) none),
     λ all. subst (Clears f) (dropped_all rows i past) (was.on all),
   )
-
--- a map with nothing in it has no sums, and no other map
-pub empty_none : {S : Type 0} (standings : HashMap Pair Sums S) → length standings.entries ≡ 0 → (p : Pair)
-    → sums_at standings p ≡ None
-empty_none standings none p = ap (lookup (same_pair p)) (empty standings.entries none)
-  where
-    empty : (es : List (Pair × Sums)) → length es ≡ 0 → es ≡ []
-    empty [] none = refl
-    empty (e ∷ es) none = absurd (omega arith)
 
 pub none_empty : {S : Type 0} (standings : HashMap Pair Sums S) → ((p : Pair) → sums_at standings p ≡ None)
     → length standings.entries ≡ 0
@@ -303,9 +286,6 @@ cells_sums row p s is =
     let c : row.draws ≡ s.draws = cc in
     let d : row.losses ≡ s.losses = cc in
     λ i. record { points = a i; wins = b i; draws = c i; losses = d i }
-
-without_itself : (p : Pair) (sums : Pair → Option Sums) → without p sums p ≡ None
-without_itself p sums = ap (λ b. cond b None (sums p)) (pair_itself p)
 
 without_other : (p q : Pair) (sums : Pair → Option Sums) → same_pair p q ≡ false → without p sums q ≡ sums q
 without_other p q sums apart = ap (λ b. cond b None (sums q)) apart

@@ -26,8 +26,7 @@ tells rules id game row told =
     record {
       score = result_of rules game;
       result = told.result;
-      met =
-          λ i. meetings_if (event i) (first i) (second i) (result_of rules game);
+      met = λ i. meetings_if (event i) (first i) (second i) (result_of rules game);
     }
 
 module _ (events : List Event) where

@@ -1,6 +1,5 @@
 -- Which table is the first wrong one, by all rows of one game.
-use Rattle.std.proofs.Common.{◌≡◌, ◌≤◌, ℕ, List, map, Option, Some, None, refl, ap, sym, subst}
-use Rattle.std.proofs.Common.{◌∙◌, arith, inr}
+use Rattle.std.proofs.Common.{◌≡◌, ◌≤◌, ℕ, List, map, Option, Some, None, refl, ap, sym, subst, ◌∙◌, arith, inr}
 use Rattle.club_rules.specs.GameRules.{GameRules}
 use Rattle.club_core.specs.declared.rows.GameView.{GameView}
 use Rattle.club_core.specs.Events.{Terms}
@@ -11,8 +10,7 @@ use Rattle.store_tables.specs.declared.rows.GameRecord.{GameRecord}
 use Rattle.store_tables.specs.declared.rows.MoveRow.{MoveRow}
 use Rattle.store_tables.specs.declared.rows.SeenRow.{SeenRow}
 use Rattle.store_tables.specs.declared.names.Table.{Table}
-use Rattle.store_tables.specs.declared.names.Table.TheVariants.{Moves, Games, Seen}
-use Rattle.store_tables.specs.declared.names.Table.TheVariants.{Meta}
+use Rattle.store_tables.specs.declared.names.Table.TheVariants.{Games, Seen, Meta}
 use Rattle.club_rows.specs.EachOnce.{AreEachOnce}
 use Rattle.club_rows.specs.Seen.{seen_rows}
 use Rattle.club_rows.specs.LegalRows.{AreMovesOf, AreRowsOf}
@@ -23,7 +21,7 @@ use Rattle.std.proofs.lemmas.Option.{same_Some}
 use Rattle.club_audit.specs.Audit.{HaveGame, IsWithin, IsWithinGiven}
 use Rattle.club_audit.specs.FirstWrong.{IsFirstWrong}
 use Rattle.club_audit.specs.GameAudit.{HaveAll, IsRightIn}
-use Rattle.club_audit.proofs.FirstLemmas.{first-games, first-meta, first-moves, first-seen, none-wrong}
+use Rattle.club_audit.proofs.FirstLemmas.{first-games, first-meta, first-seen, none-wrong}
 use Rattle.club_audit.proofs.GameLemmas.{ends-by, view-within}
 
 module _ {P M E T : Type 0} (rules : GameRules P M E T) (terms : Terms) (row : GameRecord) (moves : List MoveRow) where
@@ -45,14 +43,6 @@ module _ {P M E T : Type 0} (rules : GameRules P M E T) (terms : Terms) (row : G
   module _ (seen : List SeenRow) (last : Option ℕ) where
     abbrev Right : Table → Type 0
     Right = IsRightIn rules terms last row moves seen
-
-    pub wrong-moves : ¬ AreMovesOf rules terms row moves → IsFirstWrong Right (Some Moves)
-    wrong-moves wrong = first-moves Right tt tt tt tt wrong
-
-    pub wrong-row : AreMovesOf rules terms row moves × ((id : ℕ) (game : Game M) → ¬ AreRowsOf rules terms id row
-        moves game)
-        → IsFirstWrong Right (Some Games)
-    wrong-row it = first-games Right tt tt tt tt it.0 (λ have. it.1 have.id have.game have.are)
 
     -- of rows that show a game
     module _ {R : Type 0} (view : GameView R P M E T) (id : ℕ) (game : Game M)

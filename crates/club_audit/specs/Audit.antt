@@ -1,6 +1,6 @@
 -- What the rows of single tables are tested for: the members, the events, the challenges and the games of a legal club.
-use Rattle.std.specs.Prelude.{◌≡◌, ◌≢◌, ◌+◌, ◌<◌, ◌≤◌, ℕ, pos, List, map, length, Option, Some, Bool, IsTrue}
-use Rattle.std.specs.Prelude.{slice_get, string_bytes}
+use Rattle.std.specs.Prelude.{◌≡◌, ◌≢◌, ◌+◌, ◌<◌, ◌≤◌, ℕ, pos, List, map, length, Option, Some, Bool, IsTrue, slice_get}
+use Rattle.std.specs.Prelude.{string_bytes}
 use Rattle.std.specs.Option.{option_map}
 use Rattle.club_rules.specs.GameRules.{GameRules}
 use Rattle.club_core.specs.declared.rows.GameEnd.TheVariants.{Outside}
@@ -14,8 +14,7 @@ use Rattle.club_core.specs.Game.{Game, clocks_of, left_of, turn_of}
 use Rattle.club_core.specs.LegalState.{Each, AreApart, AreApartIfAny, IsLegalMember, IsLegalEvent, IsLegalIn}
 use Rattle.club_core.specs.State.{place}
 use Rattle.club_core.specs.View.{clocks_in}
-use Rattle.store_tables.specs.Cells.{event_rule_cells}
-use Rattle.store_tables.specs.Cells.{member_cells, event_cells, move_cells, game_cells, seen_cells}
+use Rattle.store_tables.specs.Cells.{event_rule_cells, member_cells, event_cells, move_cells, game_cells, seen_cells}
 use Rattle.store_tables.specs.declared.rows.MemberRow.{MemberRow}
 use Rattle.store_tables.specs.declared.rows.EventRow.{EventRow}
 use Rattle.store_tables.specs.declared.rows.EventRuleRow.{EventRuleRow}
@@ -24,8 +23,7 @@ use Rattle.store_tables.specs.declared.rows.GameRecord.{GameRecord}
 use Rattle.store_tables.specs.declared.rows.Rows.{Rows}
 use Rattle.store_tables.specs.declared.rows.SeenRow.{SeenRow}
 use Rattle.store_tables.specs.declared.names.Table.{Table}
-use Rattle.store_tables.specs.declared.names.Table.TheVariants.{Members, Events, EventRules, Challenges}
-use Rattle.store_tables.specs.declared.names.Table.TheVariants.{Games, Meta}
+use Rattle.store_tables.specs.declared.names.Table.TheVariants.{Members, Events, EventRules, Challenges, Games, Meta}
 use Rattle.club_rows.specs.Club.{ClubState, ClubGame, both_games}
 use Rattle.club_rows.specs.EachOnce.{AreEachOnce}
 use Rattle.club_rows.specs.LegalRows.{AreRowsOf}

@@ -1,8 +1,8 @@
 -- The first of the tables that is wrong, in the order in which they are looked at.
 use Rattle.std.specs.Prelude.{◌<◌, ℕ, Option, Some, None, IfSome}
 use Rattle.store_tables.specs.declared.names.Table.{Table}
-use Rattle.store_tables.specs.declared.names.Table.TheVariants.{Members, Events, EventRules, Challenges, Moves}
-use Rattle.store_tables.specs.declared.names.Table.TheVariants.{Games, Seen, Scores, Meta}
+use Rattle.store_tables.specs.declared.names.Table.TheVariants.{Members, Events, EventRules, Challenges, Moves, Games}
+use Rattle.store_tables.specs.declared.names.Table.TheVariants.{Seen, Scores, Meta}
 
 -- the place of a table in the order in which they are looked at
 abbrev pub order : Table → ℕ

@@ -1,20 +1,19 @@
 -- The rows of challenges: their types, and the challenge that is found by a member and the member's number for it.
 use Rattle.std.proofs.Common.{◌≡◌, ◌≤◌, ℕ, ℤ, pos, List, [], ◌∷◌, map, Option, Some, None, refl, ap, sym, subst, ◌∙◌}
-use Rattle.std.proofs.Common.{arith, inl, inr}
+use Rattle.std.proofs.Common.{arith, inl, inr, ◌⊎◌}
 use Rattle.std.specs.List.{AllByRecursion}
 use Rattle.std.proofs.lemmas.Bool.{and_parts}
 use Rattle.sqlite.specs.Order.{Row}
-use Rattle.sqlite.specs.declared.types.Value.TheVariants.{Int}
+use Rattle.sqlite.specs.declared.types.Value.TheVariants.{Int, Null}
 use Rattle.sqlite_rules.specs.Lists.{Has}
 use Rattle.club_core.specs.declared.challenges.Challenge.{Challenge}
-use Rattle.club_core.specs.declared.challenges.ChallengeState.{ChallengeState}
-use Rattle.club_core.specs.declared.challenges.ChallengeState.TheVariants.{Open, Withdrawn, Refused, Accepted}
 use Rattle.club_core.specs.Challenges.{challenge_under}
 use Rattle.club_core.specs.LegalState.{IsLegalChallenge}
 use Rattle.club_laws.proofs.Proved.{le-true, under-each, under-found, under-key}
 use Rattle.club_rows.specs.ChallengeRows.{challenge_key}
 use Rattle.club_rows.specs.Club.{ClubState, IsClub, tables}
-use Rattle.club_rows.specs.Tables.{challenge_row}
+use Rattle.club_rows.specs.Tables.{challenge_row, game_started, number}
+use Rattle.sqlite.specs.Values.{or_null}
 use Rattle.club_rows.proofs.Proved.{challenge-shown, challenge-not-shown, challenge-told, no-challenge-told}
 use Rattle.club_rows.proofs.Proved.{challenges-alike}
 use Rattle.store_tables.specs.Cells.{IsChallenge, challenge_cells}
@@ -23,63 +22,25 @@ use Rattle.store_tables.specs.declared.rows.ChallengeRow.{ChallengeRow}
 
 -- ---- types
 
-challenge_typed : (c : Challenge) (standing : ChallengeState) → c.standing ≡ standing → IsChallenge (challenge_row c)
-challenge_typed c standing is = subst (λ s. IsChallenge (challenge_row (record c { standing = s }))) (sym is)
-    (typed standing)
-  where
-    typed : (s : ChallengeState) → IsChallenge (challenge_row (record c { standing = s }))
-    typed Open =
-        record {
-          width = refl;
-          member = (_, refl);
-          number = (_, refl);
-          event = (_, refl);
-          other = (_, refl);
-          first =
-              (_, refl);
-          state = (_, refl);
-          game = inl refl;
-        }
-    typed Withdrawn =
-        record {
-          width = refl;
-          member = (_, refl);
-          number = (_, refl);
-          event = (_, refl);
-          other = (_, refl);
-          first =
-              (_, refl);
-          state = (_, refl);
-          game = inl refl;
-        }
-    typed Refused =
-        record {
-          width = refl;
-          member = (_, refl);
-          number = (_, refl);
-          event = (_, refl);
-          other = (_, refl);
-          first =
-              (_, refl);
-          state = (_, refl);
-          game = inl refl;
-        }
-    typed (Accepted id) =
-        record {
-          width = refl;
-          member = (_, refl);
-          number = (_, refl);
-          event = (_, refl);
-          other = (_, refl);
-          first =
-              (_, refl);
-          state = (_, refl);
-          game = inr (_, refl);
-        }
+game_typed : (o : Option ℕ) → (or_null number o ≡ Null) ⊎ ((n : ℤ) × (or_null number o ≡ Int n))
+game_typed None = inl refl
+game_typed (Some id) = inr (_, refl)
+
+challenge_typed : (c : Challenge) → IsChallenge (challenge_row c)
+challenge_typed c = record {
+  width = refl;
+  member = (_, refl);
+  number = (_, refl);
+  event = (_, refl);
+  other = (_, refl);
+  first = (_, refl);
+  state = (_, refl);
+  game = game_typed (game_started c.standing);
+}
 
 pub challenges_typed : (cs : List Challenge) → AllByRecursion IsChallenge (map challenge_row cs)
 challenges_typed [] = tt
-challenges_typed (c ∷ cs) = (challenge_typed c c.standing refl, challenges_typed cs)
+challenges_typed (c ∷ cs) = (challenge_typed c, challenges_typed cs)
 
 -- ---- a challenge that is looked for
 

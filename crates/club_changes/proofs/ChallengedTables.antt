@@ -1,6 +1,6 @@
 -- The tables of a club after a command about a challenge that is accepted.
 use Rattle.std.proofs.Common.{◌≡◌, ℕ, ◌+◌, ◌==◌, List, [], ◌∷◌, length, Option, Some, None, Bool, true, false, refl, ap}
-use Rattle.std.proofs.Common.{sym, subst, subst₂, ◌∙◌, ◌≢◌, arith}
+use Rattle.std.proofs.Common.{sym, subst, ◌∙◌, arith}
 use Rattle.std.specs.Prelude.{if◌then◌else◌}
 use Rattle.sqlite.specs.Order.{Row}
 use Rattle.club_requests.specs.declared.answers.Outcome as given
@@ -8,8 +8,7 @@ use Rattle.club_requests.specs.declared.answers.Outcome.TheVariants as given_is
 use Rattle.club_requests.specs.declared.answers.Answer.{Answer}
 use Rattle.club_core.specs.declared.challenges.Challenge.{Challenge}
 use Rattle.club_core.specs.declared.challenges.ChallengeDecision.TheVariants as decision
-use Rattle.club_core.specs.declared.challenges.ChallengeState.{ChallengeState}
-use Rattle.club_core.specs.declared.challenges.ChallengeState.TheVariants.{Open, Withdrawn, Refused, Accepted}
+use Rattle.club_core.specs.declared.challenges.ChallengeState.TheVariants.{Accepted}
 use Rattle.club_requests.specs.declared.refusals.Refusal.{Refusal}
 use Rattle.club_requests.specs.declared.refusals.Refusal.TheVariants.{UnknownChallenge}
 use Rattle.club_requests.specs.declared.requests.Caller.{Caller}
@@ -26,17 +25,16 @@ use Rattle.club_core.specs.State.{AnyGame, State, place, kind_at, seated_as, is_
 use Rattle.club_core.specs.State.{with_imported, challenge_game}
 use Rattle.club_rows.specs.Club.{both_games, ClubState, IsClub}
 use Rattle.club_rows.specs.Scores.{meetings_in}
-use Rattle.club_rows.specs.Tables.{challenge_row, row_of_game, rows_of_moves, rows_of_seen, tables_of}
+use Rattle.club_rows.specs.Tables.{challenge_row, row_of_game, rows_of_moves, rows_of_seen, tables_of, meta_row}
 use Rattle.club_rows.proofs.Proved.{challenge-put, seated-added, scores_seated}
 use Rattle.store_tables.proofs.Proved.{altered}
 use Rattle.store_tables.specs.declared.rows.Changes.{Changes}
 use Rattle.club_changes.specs.declared.decided.Decided.{Decided}
 use Rattle.club_changes.specs.Challenged.{PutsBegun, AnswersTo, standing_after, begun_games, begun_seen, begun_meetings}
 use Rattle.club_changes.specs.Steps.{AreSame, Puts, IsDecided, started, started_seen, started_scores, no_rows}
-use Rattle.club_rows.specs.Tables.{meta_row}
 use Rattle.club_changes.proofs.NextRows.{puts_all, no_moves, first_of_game}
 use Rattle.club_changes.proofs.OutcomeLemmas.{all_decided, none_decided, answered_mapped, one_seen}
-use Rattle.club_changes.proofs.PutSame.{same_itself, same_by, one_replaced, row_added, nothing_added}
+use Rattle.club_changes.proofs.PutSame.{◌&◌, same_itself, same_by, one_replaced, row_added, nothing_added}
 
 -- ---- the tables
 
@@ -45,31 +43,11 @@ module _ {DP DM DE DT SP SM SE ST : Type 0} (kinds : ClubRules DP DM DE DT SP SM
   challenge_next : (s : State DM SM) (moment : ℕ) (c : Challenge) → AreApart goes_by s.challenges
       → AreSame (puts_all moment [] [] [] (challenge_row c ∷ []) [] [] [] [] (tables_of kinds s))
       (tables_of kinds (with_challenge s moment c))
-  challenge_next s moment c apart = (
-    one_replaced (meta_row 2 s.last) (meta_row 2 moment) 1 refl refl,
-    (
-      same_itself _,
-      (
-        same_itself _,
-        (
-          challenge-put s.challenges c apart,
-          (
-            same_itself _,
-            (
-              same_itself _,
-              (
-                same_itself _,
-                (
-                  same_itself _,
-                  (same_itself _, tt),
-                ),
-              ),
-            ),
-          ),
-        ),
-      ),
-    ),
-  )
+  challenge_next s moment c apart =
+      one_replaced (meta_row 2 s.last) (meta_row 2 moment) 1 refl refl
+      & same_itself _ & same_itself _
+      & challenge-put s.challenges c apart
+      & same_itself _ & same_itself _ & same_itself _ & same_itself _ & same_itself _ & tt
 
   -- and with it a game that starts without a key
   begun_next : (s : State DM SM) (moment : ℕ) (c : Challenge) (pairing : Pairing) (row : Row)
@@ -77,8 +55,7 @@ module _ {DP DM DE DT SP SM SE ST : Type 0} (kinds : ClubRules DP DM DE DT SP SM
       → rows_of_seen kinds (1 + length s.games) (seated_as (kind_at (place s.events pairing.event)) None pairing moment)
       ≡ row ∷ []
       → meetings_in kinds (seated_as (kind_at (place s.events pairing.event)) None pairing moment) ≡ []
-      →
-      AreSame
+      → AreSame
       (puts_all moment [] [] [] (challenge_row c ∷ [])
       (row_of_game kinds s.events (1 + length s.games)
       (seated_as (kind_at (place s.events pairing.event)) None pairing moment) ∷ []) [] (row ∷ []) []
@@ -88,30 +65,17 @@ module _ {DP DM DE DT SP SM SE ST : Type 0} (kinds : ClubRules DP DM DE DT SP SM
       (with_imported s moment (seated_as (kind_at (place s.events pairing.event)) None pairing moment)) moment c))
   begun_next s moment c pairing row apart row_is running =
       let kind = kind_at (place s.events pairing.event) in
-      let new : AnyGame DM SM = seated_as kind None pairing moment in (
-        one_replaced (meta_row 2 s.last) (meta_row 2 moment) 1 refl refl,
-        (
-          same_itself _,
-          (
-            same_itself _,
-            (
-              challenge-put s.challenges c apart,
-              (
-                nothing_added (rows_of_moves kinds s.events) s.games new
-                    (no_moves kinds s.events kind None pairing moment),
-                (
-                  row_added (row_of_game kinds s.events) (first_of_game kinds s.events) s.games new
-                      (row_of_game kinds s.events (1 + length s.games) new) refl,
-                  (
-                    altered (0 ∷ 1 ∷ []) (row ∷ []) _ _ (seated-added kinds s None pairing moment row row_is),
-                    (same_by _ _ (sym (scores_seated kinds s.games new running)), (same_itself _, tt)),
-                  ),
-                ),
-              ),
-            ),
-          ),
-        ),
-      )
+      let new : AnyGame DM SM = seated_as kind None pairing moment in
+      one_replaced (meta_row 2 s.last) (meta_row 2 moment) 1 refl refl
+      & same_itself _ & same_itself _
+      & challenge-put s.challenges c apart
+      & nothing_added (rows_of_moves kinds s.events) s.games new
+      (no_moves kinds s.events kind None pairing moment)
+      & row_added (row_of_game kinds s.events) (first_of_game kinds s.events) s.games new
+      (row_of_game kinds s.events (1 + length s.games) new) refl
+      & altered (0 ∷ 1 ∷ []) (row ∷ []) _ _ (seated-added kinds s None pairing moment row row_is)
+      & same_by _ _ (sym (scores_seated kinds s.games new running))
+      & same_itself _ & tt
 
 -- ---- what is decided
 
@@ -123,8 +87,7 @@ pairing_event : (c : Challenge) → (pairing_for c).event ≡ c.event
 pairing_event c = here c.first
   where
     here : (b : Bool)
-        →
-        event_in
+        → event_in
         (if
         b then (record { event = c.event; first = c.member; second = c.other }) else (record
         { event = c.event; first = c.other; second = c.member })) ≡ c.event
@@ -166,8 +129,7 @@ module _ (s : ClubState) (is_club : IsClub s) (moment : ℕ) where
       (record no_rows {
         challenges = challenge_row c ∷ [];
         games = started s.events n None p moment ∷ [];
-        seen =
-            started_seen s.events n None p moment;
+        seen = started_seen s.events n None p moment;
       }) =
       subst
       (λ z.
@@ -175,8 +137,7 @@ module _ (s : ClubState) (is_club : IsClub s) (moment : ℕ) where
       (record no_rows {
         challenges = challenge_row c ∷ [];
         games = begun_games s.events moment c z;
-        seen =
-            begun_seen s.events moment c z;
+        seen = begun_seen s.events moment c z;
       })) is begun.puts in
       all_decided s (map_outcome (with_answer s moment true) (accepted c (reply_of a))) new (given_is.Accepted a)
       changes moment [] [] [] (challenge_row c ∷ []) (started s.events n None p moment ∷ []) [] (seen ∷ []) [] refl
@@ -187,8 +148,7 @@ module _ (s : ClubState) (is_club : IsClub s) (moment : ℕ) where
       (record no_rows {
         challenges = challenge_row c ∷ [];
         games = started s.events n None p moment ∷ [];
-        seen =
-            l;
+        seen = l;
       }))
       seen_is puts)
       (begun_next both_games s moment c p seen is_club.challenge_numbers seen_is running)
@@ -208,8 +168,7 @@ module _ (s : ClubState) (is_club : IsClub s) (moment : ℕ) where
       (record no_rows {
         challenges = challenge_row c ∷ [];
         games = begun_games s.events moment c z;
-        seen =
-            begun_seen s.events moment c z;
+        seen = begun_seen s.events moment c z;
       })) stands begun.puts)
 
   -- where nothing is accepted, nothing is put
@@ -269,8 +228,7 @@ member_answers (Member id) under games accept = answer_leaves under games id acc
 -- the rows of the game that an accepted challenge has started are put
 pub begun_started : (events : List Event) (moment : ℕ) (c : Challenge) (id : ℕ) (p : Pairing) (changes : Changes)
     → c.standing ≡ Accepted id → p ≡ pairing_for c
-    →
-    Puts changes moment
+    → Puts changes moment
     (record no_rows { games = started events id None p moment ∷ []; seen = started_seen events id None p moment })
     → started_scores events None p moment ≡ [] → PutsBegun events moment c [] changes
 begun_started events moment c id p changes is paired puts running =
@@ -290,29 +248,3 @@ begun_started events moment c id p changes is paired puts running =
       running = subst (λ z. begun_meetings events moment c z ≡ []) (sym is)
           (subst (λ q. started_scores events None q moment ≡ []) paired running);
     }
-
--- and of one that stands otherwise none
-pub none_begun : (events : List Event) (moment : ℕ) (c : Challenge) (changes : Changes)
-    → ((id : ℕ) → c.standing ≢ Accepted id) → Puts changes moment no_rows
-    → PutsBegun events moment c [] changes
-none_begun events moment c changes other puts = here c.standing refl
-  where
-    stands_so : (z : ChallengeState) → c.standing ≡ z → begun_games events moment c z ≡ []
-        → begun_seen events moment c z ≡ []
-        → begun_meetings events moment c z ≡ [] → PutsBegun events moment c [] changes
-    stands_so z is games seen met = record {
-      puts =
-          subst
-          (λ y.
-          Puts changes moment
-          (record no_rows { games = begun_games events moment c y; seen = begun_seen events moment c y }))
-          (sym is)
-          (subst₂ (λ a b. Puts changes moment (record no_rows { games = a; seen = b })) (sym games) (sym seen) puts);
-      running = subst (λ y. begun_meetings events moment c y ≡ []) (sym is) met;
-    }
-
-    here : (z : ChallengeState) → c.standing ≡ z → PutsBegun events moment c [] changes
-    here Open is = stands_so Open is refl refl refl
-    here Withdrawn is = stands_so Withdrawn is refl refl refl
-    here Refused is = stands_so Refused is refl refl refl
-    here (Accepted id) is = absurd (other id is)

@@ -18,8 +18,7 @@ meta_put (Some meta) row content is = let e : meta_cells meta ≡ row = cc in ap
 
 -- what rows to put make of a content
 pub all_changed : (c : Changes) (moment : ℕ) (members events rules challenges games moves seen scores : List Row)
-    →
-    Puts c moment
+    → Puts c moment
     (record {
       members = members;
       events = events;
@@ -27,8 +26,7 @@ pub all_changed : (c : Changes) (moment : ℕ) (members events rules challenges 
       challenges = challenges;
       games = games;
       moves = moves;
-      seen =
-          seen;
+      seen = seen;
       scores = scores;
     })
     → (content : Content) → changed c content ≡ puts_all moment members events rules challenges games moves seen scores
@@ -45,8 +43,7 @@ all_changed c moment members events rules challenges games moves seen scores are
     (put_each 4 (0 ∷ []) (are.events_are i) (put_each 1 (0 ∷ []) (are.members_are i) content)))))))))
 
 pub puts_changed : (c : Changes) (moment : ℕ) (members events games moves seen scores : List Row)
-    →
-    Puts c moment
+    → Puts c moment
     (record {
       members = members;
       events = events;
@@ -54,8 +51,7 @@ pub puts_changed : (c : Changes) (moment : ℕ) (members events games moves seen
       challenges = [];
       games = games;
       moves = moves;
-      seen =
-          seen;
+      seen = seen;
       scores = scores;
     }) → (content : Content)
     → changed c content ≡ puts moment members events games moves seen scores content

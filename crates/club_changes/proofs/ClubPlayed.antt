@@ -1,7 +1,6 @@
 -- What is decided of a command on a game of the club, and the rows of a game that starts.
-use Rattle.std.proofs.Common.{◌≡◌, Bool, inl, inr, ℕ, zero, suc, ◌+◌, ◌-◌, ◌<◌, ◌≤◌, ◌^◌, List, []}
-use Rattle.std.proofs.Common.{◌∷◌, ◌++◌, length, Option, Some, None, refl, ap, sym, subst}
-use Rattle.std.proofs.Common.{subst₂, ℤ, pos, ◌∙◌, arith}
+use Rattle.std.proofs.Common.{◌≡◌, Bool, inl, inr, ℕ, zero, suc, ◌+◌, ◌-◌, ◌<◌, ◌≤◌, ◌^◌, List, [], ◌∷◌, ◌++◌, length}
+use Rattle.std.proofs.Common.{Option, Some, None, refl, ap, sym, subst, subst₂, pos, ◌∙◌, arith}
 use Rattle.std.specs.Prelude.{slice_get, slice_set, IsTrue}
 use Rattle.squares.specs.declared.sides.Score.{Score}
 use Rattle.squares.specs.declared.sides.Side.TheVariants.{First}
@@ -12,29 +11,24 @@ use Rattle.club_requests.specs.declared.answers.Outcome.TheVariants as given_is
 use Rattle.club_core.specs.declared.rows.GameRow.{GameRow}
 use Rattle.club_requests.specs.declared.requests.Caller.{Caller}
 use Rattle.club_requests.specs.Limits.{is_budget, is_increment}
-use Rattle.club_requests.specs.Outcome.{Outcome, accepted, repeated}
-use Rattle.club_requests.specs.Outcome.{refused, map_outcome}
+use Rattle.club_requests.specs.Outcome.{Outcome, accepted, repeated, refused, map_outcome}
 use Rattle.club_core.specs.Answer.{answered}
 use Rattle.club_core.specs.Events.{Event, Terms}
-use Rattle.club_core.specs.Game.{Game, clocks_of}
-use Rattle.club_core.specs.Game.{result_of}
+use Rattle.club_core.specs.Game.{Game, clocks_of, result_of}
 use Rattle.club_core.specs.Legal.{IsLegalGame}
 use Rattle.club_core.specs.LegalState.{IsLegalEvent, IsLegalIn, IsGameOf}
-use Rattle.club_core.specs.Step.{GameCommand}
-use Rattle.club_core.specs.Step.{no_game_refusal}
-use Rattle.club_core.specs.Step.{game_step}
+use Rattle.club_core.specs.Step.{GameCommand, no_game_refusal, game_step}
 use Rattle.club_core.specs.declared.seats.Pairing.{Pairing}
 use Rattle.club_core.specs.State.{seated, seated_as, state_after, place, kind_at, terms_at, with_game, step_game}
 use Rattle.club_core.specs.State.{on_game}
 use Rattle.club_core.specs.View.{IsRowOf}
 use Rattle.club_laws.proofs.Proved.{in-place}
 use Rattle.club_rows.specs.Made.{made_row}
-use Rattle.club_rows.specs.Scores.{meetings_if}
-use Rattle.club_rows.specs.Tables.{game_row, move_rows, number}
-use Rattle.club_rows.specs.Tables.{row_of_game, rows_of_moves, rows_of_seen}
+use Rattle.club_rows.specs.Scores.{Meeting, meetings, meetings_in, scores_in}
+use Rattle.club_rows.specs.Tables.{game_row, move_rows, number, row_of_game, rows_of_moves, rows_of_seen}
 use Rattle.club_rows.proofs.Proved.{Kind, met_running, met_ended, scores_next, scores_stay, entry-alters, seen-stay}
 use Rattle.club_rows.proofs.Proved.{seen-table-set}
-use Rattle.store_tables.specs.Cells.{game_cells}
+use Rattle.store_tables.specs.Cells.{game_cells, score_cells}
 use Rattle.store_tables.specs.declared.rows.GameRecord.{GameRecord}
 use Rattle.store_tables.specs.declared.rows.Changes.{Changes}
 use Rattle.club_changes.specs.declared.decided.Decided.{Decided}
@@ -42,14 +36,10 @@ use Rattle.club_rows.specs.Club.{both_games, ClubState, IsClub, tables}
 use Rattle.sqlite.specs.Order.{Row}
 use Rattle.store_tables.specs.Changed.{changed}
 use Rattle.club_changes.specs.Steps.{caller_step, AreSame, HaveSame, Puts, PutsScoresOf, PutsMove, PutsRow, PutsGame}
-use Rattle.club_changes.specs.Steps.{no_rows}
-use Rattle.club_changes.specs.Steps.{IsDecided, IsDecidedIn, changed_if, first_row, first_seen_rows}
-use Rattle.club_changes.specs.Steps.{started, started_seen}
-use Rattle.squares.specs.declared.sides.Score.{Score}
-use Rattle.store_tables.specs.Cells.{score_cells}
+use Rattle.club_changes.specs.Steps.{no_rows, IsDecided, IsDecidedIn, changed_if, first_row, first_seen_rows, started}
+use Rattle.club_changes.specs.Steps.{started_seen}
 use Rattle.store_tables.specs.Changes.{Alters, put_rows}
 use Rattle.store_tables.proofs.Proved.{altered}
-use Rattle.club_rows.specs.Scores.{Meeting, meetings, meetings_in, scores_in}
 use Rattle.club_changes.proofs.PutSame.{same_by}
 use Rattle.club_changes.proofs.NextRows.{AreFew, play_next, change_next}
 use Rattle.club_changes.proofs.OutcomeLemmas.{none_decided, answered_mapped, same_content}
@@ -201,8 +191,7 @@ module _ {P M E T : Type 0} {laws : GameRules P M E T} {kind : GameKind} (k : Ki
   put_game : (id moment : ℕ) (g : Game M) → place s.games id ≡ Some (k.into g)
       → (o : Outcome (Game M)) (c : Option Changes)
       → PutsGame laws (terms_at (place s.events g.event)) id moment (tables s 14) g o c
-      →
-      AreSame (changed_if c (tables s))
+      → AreSame (changed_if c (tables s))
       (tables (state_after s (map_outcome (λ new. with_game s moment id (k.into new)) o)))
   put_game id moment g at (accepted new reply) (Some c) p =
       let (n, id_is, stands) = place_at s.games id (k.into g) at in
@@ -240,8 +229,7 @@ module _ {P M E T : Type 0} {laws : GameRules P M E T} {kind : GameKind} (k : Ki
 
 pub seated_cells : {P M E T : Type 0} (laws : GameRules P M E T) (r : GameRecord) (row : GameRow E) (terms : Terms)
     (p : Pairing) (id : ℕ) (key : Option (List ℕ)) (moment : ℕ) → IsTrue (is_budget terms.budget)
-    →
-    ((increment : ℕ) (declares : Bool)
+    → ((increment : ℕ) (declares : Bool)
     → IsRowOf laws (record { budget = terms.budget; increment = increment; declares = declares }) (seated key p moment)
     row)
     → (row.left_first < 2 ^ 63 → row.left_second < 2 ^ 63 → (terms : Terms) (game : Game M)
@@ -254,12 +242,6 @@ seated_cells {P} {M} laws r row terms p id key moment legal shows cells =
     let second : row.left_second ≡ terms.budget = ap (λ c. c.left_second) is_row.clocks in
     let start : Game M = seated key p moment in
     cells (omega (arith, first, budget)) (omega (arith, second, budget)) terms start is_row
-
--- a game is no meeting so long as it has no result
-pub none_met : (event first second : ℤ) (result : Option Score) → meetings_if event first second result ≡ []
-    → result ≡ None
-none_met event first second None none = refl
-none_met event first second (Some score) none = cc
 
 pub started_first : (events : List Event) (p : Pairing) (id : ℕ) (key : Option (List ℕ)) (moment : ℕ) (kind : GameKind)
     → kind_at (place events p.event) ≡ kind → started events id key p moment

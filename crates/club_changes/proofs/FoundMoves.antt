@@ -1,6 +1,6 @@
 -- The row of a ply, by the rows that are found for it.
-use Rattle.std.proofs.Common.{◌≡◌, ℕ, zero, suc, ◌+◌, ◌-◌, ◌<◌, ◌≤◌, List, [], ◌∷◌, length, pos, Option, Some}
-use Rattle.std.proofs.Common.{None, true, refl, ap, sym, subst, subst₂, ◌∙◌, arith, inl, inr}
+use Rattle.std.proofs.Common.{◌≡◌, ℕ, zero, suc, ◌+◌, ◌-◌, ◌<◌, ◌≤◌, List, [], ◌∷◌, length, pos, Option, Some, None}
+use Rattle.std.proofs.Common.{true, refl, ap, sym, subst, subst₂, ◌∙◌, arith, inl, inr}
 use Rattle.std.specs.Prelude.{slice_get}
 use Rattle.std.specs.Option.{option_map}
 use Rattle.std.proofs.lemmas.Bool.{and_parts, and_from}

@@ -17,7 +17,7 @@ use Rattle.club_requests.specs.declared.requests.Caller.{Caller}
 use Rattle.club_requests.specs.declared.requests.Caller.TheVariants as caller
 use Rattle.club_laws.proofs.Proved.{bytes_eq-same, same-bytes_eq, find_id-found, find_id-none}
 use Rattle.club_rows.specs.Club.{ClubState, IsClub, tables}
-use Rattle.club_rows.specs.Tables.{number, member_row, event_row, rule_row}
+use Rattle.club_rows.specs.Tables.{numbered_from, number, member_row, event_row, rule_row}
 use Rattle.store_tables.specs.Cells.{member_cells}
 use Rattle.store_tables.specs.declared.rows.MemberRow.{MemberRow}
 use Rattle.store_tables.specs.Content.{same_key}
@@ -80,19 +80,25 @@ module _ (s : ClubState) (is_club : IsClub s) (key : List ℕ) where
 one_at : {A : Type 0} (o : Option A) (x y : A) → o ≡ Some x → o ≡ Some y → x ≡ y
 one_at o x y one two = let e = sym one ∙ two in cc
 
--- what is found for the id of a member is its row
+-- what is found for the id of an element is its row
+numbered_found : {A : Type 0} (row : ℕ → A → Row) → ((n : ℕ) (x : A) → column (row n x) 0 ≡ number n) → (xs : List A)
+    (id : ℕ) (found : List Row) (z : Row) (known : A)
+    → AreThose (0 ∷ []) (number id ∷ []) (numbered_from row 1 xs) found → Has found z → place xs id ≡ Some known
+    → z ≡ row id known
+numbered_found row begins xs id found z known those has at =
+    let those_z = those.sound z has in
+    let (n, x, stands, is) = numbered_had row 1 xs z those_z.0 in
+    let same : 1 + n ≡ id = ids_same z (number id ∷ []) (1 + n) id (ap (λ w. column w 0) is ∙ begins (1 + n) x) refl
+    those_z.1 in
+    let (k, id_is, there) = place_at xs id known at in
+    let k_is : n ≡ k = omega (arith, same, id_is) in
+    let x_is : x ≡ known = one_at (slice_get xs k) x known (subst (λ i. slice_get xs i ≡ Some x) k_is stands) there in
+    is ∙ (λ i. row (same i) (x_is i))
+
 pub member_found : (s : ClubState) (id : ℕ) (found : List Row) (z : Row) (known : Member)
     → AreThose (0 ∷ []) (number id ∷ []) (tables s 1) found → Has found z → place s.members id ≡ Some known
     → z ≡ member_row id known
-member_found s id found z known those has at =
-    let those_z = those.sound z has in
-    let (n, m, stands, is) = numbered_had member_row 1 s.members z those_z.0 in
-    let same : 1 + n ≡ id = ids_same z (number id ∷ []) (1 + n) id (ap (λ w. column w 0) is) refl those_z.1 in
-    let (k, id_is, there) = place_at s.members id known at in
-    let k_is : n ≡ k = omega (arith, same, id_is) in
-    let m_is : m ≡ known = one_at (slice_get s.members k) m known
-    (subst (λ i. slice_get s.members i ≡ Some m) k_is stands) there in
-    is ∙ (λ i. member_row (same i) (m_is i))
+member_found s = numbered_found member_row (λ n x. refl) s.members
 
 pub name_same : (row : MemberRow) (id : ℕ) (known : Member) → member_cells row ≡ member_row id known
     → string_bytes row.name ≡ known.name
@@ -100,36 +106,13 @@ name_same row id known is = cc
 
 -- ---- the event of an id
 
--- what is found for the id of an event is its row
 pub event_found : (s : ClubState) (id : ℕ) (found : List Row) (z : Row) (known : Event)
     → AreThose (0 ∷ []) (number id ∷ []) (tables s 4) found → Has found z → place s.events id ≡ Some known
     → z ≡ event_row id known
-event_found s id found z known those has at =
-    let those_z = those.sound z has in
-    let (n, e, stands, is) = numbered_had event_row 1 s.events z those_z.0 in
-    let same : 1 + n ≡ id = ids_same z (number id ∷ []) (1 + n) id (ap (λ w. column w 0) is) refl those_z.1 in
-    let (k, id_is, there) = place_at s.events id known at in
-    let k_is : n ≡ k = omega (arith, same, id_is) in
-    let e_is : e ≡ known = one_at (slice_get s.events k) e known
-    (subst (λ i. slice_get s.events i ≡ Some e) k_is stands) there in
-    is ∙ (λ i. event_row (same i) (e_is i))
-  where
-    one_at : {A : Type 0} (o : Option A) (x y : A) → o ≡ Some x → o ≡ Some y → x ≡ y
-    one_at o x y one two = let e = sym one ∙ two in cc
+event_found s = numbered_found event_row (λ n x. refl) s.events
 
 -- and what is found of its rules is theirs
 pub rule_found : (s : ClubState) (id : ℕ) (found : List Row) (z : Row) (known : Event)
     → AreThose (0 ∷ []) (number id ∷ []) (tables s 16) found → Has found z → place s.events id ≡ Some known
     → z ≡ rule_row id known
-rule_found s id found z known those has at =
-    let those_z = those.sound z has in
-    let (n, e, stands, is) = numbered_had rule_row 1 s.events z those_z.0 in
-    let same : 1 + n ≡ id = ids_same z (number id ∷ []) (1 + n) id (ap (λ w. column w 0) is) refl those_z.1 in
-    let (k, id_is, there) = place_at s.events id known at in
-    let k_is : n ≡ k = omega (arith, same, id_is) in
-    let e_is : e ≡ known = one_at (slice_get s.events k) e known
-    (subst (λ i. slice_get s.events i ≡ Some e) k_is stands) there in
-    is ∙ (λ i. rule_row (same i) (e_is i))
-  where
-    one_at : {A : Type 0} (o : Option A) (x y : A) → o ≡ Some x → o ≡ Some y → x ≡ y
-    one_at o x y one two = let e = sym one ∙ two in cc
+rule_found s = numbered_found rule_row (λ n x. refl) s.events

@@ -1,6 +1,6 @@
 -- What the rows of a game tell, where they are those of a club.
-use Rattle.std.proofs.Common.{◌≡◌, ℕ, suc, ◌+◌, ◌<◌, ◌≤◌, List, [], ◌∷◌, length, pos, SFits, w64, Option, Some}
-use Rattle.std.proofs.Common.{None, true, refl, ap, sym, subst, subst₂, ◌∙◌, arith, true≢false}
+use Rattle.std.proofs.Common.{◌≡◌, ℕ, suc, ◌+◌, ◌<◌, ◌≤◌, List, [], ◌∷◌, length, pos, SFits, w64, Option, Some, None}
+use Rattle.std.proofs.Common.{true, refl, ap, sym, subst, subst₂, ◌∙◌, arith, true≢false}
 use Rattle.std.specs.Prelude.{ℤ, slice_get, IsSome}
 use Rattle.std.specs.Cmp.{tied_itself}
 use Rattle.std.proofs.lemmas.Bool.{and_parts, and_from}
@@ -29,8 +29,8 @@ use Rattle.club_laws.proofs.Proved.{in-place, bytes_eq-same, same-bytes_eq, find
 use Rattle.club_rows.specs.Replay.{terms_given}
 use Rattle.club_requests.specs.Limits.{last_moment}
 use Rattle.club_core.specs.State as club
-use Rattle.club_core.specs.State.{AnyGame, place, terms_at, key_of, is_key, has_key, at_found, any_under, keyed_at}
-use Rattle.club_core.specs.State.{keyed_game, game_under, pairing_of, on_game}
+use Rattle.club_core.specs.State.{place, terms_at, key_of, is_key, has_key, at_found, any_under, keyed_at, keyed_game}
+use Rattle.club_core.specs.State.{game_under, pairing_of, on_game}
 use Rattle.club_rows.proofs.Proved.{Kind, seen-found}
 use Rattle.club_rows.specs.Tables.{number}
 use Rattle.store_tables.specs.Cells.{game_cells}
@@ -43,8 +43,7 @@ use Rattle.club_changes.specs.declared.decided.Decided.{Decided}
 use Rattle.club_changes.specs.declared.stored.StoredGame.{StoredGame}
 use Rattle.club_changes.specs.Steps.{caller_step, game_in, TellsMoves, TellsSeen, IsRecordOf, IsDecided, IsDecidedIn}
 use Rattle.club_changes.specs.Stored.{IsStoredGame}
-use Rattle.club_changes.proofs.PutSame.{numbered_had, numbered_has, ids_same as same_ids}
-use Rattle.club_changes.proofs.PutSame.{ids_agree}
+use Rattle.club_changes.proofs.PutSame.{numbered_had, numbered_has, ids_same as same_ids, ids_agree}
 use Rattle.club_changes.proofs.NextRows.{first_of_game}
 use Rattle.club_changes.proofs.FoundMoves.{tells_moves}
 use Rattle.club_changes.proofs.ClubPlayed.{game_is, place_at, no_later, decided_club}
@@ -134,36 +133,27 @@ module _ (s : ClubState) (is_club : IsClub s) (key : List ℕ) where
       let o = find_id (has_key key) s.games in
       (1 + n, g, place_next s.games n ∙ at, any_of n g o at keyed refl, found_under n g o at keyed refl, is)
 
-  none_any : (o : Option ℕ) → AreThose (1 ∷ []) (Null ∷ Text key ∷ []) (tables s 10) []
-      → find_id (has_key key) s.games ≡ o → at_found s.games o ≡ None
-  none_any None those is = refl
-  none_any (Some id) those is =
-      let (x, stands, passes) = find_id-found (has_key key) s.games id is in
-      let (m, id_is, there) = place_at s.games id x stands in
-      absurd
-      (those.complete (game_in s (1 + m) x) (numbered_has (game_in s) 1 s.games m x there)
-      (key_alike s (1 + m) x key (key_has key (key_of x) passes)))
-
   -- where no row is found, no game stands under the key
+  no_key : (found : List Row) → AreThose (1 ∷ []) (Null ∷ Text key ∷ []) (tables s 10) found → found ≡ []
+      → find_id (has_key key) s.games ≡ None
+  no_key found those none = gone (find_id (has_key key) s.games) refl
+    where
+      gone : (o : Option ℕ) → find_id (has_key key) s.games ≡ o → find_id (has_key key) s.games ≡ None
+      gone None is = is
+      gone (Some id) is =
+          let (x, stands, passes) = find_id-found (has_key key) s.games id is in
+          let (m, id_is, there) = place_at s.games id x stands in
+          absurd
+          ((subst (AreThose (1 ∷ []) (Null ∷ Text key ∷ []) (tables s 10)) none those).complete (game_in s (1 + m) x)
+          (numbered_has (game_in s) 1 s.games m x there) (key_alike s (1 + m) x key (key_has key (key_of x) passes)))
+
   pub none_stored : (found : List Row) → AreThose (1 ∷ []) (Null ∷ Text key ∷ []) (tables s 10) found → found ≡ []
       → any_under s.games key ≡ None
-  none_stored found those none = none_any (find_id (has_key key) s.games)
-      (subst (AreThose (1 ∷ []) (Null ∷ Text key ∷ []) (tables s 10)) none those) refl
-
-  none_under : (o : Option ℕ) → AreThose (1 ∷ []) (Null ∷ Text key ∷ []) (tables s 10) []
-      → find_id (has_key key) s.games ≡ o → keyed_at s.games o ≡ None
-  none_under None those is = refl
-  none_under (Some id) those is =
-      let (x, stands, passes) = find_id-found (has_key key) s.games id is in
-      let (m, id_is, there) = place_at s.games id x stands in
-      absurd
-      (those.complete (game_in s (1 + m) x) (numbered_has (game_in s) 1 s.games m x there)
-      (key_alike s (1 + m) x key (key_has key (key_of x) passes)))
+  none_stored found those none = ap (at_found s.games) (no_key found those none)
 
   pub under_none : (found : List Row) → AreThose (1 ∷ []) (Null ∷ Text key ∷ []) (tables s 10) found → found ≡ []
       → game_under s.games key ≡ None
-  under_none found those none = none_under (find_id (has_key key) s.games)
-      (subst (AreThose (1 ∷ []) (Null ∷ Text key ∷ []) (tables s 10)) none those) refl
+  under_none found those none = ap (keyed_at s.games) (no_key found those none)
 
 -- ---- the game of an id
 

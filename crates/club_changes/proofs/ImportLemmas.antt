@@ -2,9 +2,7 @@
 use Rattle.std.proofs.Common.{◌≡◌, ◌≢◌, ◌⊎◌, inl, inr, ℕ, ◌+◌, ◌<◌, List, [], ◌∷◌, length, map, drop, get_or, pos}
 use Rattle.std.proofs.Common.{Option, Some, None, Bool, true, false, refl, ap, sym, subst, subst₂, ◌∙◌, arith, add-one}
 use Rattle.std.specs.Prelude.{if◌then◌else◌}
-use Rattle.std.specs.Option.{option_map}
 use Rattle.std.proofs.lemmas.Bool.{eq-eqb}
-use Rattle.std.proofs.lemmas.List.{length-map}
 use Rattle.sqlite.specs.Order.{Row}
 use Rattle.squares.specs.declared.draughts.moves.DMove.{DMove}
 use Rattle.squares.specs.declared.shogi.moves.SMove.{SMove}
@@ -25,8 +23,8 @@ use Rattle.club_requests.specs.declared.requests.Caller.TheVariants.{Officer, Me
 use Rattle.club_core.specs.Answer.{members_of, event_of, events_of, outcome_of, answered}
 use Rattle.club_core.specs.Events.{Terms, Event, event_kind, event_declares, has_event_name}
 use Rattle.club_core.specs.Game.{Game}
-use Rattle.club_core.specs.Imports.{Import, Imported, imported, has_part, reading_of_import, repeat_of_import}
-use Rattle.club_core.specs.Imports.{read_in, import_tests, import_refusal, import_between, import_found}
+use Rattle.club_core.specs.Imports.{Import, Imported, imported, has_part, reading_of_import, repeat_of_import, read_in}
+use Rattle.club_core.specs.Imports.{import_tests, import_refusal, import_between, import_found}
 use Rattle.club_core.specs.LegalState.{IsLegalIn}
 use Rattle.club_requests.specs.Limits.{is_name}
 use Rattle.club_core.specs.Members.{find_id}
@@ -43,7 +41,7 @@ use Rattle.club_rows.specs.Scores.{meetings, meetings_in}
 use Rattle.club_rows.specs.Seen.{seen_rows}
 use Rattle.club_rows.specs.Tables.{number, game_row, move_rows, rows_of_moves, rows_of_seen}
 use Rattle.club_rows.proofs.Proved.{Kind, event_in, in_draughts, in_shogi, met_ended}
-use Rattle.club_changes.proofs.SeenTexts.{drop-mapped, drop-all}
+use Rattle.club_changes.proofs.SeenTexts.{drop-mapped}
 use Rattle.club_changes.specs.NewGames.{AreNewRows}
 use Rattle.club_changes.specs.declared.imported.added.NewRows.{NewRows}
 use Rattle.store_tables.specs.Cells.{game_cells, move_cells, seen_cells}
@@ -224,8 +222,7 @@ module _ {P M E T : Type 0} {laws : GameRules P M E T} {kind : GameKind} (k : Ki
         (record no_rows {
           games = game_row laws terms m new ∷ [];
           moves = move_rows laws terms m new;
-          seen =
-              seen_rows laws m new;
+          seen = seen_rows laws m new;
           scores = p.scores;
         })) next p.puts in
         let row = sym (k.row s.events n new) in
@@ -241,8 +238,7 @@ module _ {P M E T : Type 0} {laws : GameRules P M E T} {kind : GameKind} (k : Ki
         (record no_rows {
           games = r ∷ [];
           moves = rows_of_moves both_games s.events n (k.into new);
-          seen =
-              rows_of_seen both_games n (k.into new);
+          seen = rows_of_seen both_games n (k.into new);
           scores = p.scores;
         })) row
         (subst₂
@@ -351,30 +347,21 @@ pub kind_later : (b : Bool) (one other found : GameKind) → b ≡ false → fou
 kind_later false one other found is same = same
 kind_later true one other found is same = cc
 
--- of no event there is none
-pub kind_past : (es : List given_event.Event) (name : List ℕ) (i : ℕ) → i ≡ length es
-    → event_kind (drop i (events_of es)) name ≡ Draughts
-kind_past es name i last = ap (λ l. event_kind l name) (drop-all (events_of es) i (last ∙ sym (length-map es event_of)))
-
 -- what is put are the rows of the game
 pub put_as : {P M E T : Type 0} (laws : GameRules P M E T) (terms : Terms) (id moment : ℕ) (game : Game M)
     (rows : NewRows) (scores : List Row) (c : Changes) → AreNewRows laws terms id game rows
-    →
-    Puts c moment
+    → Puts c moment
     (record no_rows {
       games = game_cells rows.game ∷ [];
       moves = map move_cells rows.moves.items;
-      seen =
-          map seen_cells rows.seen.items;
+      seen = map seen_cells rows.seen.items;
       scores = scores;
     })
-    →
-    Puts c moment
+    → Puts c moment
     (record no_rows {
       games = game_row laws terms id game ∷ [];
       moves = move_rows laws terms id game;
-      seen =
-          seen_rows laws id game;
+      seen = seen_rows laws id game;
       scores = scores;
     })
 put_as laws terms id moment game rows scores c are puts = record {
@@ -393,8 +380,7 @@ put_as laws terms id moment game rows scores c are puts = record {
 pub by_known : {P M E T : Type 0} (laws : GameRules P M E T) (records : GameRecords M) (known : Known) (who : Caller)
     (given : Import) (old : Option (Game M)) (ms : List given_member.Member) (es : List given_event.Event)
     → ms ≡ known.members.items → es ≡ known.events.items
-    →
-    by_officer who
+    → by_officer who
     (import_found laws records given (event_declares (events_of es) given.event)
     (find_id (has_event_name given.event) (events_of es))
     (find_id (has_member_name given.first) (members_of ms)) (find_id (has_member_name given.second) (members_of ms))

@@ -134,14 +134,11 @@ module _ {DP DM DE DT SP SM SE ST : Type 0} (kinds : ClubRules DP DM DE DT SP SM
       (score : Score) (scores : List Row) → AreApart goes_by s.challenges
       → meetings_in kinds new ≡ meetings (pos event) (pos first) (pos second) score
       → PutsScores (scores_in kinds s.games) event first second score scores
-      →
-      Puts c moment
+      → Puts c moment
       (record no_rows {
         games = row_of_game kinds s.events (1 + length s.games) new ∷ [];
-        moves =
-            rows_of_moves kinds s.events (1 + length s.games) new;
-        seen =
-            rows_of_seen kinds (1 + length s.games) new;
+        moves = rows_of_moves kinds s.events (1 + length s.games) new;
+        seen = rows_of_seen kinds (1 + length s.games) new;
         scores = scores;
       })
       → AreSame (changed c (tables_of kinds s)) (tables_of kinds (with_imported s moment new))

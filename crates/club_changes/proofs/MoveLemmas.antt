@@ -89,8 +89,7 @@ module _ {P M E T : Type 0} (rules : GameRules P M E T) (ms : List M) (i : ℕ) 
         → q ≡ rules.play p m → turn ≡ rules.turn p → clocks_with a b moment ≡ clocks_of game terms
         → clocks_with c d moment ≡ spend terms.increment turn moment (clocks_with a b moment)
         → left ≡ left_of turn (clocks_with c d moment)
-        →
-        ◌≡◌ {A = Row} (number id ∷ number (i + 1) ∷ Text (rules.write_move p m) ∷ number moment ∷ number left
+        → ◌≡◌ {A = Row} (number id ∷ number (i + 1) ∷ Text (rules.write_move p m) ∷ number moment ∷ number left
         ∷ Text (rules.write_position q) ∷ []) (entry_row rules terms id game made)
     row-is p q turn a b c d left stands goes to_move was now left_is =
         let here : p ≡ last_position rules game = position-is p stands in

@@ -1,6 +1,6 @@
 -- The tables of a club after each command that is accepted.
-use Rattle.std.proofs.Common.{◌≡◌, ℕ, ◌+◌, ◌<◌, ◌≤◌, List, [], ◌∷◌, ◌++◌, length, Option, Some, false, refl}
-use Rattle.std.proofs.Common.{ap, sym, subst, ◌∙◌, arith, inl, inr, ◌⊎◌, length-append}
+use Rattle.std.proofs.Common.{◌≡◌, ℕ, ◌+◌, ◌<◌, ◌≤◌, List, [], ◌∷◌, ◌++◌, length, Option, Some, false, refl, ap, sym}
+use Rattle.std.proofs.Common.{subst, ◌∙◌, arith, inl, inr, ◌⊎◌, length-append}
 use Rattle.std.specs.Prelude.{slice_get, slice_set}
 use Rattle.sqlite.specs.Order.{Row, column}
 use Rattle.sqlite_rules.specs.Lists.{Has}
@@ -19,15 +19,15 @@ use Rattle.club_laws.proofs.Proved.{place-append}
 use Rattle.club_rows.proofs.Proved.{plies_in, scores_seated, seen-table-added}
 pub use Rattle.club_changes.proofs.PlacedRows.{entry_rows_at}
 use Rattle.club_rows.specs.Scores.{meetings_in, scores_in}
-use Rattle.club_rows.specs.Tables.{number, game_row, entry_rows, move_rows, at_start, with_entry}
-use Rattle.club_rows.specs.Tables.{gathered_from, member_row, event_row, row_of_game, rows_of_moves, rows_of_seen}
-use Rattle.club_rows.specs.Tables.{meta_row, rule_row, tables_of}
+use Rattle.club_rows.specs.Tables.{number, game_row, entry_rows, move_rows, at_start, with_entry, gathered_from}
+use Rattle.club_rows.specs.Tables.{member_row, event_row, row_of_game, rows_of_moves, rows_of_seen, meta_row, rule_row}
+use Rattle.club_rows.specs.Tables.{tables_of}
 use Rattle.store_tables.specs.Changes.{put_rows}
 use Rattle.store_tables.proofs.Proved.{altered}
 use Rattle.store_tables.specs.Contents.{Content, put_in, put_each}
 use Rattle.store_tables.specs.Content.{same_key, put}
 use Rattle.club_changes.specs.Steps.{AreSame, HaveSame}
-use Rattle.club_changes.proofs.PutSame.{same_itself, same_by, one_replaced, row_added, row_replaced, nothing_added}
+use Rattle.club_changes.proofs.PutSame.{◌&◌, same_itself, same_by, one_replaced, row_added, row_replaced, nothing_added}
 use Rattle.club_changes.proofs.PutSame.{one_row_more, rows_kept, numbered_alike, gathered_alike, pairs_apart}
 
 -- the content with these rows put, and the moment
@@ -82,31 +82,11 @@ module _ {DP DM DE DT SP SM SE ST : Type 0} (kinds : ClubRules DP DM DE DT SP SM
   pub member_next : (s : State DM SM) (m : Member) (moment : ℕ)
       → AreSame (puts moment (member_row (1 + length s.members) m ∷ []) [] [] [] [] [] (tables_of kinds s))
       (tables_of kinds (with_members s moment (s.members ++ m ∷ [])))
-  member_next s m moment = (
-    one_replaced (meta_row 2 s.last) (meta_row 2 moment) 1 refl refl,
-    (
-      row_added member_row (λ id x. refl) s.members m (member_row (1 + length s.members) m) refl,
-      (
-        same_itself _,
-        (
-          same_itself _,
-          (
-            same_itself _,
-            (
-              same_itself _,
-              (
-                same_itself _,
-                (
-                  same_itself _,
-                  (same_itself _, tt),
-                ),
-              ),
-            ),
-          ),
-        ),
-      ),
-    ),
-  )
+  member_next s m moment =
+      one_replaced (meta_row 2 s.last) (meta_row 2 moment) 1 refl refl
+      & row_added member_row (λ id x. refl) s.members m (member_row (1 + length s.members) m) refl
+      & same_itself _ & same_itself _ & same_itself _ & same_itself _ & same_itself _ & same_itself _
+      & same_itself _ & tt
 
   -- the rows of a legal game stay where an event is added
   game_stays : (s : State DM SM) (e : Event) (g : AnyGame DM SM) → IsLegalIn kinds s g → (id : ℕ)
@@ -130,38 +110,19 @@ module _ {DP DM DE DT SP SM SE ST : Type 0} (kinds : ClubRules DP DM DE DT SP SM
       (1 + length s.events) e ∷ []) [] [] [] [] []
       (tables_of kinds s))
       (tables_of kinds (with_events s moment (s.events ++ e ∷ [])))
-  event_next s e moment legal = (
-    one_replaced (meta_row 2 s.last) (meta_row 2 moment) 1 refl refl,
-    (
-      same_itself _,
-      (
-        row_added event_row (λ id x. refl) s.events e (event_row (1 + length s.events) e) refl,
-        (
-          same_itself _,
-          (
-            same_by _ _
-                (gathered_alike (rows_of_moves kinds s.events) (rows_of_moves kinds (s.events ++ e ∷ [])) 1 s.games
-                (λ n g at. moves_stay s e g (legal n g at))),
-            (
-              same_by _ _
-                  (numbered_alike (row_of_game kinds s.events) (row_of_game kinds (s.events ++ e ∷ [])) 1 s.games
-                  (λ n g at. game_stays s e g (legal n g at))),
-              (
-                same_itself _,
-                (
-                  same_itself _,
-                  (
-                    row_added rule_row (λ id x. refl) s.events e (rule_row (1 + length s.events) e) refl,
-                    tt,
-                  ),
-                ),
-              ),
-            ),
-          ),
-        ),
-      ),
-    ),
-  )
+  event_next s e moment legal =
+      one_replaced (meta_row 2 s.last) (meta_row 2 moment) 1 refl refl
+      & same_itself _
+      & row_added event_row (λ id x. refl) s.events e (event_row (1 + length s.events) e) refl
+      & same_itself _
+      & same_by _ _
+      (gathered_alike (rows_of_moves kinds s.events) (rows_of_moves kinds (s.events ++ e ∷ [])) 1 s.games
+      (λ n g at. moves_stay s e g (legal n g at)))
+      & same_by _ _
+      (numbered_alike (row_of_game kinds s.events) (row_of_game kinds (s.events ++ e ∷ [])) 1 s.games
+      (λ n g at. game_stays s e g (legal n g at)))
+      & same_itself _ & same_itself _
+      & row_added rule_row (λ id x. refl) s.events e (rule_row (1 + length s.events) e) refl & tt
 
   -- a game more
   pub no_moves : (events : List Event) (kind : GameKind) (key : Option (List ℕ)) (pairing : Pairing) (moment id : ℕ)
@@ -173,37 +134,22 @@ module _ {DP DM DE DT SP SM SE ST : Type 0} (kinds : ClubRules DP DM DE DT SP SM
       → rows_of_seen kinds (1 + length s.games)
       (seated_as (kind_at (place s.events pairing.event)) (Some key) pairing moment) ≡ row ∷ []
       → meetings_in kinds (seated_as (kind_at (place s.events pairing.event)) (Some key) pairing moment) ≡ []
-      →
-      AreSame
+      → AreSame
       (puts moment [] []
       (row_of_game kinds s.events (1 + length s.games)
       (seated_as (kind_at (place s.events pairing.event)) (Some key) pairing moment) ∷ []) [] (row ∷ []) []
       (tables_of kinds s)) (tables_of kinds (with_new_game s moment key pairing))
   seat_next s key pairing moment row row_is running =
-      let new : AnyGame DM SM = seated_as (kind_at (place s.events pairing.event)) (Some key) pairing moment in (
-        one_replaced (meta_row 2 s.last) (meta_row 2 moment) 1 refl refl,
-        (
-          same_itself _,
-          (
-            same_itself _,
-            (
-              same_itself _,
-              (
-                nothing_added (rows_of_moves kinds s.events) s.games new
-                    (no_moves s.events (kind_at (place s.events pairing.event)) (Some key) pairing moment),
-                (
-                  row_added (row_of_game kinds s.events) (first_of_game s.events) s.games new
-                      (row_of_game kinds s.events (1 + length s.games) new) refl,
-                  (
-                    altered (0 ∷ 1 ∷ []) (row ∷ []) _ _ (seen-table-added kinds s key pairing moment row row_is),
-                    (same_by _ _ (sym (scores_seated kinds s.games new running)), (same_itself _, tt)),
-                  ),
-                ),
-              ),
-            ),
-          ),
-        ),
-      )
+      let new : AnyGame DM SM = seated_as (kind_at (place s.events pairing.event)) (Some key) pairing moment in
+      one_replaced (meta_row 2 s.last) (meta_row 2 moment) 1 refl refl
+      & same_itself _ & same_itself _ & same_itself _
+      & nothing_added (rows_of_moves kinds s.events) s.games new
+      (no_moves s.events (kind_at (place s.events pairing.event)) (Some key) pairing moment)
+      & row_added (row_of_game kinds s.events) (first_of_game s.events) s.games new
+      (row_of_game kinds s.events (1 + length s.games) new) refl
+      & altered (0 ∷ 1 ∷ []) (row ∷ []) _ _ (seen-table-added kinds s key pairing moment row row_is)
+      & same_by _ _ (sym (scores_seated kinds s.games new running))
+      & same_itself _ & tt
 
   -- ---- the scores that a game puts
 
@@ -224,65 +170,31 @@ module _ {DP DM DE DT SP SM SE ST : Type 0} (kinds : ClubRules DP DM DE DT SP SM
     | inl none ↦
         subst
         (λ l. AreSame (puts moment [] [] (row_of_game kinds s.events (1 + n) new ∷ []) [] [] l (tables_of kinds s))
-        (tables_of kinds (record s { last = moment; games = slice_set s.games n new }))) (sym none) (
-          one_replaced (meta_row 2 s.last) (meta_row 2 moment) 1 refl refl,
-          (
-            same_itself _,
-            (
-              same_itself _,
-              (
-                same_itself _,
-                (
-                  rows_kept (rows_of_moves kinds s.events) s.games n old new at stays,
-                  (
-                    row_replaced (row_of_game kinds s.events) (first_of_game s.events) s.games n old new
-                        (row_of_game kinds s.events (1 + n) new) at refl,
-                    (
-                      rows_kept (rows_of_seen kinds) s.games n old new at seen,
-                      (
-                        subst
-                            (λ l. HaveSame (put_rows (0 ∷ 1 ∷ 2 ∷ []) l (scores_in kinds s.games))
-                            (scores_in kinds (slice_set s.games n new))) none same,
-                        (same_itself _, tt),
-                      ),
-                    ),
-                  ),
-                ),
-              ),
-            ),
-          ),
-        )
+        (tables_of kinds (record s { last = moment; games = slice_set s.games n new }))) (sym none)
+        (one_replaced (meta_row 2 s.last) (meta_row 2 moment) 1 refl refl
+        & same_itself _ & same_itself _ & same_itself _
+        & rows_kept (rows_of_moves kinds s.events) s.games n old new at stays
+        & row_replaced (row_of_game kinds s.events) (first_of_game s.events) s.games n old new
+        (row_of_game kinds s.events (1 + n) new) at refl
+        & rows_kept (rows_of_seen kinds) s.games n old new at seen
+        & subst
+        (λ l. HaveSame (put_rows (0 ∷ 1 ∷ 2 ∷ []) l (scores_in kinds s.games))
+        (scores_in kinds (slice_set s.games n new))) none same
+        & same_itself _ & tt)
     | inr two ↦
         subst
         (λ l. AreSame (puts moment [] [] (row_of_game kinds s.events (1 + n) new ∷ []) [] [] l (tables_of kinds s))
-        (tables_of kinds (record s { last = moment; games = slice_set s.games n new }))) (sym two.2) (
-          one_replaced (meta_row 2 s.last) (meta_row 2 moment) 1 refl refl,
-          (
-            same_itself _,
-            (
-              same_itself _,
-              (
-                same_itself _,
-                (
-                  rows_kept (rows_of_moves kinds s.events) s.games n old new at stays,
-                  (
-                    row_replaced (row_of_game kinds s.events) (first_of_game s.events) s.games n old new
-                        (row_of_game kinds s.events (1 + n) new) at refl,
-                    (
-                      rows_kept (rows_of_seen kinds) s.games n old new at seen,
-                      (
-                        subst
-                            (λ l. HaveSame (put_rows (0 ∷ 1 ∷ 2 ∷ []) l (scores_in kinds s.games))
-                            (scores_in kinds (slice_set s.games n new))) two.2 same,
-                        (same_itself _, tt),
-                      ),
-                    ),
-                  ),
-                ),
-              ),
-            ),
-          ),
-        )
+        (tables_of kinds (record s { last = moment; games = slice_set s.games n new }))) (sym two.2)
+        (one_replaced (meta_row 2 s.last) (meta_row 2 moment) 1 refl refl
+        & same_itself _ & same_itself _ & same_itself _
+        & rows_kept (rows_of_moves kinds s.events) s.games n old new at stays
+        & row_replaced (row_of_game kinds s.events) (first_of_game s.events) s.games n old new
+        (row_of_game kinds s.events (1 + n) new) at refl
+        & rows_kept (rows_of_seen kinds) s.games n old new at seen
+        & subst
+        (λ l. HaveSame (put_rows (0 ∷ 1 ∷ 2 ∷ []) l (scores_in kinds s.games))
+        (scores_in kinds (slice_set s.games n new))) two.2 same
+        & same_itself _ & tt)
   ]
 
   -- a move more in a game
@@ -320,60 +232,26 @@ module _ {DP DM DE DT SP SM SE ST : Type 0} (kinds : ClubRules DP DM DE DT SP SM
           → HaveSame (put_rows (0 ∷ 1 ∷ 2 ∷ []) scores (scores_in kinds s.games))
           (scores_in kinds (slice_set s.games n new)) → after scores
       play_next scores few same = elim few [
-        | inl none ↦ subst after (sym none) (
-          one_replaced (meta_row 2 s.last) (meta_row 2 moment) 1 refl refl,
-          (
-            same_itself _,
-            (
-              same_itself _,
-              (
-                same_itself _,
-                (
-                  one_row_more (rows_of_moves kinds s.events) s.games n old new row at grown fresh,
-                  (
-                    row_replaced (row_of_game kinds s.events) (first_of_game s.events) s.games n old new
-                        (row_of_game kinds s.events (1 + n) new) at refl,
-                    (
-                      seen_is,
-                      (
-                        subst
-                            (λ l. HaveSame (put_rows (0 ∷ 1 ∷ 2 ∷ []) l (scores_in kinds s.games))
-                            (scores_in kinds (slice_set s.games n new))) none same,
-                        (same_itself _, tt),
-                      ),
-                    ),
-                  ),
-                ),
-              ),
-            ),
-          ),
-        )
-        | inr two ↦ subst after (sym two.2) (
-          one_replaced (meta_row 2 s.last) (meta_row 2 moment) 1 refl refl,
-          (
-            same_itself _,
-            (
-              same_itself _,
-              (
-                same_itself _,
-                (
-                  one_row_more (rows_of_moves kinds s.events) s.games n old new row at grown fresh,
-                  (
-                    row_replaced (row_of_game kinds s.events) (first_of_game s.events) s.games n old new
-                        (row_of_game kinds s.events (1 + n) new) at refl,
-                    (
-                      seen_is,
-                      (
-                        subst
-                            (λ l. HaveSame (put_rows (0 ∷ 1 ∷ 2 ∷ []) l (scores_in kinds s.games))
-                            (scores_in kinds (slice_set s.games n new))) two.2 same,
-                        (same_itself _, tt),
-                      ),
-                    ),
-                  ),
-                ),
-              ),
-            ),
-          ),
-        )
+        | inl none ↦ subst after (sym none)
+            (one_replaced (meta_row 2 s.last) (meta_row 2 moment) 1 refl refl
+            & same_itself _ & same_itself _ & same_itself _
+            & one_row_more (rows_of_moves kinds s.events) s.games n old new row at grown fresh
+            & row_replaced (row_of_game kinds s.events) (first_of_game s.events) s.games n old new
+            (row_of_game kinds s.events (1 + n) new) at refl
+            & seen_is
+            & subst
+            (λ l. HaveSame (put_rows (0 ∷ 1 ∷ 2 ∷ []) l (scores_in kinds s.games))
+            (scores_in kinds (slice_set s.games n new))) none same
+            & same_itself _ & tt)
+        | inr two ↦ subst after (sym two.2)
+            (one_replaced (meta_row 2 s.last) (meta_row 2 moment) 1 refl refl
+            & same_itself _ & same_itself _ & same_itself _
+            & one_row_more (rows_of_moves kinds s.events) s.games n old new row at grown fresh
+            & row_replaced (row_of_game kinds s.events) (first_of_game s.events) s.games n old new
+            (row_of_game kinds s.events (1 + n) new) at refl
+            & seen_is
+            & subst
+            (λ l. HaveSame (put_rows (0 ∷ 1 ∷ 2 ∷ []) l (scores_in kinds s.games))
+            (scores_in kinds (slice_set s.games n new))) two.2 same
+            & same_itself _ & tt)
       ]

@@ -1,6 +1,6 @@
 -- What is decided of a command, by what it is answered and the rows that are put.
-use Rattle.std.proofs.Common.{◌≡◌, ℕ, ◌+◌, List, [], ◌∷◌, ◌++◌, length, Option, Some, None, Bool, true}
-use Rattle.std.proofs.Common.{false, ◌&&◌, refl, ap, sym, subst, subst₂, ◌∙◌, true≢false, arith}
+use Rattle.std.proofs.Common.{◌≡◌, ℕ, ◌+◌, List, [], ◌∷◌, ◌++◌, length, Option, Some, None, Bool, true, false, ◌&&◌}
+use Rattle.std.proofs.Common.{refl, ap, sym, subst, subst₂, ◌∙◌, true≢false, arith}
 use Rattle.std.specs.Prelude.{max}
 use Rattle.club_requests.specs.declared.answers.Outcome as given
 use Rattle.club_requests.specs.declared.answers.Outcome.TheVariants as given_is
@@ -21,54 +21,29 @@ use Rattle.club_core.specs.Events.{Event, has_event_name, has_good_values, event
 use Rattle.club_core.specs.Events.{event_tests, declaring}
 use Rattle.club_core.specs.declared.seats.KeyedGame.{KeyedGame}
 use Rattle.club_core.specs.declared.seats.Pairing.{Pairing}
-use Rattle.club_core.specs.Seats.{pair, seat_found, seat_step, same_seats, seat_refusal}
-use Rattle.club_core.specs.Seats.{has_member_name}
+use Rattle.club_core.specs.Seats.{pair, seat_found, seat_step, same_seats, seat_refusal, has_member_name}
 use Rattle.club_core.specs.State.{state_after, is_accepted, add_member, add_event, seat, seated, seated_as, kind_at}
 use Rattle.club_core.specs.State.{place, with_members, with_events, with_new_game, game_under, caller_of, step_by}
 use Rattle.club_core.proofs.Proved.{none-holds}
 use Rattle.club_laws.proofs.Proved.{unmoved, not-false}
-use Rattle.club_rows.specs.Tables.{member_row, event_row, rule_row}
+use Rattle.club_rows.specs.Tables.{member_row, event_row, rule_row, rows_of_seen}
 use Rattle.sqlite.specs.Order.{Row}
 use Rattle.store_tables.specs.declared.rows.Changes.{Changes}
 use Rattle.club_changes.specs.declared.decided.Decided.{Decided}
 use Rattle.club_rows.specs.Club.{both_games, ClubState, IsClub, tables}
 use Rattle.club_changes.specs.Steps.{request, club_step, caller_step, started, started_seen, started_scores, AreSame}
-use Rattle.club_changes.specs.Steps.{Puts, no_rows}
-use Rattle.club_changes.specs.Steps.{Puts, IsDecided, changed_if, no_rows}
+use Rattle.club_changes.specs.Steps.{Puts, no_rows, IsDecided, changed_if}
 use Rattle.club_rules.specs.declared.names.GameKind.{GameKind}
 use Rattle.club_rules.specs.declared.names.GameKind.TheVariants.{Draughts, Shogi}
-use Rattle.club_rows.specs.Tables.{rows_of_seen}
 use Rattle.club_rows.proofs.Proved.{seen-start}
-use Rattle.club_changes.proofs.PutSame.{same_itself}
+use Rattle.club_changes.proofs.PutSame.{◌&◌, same_itself}
 use Rattle.club_changes.proofs.NextRows.{puts_all, puts, member_next, event_next, seat_next}
 use Rattle.club_changes.proofs.ChangedLemmas.{all_changed}
 
 pub same_content : (s : ClubState) → AreSame (tables s) (tables s)
-same_content s = (
-  same_itself _,
-  (
-    same_itself _,
-    (
-      same_itself _,
-      (
-        same_itself _,
-        (
-          same_itself _,
-          (
-            same_itself _,
-            (
-              same_itself _,
-              (
-                same_itself _,
-                (same_itself _, tt),
-              ),
-            ),
-          ),
-        ),
-      ),
-    ),
-  ),
-)
+same_content s =
+    same_itself _ & same_itself _ & same_itself _ & same_itself _ & same_itself _ & same_itself _
+    & same_itself _ & same_itself _ & same_itself _ & tt
 
 accepted_alike : {S : Type 0} (o : Outcome S) → is_accepted (answered o) ≡ is_accepted o
 accepted_alike (accepted new reply) = refl
@@ -91,8 +66,7 @@ none_decided s after d o is none answer not_accepted =
 pub all_decided : (s : ClubState) (after : Outcome ClubState) (new : ClubState) (o : given.Outcome) (c : Changes)
     (moment : ℕ) (members events rules challenges games moves seen scores : List Row) → outcome_of o ≡ answered after
     → state_after s after ≡ new
-    →
-    Puts c moment
+    → Puts c moment
     (record {
       members = members;
       events = events;
@@ -100,8 +74,7 @@ pub all_decided : (s : ClubState) (after : Outcome ClubState) (new : ClubState) 
       challenges = challenges;
       games = games;
       moves = moves;
-      seen =
-          seen;
+      seen = seen;
       scores = scores;
     })
     → AreSame (puts_all moment members events rules challenges games moves seen scores (tables s)) (tables new)
@@ -124,8 +97,7 @@ pub put_decided : (s : ClubState) (after : Outcome ClubState) (new : ClubState) 
       challenges = [];
       games = games;
       moves = moves;
-      seen =
-          seen;
+      seen = seen;
       scores = scores;
     })
     → AreSame (puts moment members events games moves seen scores (tables s)) (tables new)
@@ -148,10 +120,8 @@ module _ {T : Type 0} (s : ClubState) (f : T → ClubState) where
   officer_added : (who : Caller) (same : Option Reply) (refusal : Option Refusal) (t : T) (r : Reply)
       → is_accepted (answered (by_officer who (unless_repeat same (unless refusal (accepted t r))))) ≡ true
       → state_after s (by_officer who (map_outcome f (unless_repeat same (unless refusal (accepted t r))))) ≡ f t
-  officer_added (Member id) same refusal t r is = absurd (true≢false (sym is))
-  officer_added Officer (Some again) refusal t r is = absurd (true≢false (sym is))
-  officer_added Officer None (Some why) t r is = absurd (true≢false (sym is))
   officer_added Officer None None t r is = refl
+  officer_added _ _ _ t r is = absurd (true≢false (sym is))
 
   officer_stands : (who : Caller) (o : Outcome T) (t : T) (reply : Reply) → accepted t reply ≡ by_officer who o
       → state_after s (by_officer who (map_outcome f o)) ≡ f t
@@ -172,8 +142,7 @@ module _ {T : Type 0} (s : ClubState) (f : T → ClubState) where
 
 pub member_decided : (s : ClubState) (moment : ℕ) (who : Caller) (name key : List ℕ) (o : given.Outcome) (c : Changes)
     → outcome_of o ≡ answered (by_officer who (member_step s.members name key)) → is_accepted (outcome_of o) ≡ true
-    →
-    Puts c moment
+    → Puts c moment
     (record no_rows { members = member_row (1 + length s.members) (record { name = name; key = key }) ∷ [] })
     → IsDecided s (caller_step s moment who (add_member name key)) (record { outcome = o; changes = Some c })
 member_decided s moment who name key o c answer is_in are =
@@ -189,8 +158,7 @@ member_decided s moment who name key o c answer is_in are =
 
 pub event_decided : (s : ClubState) (moment : ℕ) (who : Caller) (e : Event) (o : given.Outcome) (c : Changes) → IsClub s
     → outcome_of o ≡ answered (by_officer who (event_step s.events e)) → is_accepted (outcome_of o) ≡ true
-    →
-    Puts c moment
+    → Puts c moment
     (record no_rows {
       events = event_row (1 + length s.events) e ∷ [];
       rules = rule_row (1 + length s.events) (declaring e) ∷ [];
@@ -210,16 +178,12 @@ event_decided s moment who e o c club answer is_in are =
 
 unrefused_by : {T : Type 0} (who : Caller) (again : Option Reply) (refusal : Option Refusal) (o : Outcome T)
     → is_accepted (answered (by_officer who (unless_repeat again (unless refusal o)))) ≡ true → refusal ≡ None
-unrefused_by (Member id) again refusal o is = absurd (true≢false (sym is))
-unrefused_by Officer (Some reply) refusal o is = absurd (true≢false (sym is))
-unrefused_by Officer None (Some why) o is = absurd (true≢false (sym is))
 unrefused_by Officer None None o is = refl
+unrefused_by _ _ _ o is = absurd (true≢false (sym is))
 
 three_true : (a b c : Bool) → (a && b && c) ≡ true → (b ≡ true) × (c ≡ true)
 three_true true true true is = (refl, refl)
-three_true true true false is = absurd (true≢false (sym is))
-three_true true false c is = absurd (true≢false (sym is))
-three_true false b c is = absurd (true≢false (sym is))
+three_true _ _ _ is = absurd (true≢false (sym is))
 
 -- the seconds of an event that is added keep their limits
 pub event_limits : (who : Caller) (events : List Event) (e : Event) (o : given.Outcome)
@@ -235,9 +199,8 @@ event_limits who events e o answer is_in =
 
 unrefused : {T : Type 0} (again : Option Reply) (refusal : Option Refusal) (o : Outcome T) (t : T) (r : Reply)
     → accepted t r ≡ unless_repeat again (unless refusal o) → accepted t r ≡ o
-unrefused (Some reply) refusal o t r is = cc
-unrefused None (Some why) o t r is = cc
 unrefused None None o t r is = is
+unrefused _ _ o t r is = cc
 
 pair_id : (event : ℕ) (first second : Option ℕ) (games : ℕ) (p : Pairing) (id : ℕ)
     → accepted p (game_seated id) ≡ pair event first second games → id ≡ games + 1
@@ -277,12 +240,10 @@ one_seen Shogi id key pairing moment = (_, seen-start both_games.shogi id (seate
 pub seat_decided : (s : ClubState) (moment : ℕ) (who : Caller) (key event first second : List ℕ) (p : Pairing) (id : ℕ)
     (c : Changes) → IsClub s → accepted p (game_seated id) ≡ by_officer who
     (seat_step s.members s.events (game_under s.games key) (length s.games) key event first second)
-    →
-    Puts c moment
+    → Puts c moment
     (record no_rows {
       games = started s.events id (Some key) p moment ∷ [];
-      seen =
-          started_seen s.events id (Some key) p moment;
+      seen = started_seen s.events id (Some key) p moment;
     }) → started_scores s.events (Some key) p moment ≡ []
     → IsDecided s (caller_step s moment who (seat key event first second))
     (record { outcome = given_is.Accepted (answer_is.Game id); changes = Some c })

@@ -1,8 +1,8 @@
 -- What is decided of a command on a game, by the decision on that game.
 pub use Rattle.club_changes.proofs.RoomLemmas.{budget_most, increment_most, room_for}
-use Rattle.std.proofs.Common.{◌≡◌, ◌⊎◌, inl, inr, Bool, false, ℕ, suc, ◌+◌, ◌<◌, ◌≤◌, ◌^◌, List, []}
-use Rattle.std.proofs.Common.{◌∷◌, ◌++◌, length, map, Option, Some, None, Result, Ok, Err, true, refl, ap, sym, subst}
-use Rattle.std.proofs.Common.{subst₂, ◌∙◌, arith, length-append}
+use Rattle.std.proofs.Common.{◌≡◌, ◌⊎◌, inl, inr, Bool, false, ℕ, suc, ◌+◌, ◌<◌, ◌≤◌, ◌^◌, List, [], ◌∷◌, ◌++◌, length}
+use Rattle.std.proofs.Common.{map, Option, Some, None, Result, Ok, Err, true, refl, ap, sym, subst, subst₂, ◌∙◌, arith}
+use Rattle.std.proofs.Common.{length-append}
 use Rattle.std.specs.Prelude.{if◌then◌else◌, slice_get, IsTrue}
 use Rattle.std.proofs.lemmas.List.{length-map}
 use Rattle.std.proofs.lemmas.Option.{slice_get_within}
@@ -27,20 +27,19 @@ use Rattle.club_core.specs.declared.rows.Offer.{Offer}
 use Rattle.club_requests.specs.declared.outside_end.OutsideEnd.{OutsideEnd}
 use Rattle.club_requests.specs.declared.outside_end.OutsideEnd.TheVariants.{Resigned, Agreed, Time, Declared}
 use Rattle.club_requests.specs.Limits.{is_budget, is_increment, most_plies}
-use Rattle.club_requests.specs.Outcome.{Reply, MoveReply, moved, draw_offered, Outcome, accepted, repeated}
-use Rattle.club_requests.specs.Outcome.{refused, unless, unless_repeat}
+use Rattle.club_requests.specs.Outcome.{Reply, MoveReply, moved, draw_offered, Outcome, accepted, repeated, refused}
+use Rattle.club_requests.specs.Outcome.{unless, unless_repeat}
 use Rattle.club_core.specs.Answer.{outcome_of, answered, reply_of, move_reply_of}
 use Rattle.club_core.specs.Events.{Terms}
 use Rattle.club_core.specs.Game.{Game, Entry, Clocks, moves_of, spend, spend_all, clocks_of, left_of, turn_of}
 use Rattle.club_core.specs.Game.{last_position, result_of}
 use Rattle.club_core.specs.Legal.{IsLegalGame}
 use Rattle.club_core.specs.LegalState.{Each}
-use Rattle.club_core.specs.Step.{GameCommand, move, offer_draw, accept_draw, resign, claim_time, declare}
-use Rattle.club_core.specs.Step.{played, offered}
-use Rattle.club_core.specs.Step.{plays, ends, by_side, side_step, caller_side, may_give, asked_ply}
-use Rattle.club_core.specs.Step.{repeat_of, repeat_of_offer, repeat_of_accept, repeat_of_resign, repeat_of_claim}
-use Rattle.club_core.specs.Step.{move_refusal, offer_refusal, accept_refusal, resign_refusal, claim_refusal, move_at}
-use Rattle.club_core.specs.Step.{checked, game_step, reply_of_move, move_tests, offer_tests, accept_tests, resign_tests}
+use Rattle.club_core.specs.Step.{GameCommand, move, offer_draw, accept_draw, resign, claim_time, declare, played}
+use Rattle.club_core.specs.Step.{offered, plays, ends, by_side, side_step, caller_side, may_give, asked_ply, repeat_of}
+use Rattle.club_core.specs.Step.{repeat_of_offer, repeat_of_accept, repeat_of_resign, repeat_of_claim, move_refusal}
+use Rattle.club_core.specs.Step.{offer_refusal, accept_refusal, resign_refusal, claim_refusal, move_at, checked}
+use Rattle.club_core.specs.Step.{game_step, reply_of_move, move_tests, offer_tests, accept_tests, resign_tests}
 use Rattle.club_core.specs.Step.{claim_tests, repeat_of_declare, declare_refusal, declare_tests}
 use Rattle.club_core.specs.declared.settling.Settled.{Settled}
 use Rattle.club_core.specs.View.{concluded, HasMade, IsConcluded, IsMade, IsRowOf, Stood, StoodAfter}
@@ -54,9 +53,9 @@ use Rattle.club_changes.specs.declared.decided.Decided.{Decided}
 use Rattle.sqlite.specs.Order.{Row}
 use Rattle.store_tables.specs.Changed.{changed}
 use Rattle.club_changes.specs.declared.game.DerivedRows.{DerivedRows}
-use Rattle.club_changes.specs.Steps.{Puts, PutsScoresOf, PutsMove, PutsRow, PutsGame, no_rows}
-use Rattle.club_changes.specs.Steps.{HasSeen, IsSeenAfter, HasTwoPlayers, AreScoresAfter, answered_rows, left_answered}
-use Rattle.club_changes.specs.Steps.{seen_list, score_list, IsDecidedIn}
+use Rattle.club_changes.specs.Steps.{Puts, PutsScoresOf, PutsMove, PutsRow, PutsGame, no_rows, HasSeen, IsSeenAfter}
+use Rattle.club_changes.specs.Steps.{HasTwoPlayers, AreScoresAfter, answered_rows, left_answered, seen_list, score_list}
+use Rattle.club_changes.specs.Steps.{IsDecidedIn}
 use Rattle.store_tables.specs.Cells.{seen_cells}
 use Rattle.store_tables.specs.declared.rows.SeenRow.{SeenRow}
 use Rattle.club_rows.specs.Seen.{IsSeenRow}
@@ -82,172 +81,111 @@ module _ {P M E T : Type 0} (laws : GameRules P M E T) (terms : Terms) (g : Game
     pub entries : new.entries ≡ g.entries
     pub unmoved : (r : MoveReply) → reply ≡ moved r → ⊥
 
+  -- what a step leaves is so, where it accepts
+  abbrev pub WhereAccepted : (Game M → Reply → Type 0) → Outcome (Game M) → Type 0
+  WhereAccepted Is (accepted new reply) = Is new reply
+  WhereAccepted Is (repeated reply) = Unit {0}
+  WhereAccepted Is (refused refusal) = Unit {0}
+
+  -- It is, where it is so after a legal move, an offer and an end of a game that was running.
+  module _ (Is : Game M → Reply → Type 0)
+      (of_move : (m : M) → laws.check (last_position laws g) m ≡ Ok tt → result_of laws g ≡ None
+      → WhereAccepted Is (plays laws terms g moment (Ok m)))
+      (of_offer : (offer : Offer) (ply : ℕ) → result_of laws g ≡ None → Is (offered g offer) (draw_offered ply))
+      (of_end : (end : OutsideEnd) → result_of laws g ≡ None → WhereAccepted Is (ends laws g end)) where
+    read_so : (r : Result M MoveRefusal) → ((m : M) → r ≡ Ok m → laws.check (last_position laws g) m ≡ Ok tt)
+        → result_of laws g ≡ None → WhereAccepted Is (plays laws terms g moment r)
+    read_so (Ok m) legal running = of_move m (legal m refl) running
+    read_so (Err why) legal running = tt
+
+    unless_so : (again : Option Reply) (refusal : Option Refusal) (o : Outcome (Game M))
+        → (refusal ≡ None → WhereAccepted Is o) → WhereAccepted Is (unless_repeat again (unless refusal o))
+    unless_so (Some reply) refusal o is = tt
+    unless_so None (Some why) o is = tt
+    unless_so None None o is = is refl
+
+    if_so : (b : Bool) (o : Outcome (Game M)) (why : Refusal) → WhereAccepted Is o
+        → WhereAccepted Is (if b then o else refused why)
+    if_so true o why is = is
+    if_so false o why is = tt
+
+    side_so : (side : Side) (command : GameCommand) → WhereAccepted Is (side_step laws terms g moment side command)
+    side_so side (move ply text) =
+        let p = last_position laws g in
+        let read = checked laws p (laws.read_move p text) in
+        unless_so (repeat_of laws terms g ply (move_at g ply) side text)
+        (move_refusal laws terms g moment side ply text) (plays laws terms g moment read)
+        (λ none. read_so read (λ m is. checked-legal laws terms g moment p (laws.read_move p text) m is)
+        (is_some-none (result_of laws g) (none-holds (move_tests laws terms g moment side ply text) none).0))
+    side_so side (offer_draw ply) =
+        let offer : Offer = record { side = side; ply = ply } in
+        if_so laws.has_draw_offers _ _
+        (unless_so (repeat_of_offer g.offer side ply) (offer_refusal laws g side ply)
+        (accepted (offered g offer) (draw_offered ply)) (λ none. of_offer offer ply
+        (is_some-none (result_of laws g) (none-holds (offer_tests laws g side ply) none).0)))
+    side_so side (accept_draw ply) =
+        if_so laws.has_draw_offers _ _
+        (unless_so (repeat_of_accept laws g side ply) (accept_refusal laws g side ply) (ends laws g Agreed)
+        (λ none. of_end Agreed (is_some-none (result_of laws g) (none-holds (accept_tests laws g side ply) none).0)))
+    side_so side resign = unless_so (repeat_of_resign laws g side) (resign_refusal laws g side) (ends laws g Resigned)
+        (λ none. of_end Resigned (is_some-none (result_of laws g) (none-holds (resign_tests laws g side) none).0))
+    side_so side claim_time = unless_so (repeat_of_claim laws g side) (claim_refusal laws terms g moment side)
+        (ends laws g Time)
+        (λ none. of_end Time
+        (is_some-none (result_of laws g) (none-holds (claim_tests laws terms g moment side) none).0))
+    side_so side (declare ply) = unless_so (repeat_of_declare laws terms g side ply)
+        (declare_refusal laws terms g side ply) (ends laws g Declared) (λ none. of_end Declared
+        (is_some-none (result_of laws g) (none-holds (declare_tests laws terms g side ply) none).0))
+
+    by_so : (side : Option Side) (command : GameCommand) → WhereAccepted Is (by_side laws terms g moment side command)
+    by_so None command = tt
+    by_so (Some side) command = side_so side command
+
+    step_so : (who : Caller) (command : GameCommand) → WhereAccepted Is (game_step laws terms g moment who command)
+    step_so who command = if_so (may_give who command) _ _
+        (by_so (caller_side g.first g.second who (asked_ply command)) command)
+
+  -- a move was made, or nothing moved
   abbrev pub IsDone : Outcome (Game M) → Type 0
-  IsDone (accepted new reply) = IsMoved new reply ⊎ IsChanged new reply
-  IsDone (repeated reply) = Unit {0}
-  IsDone (refused refusal) = Unit {0}
-
-  plays_done : (r : Result M MoveRefusal) → IsDone (plays laws terms g moment r)
-  plays_done (Ok m) = inl (m, refl, refl)
-  plays_done (Err why) = tt
-
-  unless_done : (again : Option Reply) (refusal : Option Refusal) (o : Outcome (Game M)) → IsDone o
-      → IsDone (unless_repeat again (unless refusal o))
-  unless_done (Some reply) refusal o is = tt
-  unless_done None (Some why) o is = tt
-  unless_done None None o is = is
-
-  if_done : (b : Bool) (o other : Outcome (Game M)) → IsDone o → IsDone other → IsDone (if b then o else other)
-  if_done true o other is also = is
-  if_done false o other is also = also
-
-  offered_done : (offer : Offer) (ply : ℕ) → IsDone (accepted (offered g offer) (draw_offered ply))
-  offered_done offer ply =
-      inr (record { event = refl; first = refl; second = refl; start = refl; entries = refl; unmoved = λ r is. cc })
-
-  ends_done : (end : OutsideEnd) → IsDone (ends laws g end)
-  ends_done end =
-      inr (record { event = refl; first = refl; second = refl; start = refl; entries = refl; unmoved = λ r is. cc })
-
-  side_done : (side : Side) (command : GameCommand) → IsDone (side_step laws terms g moment side command)
-  side_done side (move ply text) =
-      let read = checked laws (last_position laws g) (laws.read_move (last_position laws g) text) in
-      unless_done (repeat_of laws terms g ply (move_at g ply) side text)
-      (move_refusal laws terms g moment side ply text) (plays laws terms g moment read) (plays_done read)
-  side_done side (offer_draw ply) =
-      let offer : Offer = record { side = side; ply = ply } in
-      if_done laws.has_draw_offers _ _
-      (unless_done (repeat_of_offer g.offer side ply) (offer_refusal laws g side ply)
-      (accepted (offered g offer) (draw_offered ply)) (offered_done offer ply)) tt
-  side_done side (accept_draw ply) =
-      if_done laws.has_draw_offers _ _
-      (unless_done (repeat_of_accept laws g side ply) (accept_refusal laws g side ply) (ends laws g Agreed)
-      (ends_done Agreed)) tt
-  side_done side resign = unless_done (repeat_of_resign laws g side) (resign_refusal laws g side) (ends laws g Resigned)
-      (ends_done Resigned)
-  side_done side claim_time = unless_done (repeat_of_claim laws g side) (claim_refusal laws terms g moment side)
-      (ends laws g Time) (ends_done Time)
-  side_done side (declare ply) = unless_done (repeat_of_declare laws terms g side ply)
-      (declare_refusal laws terms g side ply) (ends laws g Declared) (ends_done Declared)
-
-  by_done : (side : Option Side) (command : GameCommand) → IsDone (by_side laws terms g moment side command)
-  by_done None command = tt
-  by_done (Some side) command = side_done side command
+  IsDone = WhereAccepted (λ new reply. IsMoved new reply ⊎ IsChanged new reply)
 
   pub step_done : (who : Caller) (command : GameCommand) → IsDone (game_step laws terms g moment who command)
-  step_done who command = if_done (may_give who command) _ _
-      (by_done (caller_side g.first g.second who (asked_ply command)) command) tt
+  step_done = step_so (λ new reply. IsMoved new reply ⊎ IsChanged new reply) (λ m legal running. inl (m, refl, refl))
+      (λ offer ply running. inr (record {
+        event = refl;
+        first = refl;
+        second = refl;
+        start = refl;
+        entries = refl;
+        unmoved = λ r is. cc;
+      }))
+      (λ end running. inr (record {
+        event = refl;
+        first = refl;
+        second = refl;
+        start = refl;
+        entries = refl;
+        unmoved = λ r is. cc;
+      }))
 
   -- only a game that was running is changed
   abbrev pub WasRunning : Outcome (Game M) → Type 0
-  WasRunning (accepted new reply) = result_of laws g ≡ None
-  WasRunning (repeated reply) = Unit {0}
-  WasRunning (refused refusal) = Unit {0}
-
-  plays_running : (r : Result M MoveRefusal) → result_of laws g ≡ None → WasRunning (plays laws terms g moment r)
-  plays_running (Ok m) running = running
-  plays_running (Err why) running = tt
-
-  unless_running : (again : Option Reply) (refusal : Option Refusal) (o : Outcome (Game M))
-      → (refusal ≡ None → WasRunning o) → WasRunning (unless_repeat again (unless refusal o))
-  unless_running (Some reply) refusal o is = tt
-  unless_running None (Some why) o is = tt
-  unless_running None None o is = is refl
-
-  if_running : (b : Bool) (o other : Outcome (Game M)) → WasRunning o → WasRunning other
-      → WasRunning (if b then o else other)
-  if_running true o other is also = is
-  if_running false o other is also = also
-
-  side_running : (side : Side) (command : GameCommand) → WasRunning (side_step laws terms g moment side command)
-  side_running side (move ply text) =
-      let read = checked laws (last_position laws g) (laws.read_move (last_position laws g) text) in
-      unless_running (repeat_of laws terms g ply (move_at g ply) side text)
-      (move_refusal laws terms g moment side ply text) (plays laws terms g moment read)
-      (λ none.
-      plays_running read
-      (is_some-none (result_of laws g) (none-holds (move_tests laws terms g moment side ply text) none).0))
-  side_running side (offer_draw ply) =
-      let offer : Offer = record { side = side; ply = ply } in
-      if_running laws.has_draw_offers _ _
-      (unless_running (repeat_of_offer g.offer side ply) (offer_refusal laws g side ply)
-      (accepted (offered g offer) (draw_offered ply))
-      (λ none. is_some-none (result_of laws g) (none-holds (offer_tests laws g side ply) none).0)) tt
-  side_running side (accept_draw ply) =
-      if_running laws.has_draw_offers _ _
-      (unless_running (repeat_of_accept laws g side ply) (accept_refusal laws g side ply) (ends laws g Agreed)
-      (λ none. is_some-none (result_of laws g) (none-holds (accept_tests laws g side ply) none).0)) tt
-  side_running side resign = unless_running (repeat_of_resign laws g side) (resign_refusal laws g side)
-      (ends laws g Resigned) (λ none. is_some-none (result_of laws g) (none-holds (resign_tests laws g side) none).0)
-  side_running side claim_time = unless_running (repeat_of_claim laws g side) (claim_refusal laws terms g moment side)
-      (ends laws g Time)
-      (λ none. is_some-none (result_of laws g) (none-holds (claim_tests laws terms g moment side) none).0)
-  side_running side (declare ply) = unless_running (repeat_of_declare laws terms g side ply)
-      (declare_refusal laws terms g side ply) (ends laws g Declared)
-      (λ none. is_some-none (result_of laws g) (none-holds (declare_tests laws terms g side ply) none).0)
-
-  by_running : (side : Option Side) (command : GameCommand) → WasRunning (by_side laws terms g moment side command)
-  by_running None command = tt
-  by_running (Some side) command = side_running side command
+  WasRunning = WhereAccepted (λ new reply. result_of laws g ≡ None)
 
   pub step_running : (who : Caller) (command : GameCommand) → WasRunning (game_step laws terms g moment who command)
-  step_running who command = if_running (may_give who command) _ _
-      (by_running (caller_side g.first g.second who (asked_ply command)) command) tt
+  step_running = step_so (λ new reply. result_of laws g ≡ None) (λ m legal running. running)
+      (λ offer ply running. running) (λ end running. running)
 
   -- a game that a step leaves has a line of legal moves
   abbrev pub HasLegalLine : Outcome (Game M) → Type 0
-  HasLegalLine (accepted new reply) = IsLegalLine laws laws.start (moves_of new)
-  HasLegalLine (repeated reply) = Unit {0}
-  HasLegalLine (refused refusal) = Unit {0}
+  HasLegalLine = WhereAccepted (λ new reply. IsLegalLine laws laws.start (moves_of new))
 
-  module _ (line : IsLegalLine laws laws.start (moves_of g)) where
-    plays_legal : (r : Result M MoveRefusal) → ((m : M) → r ≡ Ok m → laws.check (last_position laws g) m ≡ Ok tt)
-        → HasLegalLine (plays laws terms g moment r)
-    plays_legal (Ok m) ok = subst (IsLegalLine laws laws.start) (sym (moves_of-played g m moment))
-        (IsLegalLine-append laws laws.start (moves_of g) m line (ok m refl))
-    plays_legal (Err why) ok = tt
-
-    unless_legal : (again : Option Reply) (refusal : Option Refusal) (o : Outcome (Game M)) → HasLegalLine o
-        → HasLegalLine (unless_repeat again (unless refusal o))
-    unless_legal (Some reply) refusal o is = tt
-    unless_legal None (Some why) o is = tt
-    unless_legal None None o is = is
-
-    if_legal : (b : Bool) (o other : Outcome (Game M)) → HasLegalLine o → HasLegalLine other
-        → HasLegalLine (if b then o else other)
-    if_legal true o other is also = is
-    if_legal false o other is also = also
-
-    side_legal : (side : Side) (command : GameCommand) → HasLegalLine (side_step laws terms g moment side command)
-    side_legal side (move ply text) =
-        let p = last_position laws g in
-        let read = checked laws p (laws.read_move p text) in
-        unless_legal (repeat_of laws terms g ply (move_at g ply) side text)
-        (move_refusal laws terms g moment side ply text) (plays laws terms g moment read)
-        (plays_legal read (λ m is. checked-legal laws terms g moment p (laws.read_move p text) m is))
-    side_legal side (offer_draw ply) =
-        let offer : Offer = record { side = side; ply = ply } in
-        if_legal laws.has_draw_offers _ _
-        (unless_legal (repeat_of_offer g.offer side ply) (offer_refusal laws g side ply)
-        (accepted (offered g offer) (draw_offered ply)) line) tt
-    side_legal side (accept_draw ply) =
-        if_legal laws.has_draw_offers _ _
-        (unless_legal (repeat_of_accept laws g side ply) (accept_refusal laws g side ply) (ends laws g Agreed) line)
-        tt
-    side_legal side resign = unless_legal (repeat_of_resign laws g side) (resign_refusal laws g side)
-        (ends laws g Resigned) line
-    side_legal side claim_time = unless_legal (repeat_of_claim laws g side) (claim_refusal laws terms g moment side)
-        (ends laws g Time) line
-    side_legal side (declare ply) = unless_legal (repeat_of_declare laws terms g side ply)
-        (declare_refusal laws terms g side ply) (ends laws g Declared) line
-
-    by_legal : (side : Option Side) (command : GameCommand) → HasLegalLine (by_side laws terms g moment side command)
-    by_legal None command = tt
-    by_legal (Some side) command = side_legal side command
-
-    pub step_legal : (who : Caller) (command : GameCommand) → HasLegalLine (game_step laws terms g moment who command)
-    step_legal who command = if_legal (may_give who command) _ _
-        (by_legal (caller_side g.first g.second who (asked_ply command)) command) tt
+  pub step_legal : IsLegalLine laws laws.start (moves_of g) → (who : Caller) (command : GameCommand)
+      → HasLegalLine (game_step laws terms g moment who command)
+  step_legal line = step_so (λ new reply. IsLegalLine laws laws.start (moves_of new))
+      (λ m legal running. subst (IsLegalLine laws laws.start) (sym (moves_of-played g m moment))
+      (IsLegalLine-append laws laws.start (moves_of g) m line legal)) (λ offer ply running. line)
+      (λ end running. line)
 
   -- what the row of the last position tells of a game that a step leaves
   module _ (id times first : ℕ) (seen : Option SeenRow)
@@ -416,31 +354,13 @@ module _ {P M E T : Type 0} (laws : GameRules P M E T) (terms : Terms) (id : ℕ
 moved_answer : (answer : Answer) (r : MoveReply) → reply_of answer ≡ moved r → (mv : Moved)
     × (answer ≡ answer_is.Moved mv)
 moved_answer (answer_is.Moved mv) r is = (mv, refl)
-moved_answer (answer_is.Member id) r is = cc
-moved_answer (answer_is.Event id) r is = cc
-moved_answer (answer_is.Game id) r is = cc
-moved_answer (answer_is.Offered ply) r is = cc
-moved_answer (answer_is.Ended end result) r is = cc
-moved_answer (answer_is.Swept count) r is = cc
-moved_answer (answer_is.ChallengeOpened n) r is = cc
-moved_answer (answer_is.ChallengeWithdrawn n) r is = cc
-moved_answer (answer_is.ChallengeRefused n) r is = cc
-moved_answer (answer_is.ChallengeAccepted n game) r is = cc
+moved_answer _ r is = cc
 
 -- any other answer puts no move
 unmoved_rows : (id moment : ℕ) (answer : Answer) → ((r : MoveReply) → reply_of answer ≡ moved r → ⊥)
     → (answered_rows id answer moment ≡ []) × (left_answered answer ≡ 0)
 unmoved_rows id moment (answer_is.Moved mv) unmoved = absurd (unmoved (move_reply_of mv) refl)
-unmoved_rows id moment (answer_is.Member n) unmoved = (refl, refl)
-unmoved_rows id moment (answer_is.Event n) unmoved = (refl, refl)
-unmoved_rows id moment (answer_is.Game n) unmoved = (refl, refl)
-unmoved_rows id moment (answer_is.Offered ply) unmoved = (refl, refl)
-unmoved_rows id moment (answer_is.Ended end result) unmoved = (refl, refl)
-unmoved_rows id moment (answer_is.Swept count) unmoved = (refl, refl)
-unmoved_rows id moment (answer_is.ChallengeOpened n) unmoved = (refl, refl)
-unmoved_rows id moment (answer_is.ChallengeWithdrawn n) unmoved = (refl, refl)
-unmoved_rows id moment (answer_is.ChallengeRefused n) unmoved = (refl, refl)
-unmoved_rows id moment (answer_is.ChallengeAccepted n game) unmoved = (refl, refl)
+unmoved_rows id moment _ unmoved = (refl, refl)
 
 module _ {P M E T : Type 0} (laws : GameRules P M E T) (are_rules : AreRules laws) (terms : Terms) (id : ℕ) (g : Game M)
     (moment : ℕ) (who : Caller) (command : GameCommand)
@@ -454,13 +374,11 @@ module _ {P M E T : Type 0} (laws : GameRules P M E T) (are_rules : AreRules law
   ArePut row answer counts c =
       (terms : Terms) (new : Game M) → row.left_first < 2 ^ 63 → row.left_second < 2 ^ 63
       → left_answered answer < 2 ^ 63 → IsRowOf laws terms new row
-      →
-      Puts c moment
+      → Puts c moment
       (record no_rows {
         games = game_row laws terms id new ∷ [];
         moves = answered_rows id answer moment;
-        seen =
-            seen_list counts.seen;
+        seen = seen_list counts.seen;
         scores = score_list counts.scores;
       })
 
@@ -485,8 +403,7 @@ module _ {P M E T : Type 0} (laws : GameRules P M E T) (are_rules : AreRules law
       let new : Game M = played g m moment in
       let shows =
       same_moved _ _
-      (reply_is ∙ reply-played laws are_rules.turn_passes are_rules.first_starts g legal.line.legal m moment terms)
-      in
+      (reply_is ∙ reply-played laws are_rules.turn_passes are_rules.first_starts g legal.line.legal m moment terms) in
       let count : length new.entries ≡ length g.entries + 1 = simp length-append in
       let plies : length g.entries ≤ most_plies = legal.plies in
       let room = room_for new terms budget increment (omega (arith, count, plies)) in
@@ -511,8 +428,7 @@ module _ {P M E T : Type 0} (laws : GameRules P M E T) (are_rules : AreRules law
             Puts c moment
             (record no_rows {
               games = game_row laws terms id new ∷ [];
-              moves =
-                  made_row id (move_reply_of mv) moment ∷ [];
+              moves = made_row id (move_reply_of mv) moment ∷ [];
               seen = seen_list o;
               scores = score_list counts.scores;
             }))
@@ -547,8 +463,7 @@ module _ {P M E T : Type 0} (laws : GameRules P M E T) (are_rules : AreRules law
               games = game_row laws terms id new ∷ [];
               moves = rows;
               seen = seen_list o;
-              scores =
-                  score_list counts.scores;
+              scores = score_list counts.scores;
             })) none.0 unseen (are terms new first second left is_row);
         stays = rows_stay laws terms id new g is.start is.entries;
       }
@@ -611,8 +526,7 @@ module _ {P M E T : Type 0} (laws : GameRules P M E T) (are_rules : AreRules law
       (record { outcome = given_is.Accepted answer; changes = Some c })
   change_decided row made answer counts c shown after scores are =
       let (new, step_is, is_row, made_is, how) =
-      decided_change laws terms g moment step_in row made answer (step_done laws terms g moment who command) shown
-      in
+      decided_change laws terms g moment step_in row made answer (step_done laws terms g moment who command) shown in
       let running = subst (WasRunning laws terms g moment) step_is (step_running laws terms g moment who command) in
       let seen = subst (λ o. IsSeenAfter laws id o (decision.Accepted row made answer) counts.seen) step_is after in
       subst
@@ -633,8 +547,7 @@ module _ {P M E T : Type 0} (laws : GameRules P M E T) (are_rules : AreRules law
   pub decided_players : {R : Type 0} (d : Decision R P M E T) → IsConcluded laws terms g step_in d → HasTwoPlayers d
   decided_players (decision.Accepted row made answer) shown =
       let (new, step_is, is_row, made_is, how) =
-      decided_change laws terms g moment step_in row made answer (step_done laws terms g moment who command) shown
-      in
+      decided_change laws terms g moment step_in row made answer (step_done laws terms g moment who command) shown in
       two_players row new (reply_of answer) is_row how
   decided_players (decision.Repeated answer) shown = tt
   decided_players (decision.Refused refusal) shown = tt

@@ -15,6 +15,7 @@ pub use Rattle.club_changes.proofs.NextRows.{entry_rows_at, first_of_game, moves
 pub use Rattle.club_changes.proofs.OutcomeLemmas.{caller_decided, nobody_decided, officer_none, seat_decided, seat_same}
 pub use Rattle.club_changes.proofs.PlayedLemmas.{decided_players, seen_by_step, seen_concluded, seen_stood, step_done}
 pub use Rattle.club_changes.proofs.PlayedLemmas.{step_legal}
+pub use Rattle.club_changes.proofs.PutSame.{◌&◌}
 pub use Rattle.club_changes.proofs.PutSame.{AreAtPlaces, gathered_had, gathered_has, ids_agree, ids_same, numbered_had}
 pub use Rattle.club_changes.proofs.PutSame.{numbered_has, numbered_length, numbered_places, one_line, take_next}
 pub use Rattle.club_changes.proofs.ReadRows.{all_read, first_is, first_mapped, member_read, none_mapped, one_more_of}

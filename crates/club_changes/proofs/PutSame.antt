@@ -1,7 +1,6 @@
 -- Rows that are put into a table that has an id for each place of a list.
-use Rattle.std.proofs.Common.{◌≡◌, ℕ, zero, suc, ◌+◌, ◌<◌, List, [], ◌∷◌, ◌++◌, length, get_or, pos, Some}
-use Rattle.std.proofs.Common.{true, false, refl, ap, sym, subst, subst₂, ◌∙◌, arith, inl, inr}
-use Rattle.std.proofs.Common.{true≢false}
+use Rattle.std.proofs.Common.{◌≡◌, ℕ, zero, suc, ◌+◌, ◌<◌, List, [], ◌∷◌, ◌++◌, length, get_or, pos, Some, true, false}
+use Rattle.std.proofs.Common.{refl, ap, sym, subst, subst₂, ◌∙◌, arith, inl, inr, true≢false}
 use Rattle.std.specs.Prelude.{slice_get, slice_set}
 use Rattle.std.proofs.lemmas.Bool.{cases_Bool, and_parts}
 use Rattle.std.proofs.lemmas.Option.{slice_get_within}
@@ -21,6 +20,11 @@ pub use Rattle.club_changes.proofs.PlacedIds.{pos_same, ids_agree, ids_same, num
 pub use Rattle.club_changes.proofs.PlacedIds.{numbered_length}
 pub use Rattle.club_changes.proofs.PlacedIds.{numbered_at, take_next}
 use Rattle.club_changes.specs.Steps.{HaveSame}
+
+-- one table, and those after it
+infixr 30 ◌&◌
+pub ◌&◌ : {A B : Type 0} → A → B → A × B
+one & more = (one, more)
 
 -- ---- keys
 

@@ -1,6 +1,6 @@
 -- The rows of texts, one after another.
 use Rattle.std.proofs.Common.{◌≡◌, ℕ, zero, suc, ◌+◌, ◌<◌, List, [], ◌∷◌, ◌++◌, length, map, take, drop, get_or, Bool}
-use Rattle.std.proofs.Common.{true, false, refl, sym, ap, ◌∙◌, arith, add-one, append_assoc, append-nil}
+use Rattle.std.proofs.Common.{true, false, refl, sym, ap, ◌∙◌, arith, add-one, append_assoc}
 use Rattle.std.specs.Prelude.{if◌then◌else◌, ◌||◌, string_bytes}
 use Rattle.std.specs.declared.alloc.Global.{Global}
 use Rattle.std.specs.declared.string.String.{String}
@@ -10,7 +10,7 @@ use Rattle.std.proofs.lemmas.List.{map-append, take-map}
 use Rattle.sqlite.specs.Order.{Row}
 use Rattle.club_rules.specs.GameRules.{GameRules}
 use Rattle.club_rules.specs.Line.{position_after, positions}
-use Rattle.club_rows.specs.Seen.{times_in, stood_before, seen_row, rows_from, rows_of_texts}
+use Rattle.club_rows.specs.Seen.{times_in, stood_before, seen_row, rows_from}
 use Rattle.club_rows.proofs.Proved.{positions-append}
 use Rattle.club_changes.specs.MoveTexts.{bytes_of}
 use Rattle.club_changes.proofs.MoveLemmas.{one-more}
@@ -77,12 +77,6 @@ pub stood-is : (texts : List (String Global)) (ply : ℕ) (text : List ℕ)
 stood-is texts ply text = any-mapped (bytes_eq text) (λ t. string_bytes t) (take ply texts)
     ∙ ap (list_any (bytes_eq text)) (sym (take-map (λ t. string_bytes t) ply texts))
 
--- at the end all rows are there
-pub seen-whole : (id : ℕ) (all : List (List ℕ)) (ply : ℕ) (rows : List Row) → ply ≡ length all
-    → rows ++ rows_from id all ply (drop ply all) ≡ rows_of_texts id all → rows ≡ rows_of_texts id all
-seen-whole id all ply rows last so_far =
-    sym (append-nil rows) ∙ ap (λ l. rows ++ l) (sym (ap (rows_from id all ply) (drop-all all ply last))) ∙ so_far
-
 -- the texts of a line with one move more
 pub texts-next : {P M E T : Type 0} (rules : GameRules P M E T) (ms : List M) (i : ℕ) (m : M) → i < length ms
     → m ≡ get_or ms i m → (old new : List (List ℕ)) (text : List ℕ) (q : P)
@@ -96,8 +90,7 @@ texts-next rules ms i m within is old new text q was more text_is stands =
     ∙ ap rules.write_position (stands ∙ ap (position_after rules rules.start) one) in
     more
     ∙ ((λ j. was j ++ last j ∷ [])
-    ∙
-    (sym
+    ∙ (sym
     (map-append rules.write_position (positions rules rules.start (take i ms))
     (position_after rules rules.start (take i ms ++ m ∷ []) ∷ []))
     ∙ (ap (map rules.write_position) (sym (positions-append rules rules.start (take i ms) m))

@@ -192,8 +192,7 @@ module _ (before after : List Meeting) (event first second : ℕ) (score : Score
 
   -- the rows of two players are put, from the sums that stand for them
   pub both_put : (olds mids news : List ScoreRow) → AreStanding old was
-      →
-      AreNext event first second score
+      → AreNext event first second score
       (option_map (row_with (pair_of event first second)) (old (pair_of event first second)))
       (option_map (row_with (pair_of event second first)) (old (pair_of event second first))) pair
       → ((q : Pair) → mid q ≡ cond (same_pair (pair_in pair.first) q) (Some (sums_found (Some pair.first))) (old q))

@@ -1,6 +1,5 @@
 -- What was played in a game, by its rows.
-use Rattle.std.proofs.Common.{◌≡◌, ℕ, List, length, map, take, pos, ℤ, Option, Some, None, refl, sym, ap, subst}
-use Rattle.std.proofs.Common.{◌∙◌}
+use Rattle.std.proofs.Common.{◌≡◌, ℕ, List, length, map, take, pos, ℤ, Option, Some, None, refl, sym, ap, subst, ◌∙◌}
 use Rattle.std.specs.Prelude.{string_bytes}
 use Rattle.std.specs.declared.alloc.Global.{Global}
 use Rattle.std.specs.declared.string.String.{String}

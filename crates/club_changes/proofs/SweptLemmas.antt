@@ -17,7 +17,7 @@ use Rattle.store_tables.specs.Changes.{HaveSame, put_rows}
 use Rattle.store_tables.specs.Content.{put}
 use Rattle.store_tables.specs.declared.rows.GameRecord.{GameRecord}
 use Rattle.store_tables.specs.declared.rows.ScoreRow.{ScoreRow}
-use Rattle.store_tables.proofs.Proved.{same_itself, same_then, put_had, put_kept, altered}
+use Rattle.store_tables.proofs.Proved.{same_then, put_had, put_kept, altered}
 use Rattle.club_core.specs.State.{draughts, shogi, pairing_of, is_late_any, swept_any, with_swept}
 use Rattle.club_rows.specs.Club.{ClubGame, ClubState, IsClub, both_games, tables}
 use Rattle.club_rows.specs.Scores.{Meeting, meetings, meetings_in, score_rows, scores_in}
@@ -96,8 +96,7 @@ abbrev pub Puts : GameRecord → Score → (sums sums_now : Pair → Option Sums
 Puts game score sums sums_now changed changed_now =
     (event first second : ℕ) (left right : List Meeting) → HasPlayers game event first second → first ≢ second
     → AreStanding sums (score_rows (left ++ right))
-    →
-    PutsRows (score_rows (left ++ right))
+    → PutsRows (score_rows (left ++ right))
     (score_rows (left ++ (meetings (pos event) (pos first) (pos second) score ++ right))) sums_now changed
     changed_now
 
@@ -115,17 +114,6 @@ pub record IsSweptTo (s : ClubState) (moment n : ℕ) (ended : List GameRecord) 
   pub standing : AreStanding sums (score_rows (met s moment n))
 
 module _ (s : ClubState) (moment : ℕ) where
-  pub swept_start : (sums : Pair → Option Sums) (ended : List GameRecord) (changed : List ScoreRow) → ended ≡ []
-      → changed ≡ [] → AreStanding sums (tables s 14) → IsSweptTo s moment 0 ended changed sums
-  swept_start sums ended changed none no_rows stand = record {
-    ended_are = ap (map game_cells) none;
-    changed_are =
-        subst
-        (λ l. HaveSame (put_rows (0 ∷ 1 ∷ 2 ∷ []) (map score_cells l) (scores_in both_games s.games))
-        (scores_in both_games s.games)) (sym no_rows) (same_itself (scores_in both_games s.games));
-    standing = stand;
-  }
-
   -- the meetings of a club are few
   met_short : IsClub s → (n : ℕ) → length (met s moment n) ≤ 10000
   met_short is_club n =
@@ -145,8 +133,7 @@ module _ (s : ClubState) (moment : ℕ) where
       let games : length s.games ≤ 5000 = is_club.game_count in
       let counted : length ended ≡ count_by (late s moment) (take n s.games) =
       sym (length-map ended game_cells)
-      ∙ (ap length now.ended_are ∙ passing_count (row s moment) (late s moment) (after s moment) 1 (take n s.games))
-      in
+      ∙ (ap length now.ended_are ∙ passing_count (row s moment) (late s moment) (after s moment) 1 (take n s.games)) in
       let few = count_by-le-length (late s moment) (take n s.games) in
       let parts = parts_length n s.games in
       omega (arith, games, counted, few, parts)
@@ -177,8 +164,7 @@ module _ (s : ClubState) (moment : ℕ) where
           let taken = ap (map (after s moment)) (take_next s.games n g stands)
           ∙ map-append (after s moment) (take n s.games) (g ∷ []) in
           ap (λ l. meets s moment l ++ later) taken
-          ∙
-          (ap (λ l. l ++ later)
+          ∙ (ap (λ l. l ++ later)
           (flat_map-append (meetings_in both_games) (map (after s moment) (take n s.games)) (after s moment g ∷ [])
           ∙ ap (λ l. before ++ l) (append-nil (meetings_in both_games (after s moment g))))
           ∙ append_assoc before (meetings_in both_games (after s moment g)) later)
@@ -201,14 +187,12 @@ module _ (s : ClubState) (moment : ℕ) where
           → IsSweptTo s moment (n + 1) ended changed sums
       stays_next ended changed sums in_time now =
           let same : met s moment n ≡ met s moment (n + 1) = met_here
-          ∙
-          (ap (λ x. before ++ (meetings_in both_games x ++ later)) (sym (in_time_stays s moment (1 + n) g in_time))
+          ∙ (ap (λ x. before ++ (meetings_in both_games x ++ later)) (sym (in_time_stays s moment (1 + n) g in_time))
           ∙ sym met_then) in
           record {
             ended_are = now.ended_are
                 ∙ (sym (append-nil (ended_rows s moment (take n s.games)))
-                ∙
-                (ap (λ l. ended_rows s moment (take n s.games) ++ l)
+                ∙ (ap (λ l. ended_rows s moment (take n s.games) ++ l)
                 (sym (row_if_fails (row s moment) (late s moment) (after s moment) (1 + n) g in_time))
                 ∙ sym ended_then));
             changed_are =
@@ -240,8 +224,7 @@ module _ (s : ClubState) (moment : ℕ) where
                 one
                 ∙ (ap (λ l. l ++ game_cells lost ∷ []) now.ended_are
                 ∙ (ap (λ (r : Row). ended_rows s moment (take n s.games) ++ r ∷ []) (lost_is ∙ is_lost.cells)
-                ∙
-                (ap (λ l. ended_rows s moment (take n s.games) ++ l)
+                ∙ (ap (λ l. ended_rows s moment (take n s.games) ++ l)
                 (sym (row_if_passes (row s moment) (late s moment) (after s moment) (1 + n) g is_lost.late_is))
                 ∙ sym ended_then)));
             changed_are =

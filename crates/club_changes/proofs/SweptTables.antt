@@ -22,7 +22,7 @@ use Rattle.club_changes.specs.Steps.{AreSame, HaveSame, Puts, caller_step, IsDec
 use Rattle.club_rows.specs.Tables.{meta_row}
 use Rattle.club_changes.proofs.NextRows.{puts}
 use Rattle.club_changes.proofs.OutcomeLemmas.{none_decided, put_decided}
-use Rattle.club_changes.proofs.PutSame.{same_by, one_replaced}
+use Rattle.club_changes.proofs.PutSame.{◌&◌, same_by, one_replaced}
 
 -- ---- rows of games and of scores that are put into a content
 
@@ -74,32 +74,17 @@ module _ (s : ClubState) (moment : ℕ) (rows : SweptRows) (swept : IsSwept s mo
   -- the rows that are put make the tables of the club after it
   swept_next : AreSame (puts moment [] [] games [] [] scores (tables s)) new
   swept_next =
-      let others : LeavesOthers s moment = leaves_others s moment in (
-        subst (λ l. HaveSame (put_rows (0 ∷ []) (meta_row 2 moment ∷ []) l) (meta_row 2 moment ∷ []))
-            (sym (in_meta games scores (tables s))) (one_replaced (meta_row 2 s.last) (meta_row 2 moment) 1 refl refl),
-        (
-          same_by _ _ (in_members games scores (tables s) ∙ sym others.members_stay),
-          (
-            same_by _ _ (in_events games scores (tables s) ∙ sym others.events_stay),
-            (
-              same_by _ _ (in_challenges games scores (tables s) ∙ sym others.challenges_stay),
-              (
-                same_by _ _ (in_moves games scores (tables s) ∙ sym others.moves_stay),
-                (
-                  subst (λ l. HaveSame l (new 10)) (sym (in_games games scores (tables s))) swept.games_are,
-                  (
-                    same_by _ _ (in_seen games scores (tables s) ∙ sym others.seen_stays),
-                    (
-                      subst (λ l. HaveSame l (new 14)) (sym (in_scores games scores (tables s))) swept.scores_are,
-                      (same_by _ _ (in_rules games scores (tables s) ∙ sym others.rules_stay), tt),
-                    ),
-                  ),
-                ),
-              ),
-            ),
-          ),
-        ),
-      )
+      let others : LeavesOthers s moment = leaves_others s moment in
+      subst (λ l. HaveSame (put_rows (0 ∷ []) (meta_row 2 moment ∷ []) l) (meta_row 2 moment ∷ []))
+      (sym (in_meta games scores (tables s))) (one_replaced (meta_row 2 s.last) (meta_row 2 moment) 1 refl refl)
+      & same_by _ _ (in_members games scores (tables s) ∙ sym others.members_stay)
+      & same_by _ _ (in_events games scores (tables s) ∙ sym others.events_stay)
+      & same_by _ _ (in_challenges games scores (tables s) ∙ sym others.challenges_stay)
+      & same_by _ _ (in_moves games scores (tables s) ∙ sym others.moves_stay)
+      & subst (λ l. HaveSame l (new 10)) (sym (in_games games scores (tables s))) swept.games_are
+      & same_by _ _ (in_seen games scores (tables s) ∙ sym others.seen_stays)
+      & subst (λ l. HaveSame l (new 14)) (sym (in_scores games scores (tables s))) swept.scores_are
+      & same_by _ _ (in_rules games scores (tables s) ∙ sym others.rules_stay) & tt
 
   pub swept_decided : (c : Changes) → Puts c moment (record no_rows { games = games; scores = scores })
       → IsDecided s (caller_step s moment Officer sweep)

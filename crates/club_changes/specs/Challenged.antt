@@ -40,8 +40,7 @@ pub record PutsBegun (events : List Event) (moment : ℕ) (c : Challenge) (chall
       (record no_rows {
         challenges = challenges;
         games = begun_games events moment c c.standing;
-        seen =
-            begun_seen events moment c c.standing;
+        seen = begun_seen events moment c c.standing;
       })
   pub running : begun_meetings events moment c c.standing ≡ []
 

@@ -1,6 +1,5 @@
 -- What is decided of an import by rows of the club's tables.
 use Rattle.std.specs.Prelude.{◌≡◌, ◌≢◌, ◌+◌, ℕ, List, [], ◌∷◌, length, Option, Some, None}
-use Rattle.std.specs.Option.{option_map}
 use Rattle.sqlite.specs.Order.{Row}
 use Rattle.squares.specs.declared.sides.Score.{Score}
 use Rattle.club_rules.specs.declared.names.GameKind.{GameKind}
@@ -21,6 +20,8 @@ use Rattle.club_rows.specs.Seen.{seen_rows}
 use Rattle.club_rows.specs.Tables.{number, game_row, move_rows}
 use Rattle.store_tables.specs.Contents.{Content, AreThose}
 use Rattle.store_tables.specs.declared.rows.Changes.{Changes}
+use Rattle.store_tables.specs.Names.{tree_of}
+use Rattle.store_tables.specs.declared.names.Table.TheVariants.{Moves}
 use Rattle.club_changes.specs.declared.decided.Decided.{Decided}
 use Rattle.club_changes.specs.declared.stored.StoredGame.{StoredGame}
 use Rattle.club_changes.specs.declared.imports.Known.{Known}
@@ -32,7 +33,7 @@ use Rattle.club_changes.specs.Stored.{IsStoredGame}
 -- the rows of a table of moves that have its number are this game's
 abbrev pub TellsLine : {P M E T : Type 0} → GameRules P M E T → Terms → ℕ → Game M → Content → Type 0
 TellsLine laws terms id game content =
-    (found : List Row) → AreThose (0 ∷ []) (number id ∷ []) (content 8) found
+    (found : List Row) → AreThose (0 ∷ []) (number id ∷ []) (content (tree_of Moves)) found
     → HaveSame found (move_rows laws terms id game)
 
 -- the game that stands under a key of the club
@@ -95,8 +96,7 @@ pub record PutsNewGame {P M E T : Type 0} (laws : GameRules P M E T) (terms : Te
       (record no_rows {
         games = game_row laws terms id new ∷ [];
         moves = move_rows laws terms id new;
-        seen =
-            seen_rows laws id new;
+        seen = seen_rows laws id new;
         scores = scores;
       })
 

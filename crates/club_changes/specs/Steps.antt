@@ -44,6 +44,8 @@ use Rattle.store_tables.specs.declared.rows.SeenRow.{SeenRow}
 use Rattle.store_tables.specs.declared.rows.ScoreRow.{ScoreRow}
 use Rattle.club_changes.specs.declared.decided.Decided.{Decided}
 use Rattle.store_tables.specs.Changed.{changed}
+use Rattle.store_tables.specs.Names.{tree_of}
+use Rattle.store_tables.specs.declared.names.Table.TheVariants.{Moves, Seen}
 
 -- ---- the machine
 
@@ -172,49 +174,31 @@ started events id key pairing moment = row_of_game both_games events id
 -- what is put of the move that is answered so, if it is one
 abbrev pub answered_rows : ℕ → Answer → ℕ → List Row
 answered_rows id (answer.Moved mv) moment = made_row id (move_reply_of mv) moment ∷ []
-answered_rows id (answer.Member n) moment = []
-answered_rows id (answer.Event n) moment = []
-answered_rows id (answer.Game n) moment = []
-answered_rows id (answer.Offered ply) moment = []
-answered_rows id (answer.Ended end result) moment = []
-answered_rows id (answer.Swept count) moment = []
-answered_rows id (answer.ChallengeOpened n) moment = []
-answered_rows id (answer.ChallengeWithdrawn n) moment = []
-answered_rows id (answer.ChallengeRefused n) moment = []
-answered_rows id (answer.ChallengeAccepted n game) moment = []
+answered_rows id _ moment = []
 
 -- the seconds that the answer to a move shows, and else none
 abbrev pub left_answered : Answer → ℕ
 left_answered (answer.Moved mv) = mv.left
-left_answered (answer.Member n) = 0
-left_answered (answer.Event n) = 0
-left_answered (answer.Game n) = 0
-left_answered (answer.Offered ply) = 0
-left_answered (answer.Ended end result) = 0
-left_answered (answer.Swept count) = 0
-left_answered (answer.ChallengeOpened n) = 0
-left_answered (answer.ChallengeWithdrawn n) = 0
-left_answered (answer.ChallengeRefused n) = 0
-left_answered (answer.ChallengeAccepted n game) = 0
+left_answered _ = 0
 
 -- the rows of a table of positions tell what stood in this game
 abbrev pub TellsSeen : {P M E T : Type 0} → GameRules P M E T → ℕ → Game M → Content → Type 0
 TellsSeen laws id game content =
     (text : List ℕ) (found : List SeenRow) →
-    AreThose (0 ∷ 1 ∷ []) (number id ∷ Text text ∷ []) (content 12) (map seen_cells found)
+    AreThose (0 ∷ 1 ∷ []) (number id ∷ Text text ∷ []) (content (tree_of Seen)) (map seen_cells found)
     → IsFound laws id game text (slice_get found 0)
 
 -- the rows of a table of moves tell what was played in this game
 abbrev pub TellsMoves : {P M E T : Type 0} → GameRules P M E T → Terms → ℕ → Game M → Content → Type 0
 TellsMoves laws terms id game content =
-    (ply : ℕ) (found : List MoveRow) → AreThose (0 ∷ 1 ∷ []) (number id ∷ number ply ∷ []) (content 8)
+    (ply : ℕ) (found : List MoveRow) → AreThose (0 ∷ 1 ∷ []) (number id ∷ number ply ∷ []) (content (tree_of Moves))
     (map move_cells found)
     → option_map move_cells (slice_get found 0) ≡ row_at laws terms id game ply
 
 -- the rows of a table of moves that have its number are this game's
 abbrev pub TellsLine : {P M E T : Type 0} → GameRules P M E T → Terms → ℕ → Game M → Content → Type 0
 TellsLine laws terms id game content =
-    (found : List Row) → AreThose (0 ∷ []) (number id ∷ []) (content 8) found
+    (found : List Row) → AreThose (0 ∷ []) (number id ∷ []) (content (tree_of Moves)) found
     → HaveSame found (move_rows laws terms id game)
 
 -- the row of the last position of a game that a step leaves
@@ -264,8 +248,7 @@ pub record PutsMove {P M E T : Type 0} (laws : GameRules P M E T) (terms : Terms
       (record no_rows {
         games = game_row laws terms id new ∷ [];
         moves = made_row id reply moment ∷ [];
-        seen =
-            seen ∷ [];
+        seen = seen ∷ [];
         scores = scores;
       })
   pub grown : move_rows laws terms id new ≡ move_rows laws terms id old ++ made_row id reply moment ∷ []

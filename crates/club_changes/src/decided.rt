@@ -1,6 +1,6 @@
 //! What is decided of a request: its outcome, and the rows to put where it is accepted.
 
-ghost use Rattle.std.specs.Prelude.{◌≡◌, ◌<◌, [], Some, None, false};
+ghost use Rattle.std.specs.Prelude.{◌≡◌, ◌<◌, Some, None, false};
 ghost use Rattle.club_core.specs.Answer.{outcome_of};
 ghost use Rattle.club_core.specs.State.{is_accepted};
 ghost use Rattle.club_changes.specs.Steps.{Puts, no_rows};

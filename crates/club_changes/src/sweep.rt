@@ -5,6 +5,8 @@ ghost use Rattle.club_core.specs.State.{sweep};
 ghost use Rattle.club_requests.specs.declared.requests.Caller.TheVariants.{Officer};
 ghost use Rattle.club_rows.specs.Club.{ClubState, IsClub, tables};
 ghost use Rattle.store_tables.specs.Cells.{game_cells, score_cells};
+ghost use Rattle.store_tables.specs.Names.{tree_of};
+ghost use Rattle.store_tables.specs.declared.names.Table.TheVariants.{Games, Scores};
 ghost use Rattle.club_changes.specs.Steps.{caller_step, HaveSame, IsDecided};
 ghost use Rattle.club_changes.specs.Whole.{IsWhole};
 ghost use Rattle.club_changes.specs.Swept.{IsSwept};
@@ -41,11 +43,13 @@ pub fn sweep_games(
     moment: Moment,
 ) -> Result<Decided, ChangeFault>
     ensures acts { IfOk result IsWhole }
-    ensures step { IfOk result (λ d. (s : ClubState) → IsClub s → map game_cells games.now ≡ tables s 10 →
-        HaveSame (map score_cells scores.now) (tables s 14) → IsDecided s (caller_step s moment Officer sweep) d) }
+    ensures step { IfOk result (λ d. (s : ClubState) → IsClub s → map game_cells games.now ≡ tables s (tree_of Games) →
+        HaveSame (map score_cells scores.now) (tables s (tree_of Scores)) →
+        IsDecided s (caller_step s moment Officer sweep) d) }
     // No rows of a club are unfit: memory alone may be refused for them.
     ensures unfit { IsErrOf result ChangeFault.Unfit → (s : ClubState) → IsClub s →
-        map game_cells games.now ≡ tables s 10 → ¬ HaveSame (map score_cells scores.now) (tables s 14) }
+        map game_cells games.now ≡ tables s (tree_of Games) →
+        ¬ HaveSame (map score_cells scores.now) (tables s (tree_of Scores)) }
 {
     let rows = swept_rows(alloc, games, scores, moment)?;
     Ok(put_swept(alloc, rows, moment))

@@ -7,6 +7,8 @@ ghost use Rattle.store_tables.specs.Cells.{meta_cells};
 ghost use Rattle.store_tables.specs.Changes.{HaveSame};
 ghost use Rattle.store_tables.specs.Beside.{HasRows};
 ghost use Rattle.store_tables.specs.Reading.{Reads};
+ghost use Rattle.store_tables.specs.Names.{tree_of};
+ghost use Rattle.store_tables.specs.declared.names.Table.TheVariants.{Meta};
 ghost use Rattle.club_copies.specs.Copies.{AreAll, ArePeople, ArePlay};
 
 use sqlite::{Alter, Connection};
@@ -59,7 +61,7 @@ fn read_meta<S: Alter>(alloc: Global, conn: &mut Connection<S>) -> Result<MetaRo
     ensures reads { Reads (is_ok result) (state S.Store conn.old) (state S.Store conn.new) }
     ensures first { IfOk result (λ first. first.id ≡ pos 1) }
     ensures rows { HasCleanDisk (state S.Store conn.new) → IfOk result (λ first. (content : _) → HasRows content
-        (state S.Store conn.old) → HaveSame (meta_cells first ∷ []) (content 0)) }
+        (state S.Store conn.old) → HaveSame (meta_cells first ∷ []) (content (tree_of Meta))) }
 {
     let rows = match list(alloc, conn) {
         Ok(rows) => rows,
@@ -133,7 +135,7 @@ fn read_play<S: Alter>(alloc: Global, conn: &mut Connection<S>) -> Result<Play, 
 
 /// All rows that were read, as rows to be put.
 fn joined(meta: MetaRow, people: People, play: Play) -> Changes
-    ensures { (content : _) → meta.id ≡ pos 1 → HaveSame (meta_cells meta ∷ []) (content 0) →
+    ensures { (content : _) → meta.id ≡ pos 1 → HaveSame (meta_cells meta ∷ []) (content (tree_of Meta)) →
         ArePeople people content → ArePlay play content → AreAll result content }
 {
     let People {

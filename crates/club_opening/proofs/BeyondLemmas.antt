@@ -1,13 +1,10 @@
 -- Rows by the ids of games: those that begin with the id of none.
-use Rattle.std.proofs.Common.{◌≡◌, ◌≢◌, ◌⊎◌, ℕ, ℤ, zero, suc, pos, ◌+◌, ◌<◌, ◌≤◌, ◌&&◌, Bool, true, false, not, List}
-use Rattle.std.proofs.Common.{[], ◌∷◌}
-use Rattle.std.proofs.Common.{length, map, filter, get_or, Some, refl, ap, sym, subst, ◌∙◌, arith, inl, inr}
-use Rattle.std.proofs.Common.{true≢false, Equal}
+use Rattle.std.proofs.Common.{◌≡◌, ◌≢◌, ℕ, ℤ, zero, suc, pos, ◌+◌, ◌<◌, ◌&&◌, true, false, List, [], ◌∷◌, length, map}
+use Rattle.std.proofs.Common.{get_or, Some, refl, ap, sym, subst, ◌∙◌, arith, inl, inr, true≢false, Equal}
 use Rattle.std.specs.Prelude.{slice_get}
 use Rattle.std.specs.Cmp.{tied_itself}
 use Rattle.std.specs.List.{AllByRecursion}
-use Rattle.std.proofs.lemmas.Bool.{cases_Bool, and_parts}
-use Rattle.std.proofs.lemmas.List.Filters.{length-filter_both}
+use Rattle.std.proofs.lemmas.Bool.{and_parts}
 use Rattle.std.proofs.lemmas.Option.{slice_get_within}
 use Rattle.sqlite_value.specs.Keys.{first_key}
 use Rattle.sqlite_value.specs.declared.value.Value.{Value}
@@ -19,9 +16,8 @@ use Rattle.sqlite.specs.Collation.TheVariants.{Binary}
 use Rattle.sqlite.specs.Order.{Row, column}
 use Rattle.sqlite.specs.Values.{IsInt}
 use Rattle.sqlite_schema.specs.Rules.{equal}
-use Rattle.sqlite_trees.proofs.ListLemmas.{filter-filter}
 use Rattle.sqlite_rules.specs.Lists.{Has}
-use Rattle.sqlite_rules.proofs.ListLemmas.{all_from, has_filtered, has_kept}
+use Rattle.sqlite_rules.proofs.ListLemmas.{all_from, has_kept}
 use Rattle.club_rows.specs.Club.{both_games}
 use Rattle.club_rows.specs.Tables.{row_of_game, rows_of_seen}
 use Rattle.club_audit.proofs.Proved.{id-told, numbered-back}
@@ -35,21 +31,10 @@ use Rattle.store_tables.proofs.Proved.{equal_cmp, equal_from, equal_ints}
 use Rattle.store_sql.specs.Read.{beginning_with}
 use Rattle.club_opening.specs.RightMoves.{HasMovesOf, HaveMovesOf, HaveSeenOf, beyond, id_at}
 use Rattle.club_opening.proofs.GroupRows.{seen_had}
-use Rattle.club_opening.proofs.PastLemmas.{none_in, not_back, not_false, one_in, there_at}
+use Rattle.club_opening.proofs.PastLemmas.{begins, cases_zero, found_before, left_of, none_in, one_in, there_at}
+use Rattle.club_opening.proofs.PastLemmas.{without_step}
 
-abbrev begins : ℤ → Row → Bool
-begins n x = same_key (0 ∷ []) x (Int n ∷ [])
-
--- a row begins with one number
-begins_one : (x : Row) (m n : ℤ) → begins m x ≡ true → begins n x ≡ true → m ≡ n
-unfolding first_key
-begins_one x m n p q =
-    let one = equal_cmp (column x 0) (Int m) (and_parts _ _ p).0 in
-    let two = equal_cmp (column x 0) (Int n) (and_parts _ _ q).0 in
-    let tie = sym (value_cmp_total.congr (column x 0) (Int m) (Int n) one) ∙ two in
-    equal_ints m n (equal_from (Int m) (Int n) refl refl tie)
-
--- with the one that it has
+-- a row begins with the number that it has
 is_begun : (x : Row) (n : ℤ) → column x 0 ≡ Int n → begins n x ≡ true
 unfolding first_key
 is_begun x n is =
@@ -102,55 +87,10 @@ AreOwn games = (i j : ℕ) → i < j → j < length games.games.items → id_at 
 pub ids_apart : (games : Rows) → HaveIds games → AreOwn games
 ids_apart games ids = each_apart games.games.items ids.games.apart
 
-module _ (games : Rows) (apart : AreOwn games) where
-  -- those that begin with a later id are not left out
-  kept_after : (k n : ℕ) (rows : List Row) → k ≤ n → n < length games.games.items
-      → filter (begins (id_at games n)) (beyond games k rows) ≡ filter (begins (id_at games n)) rows
-  kept_after zero n rows low within = refl
-  kept_after (suc k) n rows low within =
-      filter-filter (begins (id_at games n)) (λ x. not (begins (id_at games k) x)) (λ x is. other x is)
-      (beyond games k rows)
-      ∙ kept_after k n rows (omega (arith, low)) within
-    where
-      other : (x : Row) → begins (id_at games n) x ≡ true → not (begins (id_at games k) x) ≡ true
-      other x is = elim (cases_Bool (begins (id_at games k) x)) [
-        | inl both ↦
-            absurd (apart k n (omega (arith, low)) within (begins_one x (id_at games k) (id_at games n) both is))
-        | inr not_it ↦ not_false (begins (id_at games k) x) not_it
-      ]
-
-  -- with one game more, so many fewer are left
-  pub beyond_step : (k : ℕ) (rows : List Row) → k < length games.games.items
-      → length (beyond games k rows)
-      ≡ length (beginning_with (id_at games k) rows) + length (beyond games (suc k) rows)
-  beyond_step k rows within =
-      let both = length-filter_both (begins (id_at games k)) (λ x. not (begins (id_at games k) x)) (λ x. refl)
-      (beyond games k rows) in
-      sym both ∙ ap (λ l. length l + length (beyond games (suc k) rows)) (kept_after k k rows (omega arith) within)
-
-pub last_or : (i k : ℕ) → i < suc k → (i ≡ k) ⊎ (i < k)
-last_or zero zero low = inl refl
-last_or zero (suc k) low = inr (omega arith)
-last_or (suc i) zero low = absurd (omega (arith, low))
-last_or (suc i) (suc k) low = elim (last_or i k (omega (arith, low))) [
-  | inl same ↦ inl (ap suc same)
-  | inr less ↦ inr (omega (arith, less))
-]
-
--- a row that is left is one of the rows, and begins with the id of none of the games
-left_beyond : (games : Rows) (k : ℕ) (rows : List Row) (x : Row) → Has (beyond games k rows) x → Has rows x
-    × ((i : ℕ) → i < k → begins (id_at games i) x ≡ false)
-left_beyond games zero rows x h = (h, λ i low. absurd (omega (arith, low)))
-left_beyond games (suc k) rows x h =
-    let (before, not_it) = has_filtered (λ z. not (begins (id_at games k) z)) (beyond games k rows) x h in
-    let (there, none) = left_beyond games k rows x before in (
-      there,
-      λ i low. elim (last_or i k low) [
-        | inl same ↦
-            ap (λ j. begins (id_at games j) x) same ∙ not_back (begins (id_at games k) x) not_it
-        | inr less ↦ none i less
-      ],
-    )
+-- with one game more, so many fewer are left
+pub beyond_step : (games : Rows) → AreOwn games → (k : ℕ) (rows : List Row) → k < length games.games.items
+    → length (beyond games k rows) ≡ length (beginning_with (id_at games k) rows) + length (beyond games (suc k) rows)
+beyond_step games apart = without_step (id_at games) (length games.games.items) apart
 
 -- each of the rows begins with the id of a game
 abbrev AreOwned : Rows → List Row → Type 0
@@ -164,29 +104,11 @@ none_beyond games rows owned = elim (cases_zero (length (beyond games (length ga
   | inl none ↦ none
   | inr some ↦
       let (x, left) = one_in (beyond games (length games.games.items) rows) some in
-      let (there, none) = left_beyond games (length games.games.items) rows x left in
+      let (there, none) = left_of (id_at games) (length games.games.items) rows x left in
       let (place, game, at, is) = owned x there in
       let within = slice_get_within games.games.items place game at in
       let begun = is_begun x (id_at games place) (is ∙ ap (λ (n : ℤ). Int n) (sym (id_of_game games place game at))) in
       absurd (true≢false (sym begun ∙ none place within))
-]
-  where
-    cases_zero : (n : ℕ) → (n ≡ 0) ⊎ (0 < n)
-    cases_zero zero = inl refl
-    cases_zero (suc n) = inr (omega arith)
-
--- a row is left, or begins with the id of one of the games
-found_among : (games : Rows) (k : ℕ) (rows : List Row) (x : Row) → Has rows x → Has (beyond games k rows) x
-    ⊎ ((i : ℕ) × (i < k) × (begins (id_at games i) x ≡ true))
-found_among games zero rows x h = inl h
-found_among games (suc k) rows x h = elim (found_among games k rows x h) [
-  | inl left ↦ elim (cases_Bool (begins (id_at games k) x)) [
-    | inl is ↦ inr (k, omega arith, is)
-    | inr not_it ↦
-        inl (has_kept (λ z. not (begins (id_at games k) z)) (beyond games k rows) x left
-        (not_false (begins (id_at games k) x) not_it))
-  ]
-  | inr (i, low, is) ↦ inr (i, omega (arith, low), is)
 ]
 
 -- where none is left and those of each game are right, all are
@@ -207,7 +129,7 @@ moves_gathered rows moves none each = record {
   where
     own : (x : Row) → Has moves x → (n : ℕ) × (game : GameRecord) × (slice_get rows.games.items n ≡ Some game)
         × (begins game.id x ≡ true)
-    own x h = elim (found_among rows (length rows.games.items) moves x h) [
+    own x h = elim (found_before (id_at rows) (length rows.games.items) moves x h) [
       | inl left ↦ absurd (none_in (beyond rows (length rows.games.items) moves) x none left)
       | inr (i, low, is) ↦
           let (game, at) = there_at rows.games.items i low in

@@ -1,38 +1,36 @@
 -- From what was read of a table to what a fault says of it, and to the content.
 use Rattle.std.proofs.Common.{◌≡◌, ◌⊎◌, ℕ, List, [], ◌∷◌, inl, inr, refl, subst, sym, ap, ◌∙◌, Some, pos, get_or}
-use Rattle.std.proofs.Common.{slice_get}
-use Rattle.std.proofs.Common.{map, true, false, true≢false}
+use Rattle.std.proofs.Common.{slice_get, map, true, false, true≢false, Bool, arith}
 use Rattle.std.specs.List.{AllByRecursion}
 use Rattle.std.specs.List.Sorted.{IsPermutation, IsSorted}
 use Rattle.sqlite.specs.Order.{Row, column}
 use Rattle.sqlite.specs.Effect.{Database}
 use Rattle.sqlite.specs.Table.{Table as Definition}
-use Rattle.sqlite.specs.State.{State, IsUnchanged}
+use Rattle.sqlite.specs.State.{State, HasCleanDisk, IsUnchanged}
+use Rattle.store_tables.specs.Reading.{Reads, Tells, AreIds, by_columns}
+use Rattle.store_tables.proofs.Proved.{read_then, one_shown, ids_of, apart_of}
 use Rattle.sqlite.specs.declared.types.Value.TheVariants.{Int}
 use Rattle.sqlite.proofs.Callers.{unchanged_then}
 use Rattle.sqlite_rules.proofs.ListLemmas.{all_has, has_got}
-use Rattle.store_tables.specs.Cells.{IsMeta, meta_cells, member_cells, event_cells, event_rule_cells, game_cells}
+use Rattle.store_tables.specs.Cells.{IsMeta, meta_cells, member_cells, event_cells, game_cells}
 use Rattle.store_tables.specs.declared.rows.MetaRow.{MetaRow}
 use Rattle.sqlite_rules.specs.Lists.{Has}
 use Rattle.store_tables.specs.Content.{Keeps, AreApart, cells}
 use Rattle.store_tables.specs.Contents.{Content, Stores}
-use Rattle.store_tables.specs.Reading.{Tells, AreIds, by_columns}
 use Rattle.sqlite_trees.specs.View.{is_int}
 use Rattle.std.specs.Prelude.{IsTrue, ℤ}
 use Rattle.store_tables.specs.Rows.{HaveIds}
 use Rattle.store_tables.specs.declared.rows.Rows.{Rows}
-use Rattle.store_tables.specs.Tables.{club_schema, first_schema, schema_of, schema_number, meta, members}
-use Rattle.store_tables.specs.Tables.{events, event_rules, games}
+use Rattle.store_tables.specs.Tables.{club_schema, first_schema, schema_of, schema_number, meta, members, events, games}
 use Rattle.store_tables.specs.declared.rows.EventRow.{EventRow}
 use Rattle.store_tables.specs.declared.rows.EventRuleRow.{EventRuleRow}
 use Rattle.store_tables.specs.declared.names.Version.{Version}
 use Rattle.store_tables.specs.declared.names.Version.TheVariants.{First, Current}
-use Rattle.store_tables.proofs.Proved.{one_shown, ids_of, apart_of}
 use Rattle.store_tables.specs.declared.names.Table.{Table}
 use Rattle.club_opening.specs.declared.fault.OpenFault.{OpenFault}
 use Rattle.store_sql.specs.declared.fault.ReadFault.{ReadFault}
 use Rattle.store_sql.specs.declared.fault.ReadFault.TheVariants as read_fault
-use Rattle.store_sql.specs.Read.{Blames as BlamesRead}
+use Rattle.store_sql.specs.Read.{Blames as BlamesRead, IsReadAs}
 use Rattle.club_opening.specs.Faults.{told}
 use Rattle.club_opening.specs.declared.fault.OpenFault.TheVariants.{Foreign, Memory, Store}
 use Rattle.club_opening.specs.declared.fault.OpenFault.TheVariants as open_fault
@@ -42,7 +40,6 @@ use Rattle.club_opening.specs.Places.{NamesRows}
 use Rattle.club_opening.specs.Versions.{HasClubTables, HasTablesOf, HoldsRows}
 use Rattle.club_opening.proofs.StoredLemmas.{one_of}
 use Rattle.table_shapes.specs.Shapes.{is_of_club}
-use Rattle.store_sql.specs.Read.{IsReadAs}
 
 -- a fault of a table, as it is told
 pub blames_told : (t : Table) (definition : Definition) (IsTyped : Row → Type 0) (old : State) (e : ReadFault)
@@ -126,64 +123,79 @@ names_both t definition place IsTyped old e first current typed =
       typed content all,
     ))
 
-pub still : (old mid : State) → IsUnchanged old mid → HasClubTables old.now.schema → HasClubTables mid.now.schema
-still old mid same has = subst HasClubTables (sym (ap (λ (d : Database). d.schema) same.0.now_is)) has
+-- where the disk is in no doubt after a call, it was in none before it
+pub clean_before : {answered : Bool} {old new : State} → Reads answered old new → HasCleanDisk new → HasCleanDisk old
+clean_before reads clean = omega (arith, clean, reads.clean)
 
-pub still_of : (old mid : State) (version : Version) → IsUnchanged old mid → HasTablesOf version old.now.schema
+-- a call after one that answered
+pub reads_on : {answered : Bool} {old mid new : State} → Reads true old mid → Reads answered mid new
+    → Reads answered old new
+reads_on one two = read_then _ _ _ _ one two
+
+-- nothing changed, by one call and by the next
+pub stays : {old mid new : State} → IsUnchanged old mid → IsUnchanged mid new → IsUnchanged old new
+stays one two = unchanged_then _ _ _ one two
+
+-- what is said of a database that did not change
+pub before : (Is : Database → Type 0) {old mid : State} → IsUnchanged old mid → Is mid.now → Is old.now
+before Is same = subst Is same.0.now_is
+
+pub still : {old mid : State} → IsUnchanged old mid → HasClubTables old.now.schema → HasClubTables mid.now.schema
+still same has = subst HasClubTables (sym (ap (λ (d : Database). d.schema) same.0.now_is)) has
+
+pub still_of : {old mid : State} (version : Version) → IsUnchanged old mid → HasTablesOf version old.now.schema
     → HasTablesOf version mid.now.schema
-still_of old mid version same has =
+still_of version same has =
     subst (HasTablesOf version) (sym (ap (λ (d : Database). d.schema) same.0.now_is)) has
 
-pub read_after : (table : Definition) (count : ℕ) (rows : List Row) (old mid new : State) → IsUnchanged old mid
+pub read_after : {table : Definition} {count : ℕ} {rows : List Row} {old mid new : State} → IsUnchanged old mid
     → IsReadAs table count rows mid new → IsReadAs table count rows old new
-read_after table count rows old mid new same it = record {
-  keeps = subst (λ (d : Database). Keeps table d.trees rows) same.0.now_is it.keeps;
-  once = subst (λ (d : Database). IsPermutation (map (cells table) (d.trees table.tree)) rows) same.0.now_is it.once;
-  apart = subst (λ (d : Database). AreApart (d.trees table.tree)) same.0.now_is it.apart;
+read_after {table} {rows} same it = record {
+  keeps = before (λ d. Keeps table d.trees rows) same it.keeps;
+  once = before (λ d. IsPermutation (map (cells table) (d.trees table.tree)) rows) same it.once;
+  apart = before (λ d. AreApart (d.trees table.tree)) same it.apart;
   sorted = it.sorted;
-  same = unchanged_then old mid new same it.same;
+  same = stays same it.same;
 }
 
-pub read_before : (table : Definition) (count : ℕ) (rows : List Row) (old mid new : State)
+pub read_before : {table : Definition} {count : ℕ} {rows : List Row} {old mid new : State}
     → IsReadAs table count rows old mid → IsUnchanged mid new → IsReadAs table count rows old new
-read_before table count rows old mid new it same =
-    record {
-      keeps = it.keeps;
-      once = it.once;
-      apart = it.apart;
-      sorted = it.sorted;
-      same =
-          unchanged_then old mid new it.same same;
-    }
+read_before it same = record {
+  keeps = it.keeps;
+  once = it.once;
+  apart = it.apart;
+  sorted = it.sorted;
+  same = stays it.same same;
+}
 
-pub meta_before : (version : Version) (row : MetaRow) (old mid new : State) → IsMetaRead version row old mid
+pub meta_before : (version : Version) (row : MetaRow) {old mid new : State} → IsMetaRead version row old mid
     → IsUnchanged mid new → IsMetaRead version row old new
-meta_before version row old mid new (inl one) same =
-    inl (read_before (meta 0) 1 (meta_cells row ∷ []) old mid new one.0 same, one.1, one.2)
-meta_before version row old mid new (inr missing) same = inr missing
+meta_before version row (inl one) same = inl (read_before one.0 same, one.1, one.2)
+meta_before version row (inr missing) same = inr missing
 
 -- the rules of events that were read of a database that did not change
-pub rules_unchanged : (version : Version) (events : List EventRow) (rules : List EventRuleRow) (old new : State)
+pub rules_unchanged : (version : Version) (events : List EventRow) (rules : List EventRuleRow) {old new : State}
     → AreRulesRead version events rules old new → IsUnchanged old new
-rules_unchanged First events rules old new it = it.0
-rules_unchanged Current events rules old new it = it.same
+rules_unchanged First events rules it = it.0
+rules_unchanged Current events rules it = it.same
 
-pub rules_after : (version : Version) (events : List EventRow) (rules : List EventRuleRow) (old one two new : State)
-    → IsUnchanged old one → AreRulesRead version events rules one two → IsUnchanged two new
+pub rules_after : (version : Version) (events : List EventRow) (rules : List EventRuleRow) {old mid : State}
+    (new : State) → IsUnchanged old mid → AreRulesRead version events rules mid new
     → AreRulesRead version events rules old new
-rules_after First events rules old one two new before it after =
-    (unchanged_then old two new (unchanged_then old one two before it.0) after, it.1)
-rules_after Current events rules old one two new before it after =
-    read_after (event_rules 16) 1 (map event_rule_cells rules) old one new before
-    (read_before (event_rules 16) 1 (map event_rule_cells rules) one two new it after)
+rules_after First events rules new same it = (stays same it.0, it.1)
+rules_after Current events rules new same it = read_after same it
+
+pub rules_before : (version : Version) (events : List EventRow) (rules : List EventRuleRow) (old : State)
+    {mid new : State} → AreRulesRead version events rules old mid → IsUnchanged mid new
+    → AreRulesRead version events rules old new
+rules_before First events rules old it same = (stays it.0 same, it.1)
+rules_before Current events rules old it same = read_before it same
 
 -- what is said of rows of a database that did not change
-pub rows_blamed_before : (oldest : Version) (old mid : State) (fault : OpenFault) → IsUnchanged old mid
+pub rows_blamed_before : (oldest : Version) {old mid : State} (fault : OpenFault) → IsUnchanged old mid
     → NamesTable mid.now fault ⊎ NamesRows mid.now fault → Names oldest old.now fault
-rows_blamed_before oldest old mid fault same (inl table) =
-    inl (subst (λ (d : Database). NamesTable d fault) same.0.now_is table)
-rows_blamed_before oldest old mid fault same (inr rows) =
-    inr (inr (inr (subst (λ (d : Database). NamesRows d fault) same.0.now_is rows)))
+rows_blamed_before oldest fault same (inl table) = inl (before (λ d. NamesTable d fault) same table)
+rows_blamed_before oldest fault same (inr rows) = inr (inr (inr (before (λ d. NamesRows d fault) same rows)))
 
 -- the number that the one row of `meta` shows
 pub has_number : (found : MetaRow) (old new : State) → IsReadAs (meta 0) 1 (meta_cells found ∷ []) old new

@@ -1,6 +1,6 @@
 -- From the rows that were read to the club that is stored so, and back.
-use Rattle.std.proofs.Common.{◌≡◌, ◌⊎◌, ℕ, ℤ, zero, suc, pos, ◌+◌, ◌<◌, List, [], ◌∷◌, length, map, refl, ap, ◌∙◌}
-use Rattle.std.proofs.Common.{Some, false, true, sym, subst, arith, get_or, inl, inr}
+use Rattle.std.proofs.Common.{◌≡◌, ◌⊎◌, ℕ, ℤ, zero, suc, pos, ◌+◌, ◌<◌, List, [], ◌∷◌, length, map, refl, ap, ◌∙◌, Some}
+use Rattle.std.proofs.Common.{false, true, sym, subst, arith, get_or, inl, inr}
 use Rattle.std.specs.Prelude.{slice_get}
 use Rattle.std.proofs.lemmas.Option.{same_Some}
 use Rattle.sqlite_value.specs.declared.value.Value.TheVariants.{Int}
@@ -13,13 +13,15 @@ use Rattle.club_core.specs.Events.{Event}
 use Rattle.club_core.specs.State.{draughts, shogi}
 use Rattle.store_tables.specs.Cells.{meta_cells, member_cells, event_cells, event_rule_cells, challenge_cells}
 use Rattle.store_tables.specs.Cells.{game_cells}
-use Rattle.store_tables.specs.Content.{Keeps}
+use Rattle.sqlite_trees.specs.Tree.{rowid}
+use Rattle.store_tables.specs.Content.{Keeps, cells}
+use Rattle.club_opening.proofs.BlameLemmas.{before}
 use Rattle.store_tables.specs.Reading.{AreIds}
 use Rattle.store_tables.specs.Rows.{HaveIds}
 use Rattle.store_tables.specs.Tables.{club_schema, schema_number, meta, members, events, event_rules, games}
 use Rattle.store_tables.specs.declared.names.Table.{Table}
-use Rattle.store_tables.specs.declared.names.Table.TheVariants.{Members, Events, EventRules, Challenges, Moves}
-use Rattle.store_tables.specs.declared.names.Table.TheVariants.{Games, Seen, Scores, Meta}
+use Rattle.store_tables.specs.declared.names.Table.TheVariants.{Members, Events, EventRules, Challenges, Moves, Games}
+use Rattle.store_tables.specs.declared.names.Table.TheVariants.{Seen, Scores, Meta}
 use Rattle.store_tables.specs.declared.names.Version.{Version}
 use Rattle.store_tables.specs.declared.names.Version.TheVariants.{First, Current}
 use Rattle.store_tables.specs.declared.rows.Rows.{Rows}
@@ -28,8 +30,8 @@ use Rattle.club_rows.specs.Club.{ClubGame, both_games, ClubState, IsClub}
 use Rattle.club_rows.specs.FirstSchema.{IsClubOf, tables_at}
 use Rattle.club_rows.specs.Tables.{declares_number, member_row, event_row, rule_row, numbered_from, row_of_game}
 use Rattle.club_rows.specs.Tables.{tables_of}
-use Rattle.club_rows.proofs.Proved.{rules-typed}
-use Rattle.club_rows.proofs.Proved.{members-typed, events-typed, moves-typed, games-typed, scores_typed, seen-typed}
+use Rattle.club_rows.proofs.Proved.{rules-typed, members-typed, events-typed, moves-typed, games-typed, scores_typed}
+use Rattle.club_rows.proofs.Proved.{seen-typed}
 use Rattle.club_changes.proofs.Proved.{challenges_typed, moved}
 use Rattle.club_opening.proofs.OnceLemmas.{challenges_are}
 use Rattle.club_opening.specs.Blames.{AreRead, AreRulesRead, HasTypes, IsNumberFrom, Names, undeclared_row}
@@ -37,7 +39,7 @@ use Rattle.club_opening.specs.Versions.{HasClub, HasEvents, HasTablesOf, HoldsCl
 use Rattle.table_shapes.specs.Shapes.{is_of_club}
 use Rattle.table_shapes.proofs.Proved.{club_is_of_club}
 use Rattle.store_tables.specs.Beside.{IsBeside}
-use Rattle.store_sql.specs.Read.{IsReadAs}
+use Rattle.store_sql.specs.Read.{IsReadAs, BeginWithPlaces}
 use Rattle.club_opening.specs.Places.{IsRegisterOf, NamesRows}
 use Rattle.club_audit.specs.Audit.{AreEvents, AreMembers, AreRules}
 use Rattle.club_audit.proofs.Proved.{rules-counted}
@@ -46,11 +48,10 @@ use Rattle.club_core.specs.Members.{Member}
 use Rattle.store_tables.specs.declared.rows.EventRow.{EventRow}
 use Rattle.store_tables.specs.declared.rows.EventRuleRow.{EventRuleRow}
 use Rattle.store_tables.specs.declared.rows.MemberRow.{MemberRow}
-use Rattle.store_sql.specs.Read.{BeginWithPlaces}
 use Rattle.club_opening.specs.declared.fault.OpenFault.{OpenFault}
 use Rattle.club_opening.specs.declared.fault.OpenFault.TheVariants.{Damaged, Schema, Store, Memory}
-use Rattle.club_opening.proofs.StoredLemmas.{IsStored, club_of_version, first_differs, one_of, rules_stored}
-use Rattle.club_opening.proofs.StoredLemmas.{rows_held, stored_of}
+use Rattle.club_opening.proofs.StoredLemmas.{IsStored, club_of_version, first_differs, one_of, rules_stored, rows_held}
+use Rattle.club_opening.proofs.StoredLemmas.{stored_of}
 
 -- ---- places
 
@@ -101,15 +102,9 @@ club_typed s club Meta = record { schema = pos 2; last = pos s.last; is = refl }
 
 pub typed_at : (version : Version) (s : ClubState) → IsClub s → (t : Table) → HasTypes t (tables_at version s)
 typed_at Current s club t = club_typed s club t
-typed_at First s club Members = club_typed s club Members
-typed_at First s club Events = club_typed s club Events
 typed_at First s club EventRules = tt
-typed_at First s club Challenges = club_typed s club Challenges
-typed_at First s club Moves = club_typed s club Moves
-typed_at First s club Games = club_typed s club Games
-typed_at First s club Seen = club_typed s club Seen
-typed_at First s club Scores = club_typed s club Scores
 typed_at First s club Meta = record { schema = pos 1; last = pos s.last; is = refl }
+typed_at First s club t = club_typed s club t
 
 one_number : (version : Version) (s : ClubState) (n last : ℤ)
     → Has (tables_at version s 0) (Int (pos 1) ∷ Int n ∷ Int last ∷ []) → n ≡ pos (schema_number version)
@@ -199,47 +194,30 @@ one_last : (last moment : ℤ) (number schema : ℤ) (id : ℤ)
 one_last last moment number schema id (inl is) = cc
 one_last last moment number schema id (inr none) = absurd none
 
--- rows of members that were read where those of a club stand are its own, and so are those of events
-pub members_kept : (s : ClubState) (rows : List MemberRow) (old new : State)
-    → Keeps (members 1) old.now.trees (tables_of both_games s 1)
-    → IsReadAs (members 1) 1 (map member_cells rows) old new
-    → map member_cells rows ≡ tables_of both_games s 1
-members_kept s rows old new keeps read =
-    ids_read (members 1) (map member_cells rows) (tables_of both_games s 1) old new read
-    (ids_of (members 1) (old.now.trees 1) (map member_cells rows) (λ r. refl) read.once read.apart)
-    keeps (begin_places member_row (λ n x. refl) s.members)
+-- numbered rows that were read where those of a list stand are its own
+numbered_kept : {A : Type 0} (table : Definition) (row : ℕ → A → Row) (xs : List A)
+    → ((r : Row) → column (cells table r) 0 ≡ rowid r) → ((n : ℕ) (x : A) → column (row n x) 0 ≡ Int (pos n))
+    → {rows : List Row} {old new : State} → Keeps table old.now.trees (numbered_from row 1 xs)
+    → IsReadAs table 1 rows old new → rows ≡ numbered_from row 1 xs
+numbered_kept table row xs by_rowid first {rows} {old} {new} keeps read =
+    ids_read table rows (numbered_from row 1 xs) old new read
+    (ids_of table (old.now.trees table.tree) rows by_rowid read.once read.apart) keeps (begin_places row first xs)
 
-pub events_kept : (s : ClubState) (rows : List EventRow) (old new : State)
-    → Keeps (events 4) old.now.trees (tables_of both_games s 4) → IsReadAs (events 4) 1 (map event_cells rows) old new
-    → map event_cells rows ≡ tables_of both_games s 4
-events_kept s rows old new keeps read =
-    ids_read (events 4) (map event_cells rows) (tables_of both_games s 4) old new read
-    (ids_of (events 4) (old.now.trees 4) (map event_cells rows) (λ r. refl) read.once read.apart)
-    keeps (begin_places event_row (λ n x. refl) s.events)
+-- so are rows of members, of events and of their rules where those of a club stand
+pub members_kept : (s : ClubState) {rows : List Row} {old new : State}
+    → Keeps (members 1) old.now.trees (tables_of both_games s 1) → IsReadAs (members 1) 1 rows old new
+    → rows ≡ tables_of both_games s 1
+members_kept s = numbered_kept (members 1) member_row s.members (λ r. refl) (λ n x. refl)
 
--- so are those of their rules
-pub rules_kept : (s : ClubState) (rows : List EventRuleRow) (old new : State)
-    → Keeps (event_rules 16) old.now.trees (tables_of both_games s 16)
-    → IsReadAs (event_rules 16) 1 (map event_rule_cells rows) old new
-    → map event_rule_cells rows ≡ tables_of both_games s 16
-rules_kept s rows old new keeps read =
-    ids_read (event_rules 16) (map event_rule_cells rows) (tables_of both_games s 16) old new read
-    (ids_of (event_rules 16) (old.now.trees 16) (map event_rule_cells rows) (λ r. refl) read.once read.apart)
-    keeps (begin_places rule_row (λ n x. refl) s.events)
+pub events_kept : (s : ClubState) {rows : List Row} {old new : State}
+    → Keeps (events 4) old.now.trees (tables_of both_games s 4) → IsReadAs (events 4) 1 rows old new
+    → rows ≡ tables_of both_games s 4
+events_kept s = numbered_kept (events 4) event_row s.events (λ r. refl) (λ n x. refl)
 
--- and those of a legal club
-pub members_read : (s : ClubState) (rows : List MemberRow) (old new : State) → IsStored old.now s
-    → IsReadAs (members 1) 1 (map member_cells rows) old new → map member_cells rows ≡ tables_of both_games s 1
-members_read s rows old new holds read = members_kept s rows old new holds.members.rows read
-
-pub events_read : (s : ClubState) (rows : List EventRow) (old new : State) → IsStored old.now s
-    → IsReadAs (events 4) 1 (map event_cells rows) old new → map event_cells rows ≡ tables_of both_games s 4
-events_read s rows old new holds read = events_kept s rows old new holds.events.rows read
-
-pub rules_read : (s : ClubState) (rows : List EventRuleRow) (old new : State) → HasClub Current old.now s
-    → IsReadAs (event_rules 16) 1 (map event_rule_cells rows) old new
-    → map event_rule_cells rows ≡ tables_of both_games s 16
-rules_read s rows old new holds read = rules_kept s rows old new (rules_stored old.now s holds).rows read
+pub rules_kept : (s : ClubState) {rows : List Row} {old new : State}
+    → Keeps (event_rules 16) old.now.trees (tables_of both_games s 16) → IsReadAs (event_rules 16) 1 rows old new
+    → rows ≡ tables_of both_games s 16
+rules_kept s = numbered_kept (event_rules 16) rule_row s.events (λ r. refl) (λ n x. refl)
 
 pub members_of : (s : ClubState) → IsClub s → (rows : List MemberRow) → map member_cells rows ≡ tables_of both_games s 1
     → AreMembers s.members rows
@@ -266,7 +244,7 @@ members_blamed rows old new read none = (
   λ version s club holds.
       none s.members
       (members_of s (club_of_version version s club) rows
-      (members_read s rows old new (stored_of version old.now s holds) read)),
+      (members_kept s (stored_of version old.now s holds).members.rows read)),
 )
 
 pub events_blamed : (rows : List EventRow) (old new : State) → IsReadAs (events 4) 1 (map event_cells rows) old new
@@ -277,15 +255,14 @@ events_blamed rows old new read none = (
   λ version s club holds.
       none s.events
       (events_of s (club_of_version version s club) rows
-      (events_read s rows old new (stored_of version old.now s holds) read)),
+      (events_kept s (stored_of version old.now s holds).events.rows read)),
 )
 
 -- rows of events that were read are those of the club
 pub has_events : (rows : List EventRow) (old new : State) → IsReadAs (events 4) 1 (map event_cells rows) old new
     → HasEvents rows new.now
 has_events rows old new read version s club holds =
-    events_read s rows old new
-    (subst (λ (d : Database). IsStored d s) read.same.0.now_is (stored_of version new.now s holds)) read
+    events_kept s (before (λ d. IsStored d s) read.same (stored_of version new.now s holds)).events.rows read
 
 -- rules of events that are those of no club with these rows of events are blamed
 pub rules_blamed : (events_rows : List EventRow) (rows : List EventRuleRow) (old new : State)
@@ -299,7 +276,7 @@ rules_blamed events_rows rows old new of has read none = (EventRules, refl, by_v
     by_version Current s club holds =
         none
         (rules-counted s.events events_rows rows (events_of s club events_rows (of Current s club holds))
-        (rules_read s rows old new holds read))
+        (rules_kept s (rules_stored old.now s holds).rows read))
 
 -- the rules of a club of schema 1, as rows that say 0
 pub undeclared_rules : (n : ℕ) (es : List Event) (rows : List EventRow)
@@ -363,7 +340,8 @@ rules_of : (version : Version) (s : ClubState) → IsClubOf version s → (event
     → map event_rule_cells rules ≡ numbered_from rule_row 1 s.events
 rules_of First s club events_rows rules old new holds events_are (same, are) =
     are ∙ undeclared_rules 1 s.events events_rows events_are club.undeclared
-rules_of Current s club events_rows rules old new holds events_are read = rules_read s rules old new holds read
+rules_of Current s club events_rows rules old new holds events_are read =
+    rules_kept s (rules_stored old.now s holds).rows read
 
 -- the rows that were read of a legal club are its own
 pub club_read : (version : Version) (s : ClubState) → IsClubOf version s → (rows : Rows) (old new : State)
@@ -372,7 +350,7 @@ club_read version s club rows old new holds read ids =
     let made = tables_of both_games s in
     let db = old.now.trees in
     let stored = stored_of version old.now s holds in
-    let events_are = events_read s rows.events.items old new stored read.events in
+    let events_are = events_kept s stored.events.rows read.events in
     record {
       last = elim read.meta [
         | inl one ↦
@@ -384,7 +362,7 @@ club_read version s club rows old new holds read ids =
             absurd
             (missing.2 version (tables_at version s) holds (typed_at version s (club_of_version version s club) Meta))
       ];
-      members = members_read s rows.members.items old new stored read.members;
+      members = members_kept s stored.members.rows read.members;
       events = events_are;
       rules = rules_of version s club rows.events.items rows.event_rules.items old new holds events_are read.rules;
       challenges = challenges_are s (map challenge_cells rows.challenges.items) old new stored read.challenges;

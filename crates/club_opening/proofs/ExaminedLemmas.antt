@@ -6,18 +6,19 @@ use Rattle.std.specs.List.Sorted.{IsPermutation}
 use Rattle.std.proofs.lemmas.List.{map-append, length-map}
 use Rattle.std.proofs.lemmas.List.Sorted.{length_permutation}
 use Rattle.std.proofs.lemmas.Option.{same_Some, slice_get_within}
+use Rattle.sqlite.specs.Order.{Row}
 use Rattle.sqlite.specs.Effect.{Database}
 use Rattle.sqlite.specs.State.{State, IsUnchanged}
 use Rattle.sqlite.specs.Tree.{Trees}
-use Rattle.sqlite.proofs.Callers.{unchanged_then}
+use Rattle.club_opening.proofs.BlameLemmas.{before, stays, read_after}
 use Rattle.club_core.specs.LegalState.{IsLegalIn}
 use Rattle.club_laws.proofs.Proved.{each-append, got-append}
 use Rattle.store_tables.specs.Cells.{game_cells, move_cells, seen_cells}
 use Rattle.store_tables.specs.Content.{AreApart, cells}
-use Rattle.store_tables.specs.Tables.{moves, scores as scored, seen}
+use Rattle.store_tables.specs.Rows.{HaveIds}
+use Rattle.store_tables.specs.Tables.{moves, seen}
 use Rattle.store_tables.specs.declared.names.Table.{Table}
-use Rattle.store_tables.specs.declared.names.Table.TheVariants.{Members, Events, EventRules, Challenges, Moves}
-use Rattle.store_tables.specs.declared.names.Table.TheVariants.{Games, Seen, Scores, Meta}
+use Rattle.store_tables.specs.declared.names.Table.TheVariants.{Moves, Games, Seen, Scores, Meta}
 use Rattle.store_tables.specs.declared.names.Version.{Version}
 use Rattle.store_tables.specs.declared.rows.GameRecord.{GameRecord}
 use Rattle.store_tables.specs.declared.rows.MoveRow.{MoveRow}
@@ -29,26 +30,24 @@ use Rattle.club_rows.specs.Club.{both_games, ClubGame, ClubState, IsClub}
 use Rattle.club_rows.specs.FirstSchema.{IsClubOf}
 use Rattle.club_rows.specs.Tables.{numbered_from, row_of_game, rows_of_moves, rows_of_seen}
 use Rattle.club_audit.specs.Audit.{AreAllOf, AreApartGames, HasPeople, IsGameAt, until}
-use Rattle.club_audit.proofs.Proved.{keys-in}
+use Rattle.club_audit.proofs.Proved.{keys-in, all-right, club-right, id-told, none-named, numbered-append, numbered-at}
+use Rattle.club_audit.proofs.Proved.{numbered-length, right-club, take-got}
 use Rattle.club_audit.specs.FirstWrong.{IsFirstWrong, Precedes, order}
 use Rattle.club_audit.specs.GameAudit.{IsRightAt}
-use Rattle.club_audit.proofs.Proved.{all-right, club-right, id-told, none-named, numbered-append, numbered-at}
-use Rattle.club_audit.proofs.Proved.{numbered-length, right-club, take-got}
 use Rattle.club_rows.proofs.Proved.{same-pos}
 use Rattle.club_opening.specs.Examined.{AreGamesFound, AreLeftAfter, IsFoundAs, IsGameFound, IsPlayExamined, NamesPlay}
-use Rattle.club_opening.specs.Examined.{AreScoresExamined, IsAfter, IsGameOf, IsOf, IsPlayed, NoneIsLeft, WereFound}
-use Rattle.club_opening.specs.Examined.{WerePlayed, moves_in, past, seen_in}
+use Rattle.club_opening.specs.Examined.{AreScoresExamined, IsAfter, IsGameOf, IsOf, IsOneOf, IsPlayed, NamesLeft}
+use Rattle.club_opening.specs.Examined.{WereFound, WerePlayed, moves_in, past, seen_in}
 use Rattle.club_opening.specs.Blames.{NamesTable}
 use Rattle.club_opening.specs.Places.{IsMomentOf, IsNoRegister, IsRegisterOf, last_moment}
 use Rattle.club_changes.specs.Steps.{HaveSame}
 use Rattle.club_opening.specs.declared.fault.OpenFault.{OpenFault}
 use Rattle.club_opening.specs.declared.fault.OpenFault.TheVariants.{Damaged}
-use Rattle.club_opening.proofs.BlameLemmas.{read_after}
 use Rattle.club_opening.proofs.GroupRows.{none_left, own_moves, own_seen, same_on, turned_same}
 use Rattle.club_opening.specs.Versions.{HasClub}
-use Rattle.club_opening.proofs.PastLemmas.{past_step}
-use Rattle.club_opening.specs.RightMoves.{GamesWrong, HasMovesOf, HaveMovesOf, MovesWrong, SeenWrong, beyond, id_at}
-use Rattle.club_opening.proofs.BeyondLemmas.{beyond_step, id_of_game, ids_apart, last_or, moves_gathered, none_beyond}
+use Rattle.club_opening.proofs.PastLemmas.{last_or, past_step}
+use Rattle.club_opening.specs.RightMoves.{GamesWrong, HasMovesOf, MovesWrong, SeenWrong, beyond}
+use Rattle.club_opening.proofs.BeyondLemmas.{beyond_step, id_of_game, ids_apart, moves_gathered, none_beyond}
 use Rattle.club_opening.proofs.BeyondLemmas.{seen_owned}
 use Rattle.club_opening.proofs.StoredLemmas.{IsStored, club_of_version, stored_of}
 
@@ -75,15 +74,8 @@ after_precedes table None after = tt
 after_precedes table (Some t) after = after t refl
 
 last_table : (t : Table) → order Meta ≤ order t → t ≡ Meta
-last_table Members low = absurd (omega (arith, low))
-last_table Events low = absurd (omega (arith, low))
-last_table EventRules low = absurd (omega (arith, low))
-last_table Challenges low = absurd (omega (arith, low))
-last_table Moves low = absurd (omega (arith, low))
-last_table Games low = absurd (omega (arith, low))
-last_table Seen low = absurd (omega (arith, low))
-last_table Scores low = absurd (omega (arith, low))
 last_table Meta low = refl
+last_table _ low = absurd (omega (arith, low))
 
 none_some : (o : Option Table) (t : Table) → o ≡ Some t → o ≡ None → ⊥
 none_some o t some none = let both : ◌≡◌ {A = Option Table} (Some t) None = sym some ∙ none in absurd cc
@@ -97,8 +89,7 @@ people_of s rows club register = record {
         rows_are = register.members;
         legal = club.members;
         count = club.member_count;
-        names =
-            club.member_names;
+        names = club.member_names;
         keys = club.member_keys;
       };
   events =
@@ -220,8 +211,7 @@ module _ (rows : Rows) (place : ℕ) (game : GameRecord) (ms : List MoveRow) (ss
           let (low, known) = game_all at s club register (stored_of version old.now s holds) in
           let (g, all) = known in
           let right = club-right s rows people place game ms ss last club.last low g all (λ n some. same_moment s n
-          some of.moment)
-          in
+          some of.moment) in
           let none = none-named (IsRightAt s rows place game ms ss last) wrong (first s people) right in
           clash wrong is none,
     )
@@ -237,9 +227,8 @@ module _ (rows : Rows) (place : ℕ) (game : GameRecord) (ms : List MoveRow) (ss
         → (wrong ≡ Some Moves → (s : ClubState) → HasPeople s rows → MovesWrong rows old.now)
         → (wrong ≡ Some Games → GamesWrong rows old.now) → (wrong ≡ Some Seen → SeenWrong rows old.now)
         → (IsAfter Moves wrong → (s : ClubState) → HasPeople s rows → HasMovesOf rows (moves_in old.now.trees) game)
-        → IsGameFound rows last place game (length ms) (length ss) wrong old new
+        → IsGameFound rows last place game (length ms) (length ss) wrong old.now
     game_found at moves_wrong games_wrong seen_wrong moves_right = record {
-      same = unchanged_then old mid new one.same two.same;
       moves_number = sym (length-map ms move_cells) ∙ length_permutation _ (map move_cells ms) one.once;
       seen_number = λ after. sym (length-map ss seen_cells) ∙ length_permutation _ (map seen_cells ss) seen_once;
       found = game_found_as;
@@ -270,14 +259,12 @@ none_seated s rows db = record {
 none_found : (s : ClubState) (rows : List GameRecord) (db : Trees) → WereFound s rows db 0
 none_found s rows db = record { played = none_seated s rows db; seen_are = λ n g at. cc }
 
-pub left_start : (rows : Rows) (last : Option ℕ) (ms ss : ℕ) (known : Option Table) (old : State)
+pub left_start : (rows : Rows) (last : Option ℕ) (ms ss : ℕ) (known : Option Table) (db : Database)
     → ((t : Table) → known ≡ Some t → IsNoRegister rows) → (known ≡ Some Moves → ⊥)
-    → (known ≡ Some Games → ¬ AreApartGames rows.games.items) → (known ≡ Some Seen → ⊥) → IsUnchanged old old
-    → ms ≡ length (moves_in old.now.trees)
-    → ss ≡ length (seen_in old.now.trees) → AreLeftAfter rows last 0 ms ss known old old
-left_start rows last ms ss known old none other apart unseen same one two = record {
-  same = same;
-  found = λ free s of. none_found s rows.games.items old.now.trees;
+    → (known ≡ Some Games → ¬ AreApartGames rows.games.items) → (known ≡ Some Seen → ⊥)
+    → ms ≡ length (moves_in db.trees) → ss ≡ length (seen_in db.trees) → AreLeftAfter rows last 0 ms ss known db
+left_start rows last ms ss known db none other apart unseen one two = record {
+  found = λ free s of. none_found s rows.games.items db.trees;
   blamed = λ t is. (
     t,
     refl,
@@ -285,9 +272,9 @@ left_start rows last ms ss known old none other apart unseen same one two = reco
   );
   moves_left = λ free s of. one;
   seen_left = λ free s of. two;
-  played = λ free s people. none_found (until last_moment s) rows.games.items old.now.trees;
-  seated = λ after s people. none_seated (until last_moment s) rows.games.items old.now.trees;
-  moves_rest = λ free s people. one;
+  played = λ free s people. none_found (until last_moment s) rows.games.items db.trees;
+  seated = λ after s people. none_seated (until last_moment s) rows.games.items db.trees;
+  moves_rest = λ after s people. one;
   seen_rest = λ free s people. two;
   moves_wrong = λ named. absurd (other named);
   games_wrong = λ named version content holds have.
@@ -320,8 +307,7 @@ seated_more s rows db k row was at g is =
           ∙ (ap (map game_cells) (take-got rows k row at)
           ∙ (map-append game_cells (take k rows) (row ∷ [])
           ∙ ((λ i. was.rows_are i ++ is.row_is i ∷ [])
-          ∙
-          (ap (λ n. numbered_from (row_of_game both_games s.events) 1 was.games
+          ∙ (ap (λ n. numbered_from (row_of_game both_games s.events) 1 was.games
           ++ row_of_game both_games s.events n g ∷ []) (sym place_is)
           ∙ sym (numbered-append (row_of_game both_games s.events) 1 was.games g)))));
       moves_are = λ n x there. elim (got-append was.games g n x there) [
@@ -352,17 +338,6 @@ found_more s rows db k row was at (g, is) =
 
 taken : (m own k rest : ℕ) → m ≡ k → k ≡ own + rest → m - own ≡ rest
 taken m own k rest is parts = omega (arith, is, parts)
-
--- a database that did not change is blamed alike
-play_back : (rows : Rows) (old mid : State) (fault : OpenFault) → IsUnchanged old mid → NamesPlay rows mid.now fault
-    → NamesPlay rows old.now fault
-play_back rows old mid fault same = subst (λ (d : Database). NamesPlay rows d fault) same.0.now_is
-
--- Of two wrong tables the first is named, and none where there is none.
-pub record IsOneOf (w v u : Option Table) : Type 0 where
-  pub none : u ≡ None → (w ≡ None) × (v ≡ None)
-  pub some : (t : Table) → u ≡ Some t → (w ≡ Some t) ⊎ (v ≡ Some t)
-  pub first : (t x : Table) → u ≡ Some t → (w ≡ Some x) ⊎ (v ≡ Some x) → order t ≤ order x
 
 -- a table from which on one is wrong is the last, where none before that is
 no_sooner : (u : Option Table) (t : Table) → IsPlayed u → (u ≡ None → ⊥)
@@ -397,15 +372,10 @@ both_after table w v u one after = (
 -- a table after the games is that of positions, or after it
 seen_or_after : (o : Option Table) → IsAfter Games o → (o ≡ Some Seen) ⊎ IsAfter Seen o
 seen_or_after None after = inr (λ t is. cc)
-seen_or_after (Some Members) after = let low = after Members refl in absurd (omega (arith, low))
-seen_or_after (Some Events) after = let low = after Events refl in absurd (omega (arith, low))
-seen_or_after (Some EventRules) after = let low = after EventRules refl in absurd (omega (arith, low))
-seen_or_after (Some Challenges) after = let low = after Challenges refl in absurd (omega (arith, low))
-seen_or_after (Some Moves) after = let low = after Moves refl in absurd (omega (arith, low))
-seen_or_after (Some Games) after = let low = after Games refl in absurd (omega (arith, low))
 seen_or_after (Some Seen) after = inl refl
 seen_or_after (Some Scores) after = inr (some_after Seen (Some Scores) Scores refl (omega arith))
 seen_or_after (Some Meta) after = inr (some_after Seen (Some Meta) Meta refl (omega arith))
+seen_or_after (Some t) after = let low = after t refl in absurd (omega (arith, low))
 
 -- where what is left would name a table that is not after, nothing is left
 none_after : (table named : Table) (o : Option Table) → IsAfter table o → ((t : Table) → o ≡ Some t → t ≡ named)
@@ -415,239 +385,194 @@ none_after table named (Some t) after other low =
     let up = subst (λ (u : Table). order table < order u) (other t refl) (after t refl) in
     absurd (omega (arith, up, low))
 
-none_named_of : (o : Option Table) → IsPlayed o → ((t : Table) → o ≡ Some t → t ≢ Meta) → o ≡ None
-none_named_of None played other = refl
-none_named_of (Some t) played other = absurd (other t refl (played t refl))
-
-pub not_last : (table t : Table) → order table < order Meta → t ≡ table → t ≢ Meta
-not_last table t low is last =
-    let less = subst (λ (u : Table). order u < order Meta) (sym is ∙ last) low in absurd (omega (arith, less))
+none_named_of : (table : Table) (o : Option Table) → order table < order Meta → IsPlayed o
+    → ((t : Table) → o ≡ Some t → t ≡ table) → o ≡ None
+none_named_of table None low played named = refl
+none_named_of table (Some t) low played named =
+    let less = subst (λ (u : Table). order u < order Meta) (sym (named t refl) ∙ played t refl) low in
+    absurd (omega (arith, less))
 
 -- with one game more, its rows are no longer left
 module _ (rows : Rows) (last : Option ℕ) (k : ℕ) (game : GameRecord) (ms ss a b : ℕ) (w v u : Option Table)
-    (old mid new : State) (at : slice_get rows.games.items k ≡ Some game)
-    (was : AreLeftAfter rows last k ms ss w old mid) (is : IsGameFound rows last k game a b v mid new)
-    (one_of : IsOneOf w v u) where
-  trees_same_after : mid.now.trees ≡ old.now.trees
-  trees_same_after = ap (λ (d : Database). d.trees) was.same.0.now_is
+    (db : Database) (at : slice_get rows.games.items k ≡ Some game) (was : AreLeftAfter rows last k ms ss w db)
+    (is : IsGameFound rows last k game a b v db) (one_of : IsOneOf w v u) where
+  id_of : (s : ClubState) (g : ClubGame) → IsGameOf s (k + 1) game db.trees g → game.id ≡ pos (suc k)
+  id_of s g is_game = id-told s (k + 1) game g is_game.row_is ∙ ap pos (sym (next_suc k))
 
-  game_id : u ≡ None → (s : ClubState) → IsOf s rows last → game.id ≡ pos (suc k)
-  game_id none s of =
-      let neither = one_of.none none in
-      let (g, found) = is.found neither.1 s of in
-      id-told s (k + 1) game g found.game_is.row_is ∙ ap pos (sym (next_suc k))
+  past_more : (n own : ℕ) (shown : List Row) → own ≡ length (beginning_with game.id shown) → game.id ≡ pos (suc k)
+      → n ≡ length (past k shown) → n - own ≡ length (past (k + 1) shown)
+  past_more n own shown owned id left =
+      ap (λ m. n - m) (owned ∙ ap (λ z. length (beginning_with z shown)) id)
+      ∙ (taken n _ _ _ left (past_step k shown) ∙ ap (λ m. length (past m shown)) (next_suc k))
 
-  -- the same where at most `meta` is wrong
-  game_in : IsPlayed u → (s : ClubState) → HasPeople s rows → (g : ClubGame)
-      × IsFoundAs (until last_moment s) (k + 1) game old.now.trees g
-  game_in free s people =
-      let (g, found) = is.played (both_played w v u one_of free).1 s people in
-      (g, subst (λ t. IsFoundAs (until last_moment s) (k + 1) game t g) trees_same_after found)
+  beyond_more : HaveIds rows → (n own : ℕ) (shown : List Row) → own ≡ length (beginning_with game.id shown)
+      → n ≡ length (beyond rows k shown) → n - own ≡ length (beyond rows (k + 1) shown)
+  beyond_more ids n own shown owned left =
+      ap (λ m. n - m) (owned ∙ ap (λ z. length (beginning_with z shown)) (sym (id_of_game rows k game at)))
+      ∙ (taken n _ _ _ left
+      (beyond_step rows (ids_apart rows ids) k shown (slice_get_within rows.games.items k game at))
+      ∙ ap (λ m. length (beyond rows m shown)) (next_suc k))
 
-  -- and where no table up to the games is
-  game_at : IsAfter Games u → (s : ClubState) → HasPeople s rows → (g : ClubGame)
-      × IsGameOf (until last_moment s) (k + 1) game old.now.trees g
-  game_at after s people =
-      let (g, is_game) = is.seated (both_after Games w v u one_of after).1 s people in
-      (g, subst (λ t. IsGameOf (until last_moment s) (k + 1) game t g) trees_same_after is_game)
-
-  id_in : IsAfter Games u → (s : ClubState) → HasPeople s rows → game.id ≡ pos (suc k)
-  id_in after s people =
-      let (g, is_game) = game_at after s people in
-      id-told (until last_moment s) (k + 1) game g is_game.row_is ∙ ap pos (sym (next_suc k))
-
-  pub left_more : AreLeftAfter rows last (k + 1) (ms - a) (ss - b) u old new
+  pub left_more : AreLeftAfter rows last (k + 1) (ms - a) (ss - b) u db
   left_more = record {
-    same = unchanged_then old mid new was.same is.same;
     found = λ none s of.
-        let neither = one_of.none none in
-        let (g, found) = is.found neither.1 s of in
-        found_more s rows.games.items old.now.trees k game (was.found neither.0 s of) at
-        (g, subst (λ t. IsFoundAs s (k + 1) game t g) trees_same_after found);
+        let (early, here) = one_of.none none in
+        found_more s rows.games.items db.trees k game (was.found early s of) at (is.found here s of);
     blamed = λ t named. elim (one_of.some t named) [
-      | inl before ↦ was.blamed t before
-      | inr here ↦ play_back rows old mid (Damaged t) was.same (is.blamed t here)
+      | inl early ↦ was.blamed t early
+      | inr here ↦ is.blamed t here
     ];
     moves_left = λ none s of.
-        let id = game_id none s of in
-        let own : a ≡ length (beginning_with (pos (suc k)) (moves_in old.now.trees)) = is.moves_number
-        ∙ (λ i. length (beginning_with (id i) (moves_in (trees_same_after i)))) in
-        ap (λ n. ms - n) own
-        ∙ (taken ms _ _ _ (was.moves_left (one_of.none none).0 s of) (past_step k (moves_in old.now.trees))
-        ∙ ap (λ n. length (past n (moves_in old.now.trees))) (next_suc k));
+        let (early, here) = one_of.none none in
+        let (g, found) = is.found here s of in
+        past_more ms a (moves_in db.trees) is.moves_number (id_of s g found.game_is) (was.moves_left early s of);
     seen_left = λ none s of.
-        let id = game_id none s of in
-        let own : b ≡ length (beginning_with (pos (suc k)) (seen_in old.now.trees)) = is.seen_number
-        (λ t named. absurd (none_some v t named (one_of.none none).1))
-        ∙ (λ i. length (beginning_with (id i) (seen_in (trees_same_after i)))) in
-        ap (λ n. ss - n) own
-        ∙ (taken ss _ _ _ (was.seen_left (one_of.none none).0 s of) (past_step k (seen_in old.now.trees))
-        ∙ ap (λ n. length (past n (seen_in old.now.trees))) (next_suc k));
+        let (early, here) = one_of.none none in
+        let (g, found) = is.found here s of in
+        past_more ss b (seen_in db.trees) (is.seen_number (λ t named. absurd (none_some v t named here)))
+        (id_of s g found.game_is) (was.seen_left early s of);
     played = λ free s people.
-        found_more (until last_moment s) rows.games.items old.now.trees k game
-        (was.played (both_played w v u one_of free).0 s people) at (game_in free s people);
+        let (early, here) = both_played w v u one_of free in
+        found_more (until last_moment s) rows.games.items db.trees k game (was.played early s people) at
+        (is.played here s people);
     seated = λ after s people.
-        let (g, is_game) = game_at after s people in
-        seated_more (until last_moment s) rows.games.items old.now.trees k game
-        (was.seated (both_after Games w v u one_of after).0 s people) at g is_game;
+        let (early, here) = both_after Games w v u one_of after in
+        let (g, is_game) = is.seated here s people in
+        seated_more (until last_moment s) rows.games.items db.trees k game (was.seated early s people) at g is_game;
     moves_rest = λ after s people.
-        let id = id_in after s people in
-        let own : a ≡ length (beginning_with (pos (suc k)) (moves_in old.now.trees)) = is.moves_number
-        ∙ (λ i. length (beginning_with (id i) (moves_in (trees_same_after i)))) in
-        ap (λ n. ms - n) own
-        ∙ (taken ms _ _ _ (was.moves_rest (both_after Games w v u one_of after).0 s people)
-        (past_step k (moves_in old.now.trees))
-        ∙ ap (λ n. length (past n (moves_in old.now.trees))) (next_suc k));
+        let (early, here) = both_after Games w v u one_of after in
+        let (g, is_game) = is.seated here s people in
+        past_more ms a (moves_in db.trees) is.moves_number (id_of (until last_moment s) g is_game)
+        (was.moves_rest early s people);
     seen_rest = λ free s people.
-        let id = id_in (played_after u free) s people in
-        let own : b ≡ length (beginning_with (pos (suc k)) (seen_in old.now.trees)) = is.seen_number (seen_after v
-        (both_played w v u one_of free).1)
-        ∙ (λ i. length (beginning_with (id i) (seen_in (trees_same_after i)))) in
-        ap (λ n. ss - n) own
-        ∙ (taken ss _ _ _ (was.seen_rest (both_played w v u one_of free).0 s people)
-        (past_step k (seen_in old.now.trees))
-        ∙ ap (λ n. length (past n (seen_in old.now.trees))) (next_suc k));
+        let (early, here) = both_played w v u one_of free in
+        let (g, found) = is.played here s people in
+        past_more ss b (seen_in db.trees) (is.seen_number (seen_after v here))
+        (id_of (until last_moment s) g found.game_is) (was.seen_rest early s people);
     moves_wrong = λ named s people. elim (one_of.some Moves named) [
-      | inl before ↦ was.moves_wrong before s people
-      | inr here ↦ subst (λ (d : Database). MovesWrong rows d) was.same.0.now_is (is.moves_wrong here s people)
+      | inl early ↦ was.moves_wrong early s people
+      | inr here ↦ is.moves_wrong here s people
     ];
     games_wrong = λ named. elim (one_of.some Games named) [
-      | inl before ↦ was.games_wrong before
-      | inr here ↦ subst (λ (d : Database). GamesWrong rows d) was.same.0.now_is (is.games_wrong here)
+      | inl early ↦ was.games_wrong early
+      | inr here ↦ is.games_wrong here
     ];
     seen_wrong = λ named. elim (one_of.some Seen named) [
-      | inl before ↦ was.seen_wrong before
-      | inr here ↦ subst (λ (d : Database). SeenWrong rows d) was.same.0.now_is (is.seen_wrong here)
+      | inl early ↦ was.seen_wrong early
+      | inr here ↦ is.seen_wrong here
     ];
     moves_right = λ after s people n other low there.
-        let (before, here) = both_after Moves w v u one_of after in
+        let (early, here) = both_after Moves w v u one_of after in
         elim (last_or n k (omega (arith, low))) [
-          | inr less ↦ was.moves_right before s people n other less there
+          | inr less ↦ was.moves_right early s people n other less there
           | inl same ↦
               let both : ◌≡◌ {A = Option GameRecord} (Some game) (Some other) = sym at
               ∙ (ap (slice_get rows.games.items) (sym same) ∙ there) in
-              subst (HasMovesOf rows (moves_in old.now.trees)) (same_Some game other both)
-              (subst (λ t. HasMovesOf rows (moves_in t) game) trees_same_after (is.moves_right here s people))
+              subst (HasMovesOf rows (moves_in db.trees)) (same_Some game other both) (is.moves_right here s people)
         ];
-    moves_beyond = λ ids.
-        let within = slice_get_within rows.games.items k game at in
-        let id : game.id ≡ id_at rows k = sym (id_of_game rows k game at) in
-        let own : a ≡ length (beginning_with (id_at rows k) (moves_in old.now.trees)) = is.moves_number
-        ∙ (λ i. length (beginning_with (id i) (moves_in (trees_same_after i)))) in
-        ap (λ n. ms - n) own
-        ∙ (taken ms _ _ _ (was.moves_beyond ids)
-        (beyond_step rows (ids_apart rows ids) k (moves_in old.now.trees) within)
-        ∙ ap (λ n. length (beyond rows n (moves_in old.now.trees))) (next_suc k));
+    moves_beyond = λ ids. beyond_more ids ms a (moves_in db.trees) is.moves_number (was.moves_beyond ids);
     seen_beyond = λ after ids.
-        let (before, here) = both_after Seen w v u one_of after in
-        let within = slice_get_within rows.games.items k game at in
-        let id : game.id ≡ id_at rows k = sym (id_of_game rows k game at) in
-        let own : b ≡ length (beginning_with (id_at rows k) (seen_in old.now.trees)) = is.seen_number here
-        ∙ (λ i. length (beginning_with (id i) (seen_in (trees_same_after i)))) in
-        ap (λ n. ss - n) own
-        ∙ (taken ss _ _ _ (was.seen_beyond before ids)
-        (beyond_step rows (ids_apart rows ids) k (seen_in old.now.trees) within)
-        ∙ ap (λ n. length (beyond rows n (seen_in old.now.trees))) (next_suc k));
+        let (early, here) = both_after Seen w v u one_of after in
+        beyond_more ids ss b (seen_in db.trees) (is.seen_number here) (was.seen_beyond early ids);
   }
 
 -- a table that was known to be wrong is not forgotten
 abbrev pub IsKept : Option Table → Option Table → Type 0
 IsKept known wrong = wrong ≡ None → known ≡ None
 
--- What is left over names a table, where it is something.
-pub record NamesLeft (count : ℕ) (o : Option Table) : Type 0 where
-  pub none : o ≡ None → count ≡ 0
-  pub some : (t : Table) → o ≡ Some t → 0 < count
-  pub other : (t : Table) → o ≡ Some t → t ≢ Meta
-
 -- when the rows of all games were read
 module _ (rows : Rows) (last : Option ℕ) (told : IsMomentOf rows.meta.last last) (k ms ss : ℕ)
-    (w a u b v : Option Table) (old new : State) (was : AreLeftAfter rows last k ms ss w old new)
-    (all : k ≡ length rows.games.items) (moves_left : NamesLeft ms a) (seen_left : NamesLeft ss b)
-    (one_of : IsOneOf w a u) (then_of : IsOneOf u b v)
-    (of_seen : (t : Table) → b ≡ Some t → t ≡ Seen) (of_moves : (t : Table) → a ≡ Some t → t ≡ Moves) where
+    (w a u b v : Option Table) (db : Database) (was : AreLeftAfter rows last k ms ss w db)
+    (all : k ≡ length rows.games.items) (moves_left : NamesLeft Moves ms a) (seen_left : NamesLeft Seen ss b)
+    (one_of : IsOneOf w a u) (then_of : IsOneOf u b v) where
+  of_moves : (t : Table) → a ≡ Some t → t ≡ Moves
+  of_moves t named = (moves_left.some t named).0
+
+  of_seen : (t : Table) → b ≡ Some t → t ≡ Seen
+  of_seen t named = (seen_left.some t named).0
+
   counts : (s : ClubState) → IsRegisterOf s rows → k ≡ length s.games
   counts s register = all ∙ numbered-length game_cells (row_of_game both_games s.events) 1 rows.games.items s.games
       register.games
 
   -- where no table was wrong before and a row is left, no club has the tables
   left_blames : (o : Option Table) → o ≡ w → (0 < ms) ⊎ (0 < ss) → (version : Version) (s : ClubState)
-      → IsClubOf version s → IsRegisterOf s rows → ¬ HasClub version old.now s
+      → IsClubOf version s → IsRegisterOf s rows → ¬ HasClub version db s
   left_blames (Some t) is some version s of_version register holds =
       (was.blamed t (sym is)).2 version s of_version register holds
   left_blames None is (inl some) version s of_version register holds =
       let club = club_of_version version s of_version in
-      let none = (none_left s club old.now (stored_of version old.now s holds)).0 in
+      let none = (none_left s club db (stored_of version db s holds)).0 in
       let left = was.moves_left (sym is) s (club_of s rows last told club register)
-      ∙ ap (λ n. length (past n (moves_in old.now.trees))) (counts s register) in
+      ∙ ap (λ n. length (past n (moves_in db.trees))) (counts s register) in
       omega (arith, some, left, none)
   left_blames None is (inr some) version s of_version register holds =
       let club = club_of_version version s of_version in
-      let none = (none_left s club old.now (stored_of version old.now s holds)).1 in
+      let none = (none_left s club db (stored_of version db s holds)).1 in
       let left = was.seen_left (sym is) s (club_of s rows last told club register)
-      ∙ ap (λ n. length (past n (seen_in old.now.trees))) (counts s register) in
+      ∙ ap (λ n. length (past n (seen_in db.trees))) (counts s register) in
       omega (arith, some, left, none)
 
   -- a table that is named is that of a game, or has rows that are left
-  left_blamed : (t : Table) → v ≡ Some t → NamesPlay rows old.now (Damaged t)
+  left_blamed : (t : Table) → v ≡ Some t → NamesPlay rows db (Damaged t)
   left_blamed t named = elim (then_of.some t named) [
-    | inr from_seen ↦ (t, refl, left_blames w refl (inr (seen_left.some t from_seen)))
+    | inr from_seen ↦ (t, refl, left_blames w refl (inr ((seen_left.some t from_seen).1)))
     | inl early ↦ elim (one_of.some t early) [
-      | inr from_moves ↦ (t, refl, left_blames w refl (inl (moves_left.some t from_moves)))
+      | inr from_moves ↦ (t, refl, left_blames w refl (inl ((moves_left.some t from_moves).1)))
       | inl before ↦ was.blamed t before
     ]
   ]
 
   -- no row of moves is another's, if no table up to the games is
   moves_over : IsAfter Games v → (s : ClubState) → HasPeople s rows
-      → length (past (length rows.games.items) (moves_in old.now.trees)) ≡ 0
+      → length (past (length rows.games.items) (moves_in db.trees)) ≡ 0
   moves_over after s people =
       let early = (both_after Games u b v then_of after).0 in
       let (before, from_moves) = both_after Games w a u one_of early in
-      ap (λ n. length (past n (moves_in old.now.trees))) (sym all)
+      ap (λ n. length (past n (moves_in db.trees))) (sym all)
       ∙ (sym (was.moves_rest before s people)
       ∙ moves_left.none (none_after Games Moves a from_moves of_moves (omega arith)))
 
   -- all were found, if no table is named
-  pub left_all : AreGamesFound rows last v old new
+  pub left_all : AreGamesFound rows last v db
   left_all = record {
-    same = was.same;
     found = λ none s of.
         let (early, no_seen) = then_of.none none in
         let (before, no_moves) = one_of.none early in
-        subst (WereFound s rows.games.items old.now.trees) all (was.found before s of);
+        subst (WereFound s rows.games.items db.trees) all (was.found before s of);
     none_left = λ none s of.
         let (early, no_seen) = then_of.none none in
         let (before, no_moves) = one_of.none early in
         record {
-          moves = ap (λ n. length (past n (moves_in old.now.trees))) (sym all)
+          moves = ap (λ n. length (past n (moves_in db.trees))) (sym all)
               ∙ (sym (was.moves_left before s of) ∙ moves_left.none no_moves);
-          seen = ap (λ n. length (past n (seen_in old.now.trees))) (sym all)
+          seen = ap (λ n. length (past n (seen_in db.trees))) (sym all)
               ∙ (sym (was.seen_left before s of) ∙ seen_left.none no_seen);
         };
     played = λ free s people.
         let early = (both_played u b v then_of free).0 in
         let before = (both_played w a u one_of early).0 in
-        subst (WereFound (until last_moment s) rows.games.items old.now.trees) all (was.played before s people);
+        subst (WereFound (until last_moment s) rows.games.items db.trees) all (was.played before s people);
     seated = λ after s people.
         let early = (both_after Games u b v then_of after).0 in
         let before = (both_after Games w a u one_of early).0 in
-        subst (WerePlayed (until last_moment s) rows.games.items old.now.trees) all (was.seated before s people);
+        subst (WerePlayed (until last_moment s) rows.games.items db.trees) all (was.seated before s people);
     moves_end = moves_over;
     moves_right = λ after ids s people.
         let early = (both_after Moves u b v then_of after).0 in
         let (before, from_moves) = both_after Moves w a u one_of early in
         let none = moves_left.none (none_after Moves Moves a from_moves of_moves (omega arith)) in
-        moves_gathered rows (moves_in old.now.trees)
-        (ap (λ n. length (beyond rows n (moves_in old.now.trees))) (sym all) ∙ (sym (was.moves_beyond ids) ∙ none))
+        moves_gathered rows (moves_in db.trees)
+        (ap (λ n. length (beyond rows n (moves_in db.trees))) (sym all) ∙ (sym (was.moves_beyond ids) ∙ none))
         (λ n game low at. was.moves_right before s people n game (omega (arith, all, low)) at);
     none_rests = λ free s people.
         let (early, from_seen) = both_played u b v then_of free in
         let (before, from_moves) = both_played w a u one_of early in
         record {
           moves = moves_over (played_after v free) s people;
-          seen = ap (λ n. length (past n (seen_in old.now.trees))) (sym all)
-              ∙ (sym (was.seen_rest before s people) ∙ seen_left.none (none_named_of b from_seen seen_left.other));
+          seen = ap (λ n. length (past n (seen_in db.trees))) (sym all)
+              ∙ (sym (was.seen_rest before s people)
+              ∙ seen_left.none (none_named_of Seen b (omega arith) from_seen of_seen));
         };
     blamed = left_blamed;
     moves_wrong = λ named ids s people. elim (then_of.some Moves named) [
@@ -655,9 +580,9 @@ module _ (rows : Rows) (last : Option ℕ) (told : IsMomentOf rows.meta.last las
       | inl early ↦ elim (one_of.some Moves early) [
         | inl before ↦ was.moves_wrong before s people
         | inr from_moves ↦ λ version content holds have.
-            let some : 0 < ms = moves_left.some Moves from_moves in
-            let none = none_beyond rows (moves_in old.now.trees) have.owned in
-            let left = was.moves_beyond ids ∙ ap (λ n. length (beyond rows n (moves_in old.now.trees))) all in
+            let some : 0 < ms = (moves_left.some Moves from_moves).1 in
+            let none = none_beyond rows (moves_in db.trees) have.owned in
+            let left = was.moves_beyond ids ∙ ap (λ n. length (beyond rows n (moves_in db.trees))) all in
             absurd (omega (arith, some, left, none))
       ]
     ];
@@ -678,97 +603,52 @@ module _ (rows : Rows) (last : Option ℕ) (told : IsMomentOf rows.meta.last las
           elim (seen_or_after w (both_after Games w a u one_of early).0) [
             | inl before ↦ was.seen_wrong before
             | inr after ↦ λ version content holds have.
-                let some : 0 < ss = seen_left.some Seen from_seen in
-                let none = none_beyond rows (seen_in old.now.trees) (seen_owned rows _ _ have) in
+                let some : 0 < ss = (seen_left.some Seen from_seen).1 in
+                let none = none_beyond rows (seen_in db.trees) (seen_owned rows _ _ have) in
                 let left = was.seen_beyond after ids
-                ∙ ap (λ n. length (beyond rows n (seen_in old.now.trees))) all in
+                ∙ ap (λ n. length (beyond rows n (seen_in db.trees))) all in
                 absurd (omega (arith, some, left, none))
           ]
     ];
   }
 
 -- what a fault says of a database that did not change
-pub blamed_before : (rows : Rows) (old mid : State) (fault : OpenFault) → IsUnchanged old mid → NamesTable mid.now fault
+pub blamed_before : (rows : Rows) {old mid : State} (fault : OpenFault) → IsUnchanged old mid → NamesTable mid.now fault
     ⊎ NamesPlay rows mid.now fault → NamesTable old.now fault ⊎ NamesPlay rows old.now fault
-blamed_before rows old mid fault same = subst (λ (d : Database). NamesTable d fault ⊎ NamesPlay rows d fault)
-    same.0.now_is
+blamed_before rows fault = before (λ d. NamesTable d fault ⊎ NamesPlay rows d fault)
 
 -- ---- the rowids of both tables, and then the games
 
-module _ (old one two : State) (m n : ℕ) (moves_are : AreCounted 8 m old one) (seen_are : AreCounted 12 n one two) where
+module _ {old one two : State} {m n : ℕ} (moves_are : AreCounted 8 m old one) (seen_are : AreCounted 12 n one two) where
   pub both_same : IsUnchanged old two
-  both_same = unchanged_then old one two moves_are.same seen_are.same
-
-  seen_trees : one.now.trees ≡ old.now.trees
-  seen_trees = ap (λ (d : Database). d.trees) moves_are.same.0.now_is
-
-  trees_same : old.now.trees ≡ two.now.trees
-  trees_same = sym (ap (λ (d : Database). d.trees) both_same.0.now_is)
+  both_same = stays moves_are.same seen_are.same
 
   -- so many rows there are
   pub moves_number : m ≡ length (moves_in two.now.trees)
   moves_number = moves_are.number
-      ∙ (sym (length-map (old.now.trees 8) (cells (moves 8))) ∙ ap (λ (t : Trees). length (moves_in t)) trees_same)
+      ∙ (sym (length-map (old.now.trees 8) (cells (moves 8)))
+      ∙ ap (λ (d : Database). length (moves_in d.trees)) (sym both_same.0.now_is))
 
   pub seen_number : n ≡ length (seen_in two.now.trees)
   seen_number = seen_are.number
       ∙ (sym (length-map (one.now.trees 12) (cells (seen 12)))
-      ∙ ap (λ (t : Trees). length (seen_in t)) (seen_trees ∙ trees_same))
+      ∙ ap (λ (d : Database). length (seen_in d.trees)) (sym seen_are.same.0.now_is))
 
-  pub play_examined : (rows : Rows) (last : Option ℕ) (wrong : Option Table) (new : State)
-      → AreGamesFound rows last wrong two new → IsPlayExamined rows last wrong old new
-  play_examined rows last wrong new found =
-      let back : two.now.trees ≡ old.now.trees = sym trees_same in
-      record {
-        games = record {
-          same = unchanged_then old two new both_same found.same;
-          found = λ none s of. subst (λ (t : Trees). WereFound s rows.games.items t (length rows.games.items)) back
-              (found.found none s of);
-          none_left = λ none s of. subst (λ (t : Trees). NoneIsLeft t (length rows.games.items)) back
-              (found.none_left none s of);
-          played = λ free s people.
-              subst (λ (t : Trees). WereFound (until last_moment s) rows.games.items t (length rows.games.items)) back
-              (found.played free s people);
-          seated = λ after s people.
-              subst (λ (t : Trees). WerePlayed (until last_moment s) rows.games.items t (length rows.games.items)) back
-              (found.seated after s people);
-          moves_end = λ after s people.
-              subst (λ (t : Trees). length (past (length rows.games.items) (moves_in t)) ≡ 0) back
-              (found.moves_end after s people);
-          moves_right = λ after ids s people.
-              subst (λ (t : Trees). HaveMovesOf rows (moves_in t)) back (found.moves_right after ids s people);
-          none_rests = λ free s people. subst (λ (t : Trees). NoneIsLeft t (length rows.games.items)) back
-              (found.none_rests free s people);
-          blamed = λ t is. play_back rows old two (Damaged t) both_same (found.blamed t is);
-          moves_wrong = λ named ids s people.
-              subst (λ (d : Database). MovesWrong rows d) both_same.0.now_is (found.moves_wrong named ids s people);
-          games_wrong = λ named.
-              subst (λ (d : Database). GamesWrong rows d) both_same.0.now_is (found.games_wrong named);
-          seen_wrong = λ named ids.
-              subst (λ (d : Database). SeenWrong rows d) both_same.0.now_is (found.seen_wrong named ids);
-        };
-        moves_apart = moves_are.apart;
-        seen_apart = subst (λ (t : Trees). AreApart (t 12)) seen_trees seen_are.apart;
-      }
+  pub play_examined : (rows : Rows) (last : Option ℕ) (wrong : Option Table) {new : State} → IsUnchanged two new
+      → AreGamesFound rows last wrong two.now → IsPlayExamined rows last wrong old new
+  play_examined rows last wrong same found = record {
+    games = before (AreGamesFound rows last wrong) both_same found;
+    same = stays both_same same;
+    moves_apart = moves_are.apart;
+    seen_apart = before (λ d. AreApart (d.trees 12)) moves_are.same seen_are.apart;
+  }
 
 -- what was examined of a database that did not change after it
 pub play_later : (rows : Rows) (last : Option ℕ) (old mid new : State) → IsPlayExamined rows last None old mid
     → IsUnchanged mid new → IsPlayExamined rows last None old new
 play_later rows last old mid new play same = record {
-  games = record {
-    same = unchanged_then old mid new play.games.same same;
-    found = play.games.found;
-    none_left = play.games.none_left;
-    played = play.games.played;
-    seated = play.games.seated;
-    moves_end = play.games.moves_end;
-    moves_right = play.games.moves_right;
-    none_rests = play.games.none_rests;
-    blamed = play.games.blamed;
-    moves_wrong = play.games.moves_wrong;
-    games_wrong = play.games.games_wrong;
-    seen_wrong = play.games.seen_wrong;
-  };
+  games = play.games;
+  same = stays play.same same;
   moves_apart = play.moves_apart;
   seen_apart = play.seen_apart;
 }
@@ -778,6 +658,6 @@ pub scores_after : (rows : Rows) (old mid new : State) → IsUnchanged old mid �
     → AreScoresExamined rows old new
 scores_after rows old mid new same scores = record {
   rows_of = scores.rows_of;
-  read = read_after (scored 14) 3 scores.rows_of old mid new same scores.read;
+  read = read_after same scores.read;
   are = scores.are;
 }

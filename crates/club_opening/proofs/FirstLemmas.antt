@@ -1,28 +1,27 @@
 -- Of the tables of a file the first wrong one is named.
-use Rattle.std.proofs.Common.{◌≡◌, ◌≢◌, ◌⊎◌, ℕ, ◌<◌, ◌≤◌, false, List, [], ◌∷◌, length, map, Option, Some, None}
-use Rattle.std.proofs.Common.{refl, ap, sym, subst, ◌∙◌, arith, inl, inr}
-use Rattle.std.specs.Prelude.{slice_get, pos, ℤ}
+use Rattle.std.proofs.Common.{◌≡◌, ◌≢◌, ◌⊎◌, ℕ, ◌<◌, ◌≤◌, false, List, [], ◌∷◌, length, map, Option, Some, None, refl}
+use Rattle.std.proofs.Common.{suc, ap, sym, subst, ◌∙◌, arith, inl, inr}
+use Rattle.std.specs.Prelude.{slice_get, pos}
 use Rattle.std.specs.List.{AllByRecursion}
 use Rattle.std.proofs.lemmas.Option.{same_Some}
 use Rattle.sqlite.specs.Effect.{Database}
 use Rattle.sqlite.specs.Order.{Row}
 use Rattle.sqlite.specs.State.{State, IsUnchanged}
 use Rattle.sqlite.specs.Table.{Table as Definition}
-use Rattle.sqlite.proofs.Callers.{unchanged_then}
+use Rattle.club_opening.proofs.BlameLemmas.{before, place_in}
 use Rattle.sqlite_rules.specs.Lists.{Has}
 use Rattle.sqlite_rules.proofs.ListLemmas.{all_has, has_got}
 use Rattle.store_tables.specs.Beside.{IsBeside}
 use Rattle.store_tables.specs.Cells.{IsChallenge, IsEvent, IsEventRule, IsGame, IsMember, IsMove, IsSeen}
-use Rattle.store_tables.specs.Cells.{challenge_cells}
-use Rattle.store_tables.specs.Cells.{event_cells, event_rule_cells, game_cells, member_cells}
+use Rattle.store_tables.specs.Cells.{challenge_cells, event_cells, event_rule_cells, game_cells, member_cells}
 use Rattle.store_tables.specs.Changes.{HaveSame}
 use Rattle.store_tables.specs.Content.{AreApart, Keeps}
 use Rattle.store_tables.specs.Contents.{Content, Stores}
-use Rattle.store_tables.specs.Tables.{club_schema, first_schema, schema_of, members, events, event_rules}
-use Rattle.store_tables.specs.Tables.{challenges, games, moves, seen}
+use Rattle.store_tables.specs.Tables.{club_schema, first_schema, schema_of, members, events, event_rules, challenges}
+use Rattle.store_tables.specs.Tables.{games, moves, seen}
 use Rattle.store_tables.specs.declared.names.Table.{Table}
-use Rattle.store_tables.specs.declared.names.Table.TheVariants.{Members, Events, EventRules, Challenges, Moves}
-use Rattle.store_tables.specs.declared.names.Table.TheVariants.{Games, Seen, Scores, Meta}
+use Rattle.store_tables.specs.declared.names.Table.TheVariants.{Members, Events, EventRules, Challenges, Moves, Games}
+use Rattle.store_tables.specs.declared.names.Table.TheVariants.{Seen, Scores, Meta}
 use Rattle.store_tables.specs.declared.names.Version.{Version}
 use Rattle.store_tables.specs.declared.names.Version.TheVariants.{First, Current}
 use Rattle.store_tables.specs.declared.rows.EventRow.{EventRow}
@@ -42,21 +41,20 @@ use Rattle.club_rows.specs.FirstSchema.{IsClubOf, tables_at}
 use Rattle.club_rows.specs.Tables.{challenge_row, numbered_from, rule_row, tables_of}
 use Rattle.club_rows.proofs.Proved.{seen-typed}
 use Rattle.club_audit.specs.Audit.{AreEvents, AreMembers, AreRules, HasPeople}
-use Rattle.club_audit.specs.ChallengeAudit.{AreChallenges}
+use Rattle.club_audit.specs.ChallengeAudit.{AreChallenges, IsGameAmong}
 use Rattle.club_audit.specs.FirstWrong.{IsFirstWrong, order}
 use Rattle.club_audit.specs.GameAudit.{IsRightAt}
 use Rattle.club_audit.proofs.Proved.{rules-counted, ruled-of}
 use Rattle.club_changes.proofs.Proved.{challenges_typed, moved}
-use Rattle.club_opening.specs.Blames.{AreRead, AreRulesRead, Blames, HasTypes, HoldsNone, NamesSchema}
+use Rattle.club_opening.specs.Blames.{HoldsOnly, AreRead, AreRulesRead, Blames, HasTypes, HoldsNone, undeclared_row}
 use Rattle.club_opening.specs.Versions.{HasTablesOf, HoldsRows}
-use Rattle.club_opening.specs.Blames.{undeclared_row}
-use Rattle.club_opening.specs.RightTables.{AreOfClub, ArePlayed, AreScored, AreSeated, HasScores, HasTable}
-use Rattle.club_opening.specs.RightTables.{HaveChallenges, IsFirstIn, IsLater, IsOfPlay, IsRight, IsUnheld}
-use Rattle.club_opening.specs.RightTables.{IsUntyped, IsWrongOfPlay}
-use Rattle.club_opening.specs.RightTables.{NamesExamined, NamesFirst, NamesPlayed, NamesWrong, TellsEvents, rows_in}
+use Rattle.club_opening.specs.RightTables.{HasGame, AreOfClub, ArePlayed, AreScored, AreSeated, HasScores, HasTable}
+use Rattle.club_opening.specs.RightTables.{HaveChallenges, IsFirstIn, IsLater, IsOfPlay, IsRight, IsUnheld, IsUntyped}
+use Rattle.club_opening.specs.RightTables.{IsWrongOfPlay, NamesExamined, NamesFirst, NamesPlayed, NamesWrong}
+use Rattle.club_opening.specs.RightTables.{TellsEvents, rows_in}
+use Rattle.club_core.specs.declared.seats.Pairing.{Pairing}
 use Rattle.club_opening.specs.declared.fault.OpenFault.{OpenFault}
-use Rattle.club_opening.specs.declared.fault.OpenFault.TheVariants.{Damaged, Foreign, Memory, Schema, Store}
-use Rattle.club_opening.proofs.BlameLemmas.{place_in, read_after}
+use Rattle.club_opening.specs.declared.fault.OpenFault.TheVariants.{Damaged, Memory, Store}
 use Rattle.club_opening.proofs.ChallengedLemmas.{among_game, challenges_once, challenges_right, game_among}
 use Rattle.club_opening.proofs.ChallengedLemmas.{right_challenges}
 use Rattle.club_opening.proofs.ClubLemmas.{events_kept, events_of, members_kept, members_of, rules_kept, typed_at}
@@ -70,9 +68,9 @@ use Rattle.club_opening.proofs.StoredLemmas.{club_of_version, first_differs, one
 
 -- a table of both versions, by its place
 pub stores_of : (definition : Definition) (place : ℕ) → slice_get first_schema.tables place ≡ Some definition
-    → slice_get club_schema.tables place ≡ Some definition → (version : Version) (db : Database) (content : Content)
+    → slice_get club_schema.tables place ≡ Some definition → {version : Version} {db : Database} {content : Content}
     → HoldsRows version content db → Stores definition db.trees content
-stores_of definition place first current version db content holds =
+stores_of definition place first current {version} {db} {content} holds =
     all_has (λ d. Stores d db.trees content) (schema_of version).tables definition holds.tables
     (has_got (schema_of version).tables place definition (place_in definition place first current version))
 
@@ -87,6 +85,20 @@ kept_same table db one other first second = record {
   there = moved table db.trees one other first second;
   back = moved table db.trees other one second first;
 }
+
+-- the rows that the database is known to have are those of the content
+pub held_same : (table : Definition) (place : ℕ) → slice_get first_schema.tables place ≡ Some table
+    → slice_get club_schema.tables place ≡ Some table → {version : Version} {db : Database} {content : Content}
+    {rows : List Row} → HoldsRows version content db → Keeps table db.trees rows → HaveSame (content table.tree) rows
+held_same table place first current {db} {content} {rows} holds =
+    kept_same table db (content table.tree) rows (stores_of table place first current holds).rows
+
+-- and rows that are those of the content it has
+pub keeps_held : (table : Definition) (place : ℕ) → slice_get first_schema.tables place ≡ Some table
+    → slice_get club_schema.tables place ≡ Some table → {version : Version} {db : Database} {content : Content}
+    {rows : List Row} → HoldsRows version content db → HaveSame (content table.tree) rows → Keeps table db.trees rows
+keeps_held table place first current {db} {content} {rows} holds same =
+    keeps_same table db.trees (content table.tree) rows same (stores_of table place first current holds).rows
 
 pub members_at : (version : Version) (s : ClubState) → tables_at version s 1 ≡ tables_of both_games s 1
 members_at First s = refl
@@ -138,7 +150,7 @@ pub member_types_wrong : (old : State) (e : OpenFault) → Blames Members (membe
     → NamesWrong Members old.now e
 member_types_wrong old e = types_none Members (members 1) IsMember (IsRight Members) old e
     (λ version content holds club. (
-      stores_of (members 1) 1 refl refl version old.now content holds,
+      stores_of (members 1) 1 refl refl holds,
       types_same IsMember (content 1) (tables_at version club.state 1) (club.same Members tt (omega arith)).there
           (typed_at version club.state (club_of_version version club.state club.legal) Members),
     ))
@@ -146,7 +158,7 @@ member_types_wrong old e = types_none Members (members 1) IsMember (IsRight Memb
 pub event_types_wrong : (old : State) (e : OpenFault) → Blames Events (events 4) IsEvent old e
     → NamesWrong Events old.now e
 event_types_wrong old e = types_none Events (events 4) IsEvent (IsRight Events) old e (λ version content holds club. (
-  stores_of (events 4) 2 refl refl version old.now content holds,
+  stores_of (events 4) 2 refl refl holds,
   types_same IsEvent (content 4) (tables_at version club.state 4) (club.same Events tt (omega arith)).there
       (typed_at version club.state (club_of_version version club.state club.legal) Events),
 ))
@@ -169,7 +181,7 @@ pub challenge_types_wrong : (old : State) (e : OpenFault) → Blames Challenges 
     → NamesWrong Challenges old.now e
 challenge_types_wrong old e = types_none Challenges (challenges 6) IsChallenge (IsRight Challenges) old e
     (λ version content holds have. (
-      stores_of (challenges 6) 3 refl refl version old.now content holds,
+      stores_of (challenges 6) 3 refl refl holds,
       types_same IsChallenge (content 6) (map challenge_row have.challenges) have.same.there
           (challenges_typed have.challenges),
     ))
@@ -182,22 +194,20 @@ pub members_wrong : (rows : List MemberRow) (old new : State) → IsReadAs (memb
 members_wrong rows old new read none = named_wrong Members old.now (λ version content holds club.
     let s = club.state in
     let kept : Keeps (members 1) old.now.trees (tables_at version s 1) =
-    keeps_same (members 1) old.now.trees (content 1) (tables_at version s 1) (club.same Members tt (omega arith))
-    (stores_of (members 1) 1 refl refl version old.now content holds).rows in
+    keeps_held (members 1) 1 refl refl holds (club.same Members tt (omega arith)) in
     none s.members
     (members_of s (club_of_version version s club.legal) rows
-    (members_kept s rows old new (subst (Keeps (members 1) old.now.trees) (members_at version s) kept) read)))
+    (members_kept s (subst (Keeps (members 1) old.now.trees) (members_at version s) kept) read)))
 
 pub events_wrong : (rows : List EventRow) (old new : State) → IsReadAs (events 4) 1 (map event_cells rows) old new
     → ((es : List Event) → ¬ AreEvents es rows) → NamesWrong Events old.now (Damaged Events)
 events_wrong rows old new read none = named_wrong Events old.now (λ version content holds club.
     let s = club.state in
     let kept : Keeps (events 4) old.now.trees (tables_at version s 4) =
-    keeps_same (events 4) old.now.trees (content 4) (tables_at version s 4) (club.same Events tt (omega arith))
-    (stores_of (events 4) 2 refl refl version old.now content holds).rows in
+    keeps_held (events 4) 2 refl refl holds (club.same Events tt (omega arith)) in
     none s.events
     (events_of s (club_of_version version s club.legal) rows
-    (events_kept s rows old new (subst (Keeps (events 4) old.now.trees) (events_at version s) kept) read)))
+    (events_kept s (subst (Keeps (events 4) old.now.trees) (events_at version s) kept) read)))
 
 -- rows of events that were read are those of each club that has the rows
 pub tells_events : (rows : List EventRow) (old new : State) → IsReadAs (events 4) 1 (map event_cells rows) old new
@@ -205,9 +215,7 @@ pub tells_events : (rows : List EventRow) (old new : State) → IsReadAs (events
 tells_events rows old new read version content holds s same =
     let here : HoldsRows version content old.now =
     subst (λ (d : Database). HoldsRows version content d) read.same.0.now_is holds in
-    events_kept s rows old new
-    (keeps_same (events 4) old.now.trees (content 4) (tables_of both_games s 4) same
-    (stores_of (events 4) 2 refl refl version old.now content here).rows)
+    events_kept s (keeps_held (events 4) 2 refl refl here same)
     read
 
 -- rules of events that are those of no club with these rows of events are wrong
@@ -228,7 +236,7 @@ rules_wrong events_rows rows old new told has read none = named_wrong EventRules
         (rules-counted s.events events_rows rows
         (events_of s club.legal events_rows
         (told Current content holds s (club.same Events tt (omega arith))))
-        (rules_kept s rows old new kept read))
+        (rules_kept s kept read))
 
 -- ---- clubs with people alone
 
@@ -272,12 +280,7 @@ upto : (n : ℕ) (P : Table → Type 0) → P Members → (1 ≤ n → P Events)
 upto n P m e r few Members low = m
 upto n P m e r few Events low = e low
 upto n P m e r few EventRules low = r low
-upto n P m e r few Challenges low = absurd (omega (arith, few, low))
-upto n P m e r few Moves low = absurd (omega (arith, few, low))
-upto n P m e r few Games low = absurd (omega (arith, few, low))
-upto n P m e r few Seen low = absurd (omega (arith, few, low))
-upto n P m e r few Scores low = absurd (omega (arith, few, low))
-upto n P m e r few Meta low = absurd (omega (arith, few, low))
+upto n P m e r few _ low = absurd (omega (arith, few, low))
 
 -- a club with the rows of a table has those of the tables before it
 sooner : (version : Version) (t u : Table) (content : Content) → order u ≤ order t → AreOfClub version t content
@@ -306,22 +309,14 @@ right_upto version content club EventRules low cs ms gs = club
 right_upto version content club Challenges low cs ms gs = cs (omega arith)
 right_upto version content club Moves low cs ms gs = ms (omega arith)
 right_upto version content club Games low cs ms gs = gs (omega arith)
-right_upto version content club Seen low cs ms gs = absurd (omega (arith, low))
-right_upto version content club Scores low cs ms gs = absurd (omega (arith, low))
-right_upto version content club Meta low cs ms gs = absurd (omega (arith, low))
+right_upto version content club _ low cs ms gs = absurd (omega (arith, low))
 
 all_upto : (version : Version) (content : Content) (top : Table) → AreOfClub version top content
     → HaveChallenges content → HaveMoves version content → (u : Table) → order u ≤ order top
     → IsRight u version content
-all_upto version content top club have play Members low = sooner version top Members content low club
-all_upto version content top club have play Events low = sooner version top Events content low club
-all_upto version content top club have play EventRules low = sooner version top EventRules content low club
 all_upto version content top club have play Challenges low = have
 all_upto version content top club have play Moves low = play
-all_upto version content top club have play Games low = sooner version top Games content low club
-all_upto version content top club have play Seen low = sooner version top Seen content low club
-all_upto version content top club have play Scores low = sooner version top Scores content low club
-all_upto version content top club have play Meta low = sooner version top Meta content low club
+all_upto version content top club have play u low = sooner version top u content low club
 
 -- ---- rows of members and events that a database has
 
@@ -339,8 +334,7 @@ module _ (version : Version) (content : Content) (db : Database) (holds : HoldsR
   same_members : (es : List Event) → HaveSame (content 1) (tables_at version (club_with ms es) 1)
   same_members es =
       subst (HaveSame (content 1)) (are_ms.rows_are ∙ sym (members_at version (club_with ms es)))
-      (kept_same (members 1) db (content 1) (map member_cells member_rows)
-      (stores_of (members 1) 1 refl refl version db content holds).rows kept_ms)
+      (held_same (members 1) 1 refl refl holds kept_ms)
 
   pub members_right : AreOfClub version Members content
   members_right = record {
@@ -358,8 +352,7 @@ module _ (version : Version) (content : Content) (db : Database) (holds : HoldsR
         → HaveSame (content 4) (tables_at version (club_with ms es) 4)
     same_events es are_es =
         subst (HaveSame (content 4)) (are_es.rows_are ∙ sym (events_at version (club_with ms es)))
-        (kept_same (events 4) db (content 4) (map event_cells event_rows)
-        (stores_of (events 4) 2 refl refl version db content holds).rows kept_es)
+        (held_same (events 4) 2 refl refl holds kept_es)
 
     pub events_right : (es : List Event) → AreEvents es event_rows → AreOfClub version Events content
     events_right es are =
@@ -436,8 +429,8 @@ first_none db e none t is = absurd (none t is)
 
 -- one that names a wrong table, where those before it are right
 pub first_wrong : (table : Table) (db : Database) (e : OpenFault) → NamesWrong table db e
-    → ((version : Version) (content : Content) → HoldsRows version content db → (u : Table)
-    → order u < order table → IsRight u version content) → NamesFirst db e
+    → HoldsOnly db (λ version content. (u : Table) → order u < order table → IsRight u version content)
+    → NamesFirst db e
 first_wrong table db e wrong right t is version content holds =
     let (named, none) = wrong t is in
     record {
@@ -449,30 +442,29 @@ pub first_members : (db : Database) (e : OpenFault) → NamesWrong Members db e 
 first_members db e wrong =
     first_wrong Members db e wrong (λ version content holds u low. absurd (omega (arith, low)))
 
+-- of the tables of people and of challenges, where those of people before it are right
+after_people : (last table : Table) → order last ≤ order EventRules → order table ≡ suc (order last) → (db : Database)
+    (e : OpenFault) → NamesWrong table db e → HoldsOnly db (λ version content. AreOfClub version last content)
+    → NamesFirst db e
+after_people last table few next db e wrong right = first_wrong table db e wrong (λ version content holds u low.
+    people_upto version last content few (right version content holds) u (omega (arith, low, next)))
+
 pub first_events : (db : Database) (e : OpenFault) → NamesWrong Events db e
-    → ((version : Version) (content : Content) → HoldsRows version content db
-    → AreOfClub version Members content) → NamesFirst db e
-first_events db e wrong right = first_wrong Events db e wrong (λ version content holds u low.
-    people_upto version Members content (omega arith) (right version content holds) u (omega (arith, low)))
+    → HoldsOnly db (λ version content. AreOfClub version Members content) → NamesFirst db e
+first_events = after_people Members Events (omega arith) refl
 
 pub first_rules : (db : Database) (e : OpenFault) → NamesWrong EventRules db e
-    → ((version : Version) (content : Content) → HoldsRows version content db
-    → AreOfClub version Events content) → NamesFirst db e
-first_rules db e wrong right = first_wrong EventRules db e wrong (λ version content holds u low.
-    people_upto version Events content (omega arith) (right version content holds) u (omega (arith, low)))
+    → HoldsOnly db (λ version content. AreOfClub version Events content) → NamesFirst db e
+first_rules = after_people Events EventRules (omega arith) refl
 
--- of the challenges, where those of people are right
 pub first_challenges : (db : Database) (e : OpenFault) → NamesWrong Challenges db e
-    → ((version : Version) (content : Content) → HoldsRows version content db
-    → AreOfClub version EventRules content) → NamesFirst db e
-first_challenges db e wrong right = first_wrong Challenges db e wrong (λ version content holds u low.
-    people_upto version EventRules content (omega arith) (right version content holds) u (omega (arith, low)))
+    → HoldsOnly db (λ version content. AreOfClub version EventRules content) → NamesFirst db e
+first_challenges = after_people EventRules Challenges (omega arith) refl
 
 -- one that names the games for their types, where the challenges and the moves are right by what is known of the games
 pub first_games : (db : Database) → HoldsNone db (λ version content. HasTypes Games content)
-    → ((version : Version) (content : Content) → HoldsRows version content db → AreOfClub version EventRules content)
-    → ((version : Version) (content : Content) → HoldsRows version content db → HaveChallenges content)
-    → ((version : Version) (content : Content) → HoldsRows version content db → HaveMoves version content)
+    → HoldsOnly db (λ version content. AreOfClub version EventRules content)
+    → HoldsOnly db (λ version content. HaveChallenges content) → HoldsOnly db HaveMoves
     → NamesFirst db (Damaged Games)
 first_games db none right have play t is version content holds =
     let absent = none version content holds in
@@ -486,24 +478,21 @@ first_games db none right have play t is version content holds =
     })
 
 -- one that names the moves by the games that were read
-pub first_moves : (db : Database)
-    → ((version : Version) (content : Content) → HoldsRows version content db → AreOfClub version EventRules content)
-    → ((version : Version) (content : Content) → HoldsRows version content db → HaveChallenges content)
-    → ((version : Version) (content : Content) → HoldsRows version content db → ¬ HaveMoves version content)
-    → NamesFirst db (Damaged Moves)
+pub first_moves : (db : Database) → HoldsOnly db (λ version content. AreOfClub version EventRules content)
+    → HoldsOnly db (λ version content. HaveChallenges content) → HoldsNone db HaveMoves → NamesFirst db (Damaged Moves)
 first_moves db right have wrong t is version content holds =
     subst (IsFirstIn version content) (damaged_same Moves t is) (record {
       before = λ u low. right_upto version content (right version content holds) u (omega (arith, low))
           (λ later. have version content holds) (λ later. absurd (omega (arith, low, later)))
           (λ later. absurd (omega (arith, low, later)));
-      named = λ play. wrong version content holds play;
+      named = wrong version content holds;
     })
 
 -- one that names the challenges for what is known of the games
 pub first_known : (db : Database) (rows : Rows) → ((cs : List Challenge) → ¬ AreChallenges cs rows)
-    → ((version : Version) (content : Content) → HoldsRows version content db → AreOfClub version EventRules content)
-    → ((version : Version) (content : Content) → HoldsRows version content db → HaveChallenges content
-    → (cs : List Challenge) × AreChallenges cs rows) → NamesFirst db (Damaged Challenges)
+    → HoldsOnly db (λ version content. AreOfClub version EventRules content)
+    → HoldsOnly db (λ version content. HaveChallenges content → (cs : List Challenge) × AreChallenges cs rows)
+    → NamesFirst db (Damaged Challenges)
 first_known db rows none right pass = first_challenges db (Damaged Challenges)
     (named_wrong Challenges db (λ version content holds have.
     let (cs, are) = pass version content holds have in none cs are))
@@ -511,70 +500,59 @@ first_known db rows none right pass = first_challenges db (Damaged Challenges)
 
 -- one that names a table that was examined
 module _ (db : Database) (rows : Rows) (e : OpenFault)
-    (right : (version : Version) (content : Content) → HoldsRows version content db
-    → AreOfClub version EventRules content)
-    (have : (version : Version) (content : Content) → HoldsRows version content db
-    → (cs : List Challenge) → AreChallenges cs rows → HaveChallenges content)
-    (pass : (version : Version) (content : Content) → HoldsRows version content db
-    → HaveChallenges content → (cs : List Challenge) × AreChallenges cs rows)
-    (seen_of : (version : Version) (content : Content) → HoldsRows version content db
-    → (cs : List Challenge) → AreChallenges cs rows → ArePlayed rows db → AreOfClub version Seen content)
-    (scores_of : (version : Version) (content : Content) → HoldsRows version content db
-    → (cs : List Challenge) → AreChallenges cs rows → ArePlayed rows db → AreScored rows db
-    → AreOfClub version Scores content)
-    (has : (version : Version) (content : Content) → HoldsRows version content db
-    → AreOfClub version Scores content → HasScores rows content)
-    (whole : (version : Version) (content : Content) → HoldsRows version content db
-    → AreOfClub version Meta content → (t : Table) → e ≢ Damaged t)
-    (read_moves : (version : Version) (content : Content) → HoldsRows version content db
-    → HaveMoves version content → HaveMovesOf rows (moves_in db.trees))
-    (moves_of : (version : Version) (content : Content) → HoldsRows version content db
-    → HaveMovesOf rows (moves_in db.trees) → HaveMoves version content)
-    (read_games : (version : Version) (content : Content) → HoldsRows version content db
-    → AreOfClub version Games content → HaveGamesOf rows (moves_in db.trees))
-    (games_of : (version : Version) (content : Content) → HoldsRows version content db
-    → (cs : List Challenge) → AreChallenges cs rows → AreSeated rows db → AreOfClub version Games content)
-    (read_seen : (version : Version) (content : Content) → HoldsRows version content db
-    → AreOfClub version Seen content → HaveSeenOf rows (moves_in db.trees) (seen_in db.trees)) where
+    (right : HoldsOnly db (λ version content. AreOfClub version EventRules content))
+    (have : HoldsOnly db (λ version content. (cs : List Challenge) → AreChallenges cs rows → HaveChallenges content))
+    (pass : HoldsOnly db (λ version content. HaveChallenges content → (cs : List Challenge) × AreChallenges cs rows))
+    (seen_of : HoldsOnly db (λ version content. (cs : List Challenge) → AreChallenges cs rows → ArePlayed rows db
+    → AreOfClub version Seen content))
+    (scores_of : HoldsOnly db (λ version content. (cs : List Challenge) → AreChallenges cs rows → ArePlayed rows db
+    → AreScored rows db → AreOfClub version Scores content))
+    (has : HoldsOnly db (λ version content. AreOfClub version Scores content → HasScores rows content))
+    (whole : HoldsOnly db (λ version content. AreOfClub version Meta content → (t : Table) → e ≢ Damaged t))
+    (read_moves : HoldsOnly db (λ version content. HaveMoves version content → HaveMovesOf rows (moves_in db.trees)))
+    (moves_of : HoldsOnly db (λ version content. HaveMovesOf rows (moves_in db.trees) → HaveMoves version content))
+    (read_games : HoldsOnly db (λ version content. AreOfClub version Games content
+    → HaveGamesOf rows (moves_in db.trees)))
+    (games_of : HoldsOnly db (λ version content. (cs : List Challenge) → AreChallenges cs rows → AreSeated rows db
+    → AreOfClub version Games content))
+    (read_seen : HoldsOnly db (λ version content. AreOfClub version Seen content
+    → HaveSeenOf rows (moves_in db.trees) (seen_in db.trees))) where
   -- where it is one of play
   play_first : (t : Table) → IsWrongOfPlay rows db t → (cs : List Challenge) → AreChallenges cs rows
-      → (version : Version) (content : Content) → HoldsRows version content db
-      → IsFirstIn version content t
-  play_first Members wrong cs are version content holds = absurd (let low = wrong.play.0 in omega (arith, low))
-  play_first Events wrong cs are version content holds = absurd (let low = wrong.play.0 in omega (arith, low))
-  play_first EventRules wrong cs are version content holds = absurd (let low = wrong.play.0 in omega (arith, low))
-  play_first Challenges wrong cs are version content holds = absurd (let low = wrong.play.0 in omega (arith, low))
-  play_first Moves wrong cs are version content holds = record {
-    before = λ u low. right_upto version content (right version content holds) u (omega (arith, low))
-        (λ later. have version content holds cs are) (λ later. absurd (omega (arith, low, later)))
-        (λ later. absurd (omega (arith, low, later)));
-    named = λ right. wrong.moves refl version content holds (read_moves version content holds right);
-  }
-  play_first Games wrong cs are version content holds = record {
-    before = λ u low. right_upto version content (right version content holds) u (omega (arith, low))
-        (λ later. have version content holds cs are)
-        (λ later. elim wrong.before [
+      → HoldsOnly db (λ version content. IsFirstIn version content t)
+  play_first t wrong cs are version content holds = of_play t wrong
+    where
+      moves_before : {t : Table} → IsWrongOfPlay rows db t → order Moves < order t → HaveMoves version content
+      moves_before wrong low = elim wrong.before [
+        | inl unheld ↦ absurd (unheld version content holds tt)
+        | inr (before, seated) ↦ moves_of version content holds (before low)
+      ]
+
+      upto_play : (t : Table) → order t ≤ order Seen → (order Moves < order t → HaveMoves version content)
+          → (order Games < order t → AreOfClub version Games content) → (u : Table) → order u < order t
+          → IsRight u version content
+      upto_play t last moves games u low = right_upto version content (right version content holds) u
+          (omega (arith, low, last)) (λ later. have version content holds cs are)
+          (λ later. moves (omega (arith, low, later))) (λ later. games (omega (arith, low, later)))
+
+      of_play : (t : Table) → IsWrongOfPlay rows db t → IsFirstIn version content t
+      of_play Moves wrong = record {
+        before = upto_play Moves (omega arith) (λ low. absurd (omega (arith, low)))
+            (λ low. absurd (omega (arith, low)));
+        named = λ right. wrong.moves refl version content holds (read_moves version content holds right);
+      }
+      of_play Games wrong = record {
+        before = upto_play Games (omega arith) (moves_before wrong) (λ low. absurd (omega (arith, low)));
+        named = λ club. wrong.games refl version content holds (read_games version content holds club);
+      }
+      of_play Seen wrong = record {
+        before = upto_play Seen (omega arith) (moves_before wrong) (λ low. elim wrong.before [
           | inl unheld ↦ absurd (unheld version content holds tt)
-          | inr (before, seated) ↦ moves_of version content holds (before (omega arith))
-        ])
-        (λ later. absurd (omega (arith, low, later)));
-    named = λ club. wrong.games refl version content holds (read_games version content holds club);
-  }
-  play_first Seen wrong cs are version content holds = record {
-    before = λ u low. right_upto version content (right version content holds) u (omega (arith, low))
-        (λ later. have version content holds cs are)
-        (λ later. elim wrong.before [
-          | inl unheld ↦ absurd (unheld version content holds tt)
-          | inr (before, seated) ↦ moves_of version content holds (before (omega arith))
-        ])
-        (λ later. elim wrong.before [
-          | inl unheld ↦ absurd (unheld version content holds tt)
-          | inr (before, seated) ↦ games_of version content holds cs are (seated (omega arith))
+          | inr (before, seated) ↦ games_of version content holds cs are (seated low)
         ]);
-    named = λ club. wrong.seen refl version content holds (read_seen version content holds club);
-  }
-  play_first Scores wrong cs are version content holds = absurd (let low = wrong.play.1 in omega (arith, low))
-  play_first Meta wrong cs are version content holds = absurd (let low = wrong.play.1 in omega (arith, low))
+        named = λ club. wrong.seen refl version content holds (read_seen version content holds club);
+      }
+      of_play _ wrong = let (low, high) = wrong.play in absurd (omega (arith, low, high))
 
   pub first_examined : NamesExamined rows db e → NamesFirst db e
   first_examined names t is version content holds = elim (names t is) [
@@ -608,9 +586,8 @@ module _ (db : Database) (rows : Rows) (e : OpenFault)
   ]
 
 -- a database that did not change has the same first one
-pub first_before : (old mid : State) (e : OpenFault) → IsUnchanged old mid → NamesFirst mid.now e
-    → NamesFirst old.now e
-first_before old mid e same = subst (λ (d : Database). NamesFirst d e) same.0.now_is
+pub first_before : (e : OpenFault) {old mid : State} → IsUnchanged old mid → NamesFirst mid.now e → NamesFirst old.now e
+first_before e = before (λ d. NamesFirst d e)
 
 -- ---- later tables
 
@@ -621,11 +598,11 @@ moves_types_wrong rows old e blames t is =
     let (named, none) = types_none Moves (moves 8) IsMove (λ version content. HaveMovesOf rows (moves_in old.now.trees))
     old e
     (λ version content holds have.
-    let stored : Stores (moves 8) old.now.trees content = stores_of
-    (moves 8) 4 refl refl version old.now content holds in
-    let same = kept_same (moves 8) old.now (content 8) (moves_in old.now.trees) stored.rows
-    (keeps_shown (moves 8) old.now.trees) in
-    (stored, types_same IsMove (content 8) (moves_in old.now.trees) same.there have.typed))
+    let same = held_same (moves 8) 4 refl refl holds (keeps_shown (moves 8) old.now.trees) in (
+      stores_of (moves 8) 4 refl refl holds,
+      types_same IsMove (content 8) (moves_in old.now.trees) same.there
+          have.typed,
+    ))
     blames t is in
     subst (IsWrongOfPlay rows old.now) (sym named) (record {
       play = (omega arith, omega arith);
@@ -640,10 +617,9 @@ pub seen_torn_wrong : (rows : Rows) (old : State) (e : OpenFault) → Blames See
     → ((t : Table) → e ≡ Damaged t → ¬ AreApart (old.now.trees 12)) → NamesPlayed rows old.now e
 seen_torn_wrong rows old e blames torn t is =
     let (named, untyped) = types_none Seen (seen 12) IsSeen (λ version content. HasTypes Seen content) old e
-    (λ version content holds typed. (stores_of (seen 12) 6 refl refl version old.now content holds, typed)) blames t is
-    in
+    (λ version content holds typed. (stores_of (seen 12) 6 refl refl holds, typed)) blames t is in
     let unheld : IsUnheld old.now =
-    λ version content holds any. torn t is (stores_of (seen 12) 6 refl refl version old.now content holds).apart in
+    λ version content holds any. torn t is (stores_of (seen 12) 6 refl refl holds).apart in
     subst (IsWrongOfPlay rows old.now) (sym named) (record {
       play = (omega arith, omega arith);
       moves = λ here. absurd cc;
@@ -655,8 +631,7 @@ seen_torn_wrong rows old e blames torn t is =
 -- positions whose values have other types are those of no legal club
 pub untyped_wrong : (rows : Rows) (old : State) → IsUntyped Seen old.now → SeenWrong rows old.now
 untyped_wrong rows old untyped version content holds have =
-    let same = kept_same (seen 12) old.now (content 12) (seen_in old.now.trees)
-    (stores_of (seen 12) 6 refl refl version old.now content holds).rows (keeps_shown (seen 12) old.now.trees) in
+    let same = held_same (seen 12) 6 refl refl holds (keeps_shown (seen 12) old.now.trees) in
     untyped version content holds
     (types_same IsSeen (content 12) (seen_in old.now.trees) same.there
     (types_same IsSeen (seen_in old.now.trees) (tables_of both_games have.games.state 12) have.same.there
@@ -665,15 +640,11 @@ untyped_wrong rows old untyped version content holds have =
 -- of the tables that the rows of a game may show to be wrong none is one up to the challenges
 game_later : (s : ClubState) (rows : Rows) (place : ℕ) (game : GameRecord) (ms : List MoveRow) (ss : List SeenRow)
     (last : Option ℕ) (t : Table) → ¬ IsRightAt s rows place game ms ss last t → IsOfPlay t ⊎ (t ≡ Meta)
-game_later s rows place game ms ss last Members wrong = absurd (wrong tt)
-game_later s rows place game ms ss last Events wrong = absurd (wrong tt)
-game_later s rows place game ms ss last EventRules wrong = absurd (wrong tt)
-game_later s rows place game ms ss last Challenges wrong = absurd (wrong tt)
 game_later s rows place game ms ss last Moves wrong = inl (omega arith, omega arith)
 game_later s rows place game ms ss last Games wrong = inl (omega arith, omega arith)
 game_later s rows place game ms ss last Seen wrong = inl (omega arith, omega arith)
-game_later s rows place game ms ss last Scores wrong = absurd (wrong tt)
 game_later s rows place game ms ss last Meta wrong = inr refl
+game_later s rows place game ms ss last _ wrong = absurd (wrong tt)
 
 pub wrong_later : (s : ClubState) (rows : Rows) (place : ℕ) (game : GameRecord) (ms : List MoveRow) (ss : List SeenRow)
     (last : Option ℕ) (wrong : Option Table) → IsFirstWrong (IsRightAt s rows place game ms ss last) wrong
@@ -713,49 +684,28 @@ pub none_said : (version : Version) (event_rows : List EventRow) (rule_rows : Li
 none_said First event_rows rule_rows old new read is = read.1
 none_said Current event_rows rule_rows old new read is = let no : Current ≡ First = is in absurd cc
 
--- what was read, table after table
+-- what was read tells that the people are right in whatever content the database may hold
 pub people_read : (version : Version) (member_rows : List MemberRow) (event_rows : List EventRow)
-    (rule_rows : List EventRuleRow) (old one two three four : State) → HasTablesOf version old.now.schema
-    → IsUnchanged old one → IsReadAs (members 1) 1 (map member_cells member_rows) one two
-    → IsReadAs (events 4) 1 (map event_cells event_rows) two three
-    → AreRulesRead version event_rows rule_rows three four → (ms : List Member) → AreMembers ms member_rows
+    (rule_rows : List EventRuleRow) (old new : State) → HasTablesOf version old.now.schema
+    → IsReadAs (members 1) 1 (map member_cells member_rows) old new
+    → IsReadAs (events 4) 1 (map event_cells event_rows) old new
+    → AreRulesRead version event_rows rule_rows old new → (ms : List Member) → AreMembers ms member_rows
     → (es : List Event) → AreEvents es event_rows → AreRules rule_rows (length event_rows)
-    → ArePeople version member_rows event_rows rule_rows old.now
-people_read version member_rows event_rows rule_rows old one two three four schema same read_ms read_es read_rules ms
-    are_ms es are_es are_rules =
-    let same_two = unchanged_then old one two same read_ms.same in
-    let same_three = unchanged_then old two three same_two read_es.same in
-    record {
+    → (v : Version) (content : Content) → HoldsRows v content old.now → AreOfClub v EventRules content
+people_read version member_rows event_rows rule_rows old new schema read_ms read_es read_rules ms are_ms es are_es
+    are_rules =
+    people_right version member_rows event_rows rule_rows old.now (record {
       schema = schema;
       ms = ms;
       members_are = are_ms;
-      members_kept = (read_after (members 1) 1 (map member_cells member_rows) old one two same read_ms).keeps;
+      members_kept = read_ms.keeps;
       es = es;
       events_are = are_es;
-      events_kept = (read_after (events 4) 1 (map event_cells event_rows) old two three same_two read_es).keeps;
+      events_kept = read_es.keeps;
       rules_are = are_rules;
-      rules_kept = λ is. subst (λ (d : Database). Keeps (event_rules 16) d.trees (map event_rule_cells rule_rows))
-          same_three.0.now_is (kept_rules version event_rows rule_rows three four read_rules is);
-      undeclared = none_said version event_rows rule_rows three four read_rules;
-    }
-
--- and all together
-pub people_of_all : (version : Version) (rows : Rows) (old new : State) → HasTablesOf version old.now.schema
-    → AreRead version rows old new → (ms : List Member) → AreMembers ms rows.members.items → (es : List Event)
-    → AreEvents es rows.events.items → AreRules rows.event_rules.items (length rows.events.items)
-    → ArePeople version rows.members.items rows.events.items rows.event_rules.items old.now
-people_of_all version rows old new schema read ms are_ms es are_es are_rules = record {
-  schema = schema;
-  ms = ms;
-  members_are = are_ms;
-  members_kept = read.members.keeps;
-  es = es;
-  events_are = are_es;
-  events_kept = read.events.keeps;
-  rules_are = are_rules;
-  rules_kept = kept_rules version rows.events.items rows.event_rules.items old new read.rules;
-  undeclared = none_said version rows.events.items rows.event_rules.items old new read.rules;
-}
+      rules_kept = kept_rules version event_rows rule_rows old new read_rules;
+      undeclared = none_said version event_rows rule_rows old new read_rules;
+    })
 
 -- the club of these people
 pub has_people : (rows : Rows) (ms : List Member) → AreMembers ms rows.members.items → (es : List Event)
@@ -769,39 +719,47 @@ has_people rows ms are_ms es are_es are_rules =
 
 -- ---- challenges that were read
 
--- what the audit lets pass of the rows that were read is right in whatever content the database may hold, and back
-module _ (rows : Rows) (version : Version) (old new : State) (read : AreRead version rows old new) (ms : List Member)
-    (are_ms : AreMembers ms rows.members.items) (es : List Event) (are_es : AreEvents es rows.events.items)
-    (v : Version)
-    (content : Content) (holds : HoldsRows v content old.now) where
-  stored_challenges : Stores (challenges 6) old.now.trees content
-  stored_challenges = stores_of (challenges 6) 3 refl refl v old.now content holds
-
+-- Where it is known which games there are, what the audit lets pass of the challenges that were read is right in
+-- whatever content the database may hold, and back.
+module _ (rows : Rows) {old new : State} (ms : List Member) (are_ms : AreMembers ms rows.members.items)
+    (es : List Event) (are_es : AreEvents es rows.events.items)
+    (kept_ms : Keeps (members 1) old.now.trees (map member_cells rows.members.items))
+    (kept_es : Keeps (events 4) old.now.trees (map event_cells rows.events.items))
+    (read_cs : IsReadAs (challenges 6) 2 (map challenge_cells rows.challenges.items) old new) (v : Version)
+    (content : Content) (holds : HoldsRows v content old.now)
+    (there : (id : ℕ) (p : Pairing) → HasGame (content 10) id p → IsGameAmong rows.games.items id p)
+    (back : (id : ℕ) (p : Pairing) → IsGameAmong rows.games.items id p → HasGame (content 10) id p) where
   same_ms : HaveSame (content 1) (map member_cells rows.members.items)
-  same_ms = kept_same (members 1) old.now (content 1) (map member_cells rows.members.items)
-      (stores_of (members 1) 1 refl refl v old.now content holds).rows read.members.keeps
+  same_ms = held_same (members 1) 1 refl refl holds kept_ms
 
   same_es : HaveSame (content 4) (map event_cells rows.events.items)
-  same_es = kept_same (events 4) old.now (content 4) (map event_cells rows.events.items)
-      (stores_of (events 4) 2 refl refl v old.now content holds).rows read.events.keeps
+  same_es = held_same (events 4) 2 refl refl holds kept_es
 
   same_cs : HaveSame (content 6) (map challenge_cells rows.challenges.items)
-  same_cs = kept_same (challenges 6) old.now (content 6) (map challenge_cells rows.challenges.items)
-      stored_challenges.rows read.challenges.keeps
+  same_cs = held_same (challenges 6) 3 refl refl holds read_cs.keeps
 
+  pub have_among : (cs : List Challenge) → AreChallenges cs rows → HaveChallenges content
+  have_among = challenges_right content rows ms are_ms es are_es same_ms same_es same_cs there back
+
+  pub pass_among : HaveChallenges content → (cs : List Challenge) × AreChallenges cs rows
+  pass_among have = (
+    have.challenges,
+    right_challenges content rows ms are_ms es are_es same_ms same_es same_cs there back have
+        (challenges_once v content (map challenge_cells rows.challenges.items) old new holds
+        (stores_of (challenges 6) 3 refl refl holds) have read_cs),
+  )
+
+-- so it is where all rows of games were read
+module _ (rows : Rows) (version : Version) (old new : State) (read : AreRead version rows old new) (ms : List Member)
+    (are_ms : AreMembers ms rows.members.items) (es : List Event) (are_es : AreEvents es rows.events.items)
+    (v : Version) (content : Content) (holds : HoldsRows v content old.now) where
   same_games : HaveSame (content 10) (map game_cells rows.games.items)
-  same_games = kept_same (games 10) old.now (content 10) (map game_cells rows.games.items)
-      (stores_of (games 10) 5 refl refl v old.now content holds).rows read.games.keeps
+  same_games = held_same (games 10) 5 refl refl holds read.games.keeps
 
   pub have_challenges : (cs : List Challenge) → AreChallenges cs rows → HaveChallenges content
-  have_challenges = challenges_right content rows ms are_ms es are_es same_ms same_es same_cs
-      (game_among rows.games.items (content 10) same_games) (among_game rows.games.items (content 10) same_games)
+  have_challenges = have_among rows ms are_ms es are_es read.members.keeps read.events.keeps read.challenges v content
+      holds (game_among rows.games.items (content 10) same_games) (among_game rows.games.items (content 10) same_games)
 
   pub pass_challenges : HaveChallenges content → (cs : List Challenge) × AreChallenges cs rows
-  pass_challenges have = (
-    have.challenges,
-    right_challenges content rows ms are_ms es are_es same_ms same_es same_cs
-        (game_among rows.games.items (content 10) same_games) (among_game rows.games.items (content 10) same_games) have
-        (challenges_once v content (map challenge_cells rows.challenges.items) old new holds stored_challenges have
-        read.challenges),
-  )
+  pass_challenges = pass_among rows ms are_ms es are_es read.members.keeps read.events.keeps read.challenges v content
+      holds (game_among rows.games.items (content 10) same_games) (among_game rows.games.items (content 10) same_games)

@@ -21,7 +21,7 @@ use Rattle.club_opening.specs.RightMoves.{HaveGamesOf, HaveSeenOf}
 use Rattle.club_opening.specs.RightTables.{AreOfClub}
 use Rattle.club_opening.proofs.ClubLemmas.{begin_places, events_kept, events_of, ids_read, members_kept, members_of}
 use Rattle.club_opening.proofs.ClubLemmas.{row_id, rules_kept, undeclared_rules}
-use Rattle.club_opening.proofs.FirstLemmas.{events_at, kept_same, members_at, rules_in, stores_of}
+use Rattle.club_opening.proofs.FirstLemmas.{keeps_held, held_same, events_at, members_at, rules_in}
 use Rattle.club_opening.proofs.PlayedLemmas.{rows_at, same_then}
 use Rattle.club_opening.proofs.RegisterLemmas.{keeps_same, keeps_shown}
 use Rattle.club_opening.proofs.StoredLemmas.{club_of_version, one_of}
@@ -36,8 +36,7 @@ module _ (rows : Rows) (version : Version) (old new : State) (read : AreRead ver
   rules_told First held told club are =
       told.rules.1 ∙ undeclared_rules 1 club.state.events rows.events.items are club.legal.undeclared
   rules_told Current held told club are =
-      rules_kept club.state rows.event_rules.items old new
-      (keeps_same (event_rules 16) old.now.trees (content 16) (tables_of both_games club.state 16)
+      rules_kept club.state (keeps_same (event_rules 16) old.now.trees (content 16) (tables_of both_games club.state 16)
       (club.same EventRules tt (omega arith)) (rules_in old.now content held).rows)
       told.rules
 
@@ -48,26 +47,21 @@ module _ (rows : Rows) (version : Version) (old new : State) (read : AreRead ver
       let same : version ≡ v = one_of version v old.now.schema schema holds.schema in
       let told : AreRead v rows old new = subst (λ w. AreRead w rows old new) same read in
       let kept_ms : Keeps (members 1) old.now.trees (tables_of both_games s 1) =
-      keeps_same (members 1) old.now.trees (content 1) (tables_of both_games s 1)
-      (subst (HaveSame (content 1)) (members_at v s) (club.same Members tt (omega arith)))
-      (stores_of (members 1) 1 refl refl v old.now content holds).rows in
+      keeps_held (members 1) 1 refl refl holds
+      (subst (HaveSame (content 1)) (members_at v s) (club.same Members tt (omega arith))) in
       let kept_es : Keeps (events 4) old.now.trees (tables_of both_games s 4) =
-      keeps_same (events 4) old.now.trees (content 4) (tables_of both_games s 4)
-      (subst (HaveSame (content 4)) (events_at v s) (club.same Events tt (omega arith)))
-      (stores_of (events 4) 2 refl refl v old.now content holds).rows in
+      keeps_held (events 4) 2 refl refl holds
+      (subst (HaveSame (content 4)) (events_at v s) (club.same Events tt (omega arith))) in
       let kept_gs : Keeps (games 10) old.now.trees (tables_of both_games s 10) =
-      keeps_same (games 10) old.now.trees (content 10) (tables_of both_games s 10)
-      (subst (HaveSame (content 10)) (rows_at v s Games (omega arith) tt) (club.same Games tt (omega arith)))
-      (stores_of (games 10) 5 refl refl v old.now content holds).rows in
-      let es_are = events_kept s rows.events.items old new kept_es read.events in
-      let shown = kept_same (moves 8) old.now (content 8) (moves_in old.now.trees)
-      (stores_of (moves 8) 4 refl refl v old.now content holds).rows (keeps_shown (moves 8) old.now.trees) in
+      keeps_held (games 10) 5 refl refl holds
+      (subst (HaveSame (content 10)) (rows_at v s Games (omega arith) tt) (club.same Games tt (omega arith))) in
+      let es_are = events_kept s kept_es read.events in
+      let shown = held_same (moves 8) 4 refl refl holds (keeps_shown (moves 8) old.now.trees) in
       record {
         state = s;
         legal = legal;
         people = record {
-          members = members_of s legal rows.members.items
-              (members_kept s rows.members.items old new kept_ms read.members);
+          members = members_of s legal rows.members.items (members_kept s kept_ms read.members);
           events = events_of s legal rows.events.items es_are;
           rules = rules_told v holds told club es_are;
         };
@@ -84,8 +78,7 @@ module _ (rows : Rows) (version : Version) (old new : State) (read : AreRead ver
   unfolding games_told
   seen_told club =
       let s = club.state in
-      let shown = kept_same (seen 12) old.now (content 12) (seen_in old.now.trees)
-      (stores_of (seen 12) 6 refl refl v old.now content holds).rows (keeps_shown (seen 12) old.now.trees) in
+      let shown = held_same (seen 12) 6 refl refl holds (keeps_shown (seen 12) old.now.trees) in
       let early : AreOfClub v Games content =
       record { state = s; legal = club.legal; same = λ u there low. club.same u there (omega (arith, low)) } in
       record {

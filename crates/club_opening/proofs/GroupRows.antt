@@ -1,6 +1,6 @@
 -- The rows of one game that were read of the tables of a club are the game's.
-use Rattle.std.proofs.Common.{◌≡◌, ℕ, ℤ, pos, ◌+◌, ◌<◌, List, [], ◌∷◌, length, map, get_or, Some, ap, sym, subst}
-use Rattle.std.proofs.Common.{◌∙◌, arith, Equal}
+use Rattle.std.proofs.Common.{◌≡◌, ℕ, ℤ, pos, ◌+◌, ◌<◌, List, [], ◌∷◌, length, map, get_or, Some, ap, sym, subst, ◌∙◌}
+use Rattle.std.proofs.Common.{arith, Equal}
 use Rattle.std.specs.Prelude.{slice_get}
 use Rattle.std.specs.List.Sorted.{IsSorted, IsPermutation}
 use Rattle.std.specs.Ordering.{is_lt, ordering_then}

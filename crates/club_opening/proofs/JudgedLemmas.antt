@@ -1,14 +1,13 @@
 -- Moves are judged alike by the games of a content and by those that were read of it, where some have values of other
 -- types.
-use Rattle.std.proofs.Common.{◌≡◌, ◌≢◌, ◌⊎◌, ℕ, ℤ, zero, suc, pos, negsuc, ◌++◌, List, [], ◌∷◌, map, take}
-use Rattle.std.proofs.Common.{Option, Some, None}
-use Rattle.std.proofs.Common.{refl, ap, sym, subst, subst₂, ◌∙◌, ◌+◌, arith, inl, inr, true≢false}
+use Rattle.std.proofs.Common.{◌≡◌, ◌≢◌, ◌⊎◌, ℕ, ℤ, zero, suc, pos, negsuc, ◌++◌, List, [], ◌∷◌, map, take, Option, Some}
+use Rattle.std.proofs.Common.{None, refl, ap, sym, subst, subst₂, ◌∙◌, ◌+◌, arith, inl, inr, true≢false}
 use Rattle.std.specs.Prelude.{IsTrue, String, slice_get, string_bytes}
 use Rattle.std.specs.List.{AllByRecursion}
 use Rattle.std.specs.declared.cmp.Ordering.TheVariants.{Equal}
 use Rattle.std.proofs.lemmas.Str.{IsUtf8-string_bytes}
 use Rattle.sqlite_value.specs.declared.value.Value.{Value}
-use Rattle.sqlite_value.specs.declared.value.Value.TheVariants.{Null, Int, Real, Text, Blob}
+use Rattle.sqlite_value.specs.declared.value.Value.TheVariants.{Int, Text}
 use Rattle.sqlite_value.specs.Order.{value_cmp}
 use Rattle.sqlite.specs.Order.{Row, column}
 use Rattle.sqlite.specs.Values.{IsInt, or_null}
@@ -59,10 +58,7 @@ cells_typed g = record {
 
 known_int : (v : Value) → IsTrue (is_int v) → v ≡ Int (known v)
 known_int (Int n) is = refl
-known_int Null is = absurd (true≢false (sym is))
-known_int (Real x) is = absurd (true≢false (sym is))
-known_int (Text t) is = absurd (true≢false (sym is))
-known_int (Blob b) is = absurd (true≢false (sym is))
+known_int _ is = absurd (true≢false (sym is))
 
 judged_id : (row : Row) (game : GameRecord) → IsTrue (is_int (column row 0)) → IsJudged row game
     → column row 0 ≡ Int game.id

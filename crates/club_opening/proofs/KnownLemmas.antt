@@ -1,13 +1,13 @@
 -- Challenges are judged alike by the games of a content and by what is known of them.
-use Rattle.std.proofs.Common.{◌≡◌, ℕ, zero, suc, pos, List, [], ◌∷◌, map, Some, refl, ap, sym, subst, ◌∙◌}
-use Rattle.std.proofs.Common.{◌⊎◌, inl, inr}
+use Rattle.std.proofs.Common.{◌≡◌, ℕ, zero, suc, pos, List, [], ◌∷◌, map, Some, refl, ap, sym, subst, ◌∙◌, ◌⊎◌, inl}
+use Rattle.std.proofs.Common.{inr}
 use Rattle.std.specs.Prelude.{slice_get, All}
 use Rattle.sqlite_value.specs.declared.value.Value.{Value}
-use Rattle.sqlite_value.specs.declared.value.Value.TheVariants.{Null, Int, Real, Text, Blob}
+use Rattle.sqlite_value.specs.declared.value.Value.TheVariants.{Int}
 use Rattle.sqlite.specs.Order.{Row, column}
 use Rattle.sqlite.specs.Effect.{Database}
 use Rattle.sqlite.specs.State.{State, IsUnchanged}
-use Rattle.sqlite.proofs.Callers.{unchanged_then}
+use Rattle.club_opening.proofs.BlameLemmas.{before, stays, read_after}
 use Rattle.sqlite_rules.specs.Lists.{Has}
 use Rattle.store_tables.specs.Cells.{IsGame, challenge_cells, event_cells, member_cells}
 use Rattle.store_tables.specs.Changes.{HaveSame}
@@ -30,16 +30,14 @@ use Rattle.club_core.specs.Members.{Member}
 use Rattle.club_core.specs.declared.seats.Pairing.{Pairing}
 use Rattle.club_rows.specs.FirstSchema.{tables_at}
 use Rattle.club_rows.specs.Tables.{number}
-use Rattle.club_opening.specs.Blames.{Names}
+use Rattle.club_opening.specs.Blames.{HoldsOnly, Names}
 use Rattle.club_opening.specs.KnownGames.{AreGamesKnown, AreJudged, NamesUntyped, game_seat, known, row_seat}
 use Rattle.club_opening.specs.RightTables.{AreOfClub, HasGame, HaveChallenges, IsUnheld, IsUntyped, NamesFirst}
 use Rattle.club_opening.specs.RightMoves.{HaveMoves, HaveMovesOf}
 use Rattle.club_opening.specs.Examined.{moves_in}
 use Rattle.club_opening.specs.Versions.{HoldsRows}
-use Rattle.club_opening.proofs.ChallengedLemmas.{challenges_once, challenges_right, right_challenges}
-use Rattle.club_opening.proofs.FirstLemmas.{first_games, first_known, first_moves, first_none, kept_same}
-use Rattle.club_opening.proofs.FirstLemmas.{stores_of}
-use Rattle.club_opening.proofs.BlameLemmas.{read_after}
+use Rattle.club_opening.proofs.FirstLemmas.{have_among, held_same, pass_among, first_games, first_known, first_moves}
+use Rattle.club_opening.proofs.FirstLemmas.{first_none, stores_of}
 use Rattle.club_opening.proofs.ClubLemmas.{typed_at}
 use Rattle.club_opening.proofs.StoredLemmas.{club_of_version}
 use Rattle.club_opening.proofs.UndamagedLemmas.{memory_undamaged, store_undamaged}
@@ -49,10 +47,7 @@ use Rattle.club_opening.specs.declared.fault.OpenFault.TheVariants.{Damaged, Mem
 -- only the number itself is known to be it
 known_number : (v : Value) (n : ℕ) → known v ≡ pos n → v ≡ number n
 known_number (Int m) n is = ap Int is
-known_number Null n is = cc
-known_number (Real x) n is = cc
-known_number (Text t) n is = cc
-known_number (Blob b) n is = cc
+known_number _ n is = cc
 
 -- equal lists of four
 module _ (game : GameRecord) (row : Row) (is : game_seat game ≡ row_seat row) where
@@ -135,36 +130,18 @@ module _ (rows : Rows) (old two : State) (ms : List Member) (are_ms : AreMembers
     (shown : List Row) (kept_games : Keeps (games 10) old.now.trees shown)
     (seats : map game_seat rows.games.items ≡ map row_seat shown) (v : Version) (content : Content)
     (holds : HoldsRows v content old.now) where
-  same_ms : HaveSame (content 1) (map member_cells rows.members.items)
-  same_ms = kept_same (members 1) old.now (content 1) (map member_cells rows.members.items)
-      (stores_of (members 1) 1 refl refl v old.now content holds).rows kept_ms
-
-  same_es : HaveSame (content 4) (map event_cells rows.events.items)
-  same_es = kept_same (events 4) old.now (content 4) (map event_cells rows.events.items)
-      (stores_of (events 4) 2 refl refl v old.now content holds).rows kept_es
-
-  same_cs : HaveSame (content 6) (map challenge_cells rows.challenges.items)
-  same_cs = kept_same (challenges 6) old.now (content 6) (map challenge_cells rows.challenges.items)
-      (stores_of (challenges 6) 3 refl refl v old.now content holds).rows read_cs.keeps
-
   same_games : HaveSame (content 10) shown
-  same_games = kept_same (games 10) old.now (content 10) shown
-      (stores_of (games 10) 5 refl refl v old.now content holds).rows kept_games
+  same_games = held_same (games 10) 5 refl refl holds kept_games
 
   pub have_known : (cs : List Challenge) → AreChallenges cs rows → HaveChallenges content
-  have_known = challenges_right content rows ms are_ms es are_es same_ms same_es same_cs
+  have_known = have_among rows ms are_ms es are_es kept_ms kept_es read_cs v content holds
       (known_among rows.games.items (content 10) shown same_games seats)
       (among_known rows.games.items (content 10) shown same_games seats)
 
   pub pass_known : HaveChallenges content → (cs : List Challenge) × AreChallenges cs rows
-  pass_known have = (
-    have.challenges,
-    right_challenges content rows ms are_ms es are_es same_ms same_es same_cs
-        (known_among rows.games.items (content 10) shown same_games seats)
-        (among_known rows.games.items (content 10) shown same_games seats) have
-        (challenges_once v content (map challenge_cells rows.challenges.items) old two holds
-        (stores_of (challenges 6) 3 refl refl v old.now content holds) have read_cs),
-  )
+  pass_known = pass_among rows ms are_ms es are_es kept_ms kept_es read_cs v content holds
+      (known_among rows.games.items (content 10) shown same_games seats)
+      (among_known rows.games.items (content 10) shown same_games seats)
 
 -- ---- what was shown
 
@@ -176,7 +153,7 @@ module _ (old mid new : State) (count : ℕ) (shown : List Row) (counted : AreCo
   -- rows of games that have the types of their columns were read
   pub read_shown : (slice rows : List Row) → slice ≡ shown → slice ≡ rows → IsReadAs (games 10) 1 rows old new
   read_shown slice rows is same = subst (λ l. IsReadAs (games 10) 1 l old new) (sym is ∙ same)
-      (read_after (games 10) 1 shown old mid new counted.same (record {
+      (read_after counted.same (record {
         keeps = tells.keeps;
         once = tells.once;
         apart = subst (λ (d : Database). AreApart (d.trees 10)) (sym counted.same.0.now_is) counted.apart;
@@ -197,21 +174,21 @@ module _ (old mid new : State) (count : ℕ) (shown : List Row) (counted : AreCo
     judged = subst (λ l. AreJudged l judged_rows) is are;
     untyped = λ version content holds typed. other (subst (All IsGame) (sym is)
         (all_alike (games 10) old.now.trees IsGame shown (content 10) kept_shown
-        (stores_of (games 10) 5 refl refl version old.now content holds).rows typed));
-    same = unchanged_then old mid new counted.same tells.same;
+        (stores_of (games 10) 5 refl refl holds).rows typed));
+    same = stays counted.same tells.same;
   }
 
 -- a database that did not change has the same games
-pub known_before : (known_rows judged_rows : List GameRecord) (old mid new : State) → IsUnchanged old mid
+pub known_before : {known_rows judged_rows : List GameRecord} {old mid new : State} → IsUnchanged old mid
     → AreGamesKnown known_rows judged_rows mid new → AreGamesKnown known_rows judged_rows old new
-known_before known_rows judged_rows old mid new same it = record {
+known_before same it = record {
   shown = it.shown;
-  keeps = subst (λ (d : Database). Keeps (games 10) d.trees it.shown) same.0.now_is it.keeps;
+  keeps = before (λ d. Keeps (games 10) d.trees it.shown) same it.keeps;
   ids = it.ids;
   seats = it.seats;
   judged = it.judged;
-  untyped = subst (IsUntyped Games) same.0.now_is it.untyped;
-  same = unchanged_then old mid new same it.same;
+  untyped = before (IsUntyped Games) same it.untyped;
+  same = stays same it.same;
 }
 
 -- what is named where games are untyped, of a legal club
@@ -228,15 +205,11 @@ untyped_blamed oldest db e untyped (inr (inr (t, named))) = inr (inr (inr (
 
 -- and of which table it is said
 pub first_untyped : (known_rows judged_rows : Rows) (db : Database) (e : OpenFault) → IsUntyped Games db
-    → ((version : Version) (content : Content) → HoldsRows version content db → AreOfClub version EventRules content)
-    → ((version : Version) (content : Content) → HoldsRows version content db → (cs : List Challenge)
-    → AreChallenges cs known_rows → HaveChallenges content)
-    → ((version : Version) (content : Content) → HoldsRows version content db → HaveChallenges content
-    → (cs : List Challenge) × AreChallenges cs known_rows)
-    → ((version : Version) (content : Content) → HoldsRows version content db → HaveMoves version content
-    → HaveMovesOf judged_rows (moves_in db.trees))
-    → ((version : Version) (content : Content) → HoldsRows version content db
-    → HaveMovesOf judged_rows (moves_in db.trees) → HaveMoves version content)
+    → HoldsOnly db (λ version content. AreOfClub version EventRules content)
+    → HoldsOnly db (λ version content. (cs : List Challenge) → AreChallenges cs known_rows → HaveChallenges content)
+    → HoldsOnly db (λ version content. HaveChallenges content → (cs : List Challenge) × AreChallenges cs known_rows)
+    → HoldsOnly db (λ version content. HaveMoves version content → HaveMovesOf judged_rows (moves_in db.trees))
+    → HoldsOnly db (λ version content. HaveMovesOf judged_rows (moves_in db.trees) → HaveMoves version content)
     → NamesUntyped known_rows judged_rows db e → NamesFirst db e
 first_untyped known_rows judged_rows db e untyped right have pass told back (inl store) =
     first_none db e (store_undamaged e store)

@@ -213,10 +213,6 @@ then_parts Equal Less e = cc
 then_parts Equal Greater e = cc
 then_parts Equal Equal e = (refl, refl)
 
-pub and_first : (a : Bool) → (a && true) ≡ true → a ≡ true
-and_first true e = refl
-and_first false e = cc
-
 pub not_true : (a : Bool) → not a ≡ true → a ≡ false
 not_true true e = cc
 not_true false e = refl

@@ -40,8 +40,7 @@ use Rattle.club_opening.proofs.BeyondLemmas.{begun_is}
 use Rattle.club_opening.proofs.GroupRows.{by_sorted, same_back, same_on, turned_same, seen_of_game}
 use Rattle.club_opening.proofs.MoveOrderLemmas.{Apart, Before, apart_back, entries_rise, one_rising, rises}
 use Rattle.club_opening.proofs.MoveOrderLemmas.{stored_apart, game_rise}
-use Rattle.club_opening.proofs.StoredLemmas.{AreUnique}
-use Rattle.club_opening.proofs.StoredLemmas.{unique_of}
+use Rattle.club_opening.proofs.StoredLemmas.{AreUnique, unique_of}
 use Rattle.club_opening.proofs.FirstLemmas.{stores_of}
 use Rattle.club_opening.proofs.ExaminedLemmas.{after_precedes}
 use Rattle.club_rows.specs.EachOnce.{AreEachOnce}
@@ -172,7 +171,7 @@ pub game_moves_wrong : (rows : Rows) (place : ℕ) (game : GameRecord) (ms : Lis
 game_moves_wrong rows place game ms ss last old mid read wrong first at is s people version content holds have =
     named_first (IsRightAt s rows place game ms ss last) wrong Moves (first s people) is
     (moves_right_at old.now.trees (unique_of version old.now content holds)
-    (stores_of (moves 8) 4 refl refl version old.now content holds).apart rows have s place game at ms ss last old mid
+    (stores_of (moves 8) 4 refl refl holds).apart rows have s place game at ms ss last old mid
     refl read)
 
 -- a row of moves has the types of its columns
@@ -246,7 +245,7 @@ module _ (rows : Rows) (place : ℕ) (game : GameRecord) (ms : List MoveRow) (ss
       let own : AreReadOf (moves 8) 2 (pos (1 + place)) (map move_cells ms) old mid =
       subst (λ n. AreReadOf (moves 8) 2 n (map move_cells ms) old mid) id read in
       let rise = read_rises trees (unique_of version old.now content holds)
-      (stores_of (moves 8) 4 refl refl version old.now content holds).apart
+      (stores_of (moves 8) 4 refl refl holds).apart
       (λ r h. all_has IsMove (tables_of both_games s 8) (cells (moves 8) r) (moves-typed s have.legal)
       (have.same.there (cells (moves 8) r) (has_map (cells (moves 8)) (trees 8) r h)))
       (pos (1 + place)) (map move_cells ms) old mid refl own in
@@ -282,7 +281,7 @@ module _ (rows : Rows) (place : ℕ) (game : GameRecord) (ms : List MoveRow) (ss
       let has = has_game version content holds have.games in
       let trees_are : mid.now.trees ≡ old.now.trees = ap (λ (d : Database). d.trees) read.same.0.now_is in
       let seen_are = seen_of_game s legal old.now.trees (unique_of version old.now content holds)
-      (stores_of (seen 12) 6 refl refl version old.now content holds).apart have.same place has.it has.stands
+      (stores_of (seen 12) 6 refl refl holds).apart have.same place has.it has.stands
       (map seen_cells ss) mid new trees_are
       (subst (λ n. AreReadOf (seen 12) 2 n (map seen_cells ss) mid new) has.id two) in
       let all : AreAllOf s (place + 1) game ms ss has.it =

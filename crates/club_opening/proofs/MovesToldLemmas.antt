@@ -38,7 +38,7 @@ use Rattle.club_opening.specs.Blames.{AreRead, AreRulesRead, undeclared_row}
 use Rattle.club_opening.specs.Versions.{HasTablesOf, HoldsRows}
 use Rattle.club_opening.specs.Examined.{moves_in}
 use Rattle.club_opening.specs.RightMoves.{DeclaresIn, HaveMoves, HaveMovesOf}
-use Rattle.club_opening.proofs.FirstLemmas.{kept_same, rules_in, stores_of, types_same}
+use Rattle.club_opening.proofs.FirstLemmas.{held_same, kept_same, rules_in, types_same}
 use Rattle.club_opening.proofs.GroupRows.{same_on}
 use Rattle.club_opening.proofs.RegisterLemmas.{keeps_shown}
 use Rattle.club_opening.proofs.StoredLemmas.{one_of}
@@ -102,8 +102,7 @@ event_id : (s : ClubState) (rows : Rows) → HasPeople s rows → (id : ℕ) (ev
 event_id s rows people zero event at = cc
 event_id s rows people (suc n) event at =
     let (e, stands, is) = numbered-at event_cells event_row 1 rows.events.items s.events people.events.rows_are n
-    event at
-    in
+    event at in
     let same : ◌≡◌ {A = ℤ} event.id (pos (1 + n)) = cc in same ∙ ap pos (one_more n)
 
 rule_id : (s : ClubState) (rows : Rows) → HasPeople s rows → (id : ℕ) (rule : EventRuleRow)
@@ -161,12 +160,10 @@ module _ (rows : Rows) (version : Version) (old new : State)
     (content : Content) (holds : HoldsRows v content old.now)
     (games_in : AreGamesIn rows.games.items (content 10)) where
   shown_same : HaveSame (content 8) (moves_in old.now.trees)
-  shown_same = kept_same (moves 8) old.now (content 8) (moves_in old.now.trees)
-      (stores_of (moves 8) 4 refl refl v old.now content holds).rows (keeps_shown (moves 8) old.now.trees)
+  shown_same = held_same (moves 8) 4 refl refl holds (keeps_shown (moves 8) old.now.trees)
 
   events_same : HaveSame (content 4) (map event_cells rows.events.items)
-  events_same = kept_same (events 4) old.now (content 4) (map event_cells rows.events.items)
-      (stores_of (events 4) 2 refl refl v old.now content holds).rows kept_events
+  events_same = held_same (events 4) 2 refl refl holds kept_events
 
   declared : (w : Version) → HoldsRows w content old.now
       → AreRulesRead w rows.events.items rows.event_rules.items old new
@@ -288,8 +285,7 @@ module _ (rows : Rows) (version : Version) (old new : State)
               increment_is = sym increment_is ∙ gives.increment_is;
               has_budget = gives.has_budget;
               has_increment = gives.has_increment;
-            })
-            in
+            }) in
             record {
               moves = its.moves;
               same = subst (λ (k : ℤ). HaveSame (beginning_with k (content 8)) (map move_cells its.moves)) (sym id)
@@ -309,8 +305,7 @@ module _ (rows : Rows) (version : Version) (old new : State) (read : AreRead ver
     (content : Content) (holds : HoldsRows v content old.now) where
   read_in : AreGamesIn rows.games.items (content 10)
   read_in = same_in rows.games.items (content 10)
-      (kept_same (games 10) old.now (content 10) (map game_cells rows.games.items)
-      (stores_of (games 10) 5 refl refl v old.now content holds).rows read.games.keeps)
+      (held_same (games 10) 5 refl refl holds read.games.keeps)
 
   pub moves_told : HaveMoves v content → HaveMovesOf rows (moves_in old.now.trees)
   moves_told = judged_told rows version old new read.events.keeps read.rules schema s people v content holds read_in

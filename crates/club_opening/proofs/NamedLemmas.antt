@@ -5,8 +5,7 @@ use Rattle.sqlite.specs.Effect.{Database}
 use Rattle.sqlite.specs.State.{State}
 use Rattle.store_tables.specs.Rows.{HaveIds}
 use Rattle.store_tables.specs.declared.names.Table.{Table}
-use Rattle.store_tables.specs.declared.names.Table.TheVariants.{Members, Events, EventRules, Challenges, Moves}
-use Rattle.store_tables.specs.declared.names.Table.TheVariants.{Games, Seen, Scores, Meta}
+use Rattle.store_tables.specs.declared.names.Table.TheVariants.{Moves, Games, Meta}
 use Rattle.store_tables.specs.declared.rows.Rows.{Rows}
 use Rattle.club_audit.specs.Audit.{HasPeople}
 use Rattle.club_audit.specs.ChallengeAudit.{AreChallenges}
@@ -23,30 +22,14 @@ use Rattle.club_opening.proofs.UndamagedLemmas.{memory_undamaged, store_undamage
 
 moves_or : (t : Table) → (t ≡ Moves) ⊎ (t ≢ Moves)
 moves_or Moves = inl refl
-moves_or Members = inr (λ is. cc)
-moves_or Events = inr (λ is. cc)
-moves_or EventRules = inr (λ is. cc)
-moves_or Challenges = inr (λ is. cc)
-moves_or Games = inr (λ is. cc)
-moves_or Seen = inr (λ is. cc)
-moves_or Scores = inr (λ is. cc)
-moves_or Meta = inr (λ is. cc)
+moves_or _ = inr (λ is. cc)
 
 -- of play the moves come first
 after_moves : (t : Table) → IsOfPlay t ⊎ (t ≡ Meta) → t ≢ Moves → order Moves < order t
 after_moves Moves later other = absurd (other refl)
-after_moves Games later other = omega arith
-after_moves Seen later other = omega arith
-after_moves Scores later other = omega arith
 after_moves Meta later other = omega arith
-after_moves Members (inl play) other = absurd (let low = play.0 in omega (arith, low))
-after_moves Events (inl play) other = absurd (let low = play.0 in omega (arith, low))
-after_moves EventRules (inl play) other = absurd (let low = play.0 in omega (arith, low))
-after_moves Challenges (inl play) other = absurd (let low = play.0 in omega (arith, low))
-after_moves Members (inr is) other = cc
-after_moves Events (inr is) other = cc
-after_moves EventRules (inr is) other = cc
-after_moves Challenges (inr is) other = cc
+after_moves t (inl play) other = let low = play.0 in omega (arith, low)
+after_moves t (inr is) other = cc
 
 not_moves : (t : Table) → t ≢ Moves → ◌≢◌ {A = Option Table} (Some t) (Some Moves)
 not_moves t other is = other (same_Some t Moves is)

@@ -108,8 +108,7 @@ each_once table width key rows made old new keyed keeps read = record {
   same =
       record {
         there = moved table old.now.trees rows made read.keeps keeps;
-        back =
-            moved table old.now.trees made rows keeps read.keeps;
+        back = moved table old.now.trees made rows keeps read.keeps;
       };
   once = at_once rows (shown_once table key (old.now.trees table.tree) rows read.apart keyed read.once);
 }

@@ -1,12 +1,14 @@
 -- Rows by the numbers that they begin with: those of each element of a list, and those of none.
-use Rattle.std.proofs.Common.{◌≡◌, ℕ, zero, suc, pos, ◌+◌, ◌<◌, ◌≤◌, Bool, true, false, not, List, [], ◌∷◌, length}
-use Rattle.std.proofs.Common.{Some, refl, ap, sym, subst, ◌∙◌, arith, inl, inr, ◌⊎◌, true≢false, filter}
+use Rattle.std.proofs.Common.{◌≡◌, ℕ, zero, suc, pos, ◌+◌, ◌<◌, ◌≤◌, Bool, true, false, not, List, [], ◌∷◌, length, ◌≢◌}
+use Rattle.std.proofs.Common.{ℤ, Some, refl, ap, sym, subst, ◌∙◌, arith, inl, inr, ◌⊎◌, true≢false, filter}
 use Rattle.std.specs.Prelude.{slice_get}
 use Rattle.std.proofs.lemmas.Bool.{cases_Bool, and_parts}
 use Rattle.std.proofs.lemmas.List.Filters.{length-filter_both}
 use Rattle.std.proofs.lemmas.Option.{slice_get_within}
 use Rattle.sqlite_value.specs.Keys.{first_key}
 use Rattle.sqlite_value.proofs.OrderLemmas.{value_cmp_total}
+use Rattle.sqlite_value.specs.declared.value.Value.TheVariants.{Int}
+use Rattle.club_opening.specs.RightMoves.{without}
 use Rattle.sqlite.specs.Order.{Row, column}
 use Rattle.sqlite_trees.proofs.ListLemmas.{filter-filter}
 use Rattle.sqlite_rules.specs.Lists.{Has}
@@ -19,83 +21,98 @@ use Rattle.club_opening.specs.Examined.{past}
 use Rattle.club_changes.specs.Steps.{HaveSame}
 use Rattle.club_changes.proofs.Proved.{ids_agree, ids_same, gathered_had, gathered_has}
 
-abbrev begins : ℕ → Row → Bool
-begins n x = same_key (0 ∷ []) x (number n ∷ [])
-
-pos_is : (m n : ℕ) → pos m ≡ pos n → m ≡ n
-pos_is m n is = cc
+abbrev pub begins : ℤ → Row → Bool
+begins n x = same_key (0 ∷ []) x (Int n ∷ [])
 
 -- a row begins with one number
-begins_once : (x : Row) (m n : ℕ) → begins m x ≡ true → begins n x ≡ true → m ≡ n
+begins_once : (x : Row) (m n : ℤ) → begins m x ≡ true → begins n x ≡ true → m ≡ n
 unfolding first_key
 begins_once x m n p q =
-    let one = equal_cmp (column x 0) (number m) (and_parts _ _ p).0 in
-    let two = equal_cmp (column x 0) (number n) (and_parts _ _ q).0 in
-    let tie = sym (value_cmp_total.congr (column x 0) (number m) (number n) one) ∙ two in
-    pos_is m n (equal_ints (pos m) (pos n) (equal_from (number m) (number n) refl refl tie))
+    let one = equal_cmp (column x 0) (Int m) (and_parts _ _ p).0 in
+    let two = equal_cmp (column x 0) (Int n) (and_parts _ _ q).0 in
+    let tie = sym (value_cmp_total.congr (column x 0) (Int m) (Int n) one) ∙ two in
+    equal_ints m n (equal_from (Int m) (Int n) refl refl tie)
 
-pub not_false : (a : Bool) → a ≡ false → not a ≡ true
+not_false : (a : Bool) → a ≡ false → not a ≡ true
 not_false false e = refl
 not_false true e = cc
 
-pub not_back : (a : Bool) → not a ≡ true → a ≡ false
+not_back : (a : Bool) → not a ≡ true → a ≡ false
 not_back false e = refl
 not_back true e = cc
 
--- those that begin with a later number are not left out
-kept_later : (k n : ℕ) (rows : List Row) → k ≤ n → filter (begins (suc n)) (past k rows) ≡ filter (begins (suc n)) rows
-kept_later zero n rows low = refl
-kept_later (suc k) n rows low =
-    filter-filter (begins (suc n)) (λ x. not (begins (suc k) x)) (λ x is. other x is) (past k rows)
-    ∙ kept_later k n rows (omega (arith, low))
-  where
-    other : (x : Row) → begins (suc n) x ≡ true → not (begins (suc k) x) ≡ true
-    other x is = elim (cases_Bool (begins (suc k) x)) [
-      | inl both ↦ let same = begins_once x (suc n) (suc k) is both in absurd (omega (arith, same, low))
-      | inr not_it ↦ not_false (begins (suc k) x) not_it
-    ]
+pub last_or : (i k : ℕ) → i < suc k → (i ≡ k) ⊎ (i < k)
+last_or zero zero low = inl refl
+last_or zero (suc k) low = inr (omega arith)
+last_or (suc i) zero low = absurd (omega (arith, low))
+last_or (suc i) (suc k) low = elim (last_or i k (omega (arith, low))) [
+  | inl same ↦ inl (ap suc same)
+  | inr less ↦ inr (omega (arith, less))
+]
 
--- with one number more, so many fewer are left
+pub cases_zero : (n : ℕ) → (n ≡ 0) ⊎ (0 < n)
+cases_zero zero = inl refl
+cases_zero (suc n) = inr (omega arith)
+
+-- ids of which no two of the first so many are one
+module _ (ids : ℕ → ℤ) (most : ℕ) (apart : (i j : ℕ) → i < j → j < most → ids i ≢ ids j) where
+  -- those that begin with a later one are not left out
+  kept_later : (k n : ℕ) (rows : List Row) → k ≤ n → n < most
+      → filter (begins (ids n)) (without ids k rows) ≡ filter (begins (ids n)) rows
+  kept_later zero n rows low within = refl
+  kept_later (suc k) n rows low within =
+      filter-filter (begins (ids n)) (λ x. not (begins (ids k) x)) (λ x is. other x is) (without ids k rows)
+      ∙ kept_later k n rows (omega (arith, low)) within
+    where
+      other : (x : Row) → begins (ids n) x ≡ true → not (begins (ids k) x) ≡ true
+      other x is = elim (cases_Bool (begins (ids k) x)) [
+        | inl both ↦ absurd (apart k n (omega (arith, low)) within (begins_once x (ids k) (ids n) both is))
+        | inr not_it ↦ not_false (begins (ids k) x) not_it
+      ]
+
+  -- with one more, so many fewer are left
+  pub without_step : (k : ℕ) (rows : List Row) → k < most
+      → length (without ids k rows) ≡ length (beginning_with (ids k) rows) + length (without ids (suc k) rows)
+  without_step k rows within =
+      let both = length-filter_both (begins (ids k)) (λ x. not (begins (ids k) x)) (λ x. refl) (without ids k rows) in
+      sym both ∙ ap (λ l. length l + length (without ids (suc k) rows)) (kept_later k k rows (omega arith) within)
+
+-- the ids of the places are apart
+places_apart : (i j : ℕ) → i < j → pos (suc i) ≢ pos (suc j)
+places_apart i j less is = let same : suc i ≡ suc j = cc in absurd (omega (arith, less, same))
+
 pub past_step : (k : ℕ) (rows : List Row)
     → length (past k rows) ≡ length (beginning_with (pos (suc k)) rows) + length (past (suc k) rows)
 past_step k rows =
-    let both = length-filter_both (begins (suc k)) (λ x. not (begins (suc k) x)) (λ x. refl) (past k rows) in
-    sym both ∙ ap (λ l. length l + length (past (suc k) rows)) (kept_later k k rows (omega arith))
+    without_step (λ n. pos (suc n)) (suc k) (λ i j less low. places_apart i j less) k rows (omega arith)
 
--- a row is left, or begins with one of the numbers
-found_before : (k : ℕ) (rows : List Row) (x : Row) → Has rows x → Has (past k rows) x
-    ⊎ ((i : ℕ) × (i < k) × (begins (suc i) x ≡ true))
-found_before zero rows x h = inl h
-found_before (suc k) rows x h = elim (found_before k rows x h) [
-  | inl left ↦ elim (cases_Bool (begins (suc k) x)) [
-    | inl is ↦ inr (k, omega arith, is)
-    | inr not_it ↦
-        inl (has_kept (λ z. not (begins (suc k) z)) (past k rows) x left (not_false (begins (suc k) x) not_it))
+module _ (ids : ℕ → ℤ) where
+  -- a row is left, or begins with one of the ids
+  pub found_before : (k : ℕ) (rows : List Row) (x : Row) → Has rows x → Has (without ids k rows) x
+      ⊎ ((i : ℕ) × (i < k) × (begins (ids i) x ≡ true))
+  found_before zero rows x h = inl h
+  found_before (suc k) rows x h = elim (found_before k rows x h) [
+    | inl left ↦ elim (cases_Bool (begins (ids k) x)) [
+      | inl is ↦ inr (k, omega arith, is)
+      | inr not_it ↦
+          inl (has_kept (λ z. not (begins (ids k) z)) (without ids k rows) x left (not_false (begins (ids k) x) not_it))
+    ]
+    | inr (i, low, is) ↦ inr (i, omega (arith, low), is)
   ]
-  | inr (i, low, is) ↦ inr (i, omega (arith, low), is)
-]
 
--- a row that is left is one of the rows, and begins with none of the numbers
-left_of : (k : ℕ) (rows : List Row) (x : Row) → Has (past k rows) x → Has rows x
-    × ((i : ℕ) → i < k → begins (suc i) x ≡ false)
-left_of zero rows x h = (h, λ i low. absurd (omega (arith, low)))
-left_of (suc k) rows x h =
-    let (before, not_it) = has_filtered (λ z. not (begins (suc k) z)) (past k rows) x h in
-    let (there, none) = left_of k rows x before in (
-      there,
-      λ i low. elim (cases_Bool (begins (suc i) x)) [
-        | inr other ↦ other
-        | inl is ↦
-            absurd
-            (earlier i is
-            (λ same. true≢false (sym is ∙ (ap (λ j. begins (suc j) x) same ∙ not_back (begins (suc k) x) not_it))) low
-            none)
-      ],
-    )
-  where
-    earlier : (i : ℕ) → begins (suc i) x ≡ true → (i ≡ k → ⊥) → i < suc k → ((j : ℕ) → j < k → begins (suc j) x ≡ false)
-        → ⊥
-    earlier i is other low none = true≢false (sym is ∙ none i (omega (arith, low, other)))
+  -- a row that is left is one of the rows, and begins with none of the ids
+  pub left_of : (k : ℕ) (rows : List Row) (x : Row) → Has (without ids k rows) x → Has rows x
+      × ((i : ℕ) → i < k → begins (ids i) x ≡ false)
+  left_of zero rows x h = (h, λ i low. absurd (omega (arith, low)))
+  left_of (suc k) rows x h =
+      let (before, not_it) = has_filtered (λ z. not (begins (ids k) z)) (without ids k rows) x h in
+      let (there, none) = left_of k rows x before in (
+        there,
+        λ i low. elim (last_or i k low) [
+          | inl same ↦ ap (λ j. begins (ids j) x) same ∙ not_back (begins (ids k) x) not_it
+          | inr less ↦ none i less
+        ],
+      )
 
 pub none_in : (rows : List Row) (x : Row) → length rows ≡ 0 → Has rows x → ⊥
 none_in [] x none h = absurd h
@@ -121,11 +138,12 @@ module _ {A : Type 0} (rows_of : ℕ → A → List Row)
       → ((n : ℕ) (x : A) → slice_get xs n ≡ Some x → HaveSame (beginning_with (pos (1 + n)) table) (rows_of (1 + n) x))
       → HaveSame table (gathered_from rows_of 1 xs)
   table_gathered none each = record {
-    there = λ z h. elim (found_before (length xs) table z h) [
+    there = λ z h. elim (found_before (λ k. pos (suc k)) (length xs) table z h) [
       | inl left ↦ absurd (none_in (past (length xs) table) z none left)
       | inr (i, low, is) ↦
           let (x, at) = there_at xs i low in
-          let begun : same_key (0 ∷ []) z (number (1 + i) ∷ []) ≡ true = subst (λ k. begins k z ≡ true) (suc_is i) is in
+          let begun : same_key (0 ∷ []) z (number (1 + i) ∷ []) ≡ true =
+          subst (λ k. begins (pos k) z ≡ true) (suc_is i) is in
           gathered_has rows_of 1 xs i x z at
           ((each i x at).there z (has_kept (λ y. same_key (0 ∷ []) y (number (1 + i) ∷ [])) table z h begun))
     ];
@@ -141,19 +159,15 @@ module _ {A : Type 0} (rows_of : ℕ → A → List Row)
       | inl none ↦ none
       | inr some ↦
           let (x, left) = one_in (past (length xs) table) some in
-          let (there, none) = left_of (length xs) table x left in
+          let (there, none) = left_of (λ k. pos (suc k)) (length xs) table x left in
           let (n, y, at, has) = gathered_had rows_of 1 xs x (same.there x there) in
           let within = slice_get_within xs n y at in
           absurd
           (true≢false
           (sym
-          (subst (λ k. begins k x ≡ true) (sym (suc_is n))
+          (subst (λ k. begins (pos k) x ≡ true) (sym (suc_is n))
           (ids_agree x (number (1 + n) ∷ []) (1 + n) (first (1 + n) y x has) refl)) ∙ none n within))
     ]
-      where
-        cases_zero : (n : ℕ) → (n ≡ 0) ⊎ (0 < n)
-        cases_zero zero = inl refl
-        cases_zero (suc n) = inr (omega arith)
 
     -- and those with the number of an element are its rows
     pub table_group : (n : ℕ) (x : A) → slice_get xs n ≡ Some x

@@ -1,23 +1,21 @@
 -- The tables of a file up to the scores, where at most `meta` is wrong, and the scores that are no club's.
-use Rattle.std.proofs.Common.{◌≡◌, ◌≢◌, ◌⊎◌, ℕ, ◌≤◌, false, true, true≢false, List, [], ◌∷◌, length, map, Option}
-use Rattle.std.proofs.Common.{Some, None}
-use Rattle.std.proofs.Common.{refl, ap, sym, subst, ◌∙◌, arith, inl, inr}
+use Rattle.std.proofs.Common.{◌≡◌, ◌≢◌, ◌⊎◌, ℕ, ◌≤◌, false, true, true≢false, List, [], ◌∷◌, length, map, Option, Some}
+use Rattle.std.proofs.Common.{None, refl, ap, sym, subst, ◌∙◌, arith, inl, inr}
 use Rattle.std.proofs.lemmas.List.{take_all}
 use Rattle.std.proofs.lemmas.Option.{same_Some}
 use Rattle.sqlite.specs.Effect.{Database}
 use Rattle.sqlite.specs.Order.{Row}
 use Rattle.sqlite.specs.State.{State, IsUnchanged}
 use Rattle.sqlite_rules.proofs.ListLemmas.{all_has}
-use Rattle.store_tables.specs.Cells.{IsScore, challenge_cells, event_cells, event_rule_cells, game_cells, member_cells}
-use Rattle.store_tables.specs.Cells.{score_cells}
+use Rattle.store_tables.specs.Cells.{IsScore, challenge_cells, event_rule_cells, game_cells, score_cells}
 use Rattle.store_tables.specs.Changes as changes
 use Rattle.store_tables.specs.Changes.{HaveSame}
 use Rattle.store_tables.specs.Content.{Keeps, cells}
 use Rattle.store_tables.specs.Contents.{Content, Stores}
 use Rattle.store_tables.specs.Tables.{challenges, event_rules, events, games, members, moves, schema_of, scores, seen}
 use Rattle.store_tables.specs.declared.names.Table.{Table}
-use Rattle.store_tables.specs.declared.names.Table.TheVariants.{Members, Events, EventRules, Challenges, Moves}
-use Rattle.store_tables.specs.declared.names.Table.TheVariants.{Games, Seen, Scores, Meta}
+use Rattle.store_tables.specs.declared.names.Table.TheVariants.{Members, Events, EventRules, Challenges, Moves, Games}
+use Rattle.store_tables.specs.declared.names.Table.TheVariants.{Seen, Scores, Meta}
 use Rattle.store_tables.specs.declared.names.Version.{Version}
 use Rattle.store_tables.specs.declared.names.Version.TheVariants.{First, Current}
 use Rattle.store_tables.specs.declared.rows.Rows.{Rows}
@@ -38,30 +36,26 @@ use Rattle.club_audit.specs.ChallengeAudit.{AreChallenges}
 use Rattle.club_audit.specs.FirstWrong.{order}
 use Rattle.club_audit.specs.Standings.{AreGamesOf}
 use Rattle.club_audit.proofs.Proved.{challenges-of, game-elsewhere, keys-of}
-use Rattle.club_changes.proofs.Proved.{moves_had}
+use Rattle.club_changes.proofs.Proved.{◌&◌, moves_had}
 use Rattle.club_opening.specs.Blames.{AreRead, Blames, Names}
 use Rattle.club_opening.specs.Examined.{AreScoresExamined, AreSeenOf, IsAfter, IsPlayExamined, IsPlayed, WerePlayed}
 use Rattle.club_opening.specs.Examined.{moves_in, past, seen_in}
 use Rattle.club_opening.specs.Places.{last_moment}
 use Rattle.club_opening.specs.RightTables.{AreOfClub, ArePlayed, AreScored, AreSeated, HasScores, HasTable, IsOfPlay}
-use Rattle.club_opening.specs.RightTables.{NamesScores}
-use Rattle.club_opening.specs.RightTables.{rows_in}
+use Rattle.club_opening.specs.RightTables.{NamesScores, rows_in}
 use Rattle.club_opening.specs.Versions.{HasClub, HasTablesOf, HoldsRows}
 use Rattle.club_opening.specs.declared.fault.OpenFault.{OpenFault}
 use Rattle.club_opening.specs.declared.fault.OpenFault.TheVariants.{Damaged}
 use Rattle.store_tables.specs.Rows.{HaveIds}
-use Rattle.club_opening.proofs.StoredLemmas.{unique_of}
+use Rattle.club_opening.proofs.StoredLemmas.{unique_of, club_of_version, one_of}
 use Rattle.club_opening.proofs.ExaminedLemmas.{played_after}
 use Rattle.club_opening.proofs.ClubLemmas.{begin_places, ids_read, row_id, typed_at}
-use Rattle.club_opening.proofs.FirstLemmas.{damaged_same, kept_rules, kept_same}
-use Rattle.club_opening.proofs.FirstLemmas.{none_said, of_either}
-use Rattle.club_opening.proofs.FirstLemmas.{rules_in, stores_of, types_none}
-use Rattle.club_opening.proofs.FirstLemmas.{types_same}
+use Rattle.club_opening.proofs.FirstLemmas.{keeps_held, held_same, damaged_same, kept_rules, kept_same, none_said}
+use Rattle.club_opening.proofs.FirstLemmas.{of_either, rules_in, stores_of, types_none, types_same}
 use Rattle.club_opening.proofs.GroupRows.{seen_had}
 use Rattle.club_opening.proofs.OnceLemmas.{each_once, score_key}
 use Rattle.club_opening.proofs.PastLemmas.{table_gathered}
 use Rattle.club_opening.proofs.RegisterLemmas.{keeps_same, keeps_shown, none_declared, stored_same}
-use Rattle.club_opening.proofs.StoredLemmas.{club_of_version, one_of}
 use Rattle.club_opening.proofs.UndamagedLemmas.{foreign_undamaged, memory_undamaged, schema_undamaged, store_undamaged}
 
 -- ---- scores
@@ -70,7 +64,7 @@ pub score_types_wrong : (rows : Rows) (old : State) (e : OpenFault) → Blames S
     → NamesScores rows old.now e
 score_types_wrong rows old e = types_none Scores (scores 14) IsScore (λ version content. HasScores rows content) old e
     (λ version content holds has. (
-      stores_of (scores 14) 7 refl refl version old.now content holds,
+      stores_of (scores 14) 7 refl refl holds,
       types_same IsScore (content 14) (tables_of both_games has.state 14) has.same.there
           (scores_typed both_games has.state.games),
     ))
@@ -87,7 +81,7 @@ scores_wrong rows scored_rows old new read complete t is = (
       let s = has.state in
       let made = tables_of both_games s 14 in
       let stored : Stores (scores 14) old.now.trees content =
-      stores_of (scores 14) 7 refl refl version old.now content holds in
+      stores_of (scores 14) 7 refl refl holds in
       let keyed = score_key old.now.trees (unique_of version old.now content holds)
       (λ r h. all_has IsScore made (cells (scores 14) r) (scores_typed both_games s.games)
       (has.same.there (cells (scores 14) r) (stored.rows.only r h))) in
@@ -152,15 +146,9 @@ before_last wrong before t is first none (inr last) =
 pub rows_at : (version : Version) (s : ClubState) (u : Table) → order u ≤ order Scores → HasTable u version
     → rows_in u (tables_at version s) ≡ rows_in u (tables_of both_games s)
 rows_at Current s u low there = refl
-rows_at First s Members low there = refl
-rows_at First s Events low there = refl
 rows_at First s EventRules low there = absurd there
-rows_at First s Challenges low there = refl
-rows_at First s Moves low there = refl
-rows_at First s Games low there = refl
-rows_at First s Seen low there = refl
-rows_at First s Scores low there = refl
 rows_at First s Meta low there = absurd (omega (arith, low))
+rows_at First s u low there = refl
 
 pub same_then : (one two three : List Row) → HaveSame one two → HaveSame two three → HaveSame one three
 same_then one two three first second =
@@ -232,40 +220,30 @@ module _ (rows : Rows) (version : Version) (old mid : State) (read : AreRead ver
         → HaveSame (rows_in u content) (rows_in u (tables_of both_games all))
     same_plain Members low there =
         subst (HaveSame (content 1)) are_ms.rows_are
-        (kept_same (members 1) old.now (content 1) (map member_cells rows.members.items)
-        (stores_of (members 1) 1 refl refl version old.now content holds).rows read.members.keeps)
+        (held_same (members 1) 1 refl refl holds read.members.keeps)
     same_plain Events low there =
         subst (HaveSame (content 4)) are_fs.rows_are
-        (kept_same (events 4) old.now (content 4) (map event_cells rows.events.items)
-        (stores_of (events 4) 2 refl refl version old.now content holds).rows read.events.keeps)
+        (held_same (events 4) 2 refl refl holds read.events.keeps)
     same_plain EventRules low there = rules_same version refl there holds
     same_plain Challenges low there =
         same_then (content 6) (map challenge_cells rows.challenges.items) (tables_of both_games all 6)
-        (kept_same (challenges 6) old.now (content 6) (map challenge_cells rows.challenges.items)
-        (stores_of (challenges 6) 3 refl refl version old.now content holds).rows read.challenges.keeps)
+        (held_same (challenges 6) 3 refl refl holds read.challenges.keeps)
         are_cs.rows_are.same
     same_plain Moves low there =
         same_then (content 8) (moves_in old.now.trees) (tables_of both_games all 8)
-        (kept_same (moves 8) old.now (content 8) (moves_in old.now.trees)
-        (stores_of (moves 8) 4 refl refl version old.now content holds).rows (keeps_shown (moves 8) old.now.trees))
+        (held_same (moves 8) 4 refl refl holds (keeps_shown (moves 8) old.now.trees))
         moves_same
     same_plain Games low there =
         subst (HaveSame (content 10)) rows_are
-        (kept_same (games 10) old.now (content 10) (map game_cells rows.games.items)
-        (stores_of (games 10) 5 refl refl version old.now content holds).rows read.games.keeps)
-    same_plain Seen low there = absurd (omega (arith, low))
-    same_plain Scores low there = absurd (omega (arith, low))
-    same_plain Meta low there = absurd (omega (arith, low))
+        (held_same (games 10) 5 refl refl holds read.games.keeps)
+    same_plain _ low there = absurd (omega (arith, low))
 
     games_at : AreOfClub version Games content
     games_at = record {
       state = all;
       legal = legal;
-      same = λ u there low. subst (HaveSame (rows_in u content)) (sym (rows_at version all u (omega (
-        arith,
-        low,
-      )) there))
-          (same_plain u low there);
+      same = λ u there low. subst (HaveSame (rows_in u content)) (sym (rows_at version all u
+          (omega (arith, low)) there)) (same_plain u low there);
     }
 
     module _ (seen_are : AreSeenOf found.games old.now.trees)
@@ -278,8 +256,7 @@ module _ (rows : Rows) (version : Version) (old mid : State) (read : AreRead ver
       seen_same : HaveSame (content 12) (tables_of both_games all 12)
       seen_same =
           same_then (content 12) (seen_in old.now.trees) (tables_of both_games all 12)
-          (kept_same (seen 12) old.now (content 12) (seen_in old.now.trees)
-          (stores_of (seen 12) 6 refl refl version old.now content holds).rows (keeps_shown (seen 12) old.now.trees))
+          (held_same (seen 12) 6 refl refl holds (keeps_shown (seen 12) old.now.trees))
           seen_shown
 
       seen_at : AreOfClub version Seen content
@@ -292,35 +269,24 @@ module _ (rows : Rows) (version : Version) (old mid : State) (read : AreRead ver
         where
           same_seen : (u : Table) → order u ≤ order Seen → HasTable u version
               → HaveSame (rows_in u content) (rows_in u (tables_of both_games all))
-          same_seen Members low there = same_plain Members (omega arith) there
-          same_seen Events low there = same_plain Events (omega arith) there
-          same_seen EventRules low there = same_plain EventRules (omega arith) there
-          same_seen Challenges low there = same_plain Challenges (omega arith) there
-          same_seen Moves low there = same_plain Moves (omega arith) there
-          same_seen Games low there = same_plain Games (omega arith) there
           same_seen Seen low there = seen_same
           same_seen Scores low there = absurd (omega (arith, low))
           same_seen Meta low there = absurd (omega (arith, low))
+          same_seen u low there = same_plain u (omega arith) there
 
       -- and the scores, where they were scored
       scores_same : AreScored rows old.now → HaveSame (content 14) (tables_of both_games all 14)
       scores_same scored =
           same_then (content 14) scored.scored (tables_of both_games all 14)
-          (kept_same (scores 14) old.now (content 14) scored.scored
-          (stores_of (scores 14) 7 refl refl version old.now content holds).rows scored.keeps)
+          (held_same (scores 14) 7 refl refl holds scored.keeps)
           (scored.are all (record { few = few; rows_are = rows_are })).same
 
       same_scored : AreScored rows old.now → (u : Table) → order u ≤ order Scores → HasTable u version
           → HaveSame (rows_in u content) (rows_in u (tables_of both_games all))
-      same_scored scored Members low there = same_plain Members (omega arith) there
-      same_scored scored Events low there = same_plain Events (omega arith) there
-      same_scored scored EventRules low there = same_plain EventRules (omega arith) there
-      same_scored scored Challenges low there = same_plain Challenges (omega arith) there
-      same_scored scored Moves low there = same_plain Moves (omega arith) there
-      same_scored scored Games low there = same_plain Games (omega arith) there
       same_scored scored Seen low there = seen_same
       same_scored scored Scores low there = scores_same scored
       same_scored scored Meta low there = absurd (omega (arith, low))
+      same_scored scored u low there = same_plain u (omega arith) there
 
       scores_at : AreScored rows old.now → AreOfClub version Scores content
       scores_at scored = record {
@@ -360,9 +326,8 @@ pub has_scores : (rows : Rows) (version : Version) (old mid : State) → AreRead
 has_scores rows version old mid read v content holds club =
     let s = club.state in
     let kept : Keeps (games 10) old.now.trees (tables_of both_games s 10) =
-    keeps_same (games 10) old.now.trees (content 10) (tables_of both_games s 10)
-    (subst (HaveSame (content 10)) (rows_at v s Games (omega arith) tt) (club.same Games tt (omega arith)))
-    (stores_of (games 10) 5 refl refl v old.now content holds).rows in
+    keeps_held (games 10) 5 refl refl holds
+    (subst (HaveSame (content 10)) (rows_at v s Games (omega arith) tt) (club.same Games tt (omega arith))) in
     record {
       state = s;
       legal = club_of_version v s club.legal;
@@ -398,44 +363,22 @@ whole_unblamed oldest old e names v content holds club =
   where
     same_all : (v : Version) (club : AreOfClub v Meta content)
         → changes.AreSame (schema_of v) content (tables_at v club.state)
-    same_all First club = (
-      club.same Meta tt (omega arith),
-      (
-        club.same Members tt (omega arith),
-        (
-          club.same Events tt (omega arith),
-          (
-            club.same Challenges tt (omega arith),
-            (
-              club.same Moves tt (omega arith),
-              (
-                club.same Games tt (omega arith),
-                (club.same Seen tt (omega arith), (club.same Scores tt (omega arith), tt)),
-              ),
-            ),
-          ),
-        ),
-      ),
-    )
-    same_all Current club = (
-      club.same Meta tt (omega arith),
-      (
-        club.same Members tt (omega arith),
-        (
-          club.same Events tt (omega arith),
-          (
-            club.same Challenges tt (omega arith),
-            (
-              club.same Moves tt (omega arith),
-              (
-                club.same Games tt (omega arith),
-                (
-                  club.same Seen tt (omega arith),
-                  (club.same Scores tt (omega arith), (club.same EventRules tt (omega arith), tt)),
-                ),
-              ),
-            ),
-          ),
-        ),
-      ),
-    )
+    same_all First club =
+        club.same Meta tt (omega arith)
+        & club.same Members tt (omega arith)
+        & club.same Events tt (omega arith)
+        & club.same Challenges tt (omega arith)
+        & club.same Moves tt (omega arith)
+        & club.same Games tt (omega arith)
+        & club.same Seen tt (omega arith)
+        & club.same Scores tt (omega arith) & tt
+    same_all Current club =
+        club.same Meta tt (omega arith)
+        & club.same Members tt (omega arith)
+        & club.same Events tt (omega arith)
+        & club.same Challenges tt (omega arith)
+        & club.same Moves tt (omega arith)
+        & club.same Games tt (omega arith)
+        & club.same Seen tt (omega arith)
+        & club.same Scores tt (omega arith)
+        & club.same EventRules tt (omega arith) & tt

@@ -1,7 +1,6 @@
 -- The rows of a club that are read whole, and the club that they and its games are.
-use Rattle.std.proofs.Common.{◌≡◌, true, false, true≢false, ◌==◌, ◌≤◌, ℕ, pos, List, [], ◌∷◌, length, map, Option}
-use Rattle.std.proofs.Common.{Some, None, refl, ap, sym}
-use Rattle.std.proofs.Common.{subst, ◌∙◌, ◌⊎◌, arith, inl, inr}
+use Rattle.std.proofs.Common.{◌≡◌, true, false, true≢false, ◌==◌, ◌≤◌, ℕ, pos, List, [], ◌∷◌, length, map, Option, Some}
+use Rattle.std.proofs.Common.{None, refl, ap, sym, subst, ◌∙◌, ◌⊎◌, arith, inl, inr}
 use Rattle.std.specs.Prelude.{if◌then◌else◌, ℤ}
 use Rattle.std.specs.List.{AllByRecursion}
 use Rattle.sqlite.specs.Schema.{Schema}
@@ -20,8 +19,7 @@ use Rattle.store_tables.specs.Contents as of_schema
 use Rattle.store_tables.specs.Contents.{AreStored, Content, Stores}
 use Rattle.store_tables.specs.Reading.{KeepsMay}
 use Rattle.store_tables.specs.Tables.{first_schema, schema_number, schema_of, event_rules, meta, moves}
-use Rattle.store_tables.specs.Tables.{scores as scored}
-use Rattle.store_tables.specs.Tables.{seen}
+use Rattle.store_tables.specs.Tables.{scores as scored, seen}
 use Rattle.store_tables.specs.declared.names.Version.{Version}
 use Rattle.store_tables.specs.declared.names.Version.TheVariants.{First, Current}
 use Rattle.store_tables.specs.declared.rows.EventRow.{EventRow}
@@ -57,7 +55,7 @@ use Rattle.club_opening.proofs.BlameLemmas.{have_ids}
 use Rattle.club_opening.proofs.ClubLemmas.{club_read_as}
 use Rattle.club_opening.proofs.ExaminedLemmas.{blamed_before, people_of}
 use Rattle.club_opening.proofs.GroupRows.{seen_had}
-use Rattle.club_changes.proofs.Proved.{moves_had}
+use Rattle.club_changes.proofs.Proved.{◌&◌, moves_had}
 use Rattle.club_opening.proofs.OnceLemmas.{scores_are}
 use Rattle.club_opening.proofs.PastLemmas.{table_gathered}
 use Rattle.club_opening.proofs.StoredLemmas.{club_of_version, stored_of}
@@ -162,68 +160,33 @@ module _ (version : Version) (rows : Rows) (last : Option ℕ) (old mid new : St
   content = content_with rows scores.rows_of old.now.trees
 
   first_eight : AreStored first_schema old.now.trees content
-  first_eight = (
-    record { rows = one.0.keeps; apart = one.0.apart },
-    (
-      record { rows = read.members.keeps; apart = read.members.apart },
-      (
-        record { rows = read.events.keeps; apart = read.events.apart },
-        (
-          record { rows = read.challenges.keeps; apart = read.challenges.apart },
-          (
-            record {
-              rows = keeps_shown (moves 8) old.now.trees;
-              apart = subst (λ (t : Trees). AreApart (t 8)) trees_are play.moves_apart;
-            },
-            (
-              record { rows = read.games.keeps; apart = read.games.apart },
-              (
-                record {
-                  rows = keeps_shown (seen 12) old.now.trees;
-                  apart = subst (λ (t : Trees). AreApart (t 12)) trees_are play.seen_apart;
-                },
-                (
-                  record {
-                    rows = subst (λ (t : Trees). Keeps (scored 14) t scores.rows_of) trees_are scores.read.keeps;
-                    apart = subst (λ (t : Trees). AreApart (t 14)) trees_are scores.read.apart;
-                  },
-                  tt,
-                ),
-              ),
-            ),
-          ),
-        ),
-      ),
-    ),
-  )
+  first_eight =
+      record { rows = one.0.keeps; apart = one.0.apart }
+      & record { rows = read.members.keeps; apart = read.members.apart }
+      & record { rows = read.events.keeps; apart = read.events.apart }
+      & record { rows = read.challenges.keeps; apart = read.challenges.apart }
+      & record {
+        rows = keeps_shown (moves 8) old.now.trees;
+        apart = subst (λ (t : Trees). AreApart (t 8)) trees_are play.moves_apart;
+      }
+      & record { rows = read.games.keeps; apart = read.games.apart }
+      & record {
+        rows = keeps_shown (seen 12) old.now.trees;
+        apart = subst (λ (t : Trees). AreApart (t 12)) trees_are play.seen_apart;
+      }
+      & record {
+        rows = subst (λ (t : Trees). Keeps (scored 14) t scores.rows_of) trees_are scores.read.keeps;
+        apart = subst (λ (t : Trees). AreApart (t 14)) trees_are scores.read.apart;
+      } & tt
 
   all_of : (v : Version) → v ≡ version → AreStored (schema_of v) old.now.trees content
   all_of First is = first_eight
   all_of Current is =
       let rules : IsReadAs (event_rules 16) 1 (map event_rule_cells rows.event_rules.items) old mid =
       subst (λ v. AreRulesRead v rows.events.items rows.event_rules.items old mid) (sym is) read.rules in
-      let t = first_eight in (
-        t.0,
-        (
-          t.1.0,
-          (
-            t.1.1.0,
-            (
-              t.1.1.1.0,
-              (
-                t.1.1.1.1.0,
-                (
-                  t.1.1.1.1.1.0,
-                  (
-                    t.1.1.1.1.1.1.0,
-                    (t.1.1.1.1.1.1.1.0, (record { rows = rules.keeps; apart = rules.apart }, tt)),
-                  ),
-                ),
-              ),
-            ),
-          ),
-        ),
-      )
+      let t = first_eight in
+      t.0 & t.1.0 & t.1.1.0 & t.1.1.1.0 & t.1.1.1.1.0 & t.1.1.1.1.1.0 & t.1.1.1.1.1.1.0 & t.1.1.1.1.1.1.1.0
+      & record { rows = rules.keeps; apart = rules.apart } & tt
 
   -- ---- the club
 
@@ -317,38 +280,25 @@ module _ (version : Version) (rows : Rows) (last : Option ℕ) (old mid new : St
             → HaveSame (seen_in old.now.trees) (tables_of both_games t 12)
             → HaveSame scores.rows_of (tables_of both_games t 14)
             → changes.AreSame (schema_of v) content (tables_at v t)
-        same_at First is t register are_moves are_seen are_scores = (
-          same_by _ _ (number_is First is t register),
-          (
-            same_by _ _ register.members,
-            (
-              same_by _ _ register.events,
-              (
-                register.challenges.same,
-                (are_moves, (same_by _ _ register.games, (are_seen, (are_scores, tt)))),
-              ),
-            ),
-          ),
-        )
-        same_at Current is t register are_moves are_seen are_scores = (
-          same_by _ _ (number_is Current is t register),
-          (
-            same_by _ _ register.members,
-            (
-              same_by _ _ register.events,
-              (
-                register.challenges.same,
-                (
-                  are_moves,
-                  (
-                    same_by _ _ register.games,
-                    (are_seen, (are_scores, (same_by _ _ register.rules, tt))),
-                  ),
-                ),
-              ),
-            ),
-          ),
-        )
+        same_at First is t register are_moves are_seen are_scores =
+            same_by _ _ (number_is First is t register)
+            & same_by _ _ register.members
+            & same_by _ _ register.events
+            & register.challenges.same
+            & are_moves
+            & same_by _ _ register.games
+            & are_seen
+            & are_scores & tt
+        same_at Current is t register are_moves are_seen are_scores =
+            same_by _ _ (number_is Current is t register)
+            & same_by _ _ register.members
+            & same_by _ _ register.events
+            & register.challenges.same
+            & are_moves
+            & same_by _ _ register.games
+            & are_seen
+            & are_scores
+            & same_by _ _ register.rules & tt
 
         same_tables : (v : Version) → v ≡ version → (t : ClubState) → IsRegisterOf t rows
             → HaveSame (moves_in old.now.trees) (tables_of both_games t 8)
@@ -376,7 +326,7 @@ pub play_blamed : (oldest version : Version) (rows : Rows) (old mid later : Stat
     → HasTablesOf version old.now.schema → AreRead version rows old mid
     → IsUnchanged old later → NamesTable later.now fault ⊎ NamesPlay rows later.now fault → Names oldest old.now fault
 play_blamed oldest version rows old mid later fault has read same blamed = elim
-    (blamed_before rows old later fault same blamed) [
+    (blamed_before rows fault same blamed) [
       | inl named ↦ inl named
       | inr (t, is, none) ↦
           inr

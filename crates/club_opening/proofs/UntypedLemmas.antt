@@ -5,8 +5,7 @@ use Rattle.std.specs.Prelude.{slice_get}
 use Rattle.std.proofs.lemmas.List.{length-map}
 use Rattle.std.proofs.lemmas.List.Sorted.{length_permutation}
 use Rattle.std.proofs.lemmas.Option.{same_Some}
-use Rattle.sqlite.specs.State.{State, IsUnchanged}
-use Rattle.sqlite.proofs.Callers.{unchanged_then}
+use Rattle.sqlite.specs.State.{State}
 use Rattle.store_tables.specs.Cells.{IsSeen, move_cells}
 use Rattle.store_tables.specs.Contents.{Stores}
 use Rattle.store_tables.specs.Tables.{moves, seen}
@@ -23,14 +22,14 @@ use Rattle.club_rows.specs.FirstSchema.{tables_at}
 use Rattle.club_audit.specs.Audit.{HasPeople, until}
 use Rattle.club_audit.specs.FirstWrong.{IsFirstWrong, order}
 use Rattle.club_audit.specs.GameAudit.{IsRightAt}
-use Rattle.club_opening.specs.Examined.{IsAfter, IsGameFound}
+use Rattle.club_opening.specs.Examined.{IsOneOf, IsAfter, IsGameFound}
 use Rattle.club_opening.specs.Faults.{told}
 use Rattle.club_opening.specs.Places.{last_moment}
 use Rattle.club_opening.specs.RightTables.{IsUntyped}
 use Rattle.club_opening.specs.declared.fault.OpenFault.{OpenFault}
 use Rattle.club_opening.specs.declared.fault.OpenFault.TheVariants.{Memory, Store}
 use Rattle.club_opening.proofs.ClubLemmas.{typed_at}
-use Rattle.club_opening.proofs.ExaminedLemmas.{IsOneOf, after_precedes, both_after, game_of, seen_after}
+use Rattle.club_opening.proofs.ExaminedLemmas.{after_precedes, both_after, game_of, seen_after}
 use Rattle.club_opening.proofs.FirstLemmas.{stores_of, untyped_wrong}
 use Rattle.club_opening.proofs.MovesReadLemmas.{game_games_wrong, game_moves_right, game_moves_wrong}
 use Rattle.club_opening.proofs.StoredLemmas.{club_of_version}
@@ -44,7 +43,7 @@ seen_untyped old e is (inl store) = let both : Mistyped ≡ ReadStore = sym is �
 seen_untyped old e is (inr (inl memory)) = let both : Mistyped ≡ ReadMemory = sym is ∙ memory in absurd cc
 seen_untyped old e is (inr (inr (named, wrong))) = λ version content holds typed.
     let stored : Stores (seen 12) old.now.trees content = stores_of
-    (seen 12) 6 refl refl version old.now content holds in
+    (seen 12) 6 refl refl holds in
     wrong (content 12) stored.rows stored.apart typed
 
 -- or another fault
@@ -56,8 +55,8 @@ told_typed old e fault is other (inr (inr (named, wrong))) = absurd (other named
 
 -- ---- what is found of the game
 
-module _ (rows : Rows) (place : ℕ) (game : GameRecord) (ms : List MoveRow) (last : Option ℕ) (old mid new : State)
-    (one : AreReadOf (moves 8) 2 game.id (map move_cells ms) old mid) (same : IsUnchanged mid new)
+module _ (rows : Rows) (place : ℕ) (game : GameRecord) (ms : List MoveRow) (last : Option ℕ) (old mid : State)
+    (one : AreReadOf (moves 8) 2 game.id (map move_cells ms) old mid)
     (untyped : IsUntyped Seen old.now) (w u : Option Table)
     (first : (s : ClubState) → HasPeople s rows → IsFirstWrong (IsRightAt s rows place game ms [] last) w)
     (one_of : IsOneOf w (Some Seen) u) (at : slice_get rows.games.items place ≡ Some game) where
@@ -69,9 +68,8 @@ module _ (rows : Rows) (place : ℕ) (game : GameRecord) (ms : List MoveRow) (la
   up_to_seen table low after =
       let less = (both_after table w (Some Seen) u one_of after).1 Seen refl in omega (arith, low, less)
 
-  pub untyped_found : IsGameFound rows last place game (length ms) 0 u old new
+  pub untyped_found : IsGameFound rows last place game (length ms) 0 u old.now
   untyped_found = record {
-    same = unchanged_then old mid new one.same same;
     moves_number = sym (length-map ms move_cells) ∙ length_permutation _ (map move_cells ms) one.once;
     seen_number = λ after. absurd (up_to_seen Seen (omega arith) after);
     found = λ none s of. let both = (one_of.none none).1 in absurd cc;

@@ -8,8 +8,8 @@ use Rattle.sqlite.specs.State.{State, IsUnchanged}
 use Rattle.sqlite.specs.declared.types.Value.TheVariants.{Int}
 use Rattle.sqlite_rules.specs.Lists.{Has}
 use Rattle.store_tables.specs.Cells.{meta_cells, member_cells, event_cells, challenge_cells, game_cells}
-use Rattle.store_tables.specs.Cells.{event_rule_cells, IsEventRule}
-use Rattle.store_tables.specs.Cells.{IsMember, IsEvent, IsChallenge, IsMove, IsGame, IsSeen, IsScore}
+use Rattle.store_tables.specs.Cells.{event_rule_cells, IsEventRule, IsMember, IsEvent, IsChallenge, IsMove, IsGame}
+use Rattle.store_tables.specs.Cells.{IsSeen, IsScore}
 use Rattle.store_tables.specs.Content.{Keeps, AreApart}
 use Rattle.store_tables.specs.Contents.{Content}
 use Rattle.store_sql.specs.Read.{IsReadAs}
@@ -19,14 +19,17 @@ use Rattle.store_tables.specs.declared.rows.EventRuleRow.{EventRuleRow}
 use Rattle.store_tables.specs.declared.rows.MetaRow.{MetaRow}
 use Rattle.store_tables.specs.declared.rows.Rows.{Rows}
 use Rattle.store_tables.specs.declared.names.Table.{Table}
-use Rattle.store_tables.specs.declared.names.Table.TheVariants.{Members, Events, EventRules, Challenges, Moves}
-use Rattle.store_tables.specs.declared.names.Table.TheVariants.{Games, Seen, Scores, Meta}
+use Rattle.store_tables.specs.declared.names.Table.TheVariants.{Members, Events, EventRules, Challenges, Moves, Games}
+use Rattle.store_tables.specs.declared.names.Table.TheVariants.{Seen, Scores, Meta}
 use Rattle.store_tables.specs.declared.names.Version.{Version}
 use Rattle.store_tables.specs.declared.names.Version.TheVariants.{First, Current}
+use Rattle.store_tables.specs.Names.{tree_of}
+use Rattle.store_tables.specs.Tables.{standing}
 use Rattle.table_shapes.specs.Shapes.{is_of_club}
 use Rattle.club_opening.specs.Places.{NamesRows}
-use Rattle.club_opening.specs.Versions.{HoldsRows}
+use Rattle.club_opening.specs.Versions.{HasTablesOf, HoldsRows}
 use Rattle.club_opening.specs.declared.fault.OpenFault.{OpenFault}
+use Rattle.club_opening.specs.declared.read.People.{People}
 use Rattle.club_opening.specs.declared.fault.OpenFault.TheVariants.{Foreign, Schema, Damaged, Store, Memory}
 
 -- ---- what is blamed
@@ -39,26 +42,30 @@ pub record IsOneMeta (rows : List Row) : Type 0 where
 
 -- the rows of this table have the types of its columns, and `meta` has one row
 abbrev pub HasTypes : Table → Content → Type 0
-HasTypes Members content = AllByRecursion IsMember (content 1)
-HasTypes Events content = AllByRecursion IsEvent (content 4)
-HasTypes EventRules content = AllByRecursion IsEventRule (content 16)
-HasTypes Challenges content = AllByRecursion IsChallenge (content 6)
-HasTypes Moves content = AllByRecursion IsMove (content 8)
-HasTypes Games content = AllByRecursion IsGame (content 10)
-HasTypes Seen content = AllByRecursion IsSeen (content 12)
-HasTypes Scores content = AllByRecursion IsScore (content 14)
-HasTypes Meta content = IsOneMeta (content 0)
+HasTypes Members content = AllByRecursion IsMember (content (tree_of Members))
+HasTypes Events content = AllByRecursion IsEvent (content (tree_of Events))
+HasTypes EventRules content = AllByRecursion IsEventRule (content (tree_of EventRules))
+HasTypes Challenges content = AllByRecursion IsChallenge (content (tree_of Challenges))
+HasTypes Moves content = AllByRecursion IsMove (content (tree_of Moves))
+HasTypes Games content = AllByRecursion IsGame (content (tree_of Games))
+HasTypes Seen content = AllByRecursion IsSeen (content (tree_of Seen))
+HasTypes Scores content = AllByRecursion IsScore (content (tree_of Scores))
+HasTypes Meta content = IsOneMeta (content (tree_of Meta))
 
--- no content that the database may hold, in whatever version, is so
+-- whatever content the database may hold, in whatever version, is so
+abbrev pub HoldsOnly : Database → (Version → Content → Type 0) → Type 0
+HoldsOnly db IsSo = (version : Version) (content : Content) → HoldsRows version content db → IsSo version content
+
+-- none is
 abbrev pub HoldsNone : Database → (Version → Content → Type 0) → Type 0
-HoldsNone db IsSo = (version : Version) (content : Content) → HoldsRows version content db
-    → ¬ IsSo version content
+HoldsNone db IsSo = HoldsOnly db (λ version content. ¬ IsSo version content)
 
 -- This is the one row of `meta`, with the number of this version; or there is none, and then the version is the last,
 -- and this has a moment that no club has.
 abbrev pub IsMetaRead : Version → MetaRow → State → State → Type 0
 IsMetaRead version row old new =
-    (IsReadAs (meta 0) 1 (meta_cells row ∷ []) old new × (row.id ≡ pos 1) × (row.schema ≡ pos (schema_number version)))
+    (IsReadAs (standing Meta) 1 (meta_cells row ∷ []) old new × (row.id ≡ pos 1)
+    × (row.schema ≡ pos (schema_number version)))
     ⊎ ((version ≡ Current) × ((n : ℕ) → row.last ≢ pos n) × HoldsNone old.now (λ _ content. HasTypes Meta content))
 
 -- the row of the rules of an event without declarations
@@ -70,18 +77,27 @@ undeclared_row event = Int event.id ∷ Int (pos 0) ∷ []
 abbrev pub AreRulesRead : Version → List EventRow → List EventRuleRow → State → State → Type 0
 AreRulesRead First events rules old new = IsUnchanged old new
     × (map event_rule_cells rules ≡ map undeclared_row events)
-AreRulesRead Current events rules old new = IsReadAs (event_rules 16) 1 (map event_rule_cells rules) old new
+AreRulesRead Current events rules old new = IsReadAs (standing EventRules) 1 (map event_rule_cells rules) old new
 
 -- Each table but those of moves, positions and scores has its rows, and the number of the schema is that of the
 -- version,
 -- where `meta` has its row.
 pub record AreRead (version : Version) (rows : Rows) (old new : State) : Type 0 where
   pub meta : IsMetaRead version rows.meta old new
-  pub members : IsReadAs (members 1) 1 (map member_cells rows.members.items) old new
-  pub events : IsReadAs (events 4) 1 (map event_cells rows.events.items) old new
+  pub members : IsReadAs (standing Members) 1 (map member_cells rows.members.items) old new
+  pub events : IsReadAs (standing Events) 1 (map event_cells rows.events.items) old new
   pub rules : AreRulesRead version rows.events.items rows.event_rules.items old new
-  pub challenges : IsReadAs (challenges 6) 2 (map challenge_cells rows.challenges.items) old new
-  pub games : IsReadAs (games 10) 1 (map game_cells rows.games.items) old new
+  pub challenges : IsReadAs (standing Challenges) 2 (map challenge_cells rows.challenges.items) old new
+  pub games : IsReadAs (standing Games) 1 (map game_cells rows.games.items) old new
+  pub same : IsUnchanged old new
+
+-- The people were read: their tables have these rows, and the schema is that of the version.
+pub record ArePeopleRead (people : People) (old new : State) : Type 0 where
+  pub schema : HasTablesOf people.version old.now.schema
+  pub meta : IsMetaRead people.version people.meta old new
+  pub members : IsReadAs (standing Members) 1 (map member_cells people.members.items) old new
+  pub events : IsReadAs (standing Events) 1 (map event_cells people.events.items) old new
+  pub rules : AreRulesRead people.version people.events.items people.event_rules.items old new
   pub same : IsUnchanged old new
 
 -- Memory was refused, or the table is called damaged, and then for this reason.
@@ -105,7 +121,7 @@ NamesTable db fault = (fault ≡ Store)
 -- `meta` has this number
 abbrev pub HasNumber : Database → ℤ → Type 0
 HasNumber db n = (version : Version) (content : Content) → HoldsRows version content db
-    → (last : ℤ) × Has (content 0) (Int (pos 1) ∷ Int n ∷ Int last ∷ [])
+    → (last : ℤ) × Has (content (tree_of Meta)) (Int (pos 1) ∷ Int n ∷ Int last ∷ [])
 
 -- the number is that of a version from this one on
 abbrev pub IsNumberFrom : Version → ℤ → Type 0
@@ -121,7 +137,7 @@ NamesSchema oldest db fault = (n : ℤ) × (fault ≡ Schema n) × (¬ IsNumberF
 abbrev pub NamesForeign : Database → OpenFault → Type 0
 NamesForeign db fault = (fault ≡ Foreign)
     × HoldsNone db (λ version content. (is_of_club version db.schema ≡ true) × ((last : ℤ)
-    × (content 0 ≡ (Int (pos 1) ∷ Int (pos (schema_number version)) ∷ Int last ∷ []) ∷ [])))
+    × (content (tree_of Meta) ≡ (Int (pos 1) ∷ Int (pos (schema_number version)) ∷ Int last ∷ []) ∷ [])))
 
 -- what a fault says of a database with the tables of a club, of which versions from this one on are taken
 abbrev pub Names : Version → Database → OpenFault → Type 0

@@ -1,25 +1,6 @@
 -- The rows of a club's games in a database, and how many of its games were found there.
-use Rattle.std.specs.Prelude.{
-  ◌≡◌,
-  ◌≤◌,
-  ◌<◌,
-  ◌+◌,
-  ℕ,
-  zero,
-  suc,
-  pos,
-  not,
-  List,
-  [],
-  ◌∷◌,
-  map,
-  take,
-  length,
-  filter,
-  Option,
-  Some,
-}
-use Rattle.std.specs.Prelude.{None, slice_get}
+use Rattle.std.specs.Prelude.{◌≡◌, ◌⊎◌, ◌≤◌, ◌<◌, ◌+◌, ℕ, suc, pos, List, map, take, length, Option, Some, None}
+use Rattle.std.specs.Prelude.{slice_get}
 use Rattle.sqlite.specs.Order.{Row}
 use Rattle.sqlite.specs.Tree.{Trees}
 use Rattle.sqlite.specs.Effect.{Database}
@@ -29,9 +10,9 @@ use Rattle.club_rows.specs.Club.{ClubGame, ClubState, both_games}
 use Rattle.club_rows.specs.FirstSchema.{IsClubOf}
 use Rattle.club_rows.specs.EachOnce.{AreEachOnce}
 use Rattle.club_rows.specs.Scores.{scores_in}
-use Rattle.club_rows.specs.Tables.{number, numbered_from, row_of_game, rows_of_moves, rows_of_seen}
+use Rattle.club_rows.specs.Tables.{numbered_from, row_of_game, rows_of_moves, rows_of_seen}
 use Rattle.store_tables.specs.Cells.{game_cells}
-use Rattle.store_tables.specs.Content.{AreApart, cells, same_key}
+use Rattle.store_tables.specs.Content.{AreApart, cells}
 use Rattle.store_tables.specs.Tables.{moves, scores, seen}
 use Rattle.store_tables.specs.declared.rows.GameRecord.{GameRecord}
 use Rattle.store_sql.specs.Read.{IsReadAs, beginning_with}
@@ -40,13 +21,16 @@ use Rattle.store_tables.specs.declared.names.Table.TheVariants.{Games, Meta, Mov
 use Rattle.store_tables.specs.declared.names.Version.{Version}
 use Rattle.store_tables.specs.declared.rows.Rows.{Rows}
 use Rattle.store_tables.specs.Rows.{HaveIds}
+use Rattle.store_tables.specs.Names.{tree_of}
+use Rattle.store_tables.specs.Tables.{standing}
+use Rattle.store_tables.specs.declared.names.Table.TheVariants.{Scores}
 use Rattle.club_audit.specs.Audit.{AreApartGames, HasPeople, until}
 use Rattle.club_audit.specs.FirstWrong.{order}
 use Rattle.club_audit.specs.ChallengeAudit.{AreChallenges}
 use Rattle.club_core.specs.declared.challenges.Challenge.{Challenge}
 use Rattle.club_audit.specs.Standings.{AreGamesOf}
 use Rattle.club_opening.specs.Places.{IsRegisterOf, last_moment}
-use Rattle.club_opening.specs.RightMoves.{GamesWrong, HasMovesOf, HaveMovesOf, MovesWrong, SeenWrong, beyond}
+use Rattle.club_opening.specs.RightMoves.{GamesWrong, HasMovesOf, HaveMovesOf, MovesWrong, SeenWrong, beyond, without}
 use Rattle.club_opening.specs.Versions.{HasClub}
 use Rattle.club_changes.specs.Steps.{HaveSame}
 use Rattle.club_opening.specs.declared.fault.OpenFault.{OpenFault}
@@ -54,15 +38,14 @@ use Rattle.club_opening.specs.declared.fault.OpenFault.TheVariants.{Damaged}
 
 -- the rows of moves, and those of positions
 abbrev pub moves_in : Trees → List Row
-moves_in db = map (cells (moves 8)) (db 8)
+moves_in db = map (cells (standing Moves)) (db (tree_of Moves))
 
 abbrev pub seen_in : Trees → List Row
-seen_in db = map (cells (seen 12)) (db 12)
+seen_in db = map (cells (standing Seen)) (db (tree_of Seen))
 
 -- those of the rows that begin with none of the numbers 1 to k
 abbrev pub past : ℕ → List Row → List Row
-past zero rows = rows
-past (suc k) rows = filter (λ x. not (same_key (0 ∷ []) x (number (suc k) ∷ []))) (past k rows)
+past = without (λ k. pos (suc k))
 
 -- the rows are those of this game of the club, which has this id: its own, and those of moves that begin as it
 pub record IsGameOf (s : ClubState) (id : ℕ) (row : GameRecord) (db : Trees) (game : ClubGame) : Type 0 where
@@ -113,25 +96,35 @@ IsAfter table wrong = (t : Table) → wrong ≡ Some t → order table < order t
 abbrev pub IsPlayed : Option Table → Type 0
 IsPlayed wrong = (t : Table) → wrong ≡ Some t → t ≡ Meta
 
+-- Of two wrong tables the first is named, and none where there is none.
+pub record IsOneOf (one other named : Option Table) : Type 0 where
+  pub none : named ≡ None → (one ≡ None) × (other ≡ None)
+  pub some : (t : Table) → named ≡ Some t → (one ≡ Some t) ⊎ (other ≡ Some t)
+  pub first : (t u : Table) → named ≡ Some t → (one ≡ Some u) ⊎ (other ≡ Some u) → order t ≤ order u
+
+-- A table is named where so many of its rows are no game's.
+pub record NamesLeft (table : Table) (count : ℕ) (named : Option Table) : Type 0 where
+  pub none : named ≡ None → count ≡ 0
+  pub some : (t : Table) → named ≡ Some t → (t ≡ table) × (0 < count)
+
 -- What was read of a game's rows tells: how many are of its moves and of its positions, and that all of them are those
 -- of a legal game at its place, or a wrong table.
 pub record IsGameFound (rows : Rows) (last : Option ℕ) (place : ℕ) (game : GameRecord) (moves seen : ℕ)
-    (wrong : Option Table) (old new : State) : Type 0 where
-  pub same : IsUnchanged old new
-  pub moves_number : moves ≡ length (beginning_with game.id (moves_in old.now.trees))
-  pub seen_number : IsAfter Seen wrong → seen ≡ length (beginning_with game.id (seen_in old.now.trees))
+    (wrong : Option Table) (db : Database) : Type 0 where
+  pub moves_number : moves ≡ length (beginning_with game.id (moves_in db.trees))
+  pub seen_number : IsAfter Seen wrong → seen ≡ length (beginning_with game.id (seen_in db.trees))
   pub found : wrong ≡ None → (s : ClubState) → IsOf s rows last → (g : ClubGame)
-      × IsFoundAs s (place + 1) game old.now.trees g
+      × IsFoundAs s (place + 1) game db.trees g
   pub played : IsPlayed wrong → (s : ClubState) → HasPeople s rows → (g : ClubGame)
-      × IsFoundAs (until last_moment s) (place + 1) game old.now.trees g
+      × IsFoundAs (until last_moment s) (place + 1) game db.trees g
   pub seated : IsAfter Games wrong → (s : ClubState) → HasPeople s rows → (g : ClubGame)
-      × IsGameOf (until last_moment s) (place + 1) game old.now.trees g
+      × IsGameOf (until last_moment s) (place + 1) game db.trees g
   pub moves_right : IsAfter Moves wrong → (s : ClubState) → HasPeople s rows
-      → HasMovesOf rows (moves_in old.now.trees) game
-  pub blamed : (t : Table) → wrong ≡ Some t → NamesPlay rows old.now (Damaged t)
-  pub moves_wrong : wrong ≡ Some Moves → (s : ClubState) → HasPeople s rows → MovesWrong rows old.now
-  pub games_wrong : wrong ≡ Some Games → GamesWrong rows old.now
-  pub seen_wrong : wrong ≡ Some Seen → SeenWrong rows old.now
+      → HasMovesOf rows (moves_in db.trees) game
+  pub blamed : (t : Table) → wrong ≡ Some t → NamesPlay rows db (Damaged t)
+  pub moves_wrong : wrong ≡ Some Moves → (s : ClubState) → HasPeople s rows → MovesWrong rows db
+  pub games_wrong : wrong ≡ Some Games → GamesWrong rows db
+  pub seen_wrong : wrong ≡ Some Seen → SeenWrong rows db
 
 -- none of the rows of moves and of positions is another's than those of the first so many games
 pub record NoneIsLeft (db : Trees) (count : ℕ) : Type 0 where
@@ -139,63 +132,62 @@ pub record NoneIsLeft (db : Trees) (count : ℕ) : Type 0 where
   pub seen : length (past count (seen_in db)) ≡ 0
 
 -- What was read of all games tells: they are those of a club, and no row is another's, or a wrong table.
-pub record AreGamesFound (rows : Rows) (last : Option ℕ) (wrong : Option Table) (old new : State) : Type 0 where
-  pub same : IsUnchanged old new
+pub record AreGamesFound (rows : Rows) (last : Option ℕ) (wrong : Option Table) (db : Database) : Type 0 where
   pub found : wrong ≡ None → (s : ClubState) → IsOf s rows last
-      → WereFound s rows.games.items old.now.trees (length rows.games.items)
+      → WereFound s rows.games.items db.trees (length rows.games.items)
   pub none_left : wrong ≡ None → (s : ClubState) → IsOf s rows last
-      → NoneIsLeft old.now.trees (length rows.games.items)
+      → NoneIsLeft db.trees (length rows.games.items)
   pub played : IsPlayed wrong → (s : ClubState) → HasPeople s rows
-      → WereFound (until last_moment s) rows.games.items old.now.trees (length rows.games.items)
+      → WereFound (until last_moment s) rows.games.items db.trees (length rows.games.items)
   pub seated : IsAfter Games wrong → (s : ClubState) → HasPeople s rows
-      → WerePlayed (until last_moment s) rows.games.items old.now.trees (length rows.games.items)
+      → WerePlayed (until last_moment s) rows.games.items db.trees (length rows.games.items)
   pub moves_end : IsAfter Games wrong → (s : ClubState) → HasPeople s rows
-      → length (past (length rows.games.items) (moves_in old.now.trees)) ≡ 0
+      → length (past (length rows.games.items) (moves_in db.trees)) ≡ 0
   pub moves_right : IsAfter Moves wrong → HaveIds rows → (s : ClubState) → HasPeople s rows
-      → HaveMovesOf rows (moves_in old.now.trees)
+      → HaveMovesOf rows (moves_in db.trees)
   pub none_rests : IsPlayed wrong → (s : ClubState) → HasPeople s rows
-      → NoneIsLeft old.now.trees (length rows.games.items)
-  pub blamed : (t : Table) → wrong ≡ Some t → NamesPlay rows old.now (Damaged t)
-  pub moves_wrong : wrong ≡ Some Moves → HaveIds rows → (s : ClubState) → HasPeople s rows → MovesWrong rows old.now
-  pub games_wrong : wrong ≡ Some Games → GamesWrong rows old.now
-  pub seen_wrong : wrong ≡ Some Seen → HaveIds rows → SeenWrong rows old.now
+      → NoneIsLeft db.trees (length rows.games.items)
+  pub blamed : (t : Table) → wrong ≡ Some t → NamesPlay rows db (Damaged t)
+  pub moves_wrong : wrong ≡ Some Moves → HaveIds rows → (s : ClubState) → HasPeople s rows → MovesWrong rows db
+  pub games_wrong : wrong ≡ Some Games → GamesWrong rows db
+  pub seen_wrong : wrong ≡ Some Seen → HaveIds rows → SeenWrong rows db
 
 -- and what is left of the rows when so many games were read, of which a table was wrong or none
-pub record AreLeftAfter (rows : Rows) (last : Option ℕ) (place moves seen : ℕ) (wrong : Option Table) (old new : State)
+pub record AreLeftAfter (rows : Rows) (last : Option ℕ) (place moves seen : ℕ) (wrong : Option Table) (db : Database)
     : Type 0 where
-  pub same : IsUnchanged old new
-  pub found : wrong ≡ None → (s : ClubState) → IsOf s rows last → WereFound s rows.games.items old.now.trees place
-  pub blamed : (t : Table) → wrong ≡ Some t → NamesPlay rows old.now (Damaged t)
+  pub found : wrong ≡ None → (s : ClubState) → IsOf s rows last → WereFound s rows.games.items db.trees place
+  pub blamed : (t : Table) → wrong ≡ Some t → NamesPlay rows db (Damaged t)
   pub moves_left : wrong ≡ None → (s : ClubState) → IsOf s rows last
-      → moves ≡ length (past place (moves_in old.now.trees))
+      → moves ≡ length (past place (moves_in db.trees))
   pub seen_left : wrong ≡ None → (s : ClubState) → IsOf s rows last
-      → seen ≡ length (past place (seen_in old.now.trees))
+      → seen ≡ length (past place (seen_in db.trees))
   pub played : IsPlayed wrong → (s : ClubState) → HasPeople s rows
-      → WereFound (until last_moment s) rows.games.items old.now.trees place
+      → WereFound (until last_moment s) rows.games.items db.trees place
   pub seated : IsAfter Games wrong → (s : ClubState) → HasPeople s rows
-      → WerePlayed (until last_moment s) rows.games.items old.now.trees place
+      → WerePlayed (until last_moment s) rows.games.items db.trees place
   pub moves_rest : IsAfter Games wrong → (s : ClubState) → HasPeople s rows
-      → moves ≡ length (past place (moves_in old.now.trees))
+      → moves ≡ length (past place (moves_in db.trees))
   pub seen_rest : IsPlayed wrong → (s : ClubState) → HasPeople s rows
-      → seen ≡ length (past place (seen_in old.now.trees))
-  pub moves_wrong : wrong ≡ Some Moves → (s : ClubState) → HasPeople s rows → MovesWrong rows old.now
-  pub games_wrong : wrong ≡ Some Games → GamesWrong rows old.now
-  pub seen_wrong : wrong ≡ Some Seen → SeenWrong rows old.now
+      → seen ≡ length (past place (seen_in db.trees))
+  pub moves_wrong : wrong ≡ Some Moves → (s : ClubState) → HasPeople s rows → MovesWrong rows db
+  pub games_wrong : wrong ≡ Some Games → GamesWrong rows db
+  pub seen_wrong : wrong ≡ Some Seen → SeenWrong rows db
   pub moves_right : IsAfter Moves wrong → (s : ClubState) → HasPeople s rows → (n : ℕ) (game : GameRecord)
-      → n < place → slice_get rows.games.items n ≡ Some game → HasMovesOf rows (moves_in old.now.trees) game
-  pub moves_beyond : HaveIds rows → moves ≡ length (beyond rows place (moves_in old.now.trees))
-  pub seen_beyond : IsAfter Seen wrong → HaveIds rows → seen ≡ length (beyond rows place (seen_in old.now.trees))
+      → n < place → slice_get rows.games.items n ≡ Some game → HasMovesOf rows (moves_in db.trees) game
+  pub moves_beyond : HaveIds rows → moves ≡ length (beyond rows place (moves_in db.trees))
+  pub seen_beyond : IsAfter Seen wrong → HaveIds rows → seen ≡ length (beyond rows place (seen_in db.trees))
 
 -- what was read of all games tells, with the rowids of both tables
 pub record IsPlayExamined (rows : Rows) (last : Option ℕ) (wrong : Option Table) (old new : State) : Type 0 where
-  pub games : AreGamesFound rows last wrong old new
+  pub games : AreGamesFound rows last wrong old.now
+  pub same : IsUnchanged old new
   pub moves_apart : AreApart (old.now.trees 8)
   pub seen_apart : AreApart (old.now.trees 12)
 
 -- the scores that were read are those of the club whose games the rows are, each once
 pub record AreScoresExamined (rows : Rows) (old new : State) : Type 0 where
   pub rows_of : List Row
-  pub read : IsReadAs (scores 14) 3 rows_of old new
+  pub read : IsReadAs (standing Scores) 3 rows_of old new
   pub are : (t : ClubState) → AreGamesOf t rows.games.items → AreEachOnce rows_of (scores_in both_games t.games)
 
 -- What was examined of rows that were read: they and those of moves, positions and scores are those of one club.

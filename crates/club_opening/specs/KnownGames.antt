@@ -13,6 +13,7 @@ use Rattle.store_tables.specs.Tables.{games}
 use Rattle.store_tables.specs.declared.names.Table.TheVariants.{Challenges, Games, Moves}
 use Rattle.store_tables.specs.declared.rows.GameRecord.{GameRecord}
 use Rattle.store_tables.specs.declared.rows.Rows.{Rows}
+use Rattle.store_tables.specs.Tables.{standing}
 use Rattle.club_audit.specs.ChallengeAudit.{AreChallenges}
 use Rattle.club_core.specs.declared.challenges.Challenge.{Challenge}
 use Rattle.club_opening.specs.Examined.{moves_in}
@@ -51,7 +52,7 @@ AreJudged (row ∷ shown) (game ∷ judged) = IsJudged row game × AreJudged sho
 -- and by these their moves are judged.
 pub record AreGamesKnown (known_games judged_games : List GameRecord) (old new : State) : Type 0 where
   pub shown : List Row
-  pub keeps : Keeps (games 10) old.now.trees shown
+  pub keeps : Keeps (standing Games) old.now.trees shown
   pub ids : AreIds shown
   pub seats : map game_seat known_games ≡ map row_seat shown
   pub judged : AreJudged shown judged_games

@@ -1,6 +1,6 @@
 -- When the rows of moves are right, where the rows of events and of games are those that were read.
-use Rattle.std.specs.Prelude.{◌≡◌, ℕ, zero, suc, ℤ, pos, not, List, [], ◌∷◌, map, get_or, filter, Some, None}
-use Rattle.std.specs.Prelude.{slice_get, Bool}
+use Rattle.std.specs.Prelude.{◌≡◌, ℕ, zero, suc, ℤ, pos, not, List, [], ◌∷◌, map, get_or, filter, Some, None, slice_get}
+use Rattle.std.specs.Prelude.{Bool}
 use Rattle.std.specs.List.{AllByRecursion}
 use Rattle.sqlite_value.specs.declared.value.Value.TheVariants.{Int}
 use Rattle.sqlite.specs.Effect.{Database}
@@ -13,7 +13,7 @@ use Rattle.store_tables.specs.Cells.{IsMove, event_cells, game_cells, move_cells
 use Rattle.store_tables.specs.Changes.{HaveSame}
 use Rattle.store_tables.specs.Content.{cells, same_key}
 use Rattle.store_tables.specs.Contents.{Content}
-use Rattle.store_tables.specs.Tables.{moves, seen}
+use Rattle.store_tables.specs.Tables.{moves}
 use Rattle.store_tables.specs.declared.names.Table.TheVariants.{Moves}
 use Rattle.store_tables.specs.declared.names.Version.{Version}
 use Rattle.store_tables.specs.declared.names.Version.TheVariants.{First, Current}
@@ -21,6 +21,9 @@ use Rattle.store_tables.specs.declared.rows.EventRow.{EventRow}
 use Rattle.store_tables.specs.declared.rows.GameRecord.{GameRecord}
 use Rattle.store_tables.specs.declared.rows.MoveRow.{MoveRow}
 use Rattle.store_tables.specs.declared.rows.Rows.{Rows}
+use Rattle.store_tables.specs.Names.{tree_of}
+use Rattle.store_tables.specs.Tables.{standing}
+use Rattle.store_tables.specs.declared.names.Table.TheVariants.{Events, Games, Seen, EventRules}
 use Rattle.club_rows.specs.Tables.{declares_number, kind_number, number, numbered_from, row_of_game}
 use Rattle.club_audit.specs.Audit.{GivesTerms, HasPeople, NamesEvent, NamesRule, terms_told}
 use Rattle.club_rows.specs.Club.{ClubState, IsClub, both_games, tables}
@@ -37,18 +40,20 @@ pub record HasItsMoves (rows : List Row) (game : GameRecord) (kind : GameKind) (
 -- the rules of the event of this id say this of declarations
 abbrev pub DeclaresIn : Version → Content → ℤ → Bool → Type 0
 DeclaresIn First content id declares = declares_number declares ≡ 0
-DeclaresIn Current content id declares = Has (content 16) (Int id ∷ number (declares_number declares) ∷ [])
+DeclaresIn Current content id declares =
+    Has (content (tree_of EventRules)) (Int id ∷ number (declares_number declares) ∷ [])
 
 -- Each row of moves has the types of its columns and begins with the id of a game; and of each game whose event there
 -- is, with a kind, terms and rules, they are right.
 pub record HaveMoves (version : Version) (content : Content) : Type 0 where
-  pub typed : AllByRecursion IsMove (content 8)
-  pub owned : (row : Row) → Has (content 8) row → (game : Row) × Has (content 10) game × (column row 0 ≡ column game 0)
-  pub played : (game : GameRecord) (event : EventRow) → Has (content 10) (game_cells game)
-      → Has (content 4) (event_cells event) → game.event ≡ event.id → (declares : Bool)
+  pub typed : AllByRecursion IsMove (content (tree_of Moves))
+  pub owned : (row : Row) → Has (content (tree_of Moves)) row
+      → (game : Row) × Has (content (tree_of Games)) game × (column row 0 ≡ column game 0)
+  pub played : (game : GameRecord) (event : EventRow) → Has (content (tree_of Games)) (game_cells game)
+      → Has (content (tree_of Events)) (event_cells event) → game.event ≡ event.id → (declares : Bool)
       → DeclaresIn version content event.id declares → (kind : GameKind) (budget increment : ℕ)
       → event.game ≡ pos (kind_number kind) → GivesTerms event budget increment
-      → HasItsMoves (content 8) game kind (terms_told budget increment declares)
+      → HasItsMoves (content (tree_of Moves)) game kind (terms_told budget increment declares)
 
 -- the same of rows of games and of events that were read
 pub record HaveMovesOf (rows : Rows) (moves : List Row) : Type 0 where
@@ -75,7 +80,7 @@ pub record HaveGamesOf (rows : Rows) (moves : List Row) : Type 0 where
   pub legal : IsClub state
   pub people : HasPeople state rows
   pub games : map game_cells rows.games.items ≡ numbered_from (row_of_game both_games state.events) 1 state.games
-  pub same : HaveSame moves (tables state 8)
+  pub same : HaveSame moves (tables state (tree_of Moves))
 
 -- and these rows of positions
 pub record HaveSeenOf (rows : Rows) (moves positions : List Row) : Type 0 where
@@ -90,18 +95,25 @@ id_at rows place = get_or (map (λ g. g.id) rows.games.items) place (pos 0)
 
 -- whatever content the database holds, its rows of moves are not right for the games and the events that were read
 abbrev pub MovesWrong : Rows → Database → Type 0
-MovesWrong rows db = HoldsNone db (λ version content. HaveMovesOf rows (map (cells (moves 8)) (db.trees 8)))
+MovesWrong rows db =
+    HoldsNone db (λ version content. HaveMovesOf rows (map (cells (standing Moves)) (db.trees (tree_of Moves))))
 
 -- whatever content the database holds, the games that were read are those of no legal club with its rows of moves
 abbrev pub GamesWrong : Rows → Database → Type 0
-GamesWrong rows db = HoldsNone db (λ version content. HaveGamesOf rows (map (cells (moves 8)) (db.trees 8)))
+GamesWrong rows db =
+    HoldsNone db (λ version content. HaveGamesOf rows (map (cells (standing Moves)) (db.trees (tree_of Moves))))
 
 -- nor is there one with these games and with its rows of moves and of positions
 abbrev pub SeenWrong : Rows → Database → Type 0
 SeenWrong rows db = HoldsNone db (λ version content.
-    HaveSeenOf rows (map (cells (moves 8)) (db.trees 8)) (map (cells (seen 12)) (db.trees 12)))
+    HaveSeenOf rows (map (cells (standing Moves)) (db.trees (tree_of Moves)))
+    (map (cells (standing Seen)) (db.trees (tree_of Seen))))
 
--- those of the rows that begin with the id of none of the first so many games
+-- those of the rows that begin with none of the first so many of these ids
+abbrev pub without : (ℕ → ℤ) → ℕ → List Row → List Row
+without ids zero rows = rows
+without ids (suc k) rows = filter (λ x. not (same_key (0 ∷ []) x (Int (ids k) ∷ []))) (without ids k rows)
+
+-- with the id of none of the first so many games
 abbrev pub beyond : Rows → ℕ → List Row → List Row
-beyond games zero rows = rows
-beyond games (suc k) rows = filter (λ x. not (same_key (0 ∷ []) x (Int (id_at games k) ∷ []))) (beyond games k rows)
+beyond games = without (id_at games)

@@ -10,12 +10,14 @@ use Rattle.store_tables.specs.Content.{Keeps}
 use Rattle.store_tables.specs.Contents.{Content}
 use Rattle.store_tables.specs.Tables.{scores}
 use Rattle.store_tables.specs.declared.names.Table.{Table}
-use Rattle.store_tables.specs.declared.names.Table.TheVariants.{Members, Events, EventRules, Challenges, Moves}
-use Rattle.store_tables.specs.declared.names.Table.TheVariants.{Games, Seen, Scores, Meta}
+use Rattle.store_tables.specs.declared.names.Table.TheVariants.{Members, Events, EventRules, Challenges, Moves, Games}
+use Rattle.store_tables.specs.declared.names.Table.TheVariants.{Seen, Scores, Meta}
 use Rattle.store_tables.specs.declared.names.Version.{Version}
 use Rattle.store_tables.specs.declared.names.Version.TheVariants.{First}
 use Rattle.store_tables.specs.declared.rows.EventRow.{EventRow}
 use Rattle.store_tables.specs.declared.rows.Rows.{Rows}
+use Rattle.store_tables.specs.Names.{tree_of}
+use Rattle.store_tables.specs.Tables.{standing}
 use Rattle.club_rows.specs.Club.{ClubState, IsClub, both_games, tables}
 use Rattle.club_rows.specs.EachOnce.{AreEachOnce}
 use Rattle.club_rows.specs.Scores.{scores_in}
@@ -43,15 +45,15 @@ use Rattle.club_opening.specs.declared.fault.OpenFault.TheVariants.{Damaged}
 
 -- the rows of a table
 abbrev pub rows_in : Table → Content → List Row
-rows_in Members content = content 1
-rows_in Events content = content 4
-rows_in EventRules content = content 16
-rows_in Challenges content = content 6
-rows_in Moves content = content 8
-rows_in Games content = content 10
-rows_in Seen content = content 12
-rows_in Scores content = content 14
-rows_in Meta content = content 0
+rows_in Members content = content (tree_of Members)
+rows_in Events content = content (tree_of Events)
+rows_in EventRules content = content (tree_of EventRules)
+rows_in Challenges content = content (tree_of Challenges)
+rows_in Moves content = content (tree_of Moves)
+rows_in Games content = content (tree_of Games)
+rows_in Seen content = content (tree_of Seen)
+rows_in Scores content = content (tree_of Scores)
+rows_in Meta content = content (tree_of Meta)
 
 -- the schema of the version has this table
 abbrev pub HasTable : Table → Version → Type 0
@@ -81,16 +83,16 @@ pub record HasGame (games : List Row) (id : ℕ) (pairing : Pairing) : Type 0 wh
 -- The challenge names members, an event and, where it was accepted, a game of an id of 32 bits, all of which there are.
 pub record IsChallengeIn (content : Content) (c : Challenge) : Type 0 where
   pub number : IsTrue (is_challenge_number c.number)
-  pub member : HasId (content 1) c.member
-  pub other : HasId (content 1) c.other
+  pub member : HasId (content (tree_of Members)) c.member
+  pub other : HasId (content (tree_of Members)) c.other
   pub apart : c.member ≢ c.other
-  pub event : HasId (content 4) c.event
-  pub game : (id : ℕ) → c.standing ≡ Accepted id → (id < 2 ^ 32) × HasGame (content 10) id (pairing_for c)
+  pub event : HasId (content (tree_of Events)) c.event
+  pub game : (id : ℕ) → c.standing ≡ Accepted id → (id < 2 ^ 32) × HasGame (content (tree_of Games)) id (pairing_for c)
 
 -- The rows of challenges are those of such challenges, and no two of one member have one number.
 pub record HaveChallenges (content : Content) : Type 0 where
   pub challenges : List Challenge
-  pub same : HaveSame (content 6) (map challenge_row challenges)
+  pub same : HaveSame (content (tree_of Challenges)) (map challenge_row challenges)
   pub each : Each (IsChallengeIn content) challenges
   pub numbers : AreApart goes_by challenges
 
@@ -172,7 +174,7 @@ pub record HasScores (rows : Rows) (content : Content) : Type 0 where
   pub state : ClubState
   pub legal : IsClub state
   pub games : map game_cells rows.games.items ≡ numbered_from (row_of_game both_games state.events) 1 state.games
-  pub same : HaveSame (content 14) (tables state 14)
+  pub same : HaveSame (content (tree_of Scores)) (tables state (tree_of Scores))
 
 -- no other table than the scores is called damaged, and their rows are those of no legal club with these games
 abbrev pub NamesScores : Rows → Database → OpenFault → Type 0
@@ -189,7 +191,7 @@ pub record ArePlayed (rows : Rows) (db : Database) : Type 0 where
 -- the rows of scores are those of these games
 pub record AreScored (rows : Rows) (db : Database) : Type 0 where
   pub scored : List Row
-  pub keeps : Keeps (scores 14) db.trees scored
+  pub keeps : Keeps (standing Scores) db.trees scored
   pub are : (s : ClubState) → AreGamesOf s rows.games.items → AreEachOnce scored (scores_in both_games s.games)
 
 -- a table after the challenges, where these are right: one of play; or the scores, where those of play are right; or
@@ -208,4 +210,5 @@ NamesExamined rows db fault = (t : Table) → fault ≡ Damaged t
 -- these are the rows of the events of each club whose events the database may hold
 abbrev pub TellsEvents : List EventRow → Database → Type 0
 TellsEvents rows db = (version : Version) (content : Content) → HoldsRows version content db
-    → (s : ClubState) → HaveSame (content 4) (tables s 4) → map event_cells rows ≡ numbered_from event_row 1 s.events
+    → (s : ClubState) → HaveSame (content (tree_of Events)) (tables s (tree_of Events))
+    → map event_cells rows ≡ numbered_from event_row 1 s.events

@@ -1,6 +1,6 @@
 //! Examining the games of a club, one after another: each by its row, and by those of its moves and of its positions.
 
-ghost use Rattle.std.specs.Prelude.{◌≡◌, ◌≢◌, ◌⊎◌, ◌<◌, ◌≤◌, None, Some, IsTrue, IfOk, IfErr, IfSome, is_ok, map};
+ghost use Rattle.std.specs.Prelude.{◌≡◌, ◌≢◌, ◌⊎◌, ◌<◌, None, Some, IsTrue, IfOk, IfErr, IfSome, is_ok, map};
 ghost use Rattle.std.specs.Prelude.{length, slice_get};
 ghost use Rattle.sqlite.specs.State.{HasCleanDisk, IsUnchanged};
 ghost use Rattle.sqlite.specs.Held.{state};
@@ -9,6 +9,8 @@ ghost use Rattle.store_tables.specs.Reading.{Reads};
 ghost use Rattle.store_tables.specs.Cells.{seen_cells};
 ghost use Rattle.store_tables.specs.Content.{AreApart};
 ghost use Rattle.store_tables.specs.Tables as tables;
+ghost use Rattle.store_tables.specs.Tables.{standing};
+ghost use Rattle.store_tables.specs.declared.names.Table.TheVariants.{Seen};
 ghost use Rattle.store_sql.specs.Read.{AreCounted, AreReadOf};
 ghost use Rattle.club_opening.specs.Blames.{Blames, NamesTable};
 ghost use Rattle.club_audit.specs.FirstWrong.{IsFirstWrong, order};
@@ -18,7 +20,8 @@ ghost use Rattle.club_opening.specs.Places.{IsMomentOf, IsNoRegister};
 ghost use Rattle.club_opening.specs.RightTables.{IsLater, IsUntyped, NamesPlayed};
 ghost use Rattle.club_opening.specs.Versions.{HasClubTables};
 ghost use Rattle.club_rows.specs.Club.{ClubState};
-ghost use Rattle.club_opening.specs.Examined.{AreGamesFound, IsAfter, IsGameFound, NamesPlay, moves_in, seen_in};
+ghost use Rattle.club_opening.specs.Examined.{AreGamesFound, IsAfter, IsGameFound, IsOneOf, NamesLeft, NamesPlay};
+ghost use Rattle.club_opening.specs.Examined.{moves_in, seen_in};
 
 use crate::fault::OpenFault;
 use crate::read::fault_in;
@@ -62,9 +65,7 @@ fn order_of(table: Table) -> u8
 
 /// The one of two wrong tables that is named first.
 fn first_of(one: Option<Table>, other: Option<Table>) -> Option<Table>
-    ensures none { result ≡ None → (one ≡ None) × (other ≡ None) }
-    ensures some { (t : Table) → result ≡ Some t → (one ≡ Some t) ⊎ (other ≡ Some t) }
-    ensures first { (t u : Table) → result ≡ Some t → (one ≡ Some u) ⊎ (other ≡ Some u) → order t ≤ order u }
+    ensures { IsOneOf one other result }
 {
     let first = match one {
         Some(first) => first,
@@ -83,8 +84,7 @@ fn first_of(one: Option<Table>, other: Option<Table>) -> Option<Table>
 
 /// A table with so many rows that are no game's, which is wrong where there are some.
 fn left_over(count: usize, table: Table) -> Option<Table>
-    ensures none { result ≡ None → count ≡ 0 }
-    ensures some { (t : Table) → result ≡ Some t → (t ≡ table) × (0 < count) }
+    ensures { NamesLeft table count result }
 {
     if count > 0 { Some(table) } else { None }
 }
@@ -142,7 +142,7 @@ fn read_seen<S: Alter>(
 ) -> Result<Option<Vec<SeenRow>>, OpenFault>
     ensures reads { Reads (is_ok result) (state S.Store conn.old) (state S.Store conn.new) }
     ensures rows { HasCleanDisk (state S.Store conn.new) → IfOk result (λ o. IfSome o (λ found.
-        HasClubTables (state S.Store conn.old).now.schema → AreReadOf (tables.seen 12) 2 game.now.id
+        HasClubTables (state S.Store conn.old).now.schema → AreReadOf (standing Seen) 2 game.now.id
         (map seen_cells found.items) (state S.Store conn.old) (state S.Store conn.new))) }
     ensures untyped { HasCleanDisk (state S.Store conn.new) → IfOk result (λ o. o ≡ None →
         HasClubTables (state S.Store conn.old).now.schema →
@@ -214,8 +214,9 @@ fn examine_game<S: Alter>(
     requires at { slice_get rows.now.games.items place ≡ Some game.now }
     ensures reads { Reads (is_ok result) (state S.Store conn.old) (state S.Store conn.new) }
     ensures found { HasCleanDisk (state S.Store conn.new) → IfOk result (λ found.
-        HasClubTables (state S.Store conn.old).now.schema → IsGameFound rows.now last.now place game.now found.own.moves
-        found.own.seen found.wrong (state S.Store conn.old) (state S.Store conn.new)) }
+        HasClubTables (state S.Store conn.old).now.schema →
+        IsUnchanged (state S.Store conn.old) (state S.Store conn.new) × IsGameFound rows.now last.now place game.now
+        found.own.moves found.own.seen found.wrong (state S.Store conn.old).now) }
     ensures blames { HasCleanDisk (state S.Store conn.new) → IfErr result (λ e.
         HasClubTables (state S.Store conn.old).now.schema →
         NamesTable (state S.Store conn.old).now e ⊎ NamesPlay rows.now (state S.Store conn.old).now e) }
@@ -271,7 +272,8 @@ pub(crate) fn examine_games<S: Alter>(
         HasClubTables (state S.Store conn.old).now.schema → IsTrue (state S.Store conn.old).is_open →
         all.moves ≡ length (moves_in (state S.Store conn.old).now.trees) →
         all.seen ≡ length (seen_in (state S.Store conn.old).now.trees) →
-        AreGamesFound rows.now last wrong (state S.Store conn.old) (state S.Store conn.new)) }
+        IsUnchanged (state S.Store conn.old) (state S.Store conn.new) ×
+        AreGamesFound rows.now last wrong (state S.Store conn.old).now) }
     ensures known { IfOk result (λ wrong. wrong ≡ None → known ≡ None) }
     ensures known_after { IfOk result (λ wrong. (u : Table) → IsAfter u wrong → IsAfter u known) }
     ensures blames { HasCleanDisk (state S.Store conn.new) → IfErr result (λ e.

@@ -9,6 +9,8 @@ ghost use Rattle.store_sql.specs.Read.{IsReadAs};
 ghost use Rattle.store_tables.specs.Cells.{IsGame, game_cells};
 ghost use Rattle.store_tables.specs.Reading.{Reads};
 ghost use Rattle.store_tables.specs.Tables.{games};
+ghost use Rattle.store_tables.specs.Tables.{standing};
+ghost use Rattle.store_tables.specs.declared.names.Table.TheVariants.{Games};
 ghost use Rattle.club_opening.specs.Blames.{NamesTable};
 ghost use Rattle.club_opening.specs.KnownGames.{AreGamesKnown, AreJudged, IsJudged, game_seat, known, row_seat};
 ghost use Rattle.club_opening.specs.RightTables.{IsUnheld};
@@ -204,7 +206,7 @@ pub(crate) fn read_games<S: Alter>(
 ) -> Result<GameRows, OpenFault>
     ensures reads { Reads (is_ok result) (state S.Store conn.old) (state S.Store conn.new) }
     ensures rows { HasCleanDisk (state S.Store conn.new) → IfOk result (λ found. found.are_typed ≡ true →
-        HasClubTables (state S.Store conn.old).now.schema → IsReadAs (games 10) 1
+        HasClubTables (state S.Store conn.old).now.schema → IsReadAs (standing Games) 1
         (map game_cells found.games.items) (state S.Store conn.old) (state S.Store conn.new)) }
     ensures known { HasCleanDisk (state S.Store conn.new) → IfOk result (λ found. found.are_typed ≡ false →
         HasClubTables (state S.Store conn.old).now.schema → AreGamesKnown found.games.items

@@ -13,8 +13,11 @@ ghost use Rattle.store_tables.specs.Reading.{IsNoInput, Reads};
 ghost use Rattle.store_tables.specs.Tables.{schema_number, meta, members, events};
 ghost use Rattle.store_tables.specs.Tables.{first_schema};
 ghost use Rattle.store_tables.specs.declared.names.Version.TheVariants.{First, Current};
+ghost use Rattle.store_tables.specs.Tables.{standing};
+ghost use Rattle.store_tables.specs.declared.names.Table.TheVariants.{Meta, Members, Events};
 ghost use Rattle.club_opening.specs.Blames.{IsMetaRead, IsOneMeta, HasTypes, HoldsNone, Blames, Names, NamesTable};
 ghost use Rattle.club_opening.specs.Blames.{AreRead, AreRulesRead, IsNumberFrom, NamesSchema, undeclared_row};
+ghost use Rattle.club_opening.specs.Blames.{ArePeopleRead};
 ghost use Rattle.club_opening.specs.Places.{NamesRows};
 ghost use Rattle.club_opening.specs.RightTables.{NamesFirst, NamesWrong, TellsEvents};
 ghost use Rattle.club_opening.specs.Versions.{HasClubTables, HasEvents, HasTablesOf};
@@ -108,7 +111,7 @@ fn one_meta(shown: &[Row]) -> Result<Option<MetaRow>, OpenFault>
 fn read_meta<S: Alter>(conn: &mut Connection<S>) -> Result<Option<MetaRow>, OpenFault>
     ensures reads { Reads (is_ok result) (state S.Store conn.old) (state S.Store conn.new) }
     ensures some { HasCleanDisk (state S.Store conn.new) → IfOk result (λ o. IfSome o (λ found.
-        HasClubTables (state S.Store conn.old).now.schema → IsReadAs (meta 0) 1 (meta_cells found ∷ [])
+        HasClubTables (state S.Store conn.old).now.schema → IsReadAs (standing Meta) 1 (meta_cells found ∷ [])
         (state S.Store conn.old) (state S.Store conn.new) × (found.id ≡ pos 1))) }
     ensures none { HasCleanDisk (state S.Store conn.new) → IfOk result (λ o. o ≡ None →
         HoldsNone (state S.Store conn.old).now (λ _ content. HasTypes Table.Meta content)) }
@@ -132,7 +135,7 @@ fn read_members<S: Alter>(
 ) -> Result<Vec<MemberRow>, OpenFault>
     ensures reads { Reads (is_ok result) (state S.Store conn.old) (state S.Store conn.new) }
     ensures rows { HasCleanDisk (state S.Store conn.new) → IfOk result (λ found.
-        HasClubTables (state S.Store conn.old).now.schema → IsReadAs (members 1) 1 (map member_cells found.items)
+        HasClubTables (state S.Store conn.old).now.schema → IsReadAs (standing Members) 1 (map member_cells found.items)
         (state S.Store conn.old) (state S.Store conn.new)) }
     ensures are { IfOk result (λ found. (ms : List Member) × AreMembers ms found.items) }
     ensures blames { HasCleanDisk (state S.Store conn.new) → IfErr result (λ e.
@@ -158,7 +161,7 @@ fn read_events<S: Alter>(
 ) -> Result<Vec<EventRow>, OpenFault>
     ensures reads { Reads (is_ok result) (state S.Store conn.old) (state S.Store conn.new) }
     ensures rows { HasCleanDisk (state S.Store conn.new) → IfOk result (λ found.
-        HasClubTables (state S.Store conn.old).now.schema → IsReadAs (events 4) 1 (map event_cells found.items)
+        HasClubTables (state S.Store conn.old).now.schema → IsReadAs (standing Events) 1 (map event_cells found.items)
         (state S.Store conn.old) (state S.Store conn.new)) }
     ensures are { IfOk result (λ found. (es : List Event) × AreEvents es found.items) }
     ensures blames { HasCleanDisk (state S.Store conn.new) → IfErr result (λ e.
@@ -502,10 +505,65 @@ fn read_shaped<S: Alter>(
     }
 }
 
+/// The people of a club, and what tells of them: its members, its events and their rules.
+#[derive(Drop)]
+pub(crate) struct People {
+    pub version: Version,
+    pub meta: MetaRow,
+    pub members: Vec<MemberRow>,
+    pub events: Vec<EventRow>,
+    pub event_rules: Vec<EventRuleRow>,
+}
+
+/// The people of a club, and nothing changed, where its version is taken: from the oldest on. Tables that would not
+/// answer as a club's are refused before their rows are read. The members, the events and their rules are tested as
+/// they are read, so that of tables with wrong rows the first is named.
+fn read_people<S: Alter>(
+    alloc: Global,
+    conn: &mut Connection<S>,
+    oldest: Version,
+) -> Result<People, OpenFault>
+    ensures reads { Reads (is_ok result) (state S.Store conn.old) (state S.Store conn.new) }
+    ensures rows { HasCleanDisk (state S.Store conn.new) → IfOk result (λ people.
+        HasClubTables (state S.Store conn.old).now.schema →
+        ArePeopleRead people (state S.Store conn.old) (state S.Store conn.new)) }
+    ensures shape { IfOk result (λ people. is_of_club people.version (state S.Store conn.old).now.schema ≡ true) }
+    ensures taken { IfOk result (λ people. oldest ≡ Current → people.version ≡ Current) }
+    ensures members { IfOk result (λ people. (ms : List Member) × AreMembers ms people.members.items) }
+    ensures events { IfOk result (λ people. (es : List Event) × AreEvents es people.events.items) }
+    ensures rules { IfOk result (λ people. AreRules people.event_rules.items (length people.events.items)) }
+    ensures blames { HasCleanDisk (state S.Store conn.new) → IfErr result (λ e.
+        HasClubTables (state S.Store conn.old).now.schema → Names oldest (state S.Store conn.old).now e) }
+    ensures first { HasCleanDisk (state S.Store conn.new) → IfErr result (λ e.
+        HasClubTables (state S.Store conn.old).now.schema → NamesFirst (state S.Store conn.old).now e) }
+{
+    let FileHead { version, meta } = match read_shaped(alloc, conn, oldest) {
+        Ok(told) => told,
+        Err(fault) => return Err(fault),
+    };
+    let members = match read_members(alloc, conn) {
+        Ok(members) => members,
+        Err(fault) => return Err(fault),
+    };
+    let events = match read_events(alloc, conn) {
+        Ok(events) => events,
+        Err(fault) => return Err(fault),
+    };
+    match read_rules(alloc, conn, version, &events) {
+        Ok(event_rules) => Ok(People {
+            version,
+            meta,
+            members,
+            events,
+            event_rules,
+        }),
+        Err(fault) => Err(fault),
+    }
+}
+
 /// All rows of a club but those of moves, positions and scores, and nothing changed, where its version is taken: from
-/// the oldest on. Tables that would not answer as a club's are refused before their rows are read. The members, the
-/// events and their rules are tested as they are read, so that of tables with wrong rows the first is named; where a
-/// row of games has a value of another type, the challenges and the moves are tested before the games are named.
+/// the oldest on. Of tables with wrong rows the first is named; where a row of games has a value of another type, the
+/// challenges and the moves are tested before the games are named.
 pub(crate) fn read_rows<S: Alter>(
     alloc: Global,
     conn: &mut Connection<S>,
@@ -527,20 +585,14 @@ pub(crate) fn read_rows<S: Alter>(
     ensures first { HasCleanDisk (state S.Store conn.new) → IfErr result (λ e.
         HasClubTables (state S.Store conn.old).now.schema → NamesFirst (state S.Store conn.old).now e) }
 {
-    let FileHead { version, meta } = match read_shaped(alloc, conn, oldest) {
-        Ok(told) => told,
-        Err(fault) => return Err(fault),
-    };
-    let members = match read_members(alloc, conn) {
-        Ok(members) => members,
-        Err(fault) => return Err(fault),
-    };
-    let events = match read_events(alloc, conn) {
-        Ok(events) => events,
-        Err(fault) => return Err(fault),
-    };
-    let event_rules = match read_rules(alloc, conn, version, &events) {
-        Ok(rules) => rules,
+    let People {
+        version,
+        meta,
+        members,
+        events,
+        event_rules,
+    } = match read_people(alloc, conn, oldest) {
+        Ok(people) => people,
         Err(fault) => return Err(fault),
     };
     let challenges = match read::<ChallengeRow, S>(alloc, conn, Table::Challenges) {

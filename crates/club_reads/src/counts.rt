@@ -18,6 +18,8 @@ ghost use Rattle.store_tables.specs.declared.rows.SeenRow.{SeenRow};
 ghost use Rattle.store_tables.specs.Beside.{HasRows};
 ghost use Rattle.store_tables.specs.Contents.{Content};
 ghost use Rattle.store_tables.specs.Reading.{Reads};
+ghost use Rattle.store_tables.specs.Names.{tree_of};
+ghost use Rattle.store_tables.specs.declared.names.Table.TheVariants.{Scores};
 ghost use Rattle.club_changes.specs.Steps.{TellsSeen, IsSeenAfter, HasTwoPlayers, AreScoresAfter, PutsScores};
 ghost use Rattle.club_changes.specs.Steps.{score_list};
 
@@ -130,7 +132,8 @@ fn score_of<S: Alter>(
 ) -> Result<Option<ScoreRow>, CallFault>
     ensures reads { Reads (is_ok result) (state S.Store conn.old) (state S.Store conn.new) }
     ensures found { HasCleanDisk (state S.Store conn.new) → IfOk result (λ row. (content : Content) →
-        HasRows content (state S.Store conn.old) → score_found (content 14) (pair event member opponent) row) }
+        HasRows content (state S.Store conn.old) →
+        score_found (content (tree_of Scores)) (pair event member opponent) row) }
 {
     let question = pair_of(event, member, opponent);
     let row = first(find(alloc, conn, &question)?);
@@ -149,7 +152,7 @@ pub fn scores_with<S: Alter>(
     ensures reads { Reads (is_ok result) (state S.Store conn.old) (state S.Store conn.new) }
     ensures puts { HasCleanDisk (state S.Store conn.new) → IfOk result (λ pair. (content : Content) →
         HasRows content (state S.Store conn.old) → one ≢ other →
-        PutsScores (content 14) event one other score (score_list (Some pair))) }
+        PutsScores (content (tree_of Scores)) event one other score (score_list (Some pair))) }
 {
     let firsts = score_of(alloc, conn, event, one, other)?;
     let seconds = score_of(alloc, conn, event, other, one)?;
@@ -168,7 +171,7 @@ pub fn scores_by<R: Rules, S: Alter>(
     ensures reads { Reads (is_ok result) (state S.Store conn.old) (state S.Store conn.new) }
     ensures scores { HasCleanDisk (state S.Store conn.new) → IfOk result (λ scores. (content : Content) →
         HasRows content (state S.Store conn.old) → HasTwoPlayers decision.now →
-        AreScoresAfter (content 14) decision.now scores) }
+        AreScoresAfter (content (tree_of Scores)) decision.now scores) }
 {
     let row = match decision {
         Decision::Accepted {

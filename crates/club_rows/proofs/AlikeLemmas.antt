@@ -162,8 +162,7 @@ module _ {P M E T : Type 0} (rules : GameRules P M E T) where
         (subst (λ p. IsLegalLine rules p (map (λ x. x.made) fs))
         (ap (rules.play (last_position rules g)) (sym made) ∙ sym after) other.1)
         (tails-alike (entry_row rules terms id g e) (entry_row rules terms id g f) _ _ is
-        ∙ ap (λ x. entry_rows rules terms id (with_entry g x) fs) (sym same))
-        in
+        ∙ ap (λ x. entry_rows rules terms id (with_entry g x) fs) (sym same)) in
         λ i. same i ∷ rest i
 
     pub games-alike : (g h : Game M) → IsLegalGame rules terms g → IsLegalGame rules terms h
@@ -189,8 +188,7 @@ module _ {P M E T : Type 0} (rules : GameRules P M E T) where
         (subst (λ t. or_null (λ s. Text (score_text s)) (score_with rules (end_with (rule_end rules h) g.outside) t)
         ≡ or_null (λ s. Text (score_text s)) (result_of rules h)) turn
         (subst (λ e. or_null (λ s. Text (score_text s)) (score_with rules (end_with e g.outside) (turn_of rules g))
-        ≡ or_null (λ s. Text (score_text s)) (result_of rules h)) ruled p.p13))
-        in
+        ≡ or_null (λ s. Text (score_text s)) (result_of rules h)) ruled p.p13)) in
         let offer : g.offer ≡ h.offer = offers-alike g.offer h.offer p.p10 p.p11 in
         let event : g.event ≡ h.event = numbers-alike _ _ p.p2 in
         let first : g.first ≡ h.first = numbers-alike _ _ p.p3 in
@@ -201,8 +199,7 @@ module _ {P M E T : Type 0} (rules : GameRules P M E T) where
           first = first i;
           second = second i;
           start = start i;
-          entries =
-              entries i;
+          entries = entries i;
           offer = offer i;
           outside = outside i;
         }

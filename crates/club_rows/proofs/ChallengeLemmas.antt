@@ -7,8 +7,6 @@ use Rattle.std.proofs.lemmas.Option.{same_Some}
 use Rattle.sqlite.specs.Values.{or_null}
 use Rattle.sqlite.specs.Order.{Row, column}
 use Rattle.sqlite_rules.specs.Lists.{Has}
-use Rattle.club_rules.specs.declared.names.GameKind.{GameKind}
-use Rattle.club_rules.specs.declared.names.GameKind.TheVariants.{Draughts, Shogi}
 use Rattle.club_core.specs.ClubRules.{ClubRules}
 use Rattle.club_core.specs.declared.challenges.Challenge.{Challenge}
 use Rattle.club_core.specs.declared.challenges.ChallengeState.{ChallengeState}
@@ -16,8 +14,7 @@ use Rattle.club_core.specs.declared.challenges.ChallengeState.TheVariants.{Open,
 use Rattle.club_core.specs.Challenges.{goes_by, is_under, challenge_under, put_challenge}
 use Rattle.club_core.specs.LegalState.{AreApart}
 use Rattle.club_core.specs.declared.seats.Pairing.{Pairing}
-use Rattle.club_core.specs.State.{State, AnyGame, place, kind_at, seated_as, with_challenge, with_answer, with_imported}
-use Rattle.club_core.specs.State.{challenge_game}
+use Rattle.club_core.specs.State.{State, place, kind_at, seated_as, with_imported}
 use Rattle.club_laws.proofs.Proved.{under-key, key-under, under-at, under-found, under-each, under-put, got-put}
 use Rattle.club_laws.proofs.Proved.{apart-put}
 use Rattle.store_tables.specs.Cells.{challenge_cells}
@@ -27,7 +24,6 @@ use Rattle.store_tables.specs.Contents.{AreThose}
 use Rattle.store_tables.specs.declared.rows.ChallengeRow.{ChallengeRow}
 use Rattle.store_tables.proofs.Proved.{altered, unaltered}
 use Rattle.club_rows.specs.ChallengeRows.{IsChallengeFound, challenge_key}
-use Rattle.club_rows.specs.Scores.{meetings_in}
 use Rattle.club_rows.specs.Tables.{number, first_number, standing_number, game_started, challenge_row, rows_of_seen}
 use Rattle.club_rows.specs.Tables.{tables_of}
 use Rattle.club_rows.proofs.AlikeLemmas.{heads-alike, tails-alike, numbers-alike}
@@ -86,8 +82,7 @@ challenges-alike c d is =
       event = event i;
       other = other i;
       first = first i;
-      standing =
-          standing i;
+      standing = standing i;
     }
 
 -- lists of challenges with the same rows are one
@@ -261,61 +256,9 @@ no-challenge-told cs member own_number none = here (challenge_under cs member ow
         (keys-agree (challenge_row c) (challenge_key member own_number) member own_number (ap number member_is)
         (ap number own_is) refl refl))
 
--- ---- the other tables, and the game that an answer starts
+-- ---- the game that an answer starts
 
 module _ {DP DM DE DT SP SM SE ST : Type 0} (kinds : ClubRules DP DM DE DT SP SM SE ST) where
-  -- a challenge that is put changes its own table and that of the last moment, and no other
-  pub record LeavesOtherTables (s new : State DM SM) : Type 0 where
-    pub members_stay : tables_of kinds new 1 ≡ tables_of kinds s 1
-    pub events_stay : tables_of kinds new 4 ≡ tables_of kinds s 4
-    pub rules_stay : tables_of kinds new 16 ≡ tables_of kinds s 16
-    pub moves_stay : tables_of kinds new 8 ≡ tables_of kinds s 8
-    pub games_stay : tables_of kinds new 10 ≡ tables_of kinds s 10
-    pub seen_stays : tables_of kinds new 12 ≡ tables_of kinds s 12
-    pub scores_stay : tables_of kinds new 14 ≡ tables_of kinds s 14
-
-  pub challenge-leaves : (s : State DM SM) (moment : ℕ) (c : Challenge)
-      → LeavesOtherTables s (with_challenge s moment c)
-  challenge-leaves s moment c =
-      record {
-        members_stay = refl;
-        events_stay = refl;
-        rules_stay = refl;
-        moves_stay = refl;
-        games_stay = refl;
-        seen_stays =
-            refl;
-        scores_stay = refl;
-      }
-
-  -- an accepted answer changes the table of challenges as any challenge that is put, and the others as a game that is
-  -- added
-  pub record AnswersBeside (s new : State DM SM) (game : AnyGame DM SM) (c : Challenge) (moment : ℕ) : Type 0 where
-    pub challenges_as : tables_of kinds new 6 ≡ map challenge_row (put_challenge s.challenges c)
-    pub others_as : LeavesOtherTables (with_imported s moment game) new
-
-  pub answer-beside : (s : State DM SM) (moment : ℕ) (c : Challenge)
-      → AnswersBeside s (with_answer s moment true c) (challenge_game s moment c) c moment
-  answer-beside s moment c =
-      record {
-        challenges_as = refl;
-        others_as =
-            challenge-leaves (with_imported s moment (challenge_game s moment c)) moment c;
-      }
-
-  -- The positions and the scores of a game that was just seated are the same under any key and under none, and it has
-  -- no moves.
-  pub seated-seen : (kind : GameKind) (key other : Option (List ℕ)) (pairing : Pairing) (moment id : ℕ)
-      → rows_of_seen kinds id (seated_as kind key pairing moment) ≡
-      rows_of_seen kinds id (seated_as kind other pairing moment)
-  seated-seen Draughts key other pairing moment id = refl
-  seated-seen Shogi key other pairing moment id = refl
-
-  pub seated-meetings : (kind : GameKind) (key other : Option (List ℕ)) (pairing : Pairing) (moment : ℕ)
-      → meetings_in kinds (seated_as kind key pairing moment) ≡ meetings_in kinds (seated_as kind other pairing moment)
-  seated-meetings Draughts key other pairing moment = refl
-  seated-meetings Shogi key other pairing moment = refl
-
   -- a game that was just seated under a key or under none adds the row of its opening
   pub seated-added : (s : State DM SM) (key : Option (List ℕ)) (pairing : Pairing) (moment : ℕ) (row : Row)
       → rows_of_seen kinds (1 + length s.games) (seated_as (kind_at (place s.events pairing.event)) key pairing moment)

@@ -79,8 +79,7 @@ events-alike id d e is ruled =
     let increment = numbers-alike _ _ (heads-alike _ _ _ _ (tails-alike _ _ _ _ three)) in
     let declares : d.terms.declares ≡ e.terms.declares =
     declares-alike d.terms.declares e.terms.declares
-    (numbers-alike _ _ (heads-alike _ _ _ _ (tails-alike _ _ _ _ ruled)))
-    in
+    (numbers-alike _ _ (heads-alike _ _ _ _ (tails-alike _ _ _ _ ruled))) in
     λ i. record {
       name = name i;
       game = game i;
@@ -187,8 +186,7 @@ module _ {DP DM DE DT SP SM SE ST : Type 0} (kinds : ClubRules DP DM DE DT SP SM
         let tail : xs ≡ ys =
         all-alike (suc id) xs ys (λ n z at. these (suc n) z at) (λ n z at. those (suc n) z at)
         (tails-alike (row id x) (row id y) _ _ is)
-        (backs-alike (rows id x) (rows id y) _ _ long moves)
-        in
+        (backs-alike (rows id x) (rows id y) _ _ long moves) in
         λ i. head i ∷ tail i
 
   stands-draughts : (s : State DM SM) (g : Game DM) → IsGameOf kinds.draughts Draughts s g
@@ -218,7 +216,6 @@ module _ {DP DM DE DT SP SM SE ST : Type 0} (kinds : ClubRules DP DM DE DT SP SM
       all-alike s.events 1 s.games t.games (all-stand s this)
       (subst (λ es. Each (Stands es) t.games) (sym events) (all-stand t that))
       (same 10 ∙ ap (λ es. numbered_from (row_of_game kinds es) 1 t.games) (sym events))
-      (same 8 ∙ ap (λ es. gathered_from (rows_of_moves kinds es) 1 t.games) (sym events))
-      in
+      (same 8 ∙ ap (λ es. gathered_from (rows_of_moves kinds es) 1 t.games) (sym events)) in
       let challenges : s.challenges ≡ t.challenges = challenge-rows-alike s.challenges t.challenges (same 6) in
       λ i. record { last = last i; members = members i; events = events i; games = games i; challenges = challenges i }

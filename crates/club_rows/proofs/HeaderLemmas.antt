@@ -82,8 +82,7 @@ module _ {P M E T : Type 0} (rules : GameRules P M E T) where
               id = same-int _ _ p.p0;
               event = same-int _ _ p.p2;
               first = same-int _ _ p.p3;
-              second =
-                  same-int _ _ p.p4;
+              second = same-int _ _ p.p4;
               start = same-int _ _ p.p5;
             };
         key = same-texts (λ s. string_bytes s) (λ s. s) stored.key game.key p.p1 ∙ option_map-itself game.key;

@@ -1,6 +1,6 @@
 -- What is shown of a game that was replayed, where its row stands.
-use Rattle.std.proofs.Common.{◌≡◌, ℕ, ◌<◌, ◌≤◌, ◌^◌, List, [], length, map, take, Option, Some, None, false, ◌&&◌}
-use Rattle.std.proofs.Common.{refl, ap, sym, ◌∙◌, subst, subst₂, arith, pos, inl, inr}
+use Rattle.std.proofs.Common.{◌≡◌, ℕ, ◌<◌, ◌≤◌, ◌^◌, List, [], length, map, take, Option, Some, None, false, ◌&&◌, refl}
+use Rattle.std.proofs.Common.{ap, sym, ◌∙◌, subst, subst₂, arith, pos, inl, inr}
 use Rattle.std.specs.Prelude.{is_some, IsSome, IfSome, IsTrue}
 use Rattle.std.proofs.Math.Seq.{take-length}
 use Rattle.club_rules.specs.GameRules.{GameRules}
@@ -17,8 +17,8 @@ use Rattle.store_tables.specs.declared.rows.MoveRow.{MoveRow}
 use Rattle.club_rows.specs.Tables.{game_row}
 use Rattle.club_rows.specs.Replay.{WasReplayed, IsPlayedAs, Replays, game_from}
 use Rattle.club_rows.specs.Tally.{IsTallyOf}
-use Rattle.club_rows.specs.LegalRows.{AreMovesOf, IsHistoryOf, AreRowsOf, IsUnstarted, IsWrongAsTold, ShowsGame}
-use Rattle.club_rows.specs.LegalRows.{IsSoundIfShown, StandsAs}
+use Rattle.club_rows.specs.LegalRows.{AreMovesOf, IsHistoryOf, AreRowsOf, IsWrongAsTold, ShowsGame, IsSoundIfShown}
+use Rattle.club_rows.specs.LegalRows.{StandsAs}
 use Rattle.club_rows.specs.GameHeader.{HasNumbers, AreIds, IsHeaderOf, game_of_header, may_declare}
 use Rattle.club_rows.specs.declared.replay.Replayed.{Replayed}
 use Rattle.club_rows.specs.declared.view.Numbers.{Numbers}
@@ -40,8 +40,7 @@ games-are a b key event first second start entries offer outside =
       first = first i;
       second = second i;
       start = start i;
-      entries =
-          entries i;
+      entries = entries i;
       offer = offer i;
       outside = outside i;
     }
@@ -119,8 +118,7 @@ module _ {R P M E T : Type 0} (rules : GameRules P M E T) (terms : Terms) (store
         row = stands.2 terms shown_game row-of;
         moves =
             ap (map move_cells) (sym (take-length moves))
-            ∙
-            (known.was.played.moves ∙ rows-alike rules terms given.game (game_from given.start [])
+            ∙ (known.was.played.moves ∙ rows-alike rules terms given.game (game_from given.start [])
             (record shown_game { entries = [] }) known.was.entries (sym start-is) refl);
       } in (
         given.game,
@@ -237,23 +235,6 @@ module _ {P M E T : Type 0} (rules : GameRules P M E T) (terms : Terms) (stored 
         was.played;
   })
 
--- with a row that has no id, or no start, only a game without moves goes
-pub unstarted-wrong : {R P M E T : Type 0} (rules : GameRules P M E T) (terms : Terms) (stored : GameRecord)
-    (moves : List MoveRow) → ((id start : ℕ) → stored.id ≡ pos id → stored.start ≡ pos start → id < 2 ^ 32
-    → start ≤ 253402300799 → ⊥) → (s : CheckedRows R P M E T) → IsUnstarted moves s
-    → IsWrongAsTold rules terms stored moves s
-unstarted-wrong rules terms stored moves never (shown.Game v) is = tt
-unstarted-wrong rules terms stored moves never shown.WrongMoves some = λ are. elim are [
-  | inl empty ↦ some empty
-  | inr have ↦ never have.id have.start have.id_is have.start_is have.short have.within
-]
-unstarted-wrong rules terms stored moves never shown.WrongGame empty = (
-  inl empty,
-  λ id game are.
-      let told = columns-told rules terms id game stored are.row in
-      never id game.start told.numbers.id told.numbers.start are.fits.id are.fits.start,
-)
-
 -- of what was shown after a replay nothing but the row can be wrong
 pub told-wrong : {R P M E T : Type 0} (rules : GameRules P M E T) (terms : Terms) (stored : GameRecord)
     (moves : List MoveRow) → AreMovesOf rules terms stored moves → (s : CheckedRows R P M E T)
@@ -284,6 +265,5 @@ row-wrong rules terms stored moves none id game is =
       event = is.fits.event;
       first = is.fits.first;
       second = is.fits.second;
-      start =
-          is.fits.start;
+      start = is.fits.start;
     }) told.numbers

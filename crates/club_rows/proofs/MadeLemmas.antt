@@ -17,8 +17,7 @@ made-last rules laws terms id game m moment reply line is =
     ap (λ r. made_row id r moment) (same-moved reply _ shown) in
     rows-append rules terms id (record game { entries = []; offer = None }) game.entries
     (record { made = m; moment = moment })
-    ∙
-    (ap (λ rs. rs ++ entry_row rules terms id game (record { made = m; moment = moment }) ∷ [])
+    ∙ (ap (λ rs. rs ++ entry_row rules terms id game (record { made = m; moment = moment }) ∷ [])
     (rows-alike rules terms id (record game { entries = []; offer = None }) (record game { entries = [] })
     game.entries refl refl)
     ∙ ap (λ r. move_rows rules terms id game ++ r ∷ []) (sym row))

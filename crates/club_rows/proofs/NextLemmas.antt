@@ -129,8 +129,7 @@ module _ {R P M E T : Type 0} (rules : GameRules P M E T) (laws : AreRules rules
         ply_is = parts.b_is ∙ ap (λ n. pos (n + 1)) (sym count-is);
         text_is = parts.c_is ∙ ap (λ p. rules.write_move p e.made) (sym is.position);
         position_is = parts.f_is
-            ∙
-            (ap rules.write_position (after-is e) ∙ ap (λ p. rules.write_position (rules.play p e.made))
+            ∙ (ap rules.write_position (after-is e) ∙ ap (λ p. rules.write_position (rules.play p e.made))
             (sym is.position));
       }
 

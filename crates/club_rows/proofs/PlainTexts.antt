@@ -71,8 +71,7 @@ digits-plain (suc k) n after plain = by (nat_eq (n / 10) 0)
     (digits-plain k (n / 10) (digit_glyph false (n % 10) ∷ after) (digit-low n, plain))
   where
     by : (b : Bool) → Plain (digits_onto k 10 false (n / 10) (digit_glyph false (n % 10) ∷ after))
-        →
-        Plain
+        → Plain
         (cond b (digit_glyph false (n % 10) ∷ after)
         (digits_onto k 10 false (n / 10) (digit_glyph false (n % 10) ∷ after)))
     by true rest = (digit-low n, plain)

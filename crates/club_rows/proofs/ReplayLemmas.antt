@@ -6,14 +6,14 @@ use Rattle.squares.specs.declared.sides.Side.{Side}
 use Rattle.squares.specs.declared.sides.Side.TheVariants.{First, Second}
 use Rattle.squares.specs.Sides.{other}
 use Rattle.club_rules.specs.GameRules.{GameRules}
-use Rattle.club_rules.specs.Laws.{SamePositionIs, TextsTellPositions, TracksTellEnds, NumbersAreFew}
+use Rattle.club_rules.specs.Laws.{SamePositionIs, TextsTellPositions}
 use Rattle.club_rules.specs.Line.{IsPlayedLine, line_track, position_after}
 use Rattle.club_rules.proofs.Proved.{position_after-append, IsLegalLine-append}
 use Rattle.club_core.proofs.Proved.{line_track-append, IsPlayedLine-append, IsPlayedLine-none}
 use Rattle.club_rows.specs.declared.replay.Replayed.{Replayed}
 use Rattle.club_rows.specs.Tally.{IsTallyOf, HasStood, PositionText, same_text, seen_at, stood_then, stood_seldom}
-use Rattle.club_rows.specs.Replay.{IsCounted, IsReplayed, left_in}
-use Rattle.club_rows.proofs.TallyLemmas.{few-seldom, last-stood, stood-then, tally-more}
+use Rattle.club_rows.specs.Replay.{IsReplayed, left_in}
+use Rattle.club_rows.proofs.TallyLemmas.{few-seldom, stood-then, tally-more}
 
 -- a bound that both clocks keep, when one gains the increment at most
 rooms : {R P M E T : Type 0} (old new : Replayed R P M E T) (turn : Side) (increment bound more : ℕ)
@@ -23,25 +23,7 @@ rooms : {R P M E T : Type 0} (old new : Replayed R P M E T) (turn : Side) (incre
 rooms old new First increment bound more room first second mover rest = (omega arith, omega arith)
 rooms old new Second increment bound more room first second mover rest = (omega arith, omega arith)
 
--- the numbers of a line's track can grow
-pub few-numbers : {P M E T : Type 0} (rules : GameRules P M E T) → NumbersAreFew rules → (track : T) (ms : List M)
-    → track ≡ line_track rules rules.start ms → length ms < 600 → ((rules.track_numbers track).0 < 4294967295)
-    × ((rules.track_numbers track).1 < 4294967295)
-few-numbers rules few track ms is low =
-    let bound = few ms in
-    rw is (omega (arith, bound.0, low), omega (arith, bound.1, low))
-
 module _ {R P M E T : Type 0} (rules : GameRules P M E T) where
-  -- the end of what was replayed, by its track and by how its last position stood
-  pub end-told : TracksTellEnds rules → (game : Replayed R P M E T) → IsPlayedLine rules rules.start game.line.items
-      → game.position ≡ position_after rules rules.start game.line.items → IsCounted rules game
-      → rules.track_end game.track game.position (length game.line.items) game.stood.times game.stood.first_ply
-      ≡ rules.judge rules.start game.line.items
-  end-told tell game played position counted =
-      let last = last-stood rules game.line.items game.stood counted.stood in
-      (λ i. rules.track_end (counted.track i) (position i) (length game.line.items) (last.0 i) game.stood.first_ply)
-      ∙ tell game.line.items game.stood.first_ply played last.1
-
   -- the move leads to a text, a track, a tally and a count of the new position
   pub record Counts (old new : Replayed R P M E T) (made : M) (position : P) (text : PositionText) : Type 0 where
     pub text_is : string_bytes text ≡ rules.write_position (rules.play old.position made)

@@ -1,6 +1,6 @@
 -- What a game's row alone shows of it, and what the rows of one ply show of that ply.
-use Rattle.std.proofs.Common.{◌≡◌, ℕ, zero, suc, pos, ◌-◌, ◌<◌, ◌≤◌, ◌^◌, List, [], ◌∷◌, length, map}
-use Rattle.std.proofs.Common.{Option, Some, None, Result, Ok, true, false, refl, ap, sym, subst, ◌∙◌, arith}
+use Rattle.std.proofs.Common.{◌≡◌, ℕ, zero, suc, pos, ◌-◌, ◌<◌, ◌≤◌, ◌^◌, List, [], ◌∷◌, length, map, Option, Some}
+use Rattle.std.proofs.Common.{None, Result, Ok, true, false, refl, ap, sym, subst, ◌∙◌, arith}
 use Rattle.std.specs.Prelude.{string_bytes, slice_get, is_some, IsSome, IfSome}
 use Rattle.std.specs.Option.{option_map}
 use Rattle.std.proofs.lemmas.List.{length-map, take-map}
@@ -86,8 +86,7 @@ module _ {P M E T : Type 0} (rules : GameRules P M E T) (terms : Terms) (id : �
         since = same-int _ _ p.p6;
         plies = same-int _ _ p.p7;
         left_first = same-int _ _ p.p8;
-        left_second =
-            same-int _ _ p.p9;
+        left_second = same-int _ _ p.p9;
         track_first = same-int _ _ p.p15;
         track_second = same-int _ _ p.p16;
       }
@@ -192,8 +191,7 @@ module _ {P M E T : Type 0} (rules : GameRules P M E T) (terms : Terms) (id : �
       )
 
   pub clocks-are : (counts : GameProgress) → HasCounts stored counts
-      →
-      ◌≡◌ {A = Clocks}
+      → ◌≡◌ {A = Clocks}
       (record { left_first = counts.left_first; left_second = counts.left_second; since = counts.since })
       (clocks_of game terms)
   clocks-are counts has = let same = counts-same counts has in

@@ -1,15 +1,13 @@
 -- Rows of the table of games with the same values, column by column.
-use Rattle.std.proofs.Common.{◌≡◌, ℕ, List, [], ◌∷◌, Option, Some, None, refl, ap, sym, ◌∙◌}
+use Rattle.std.proofs.Common.{◌≡◌, ℕ, List, [], ◌∷◌, Option, Some, None, refl, ap}
 use Rattle.std.specs.Prelude.{ℤ, string_bytes}
 use Rattle.std.specs.Option.{option_map}
 use Rattle.sqlite_value.specs.declared.value.Value.{Value}
 use Rattle.sqlite_value.specs.declared.value.Value.TheVariants.{Int, Text}
 use Rattle.sqlite.specs.Values.{or_null}
 use Rattle.sqlite.specs.Order.{Row}
-use Rattle.store_tables.specs.Cells.{game_cells}
 use Rattle.store_tables.specs.declared.rows.GameRecord.{GameRecord}
 use Rattle.club_rows.specs.Records.{HaveSameIds, HaveSameCounts}
-use Rattle.club_rows.proofs.RowLemmas.{or_null-same}
 
 pub record AreSeventeen
     (v0 v1 v2 v3 v4 v5 v6 v7 v8 v9 v10 v11 v12 v13 v14 v15 v16 w0 w1 w2 w3 w4 w5 w6 w7 w8 w9 w10 w11 w12 w13 w14 w15
@@ -53,8 +51,7 @@ seventeen-parts v0 v1 v2 v3 v4 v5 v6 v7 v8 v9 v10 v11 v12 v13 v14 v15 v16 w0 w1 
       p8 = cc;
       p9 = cc;
       p10 = cc;
-      p11 =
-          cc;
+      p11 = cc;
       p12 = cc;
       p13 = cc;
       p14 = cc;
@@ -96,55 +93,3 @@ pub record AreSame (one other : GameRecord) : Type 0 where
   pub end : option_map (λ s. string_bytes s) one.end ≡ option_map (λ s. string_bytes s) other.end
   pub result : option_map (λ s. string_bytes s) one.result ≡ option_map (λ s. string_bytes s) other.result
   pub position : string_bytes one.position ≡ string_bytes other.position
-
-pub same-cells : (one other : GameRecord) → AreSame one other → game_cells one ≡ game_cells other
-same-cells one other same =
-    let int = λ (z w : ℤ) (e : z ≡ w). ap (λ (x : ℤ). Int x) e in
-    let id = int _ _ same.ids.id in
-    let key = or_null-same Text (λ s. string_bytes s) (λ s. string_bytes s) one.key other.key same.key in
-    let event = int _ _ same.ids.event in
-    let first = int _ _ same.ids.first in
-    let second = int _ _ same.ids.second in
-    let start = int _ _ same.counts.start in
-    let since = int _ _ same.counts.since in
-    let plies = int _ _ same.counts.plies in
-    let left1 = int _ _ same.counts.left1 in
-    let left2 = int _ _ same.counts.left2 in
-    let side = ap (or_null Int) same.ids.offer_side in
-    let ply = ap (or_null Int) same.ids.offer_ply in
-    let end = or_null-same Text (λ s. string_bytes s) (λ s. string_bytes s) one.end other.end same.end in
-    let result = or_null-same Text (λ s. string_bytes s) (λ s. string_bytes s) one.result other.result same.result in
-    let position = ap (λ (t : List ℕ). Text t) same.position in
-    let a = int _ _ same.counts.track_a in
-    let b = int _ _ same.counts.track_b in
-    λ i. id i ∷ key i ∷ event i ∷ first i ∷ second i ∷ start i ∷ since i ∷ plies i ∷ left1 i ∷ left2 i ∷ side i ∷ ply i
-    ∷ end i ∷ result i ∷ position i ∷ a i ∷ b i ∷ []
-
-pub cells-same : (one other : GameRecord) → game_cells one ≡ game_cells other → AreSame one other
-cells-same one other is =
-    let p = seventeen-parts _ _ _ _ _ _ _ _ _ _ _ _ _ _ _ _ _ _ _ _ _ _ _ _ _ _ _ _ _ _ _ _ _ _ is in
-    record {
-      ids = record {
-        id = same-int _ _ p.p0;
-        event = same-int _ _ p.p2;
-        first = same-int _ _ p.p3;
-        second = same-int _ _ p.p4;
-        offer_side = sym (option_map-itself one.offer_side)
-            ∙ (same-ints (λ z. z) (λ z. z) one.offer_side other.offer_side p.p10 ∙ option_map-itself other.offer_side);
-        offer_ply = sym (option_map-itself one.offer_ply)
-            ∙ (same-ints (λ z. z) (λ z. z) one.offer_ply other.offer_ply p.p11 ∙ option_map-itself other.offer_ply);
-      };
-      counts = record {
-        start = same-int _ _ p.p5;
-        since = same-int _ _ p.p6;
-        plies = same-int _ _ p.p7;
-        left1 = same-int _ _ p.p8;
-        left2 = same-int _ _ p.p9;
-        track_a = same-int _ _ p.p15;
-        track_b = same-int _ _ p.p16;
-      };
-      key = same-texts (λ s. string_bytes s) (λ s. string_bytes s) one.key other.key p.p1;
-      end = same-texts (λ s. string_bytes s) (λ s. string_bytes s) one.end other.end p.p12;
-      result = same-texts (λ s. string_bytes s) (λ s. string_bytes s) one.result other.result p.p13;
-      position = same-bytes _ _ p.p14;
-    }

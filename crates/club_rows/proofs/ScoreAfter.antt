@@ -1,6 +1,6 @@
 -- The rows of two players after one more game, from the sums of the rows that were found.
 use Rattle.std.proofs.Common.{◌≡◌, ◌≢◌, ℕ, ◌+◌, ◌<◌, ◌≤◌, ◌^◌, List, [], ◌∷◌, ◌++◌, length, Bool, true, false, cond}
-use Rattle.std.proofs.Common.{Option, Some, None, pos, FitsSigned, w64, ap, sym, subst, ◌∙◌, arith, inl, inr}
+use Rattle.std.proofs.Common.{Option, Some, None, pos, refl, FitsSigned, w64, ap, sym, subst, ◌∙◌, arith, inl, inr}
 use Rattle.std.specs.Prelude.{count_by}
 use Rattle.std.proofs.lemmas.Bool.{cases_Bool, cases_lt}
 use Rattle.std.proofs.lemmas.List.Sums.{sum_by-append, count_by-le-length}
@@ -55,35 +55,27 @@ module _ (test : OwnScore → Bool) where
       let one : count_by test (own ∷ []) ≡ cond (test own) 1 0 = omega arith in
       omega (arith, whole, head, parts, one)
 
+-- the numbers that a score adds
+gained_by : (left right : List OwnScore) (own : OwnScore) (p w d l : ℕ) → cond (is_win own) 1 0 ≡ w
+    → cond (is_draw own) 1 0 ≡ d → cond (is_loss own) 1 0 ≡ l → w + w + d ≡ p
+    → plus_sums (sums_over (left ++ right)) (record { points = pos p; wins = pos w; draws = pos d; losses = pos l })
+    ≡ sums_over (left ++ (own ∷ right))
+gained_by left right own p w d l won drawn lost both =
+    let more_wins = more is_win left right own in
+    let more_draws = more is_draw left right own in
+    let more_losses = more is_loss left right own in
+    let ps : points (left ++ right) + p ≡ points (left ++ (own ∷ right)) =
+    omega (arith, more_wins, more_draws, won, drawn, both) in
+    let ws : wins (left ++ right) + w ≡ wins (left ++ (own ∷ right)) = omega (arith, more_wins, won) in
+    let ds : draws (left ++ right) + d ≡ draws (left ++ (own ∷ right)) = omega (arith, more_draws, drawn) in
+    let ls : losses (left ++ right) + l ≡ losses (left ++ (own ∷ right)) = omega (arith, more_losses, lost) in
+    λ i. record { points = pos (ps i); wins = pos (ws i); draws = pos (ds i); losses = pos (ls i) }
+
 pub gained : (left right : List OwnScore) (own : OwnScore)
     → plus_sums (sums_over (left ++ right)) (gains_of own) ≡ sums_over (left ++ (own ∷ right))
-gained left right Won =
-    let w = more is_win left right Won in
-    let d = more is_draw left right Won in
-    let l = more is_loss left right Won in
-    let p : points (left ++ right) + 2 ≡ points (left ++ (Won ∷ right)) = omega (arith, w, d) in
-    let ww : wins (left ++ right) + 1 ≡ wins (left ++ (Won ∷ right)) = omega (arith, w) in
-    let dd : draws (left ++ right) + 0 ≡ draws (left ++ (Won ∷ right)) = omega (arith, d) in
-    let ll : losses (left ++ right) + 0 ≡ losses (left ++ (Won ∷ right)) = omega (arith, l) in
-    λ i. record { points = pos (p i); wins = pos (ww i); draws = pos (dd i); losses = pos (ll i) }
-gained left right Drew =
-    let w = more is_win left right Drew in
-    let d = more is_draw left right Drew in
-    let l = more is_loss left right Drew in
-    let p : points (left ++ right) + 1 ≡ points (left ++ (Drew ∷ right)) = omega (arith, w, d) in
-    let ww : wins (left ++ right) + 0 ≡ wins (left ++ (Drew ∷ right)) = omega (arith, w) in
-    let dd : draws (left ++ right) + 1 ≡ draws (left ++ (Drew ∷ right)) = omega (arith, d) in
-    let ll : losses (left ++ right) + 0 ≡ losses (left ++ (Drew ∷ right)) = omega (arith, l) in
-    λ i. record { points = pos (p i); wins = pos (ww i); draws = pos (dd i); losses = pos (ll i) }
-gained left right Lost =
-    let w = more is_win left right Lost in
-    let d = more is_draw left right Lost in
-    let l = more is_loss left right Lost in
-    let p : points (left ++ right) + 0 ≡ points (left ++ (Lost ∷ right)) = omega (arith, w, d) in
-    let ww : wins (left ++ right) + 0 ≡ wins (left ++ (Lost ∷ right)) = omega (arith, w) in
-    let dd : draws (left ++ right) + 0 ≡ draws (left ++ (Lost ∷ right)) = omega (arith, d) in
-    let ll : losses (left ++ right) + 1 ≡ losses (left ++ (Lost ∷ right)) = omega (arith, l) in
-    λ i. record { points = pos (p i); wins = pos (ww i); draws = pos (dd i); losses = pos (ll i) }
+gained left right Won = gained_by left right Won 2 1 0 0 refl refl refl refl
+gained left right Drew = gained_by left right Drew 1 0 1 0 refl refl refl refl
+gained left right Lost = gained_by left right Lost 0 0 0 1 refl refl refl refl
 
 -- the row of the sums with one score more
 pub next_row : (before new after : List Meeting) (pair : Pair) (own : OwnScore) (found : Option ScoreRow)
@@ -111,40 +103,23 @@ scores_few pair (m ∷ ms) = elim (cases_Bool (same_pair m.pair pair)) [
 fits : (n : ℕ) → n < 2 ^ 63 → FitsSigned w64 (pos n)
 fits n low = record { sfits = low }
 
+fit_by : (ss : List OwnScore) (p w d l : ℕ) → p ≤ 2 → w ≤ 1 → d ≤ 1 → l ≤ 1 → length ss < 2 ^ 61
+    → Fit (plus_sums (sums_over ss) (record { points = pos p; wins = pos w; draws = pos d; losses = pos l }))
+fit_by ss p w d l few_points few_wins few_draws few_losses low =
+    let won = count_by-le-length is_win ss in
+    let drawn = count_by-le-length is_draw ss in
+    let lost = count_by-le-length is_loss ss in
+    record {
+      points = fits _ (omega (arith, won, drawn, few_points));
+      wins = fits _ (omega (arith, won, few_wins));
+      draws = fits _ (omega (arith, drawn, few_draws));
+      losses = fits _ (omega (arith, lost, few_losses));
+    }
+
 pub fit : (ss : List OwnScore) (own : OwnScore) → length ss < 2 ^ 61 → Fit (plus_sums (sums_over ss) (gains_of own))
-fit ss Won low =
-    let w = count_by-le-length is_win ss in
-    let d = count_by-le-length is_draw ss in
-    let l = count_by-le-length is_loss ss in
-    record {
-      points = fits _ (omega (arith, w, d));
-      wins = fits _ (omega (arith, w));
-      draws =
-          fits _ (omega (arith, d));
-      losses = fits _ (omega (arith, l));
-    }
-fit ss Drew low =
-    let w = count_by-le-length is_win ss in
-    let d = count_by-le-length is_draw ss in
-    let l = count_by-le-length is_loss ss in
-    record {
-      points = fits _ (omega (arith, w, d));
-      wins = fits _ (omega (arith, w));
-      draws =
-          fits _ (omega (arith, d));
-      losses = fits _ (omega (arith, l));
-    }
-fit ss Lost low =
-    let w = count_by-le-length is_win ss in
-    let d = count_by-le-length is_draw ss in
-    let l = count_by-le-length is_loss ss in
-    record {
-      points = fits _ (omega (arith, w, d));
-      wins = fits _ (omega (arith, w));
-      draws =
-          fits _ (omega (arith, d));
-      losses = fits _ (omega (arith, l));
-    }
+fit ss Won low = fit_by ss 2 1 0 0 (omega arith) (omega arith) (omega arith) (omega arith) low
+fit ss Drew low = fit_by ss 1 0 1 0 (omega arith) (omega arith) (omega arith) (omega arith) low
+fit ss Lost low = fit_by ss 0 0 0 1 (omega arith) (omega arith) (omega arith) (omega arith) low
 
 -- sums that do not fit are those of very many games
 pub unfit_many : (ms : List Meeting) (pair : Pair) (own : OwnScore) (found : Option ScoreRow)

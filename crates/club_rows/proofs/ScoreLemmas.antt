@@ -1,6 +1,5 @@
 -- The rows of scores of a club, as its games change: what is offered to the crates above.
-use Rattle.std.proofs.Common.{◌≡◌, ◌≢◌, ℕ, pos, List, [], ◌∷◌, ◌++◌, Option, Some, None, true, refl, ap, sym, subst}
-use Rattle.std.proofs.Common.{subst₂, ◌∙◌}
+use Rattle.std.proofs.Common.{◌≡◌, ℕ, pos, List, [], ◌∷◌, ◌++◌, Option, Some, None, refl, ap, sym, subst, subst₂, ◌∙◌}
 use Rattle.std.specs.Prelude.{slice_get, slice_set}
 use Rattle.std.specs.List.{AllByRecursion, flat_map}
 use Rattle.std.proofs.lemmas.List.{append-nil}
@@ -10,19 +9,17 @@ use Rattle.sqlite_rules.proofs.ListLemmas.{all_from}
 use Rattle.squares.specs.declared.sides.Score.{Score}
 use Rattle.store_tables.specs.Cells.{score_cells, IsScore}
 use Rattle.store_tables.specs.Changes.{Alters}
-use Rattle.store_tables.specs.Content.{same_key}
 use Rattle.store_tables.specs.Contents.{AreThose}
 use Rattle.store_tables.specs.declared.rows.ScoreRow.{ScoreRow}
 use Rattle.club_rules.specs.GameRules.{GameRules}
 use Rattle.club_core.specs.ClubRules.{ClubRules}
 use Rattle.club_core.specs.Game.{Game, result_of}
-use Rattle.club_core.specs.LegalState.{IsLegalIn}
-use Rattle.club_core.specs.State.{AnyGame, draughts, shogi, State, pairing_of}
+use Rattle.club_core.specs.State.{AnyGame}
 use Rattle.club_rows.specs.NextScores.{AreNext, IsFound, pair_cells, pair_of}
 use Rattle.club_rows.specs.Scores.{Meeting, meetings, meetings_if, meetings_of, meetings_in, score_rows, scores_in}
 use Rattle.club_rows.specs.declared.scores.Pair.{Pair}
 use Rattle.club_rows.specs.declared.scores.ScorePair.{ScorePair}
-use Rattle.club_rows.proofs.ScoreRows.{rows_alter, rows_had, rows_one, met_between, met_alike, met_last}
+use Rattle.club_rows.proofs.ScoreRows.{rows_alter, rows_had, met_between, met_alike, met_last}
 
 -- ---- one game
 
@@ -67,12 +64,6 @@ module _ (before after : List Meeting) (event first second : ℕ) (score : Score
       (rows_alter before (meetings (pos event) (pos first) (pos second) score) after)
 
 module _ {DP DM DE DT SP SM SE ST : Type 0} (kinds : ClubRules DP DM DE DT SP SM SE ST) where
-  -- First and Second of a legal game differ
-  pub players_apart : (s : State DM SM) (any : AnyGame DM SM) → IsLegalIn kinds s any
-      → (pairing_of any).first ≢ (pairing_of any).second
-  players_apart s (draughts g) legal = legal.legal.players
-  players_apart s (shogi g) legal = legal.legal.players
-
   -- where no game's result changes, the rows stay
   pub scores_stay : (games : List (AnyGame DM SM)) (n : ℕ) (old new : AnyGame DM SM) → slice_get games n ≡ Some old
       → meetings_in kinds new ≡ meetings_in kinds old → scores_in kinds (slice_set games n new) ≡ scores_in kinds games
@@ -84,11 +75,6 @@ module _ {DP DM DE DT SP SM SE ST : Type 0} (kinds : ClubRules DP DM DE DT SP SM
   scores_seated games new none = ap score_rows
       (met_last (meetings_in kinds) games new ∙
       (ap (λ ms. flat_map (meetings_in kinds) games ++ ms) none ∙ append-nil (flat_map (meetings_in kinds) games)))
-
-  -- one row for a key
-  pub scores_one : (games : List (AnyGame DM SM)) (x y : Row) → Has (scores_in kinds games) x
-      → Has (scores_in kinds games) y → same_key (0 ∷ 1 ∷ 2 ∷ []) x y ≡ true → x ≡ y
-  scores_one games = rows_one (flat_map (meetings_in kinds) games)
 
   -- each row has the types of its columns
   pub scores_typed : (games : List (AnyGame DM SM)) → AllByRecursion IsScore (scores_in kinds games)

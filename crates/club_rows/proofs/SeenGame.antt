@@ -98,8 +98,7 @@ module _ {P M E T : Type 0} (rules : GameRules P M E T) where
       let last = ap (position_after rules rules.start) (sym moves) in
       ap (λ ms. map rules.write_position (positions rules rules.start ms)) moves
       ∙ (ap (map rules.write_position) (positions-append rules rules.start (moves_of old) e.made)
-      ∙
-      (map-more rules.write_position (positions rules rules.start (moves_of old))
+      ∙ (map-more rules.write_position (positions rules rules.start (moves_of old))
       (position_after rules rules.start (moves_of old ++ e.made ∷ []))
       ∙ ap (λ p. texts_of rules old ++ rules.write_position p ∷ []) last))
 

@@ -1,6 +1,6 @@
 -- Which rows a list of texts has, each text once.
-use Rattle.std.proofs.Common.{◌≡◌, ℕ, zero, suc, ◌+◌, ◌<◌, ◌≤◌, ◌⊎◌, inl, inr, List, [], ◌∷◌, ◌++◌, length, take, pos}
-use Rattle.std.proofs.Common.{Bool, true, false, cond, Some, refl, ap, sym, subst, ◌∙◌, arith, zero-add, true≢false}
+use Rattle.std.proofs.Common.{◌≡◌, ℕ, zero, suc, ◌+◌, ◌<◌, ◌≤◌, ◌⊎◌, inl, inr, List, [], ◌∷◌, ◌++◌, length, take, Bool}
+use Rattle.std.proofs.Common.{true, false, cond, Some, refl, ap, sym, subst, ◌∙◌, arith, zero-add, true≢false}
 use Rattle.std.specs.Prelude.{slice_get, if◌then◌else◌}
 use Rattle.std.specs.Str.{bytes_eq}
 use Rattle.std.proofs.lemmas.Bool.{cases_lt}
@@ -83,8 +83,7 @@ module _ (id : ℕ) (texts : Texts) where
       (stood_before texts ply t) refl h
     where
       by : (Has (rows_from id texts (suc ply) rest) row → IsOf id texts row) → (b : Bool) → stood_before texts ply t ≡ b
-          →
-          Has (if b then rows_from id texts (suc ply) rest else seen_row id t (times_in texts t) ply
+          → Has (if b then rows_from id texts (suc ply) rest else seen_row id t (times_in texts t) ply
           ∷ rows_from id texts (suc ply) rest) row → IsOf id texts row
       by later true stood h = later h
       by later false new (inl is) = record {
@@ -93,8 +92,7 @@ module _ (id : ℕ) (texts : Texts) where
         first =
             record {
               at = here ply t rest at;
-              earliest =
-                  λ k low stands. true≢false (sym (at-stood texts ply t k low stands) ∙ new);
+              earliest = λ k low stands. true≢false (sym (at-stood texts ply t k low stands) ∙ new);
             };
         is = is;
       }
@@ -113,8 +111,7 @@ module _ (id : ℕ) (texts : Texts) where
       ply_is = omega arith
 
       by : (b : Bool) → stood_before texts ply t ≡ b
-          →
-          Has (if b then rows_from id texts (suc ply) rest else seen_row id t (times_in texts t) ply
+          → Has (if b then rows_from id texts (suc ply) rest else seen_row id t (times_in texts t) ply
           ∷ rows_from id texts (suc ply) rest) (seen_row id text (times_in texts text) (ply + 0))
       by true stood =
           let (k, low, there) = stood-at texts ply t stood in
@@ -129,8 +126,7 @@ module _ (id : ℕ) (texts : Texts) where
       e = omega arith
 
       by : (b : Bool) → Has (rows_from id texts (suc ply) rest) (seen_row id text (times_in texts text) (ply + suc k))
-          →
-          Has (if b then rows_from id texts (suc ply) rest else seen_row id t (times_in texts t) ply
+          → Has (if b then rows_from id texts (suc ply) rest else seen_row id t (times_in texts t) ply
           ∷ rows_from id texts (suc ply) rest) (seen_row id text (times_in texts text) (ply + suc k))
       by true later = later
       by false later = inr later
@@ -151,9 +147,6 @@ module _ (id : ℕ) (texts : Texts) where
 
 text_same : (a b : List ℕ) → ◌≡◌ {A = Value} (Text a) (Text b) → a ≡ b
 text_same a b is = cc
-
-pos_same : (m n : ℕ) → pos m ≡ pos n → m ≡ n
-pos_same m n is = cc
 
 -- rows of one game with the same text are one
 pub one-row : (id : ℕ) (texts : Texts) (row other : Row) → Has (rows_of_texts id texts) row

@@ -32,8 +32,7 @@ module _ {P M E T : Type 0} (laws : GameRules P M E T) (plain : ArePlain laws) (
   rows-typed texts ply (p ∷ ps) = by (stood_before texts ply (laws.write_position p)) (rows-typed texts (suc ply) ps)
     where
       by : (b : Bool) → AllByRecursion IsSeen (rows_from id texts (suc ply) (map laws.write_position ps))
-          →
-          AllByRecursion IsSeen
+          → AllByRecursion IsSeen
           (if b then rows_from id texts (suc ply) (map laws.write_position ps) else seen_row id (laws.write_position p)
           (times_in texts (laws.write_position p)) ply ∷ rows_from id texts (suc ply) (map laws.write_position ps))
       by true rest = rest

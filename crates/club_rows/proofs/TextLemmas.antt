@@ -29,8 +29,7 @@ use Rattle.club_core.specs.State.{draughts, shogi, place, terms_at}
 use Rattle.store_tables.specs.Cells.{IsText, OrNull, IsMember, IsEvent, IsEventRule, IsMove, IsGame}
 use Rattle.club_rows.specs.Club.{ClubGame, ClubState, IsClub, both_games}
 use Rattle.club_requests.specs.OutsideEnd.{outside_text}
-use Rattle.club_rows.specs.Tables.{rule_row}
-use Rattle.club_rows.specs.Tables.{member_row, event_row, game_row, entry_rows, with_entry, end_name_text}
+use Rattle.club_rows.specs.Tables.{rule_row, member_row, event_row, game_row, entry_rows, with_entry, end_name_text}
 use Rattle.club_rows.specs.Tables.{numbered_from, gathered_from, row_of_game, rows_of_moves, tables_of}
 use Rattle.club_rows.proofs.PlainTexts.{is-text, name-plain, key-plain, written, ArePlain}
 use Rattle.club_rows.proofs.DraughtsTexts.{draughts-plain}
@@ -112,8 +111,7 @@ member-typed id m legal =
       width = refl;
       id = int id;
       name = is-text m.name (name-plain m.name legal.name);
-      key =
-          is-text m.key (key-plain m.key legal.key);
+      key = is-text m.key (key-plain m.key legal.key);
     }
 
 event-typed : (id : ℕ) (e : Event) → IsLegalEvent e → IsEvent (event_row id e)
@@ -123,8 +121,7 @@ event-typed id e legal =
       id = int id;
       name = is-text e.name (name-plain e.name legal.name);
       game = (_, refl);
-      budget =
-          int e.terms.budget;
+      budget = int e.terms.budget;
       increment = int e.terms.increment;
     }
 

@@ -21,9 +21,8 @@ use Rattle.club_core.specs.Game.{Entry, Game, Clocks, spend, spend_all, turns, s
 use Rattle.club_core.specs.Game.{moments_of, opening_clocks, left_of, last_position, game_at, turn_of, result_of}
 use Rattle.club_core.specs.Game.{end_with, score_with}
 use Rattle.club_core.specs.Legal.{IsTimely, IsLegalGame}
-use Rattle.club_core.proofs.Proved.{AreRules, legal-played, turn-of-game, running-before}
+use Rattle.club_core.proofs.Proved.{AreRules, legal-played, turn-of-game, running-before, IsPlayedLine-none}
 use Rattle.club_laws.proofs.Proved.{each-append}
-use Rattle.club_core.proofs.Proved.{IsPlayedLine-none}
 use Rattle.store_tables.specs.Cells.{move_cells}
 use Rattle.store_tables.specs.declared.rows.MoveRow.{MoveRow}
 use Rattle.club_rows.specs.Tables.{entry_row, entry_rows, move_rows, with_entry}
@@ -218,8 +217,7 @@ module _ {P M E T : Type 0} (rules : GameRules P M E T) (terms : Terms) (id : �
                 let one : Follows rules terms id before row got.0 =
                 subst (λ es. Follows rules terms id (game_from from es) row got.0) same got.2 in
                 take-got game.entries plies got.0 got.1
-                ∙
-                (ap (λ l. l ++ got.0 ∷ []) same ∙ ap (λ x. was.entries ++ x ∷ [])
+                ∙ (ap (λ l. l ++ got.0 ∷ []) same ∙ ap (λ x. was.entries ++ x ∷ [])
                 (entry-only reads_back before row got.0 e one follows));
           }
 
@@ -267,18 +265,6 @@ module _ {P M E T : Type 0} (rules : GameRules P M E T) (terms : Terms) (id : �
       ∙ ap side_after count in
       ap (λ s. left_of s (clocks_of (game_from game.start (before ++ e ∷ [])) terms)) turn
       ∙ ap (λ es. left_of (side_after k) (clocks_of (game_from game.start es) terms)) (entry-more game k e at)
-
-  -- the seconds in the row of a ply are those that the mover has after it
-  pub row-left : (laws : AreRules rules) (rows : List MoveRow) (game : Game M) → IsLegalGame rules terms game
-      → map move_cells rows ≡ move_rows rules terms id game → (k : ℕ) (row : MoveRow) → slice_get rows k ≡ Some row
-      → row.left ≡ pos (left_of (side_after k) (clocks_of (game_at game (suc k)) terms))
-  row-left laws rows game legal are k row at =
-      let cells : slice_get (map move_cells rows) k ≡ Some (move_cells row) = slice_get-map move_cells rows k
-      ∙ ap (option_map move_cells) at in
-      let got = rows-from rules terms id (record game { entries = [] }) game.entries k (move_cells row)
-      (sym (ap (λ l. slice_get l k) are) ∙ cells) in
-      let parts = six-parts _ _ _ _ _ _ _ _ _ _ _ _ got.2 in
-      parts.e_is ∙ ap pos (entry-left laws game legal k got.0 got.1)
 
 -- the rows of a game's moves depend on its start and its entries alone
 pub rows-alike : {P M E T : Type 0} (rules : GameRules P M E T) (terms : Terms) (id : ℕ) (a b : Game M)

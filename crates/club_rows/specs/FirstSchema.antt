@@ -1,5 +1,5 @@
 -- The club of schema 1, none of whose events has declarations, and its tables beside those of schema 2.
-use Rattle.std.specs.Prelude.{◌≡◌, ◌==◌, ℕ, false, [], ◌∷◌, if◌then◌else◌}
+use Rattle.std.specs.Prelude.{◌≡◌, ◌==◌, false, [], ◌∷◌, if◌then◌else◌}
 use Rattle.club_core.specs.LegalState.{Each}
 use Rattle.store_tables.specs.Contents.{Content}
 use Rattle.store_tables.specs.declared.names.Version.{Version}

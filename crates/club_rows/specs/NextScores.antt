@@ -57,8 +57,7 @@ sums_over scores =
       points = pos (points scores);
       wins = pos (wins scores);
       draws = pos (draws scores);
-      losses =
-          pos (losses scores);
+      losses = pos (losses scores);
     }
 
 -- what one score adds
@@ -73,8 +72,7 @@ plus_sums a b =
       points = a.points +ℤ b.points;
       wins = a.wins +ℤ b.wins;
       draws = a.draws +ℤ b.draws;
-      losses =
-          a.losses +ℤ b.losses;
+      losses = a.losses +ℤ b.losses;
     }
 
 pub record Fit (sums : Sums) : Type 0 where

@@ -96,8 +96,7 @@ game_from start entries =
       start = start;
       entries = entries;
       offer = None;
-      outside =
-          None;
+      outside = None;
     }
 
 -- the rows are those of the moves of this legal game, which starts at that moment

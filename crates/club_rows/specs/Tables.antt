@@ -25,6 +25,9 @@ use Rattle.club_rules.specs.Line.{line_numbers}
 use Rattle.club_core.specs.Game.{Entry, Game, clocks_of, moves_of, left_of, last_position, turn_of, end_of, result_of}
 use Rattle.club_core.specs.State.{AnyGame, draughts, shogi, State, place, terms_at}
 use Rattle.store_tables.specs.Contents.{Content}
+use Rattle.store_tables.specs.Names.{tree_of}
+use Rattle.store_tables.specs.declared.names.Table.TheVariants.{Meta, Members, Events, Challenges, Moves}
+use Rattle.store_tables.specs.declared.names.Table.TheVariants.{Games, Seen, Scores, EventRules}
 use Rattle.club_rows.specs.Seen.{seen_rows}
 use Rattle.club_rows.specs.Scores.{scores_in}
 
@@ -173,17 +176,16 @@ module _ {DP DM DE DT SP SM SE ST : Type 0} (rules : ClubRules DP DM DE DT SP SM
     rows_of_moves id (draughts g) = move_rows rules.draughts (terms_at (place events g.event)) id g
     rows_of_moves id (shogi g) = move_rows rules.shogi (terms_at (place events g.event)) id g
 
-  -- The rows of each table by its number: 0 meta, 1 members, 4 events, 6 challenges, 8 moves, 10 games, 12 seen, 14
-  -- scores, 16 the rules of events. Ids count from 1.
+  -- The rows of each table, by the number of its tree. Ids count from 1.
   abbrev pub tables_of : State DM SM → Content
   tables_of s t =
-      if t == 0 then meta_row 2 s.last ∷ []
-      else (if t == 1 then numbered_from member_row 1 s.members
-      else (if t == 4 then numbered_from event_row 1 s.events
-      else (if t == 6 then map challenge_row s.challenges
-      else (if t == 8 then gathered_from (rows_of_moves s.events) 1 s.games
-      else (if t == 10 then numbered_from (row_of_game s.events) 1 s.games
-      else (if t == 12 then gathered_from rows_of_seen 1 s.games
-      else (if t == 14 then scores_in rules s.games
-      else (if t == 16 then numbered_from rule_row 1 s.events
+      if t == tree_of Meta then meta_row 2 s.last ∷ []
+      else (if t == tree_of Members then numbered_from member_row 1 s.members
+      else (if t == tree_of Events then numbered_from event_row 1 s.events
+      else (if t == tree_of Challenges then map challenge_row s.challenges
+      else (if t == tree_of Moves then gathered_from (rows_of_moves s.events) 1 s.games
+      else (if t == tree_of Games then numbered_from (row_of_game s.events) 1 s.games
+      else (if t == tree_of Seen then gathered_from rows_of_seen 1 s.games
+      else (if t == tree_of Scores then scores_in rules s.games
+      else (if t == tree_of EventRules then numbered_from rule_row 1 s.events
       else []))))))))

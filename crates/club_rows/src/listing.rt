@@ -1,6 +1,6 @@
 //! The legal moves of a game, as they are written.
 
-ghost use Rattle.std.specs.Prelude.{◌≡◌, ℕ, Ok, IfOk, Contains, map, string_bytes};
+ghost use Rattle.std.specs.Prelude.{◌≡◌, Ok, IfOk, Contains, map, string_bytes};
 ghost use Rattle.club_core.specs.Game.{Game};
 ghost use Rattle.club_core.specs.View.{Shows};
 ghost use Rattle.club_rows.specs.Listed.{AreLegalTexts};

@@ -1,8 +1,7 @@
 //! What is stored of a game and of a move.
 
-ghost use Rattle.std.specs.Prelude.{◌≡◌, ◌<◌, ◌^◌, pos, [], ◌∷◌, IfOk, string_bytes};
+ghost use Rattle.std.specs.Prelude.{◌≡◌, ◌<◌, ◌^◌, pos, IfOk, string_bytes};
 ghost use Rattle.std.specs.Option.{option_map};
-ghost use Rattle.sqlite_value.specs.declared.value.Value.TheVariants.{Text};
 ghost use Rattle.squares.specs.Sides.{score_text};
 ghost use Rattle.club_core.specs.Events.{Terms};
 ghost use Rattle.club_core.specs.Game.{Game};

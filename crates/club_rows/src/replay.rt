@@ -1,6 +1,6 @@
 //! A game as its rows show it: replayed from its start, each row compared with what the rules and the clocks give.
 
-ghost use Rattle.std.specs.Prelude.{◌≡◌, ◌≢◌, ◌≤◌, ◌<◌, ◌+◌, ◌++◌, ◌∷◌, [], ◌*◌, ◌^◌, ℕ, IfOk, IfSome, IsTrue, None};
+ghost use Rattle.std.specs.Prelude.{◌≡◌, ◌≢◌, ◌≤◌, ◌<◌, ◌+◌, ◌++◌, ◌∷◌, [], ◌^◌, ℕ, IfOk, IfSome, IsTrue, None};
 ghost use Rattle.std.specs.Prelude.{Some, Ok, Bool, cond, length, is_some, string_bytes};
 ghost use Rattle.squares.specs.Sides.{other};
 ghost use Rattle.club_rules.specs.Line.{IsPlayedLine, line_track, position_after};

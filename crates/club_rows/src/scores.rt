@@ -1,6 +1,6 @@
 //! What a member scored against an opponent in the ended games of an event.
 
-ghost use Rattle.std.specs.Prelude.{◌≡◌, ◌≢◌, ◌≤◌, ◌^◌, ◌+ℤ◌, ℕ, List, None, length, IfSome};
+ghost use Rattle.std.specs.Prelude.{◌≡◌, ◌≢◌, ◌≤◌, ◌^◌, List, None, length, IfSome};
 ghost use Rattle.std.specs.Option.{option_map};
 ghost use Rattle.club_rows.specs.NextScores.{AreFound, AreNext, Fit};
 ghost use Rattle.club_rows.specs.NextScores.{gains_of, pair_of, plus_sums, sums_found, row_with};

@@ -1,6 +1,6 @@
 //! The view of a game that its rows give, if they are those of a legal game.
 
-ghost use Rattle.std.specs.Prelude.{◌≡◌, ◌≢◌, ◌≤◌, ◌<◌, ◌^◌, ℕ, List, pos, Option, None, Some, true, false, IfOk};
+ghost use Rattle.std.specs.Prelude.{◌≡◌, ◌≤◌, ◌<◌, ◌^◌, ℕ, List, pos, Option, None, Some, true, false, IfOk};
 ghost use Rattle.std.specs.Prelude.{IfSome, IsTrue, length, string_bytes, is_some};
 ghost use Rattle.std.specs.Option.{option_map};
 ghost use Rattle.squares.specs.declared.sides.Score.{Score};
@@ -13,7 +13,7 @@ ghost use Rattle.club_core.specs.Game.{Game, Entry, end_with, score_with};
 ghost use Rattle.club_core.specs.View.{IsSound, Shows, rule_in, terms_of};
 ghost use Rattle.club_requests.specs.OutsideEnd.{outside_text};
 ghost use Rattle.club_rows.specs.Tables.{side_number};
-ghost use Rattle.club_rows.specs.Replay.{IsCounted, IsReplayed, Replays, WasReplayed, game_from, terms_given};
+ghost use Rattle.club_rows.specs.Replay.{IsCounted, IsReplayed, Replays, game_from, terms_given};
 ghost use Rattle.club_requests.specs.Limits.{is_budget, is_increment};
 ghost use Rattle.club_rows.specs.LegalRows.{AreRowsOf, IsUnstarted, IsWrongAsTold, ShowsGame, IsSoundIfShown, StandsAs};
 ghost use Rattle.club_rows.specs.declared.view.GameHeader.{GameHeader};

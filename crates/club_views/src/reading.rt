@@ -12,10 +12,11 @@ ghost use Rattle.club_rows.specs.Club.{ClubGame, ClubState, IsClub, tables};
 ghost use Rattle.club_changes.specs.Stored.{AreLegalRows, IsStoredGame};
 ghost use Rattle.club_views.specs.Viewed.{IsViewOf, IsViewed};
 
+use crate::exported::names_of;
 use crate::kinds::{legal_in, played_in};
 use crate::viewed::ViewedGame;
 use club_changes::StoredGame;
-use club_reads::{CallFault, event_with, ids_in, name_of, stored_game};
+use club_reads::{CallFault, stored_game};
 use sqlite::{Alter, Connection};
 use std::alloc::Global;
 
@@ -50,16 +51,12 @@ fn viewed<S: Alter>(
         (game : ClubGame) → IsClub s → place s.games id ≡ Some game → IsStoredGame s id game stored.now →
         HasRows (tables s) (state S.Store conn.old) → IsViewOf s game viewed) }
 {
-    let ids = ids_in(&stored.row)?;
-    let pairing = ids.pairing;
-    let event = event_with(alloc, conn, pairing.event)?;
-    let first = name_of(alloc, conn, pairing.first)?;
-    let second = name_of(alloc, conn, pairing.second)?;
+    let names = names_of(alloc, conn, stored)?;
     let played = played_in(alloc, conn, stored)?;
     Ok(ViewedGame {
-        event: event.name,
-        first,
-        second,
+        event: names.event,
+        first: names.first,
+        second: names.second,
         played,
     })
 }

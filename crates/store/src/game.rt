@@ -16,6 +16,8 @@ ghost use Rattle.sqlite.specs.Held.{state};
 ghost use Rattle.store_tables.specs.Beside.{HasRows};
 ghost use Rattle.store_tables.specs.Contents.{Content};
 ghost use Rattle.store_tables.specs.Reading.{Reads};
+ghost use Rattle.store_tables.specs.Names.{tree_of};
+ghost use Rattle.store_tables.specs.declared.names.Table.TheVariants.{Scores};
 ghost use Rattle.club_changes.specs.Steps.{IsDecidedIn, IsRecordOf, IsSeenAfter, AreScoresAfter, HasTwoPlayers};
 ghost use Rattle.club_changes.specs.Steps.{TellsMoves, TellsSeen};
 ghost use Rattle.club_changes.specs.Whole.{IsWhole};
@@ -55,7 +57,7 @@ fn counted<R: Rules, S: Alter>(
         IsDecision R.rules terms old (game_step R.rules terms old moment who command) decision →
         IsConcluded R.rules terms old (game_step R.rules terms old moment who command) new.decision
         × IsSeenAfter R.rules game (game_step R.rules terms old moment who command) new.decision new.counts.seen
-        × (HasTwoPlayers new.decision → AreScoresAfter (content 14) new.decision new.counts.scores)) }
+        × (HasTwoPlayers new.decision → AreScoresAfter (content (tree_of Scores)) new.decision new.counts.scores)) }
 {
     let seen = seen_by(alloc, conn, game, &decision, plies)?;
     let stood = stood_by::<R>(&seen);
@@ -88,7 +90,7 @@ fn on_view<R: Rules, S: Alter>(
         Shows R.rules old view.now →
         ShowsPly R.rules old (asked_ply (game_command_of command.now)) view.now →
         (clocks_of old (terms_of view.now)).since ≤ moment →
-        IsDecidedIn R.rules (terms_of view.now) game moment (content 14) old
+        IsDecidedIn R.rules (terms_of view.now) game moment (content (tree_of Scores)) old
         (game_step R.rules (terms_of view.now) old moment caller (game_command_of command.now)) d) }
 {
     let moment = moment.later(view.row.since);
@@ -113,7 +115,7 @@ fn act<R: Rules, S: Alter>(
         TellsMoves R.rules (terms_given stored.now.terms) stored.now.id old content →
         IsRecordOf R.rules (terms_given stored.now.terms) stored.now.id stored.now.row old →
         (clocks_of old (terms_given stored.now.terms)).since ≤ moment →
-        IsDecidedIn R.rules (terms_given stored.now.terms) stored.now.id moment (content 14) old
+        IsDecidedIn R.rules (terms_given stored.now.terms) stored.now.id moment (content (tree_of Scores)) old
         (game_step R.rules (terms_given stored.now.terms) old moment caller (game_command_of command.now)) d) }
 {
     let ply = asked_ply(command);

@@ -13,6 +13,8 @@ ghost use Rattle.club_rows.specs.Club.{tables};
 ghost use Rattle.store_tables.specs.Beside.{HasRows};
 ghost use Rattle.store_tables.specs.Contents.{Content};
 ghost use Rattle.store_tables.specs.Reading.{Reads};
+ghost use Rattle.store_tables.specs.Names.{tree_of};
+ghost use Rattle.store_tables.specs.declared.names.Table.TheVariants.{Scores};
 ghost use Rattle.club_changes.specs.Importing.{IsOfKind, IsImportedIn, PutsNewGame, imported_by};
 ghost use Rattle.club_changes.specs.Whole.{IsWhole};
 
@@ -44,7 +46,7 @@ fn added<R: Rules, S: Alter>(
     ensures puts { HasCleanDisk (state S.Store conn.new) → IfOk result (λ changes. (content : Content) →
         HasRows content (state S.Store conn.old) → new.now.pairing.first ≢ new.now.pairing.second →
         PutsNewGame R.rules (terms_at (place (events_of events.now) new.now.pairing.event)) new.now.game moment
-        (content 14)
+        (content (tree_of Scores))
         (imported R.rules (Some key.now) new.now.pairing moment (recorded_of new.now.recorded)) changes) }
 {
     let event = event_at(events, new.pairing.event)?;
@@ -87,7 +89,7 @@ fn import_as<R: Records, S: Alter>(
         (old : Option (Game R.Move)) → HasRows content (state S.Store conn.old) →
         IsOfKind R.rules kind content old known.now.under →
         IsImportedIn R.rules (events_of known.now.events.items) (string_bytes command.now.key) known.now.games moment
-        (content 14) (imported_by R.rules R.records known.now caller (import_of command.now) old) d) }
+        (content (tree_of Scores)) (imported_by R.rules R.records known.now caller (import_of command.now) old) d) }
 {
     let played = played_under::<R, S>(alloc, conn, kind, &known.under)?;
     let members = known.members.as_slice();

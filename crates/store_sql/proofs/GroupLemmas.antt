@@ -7,30 +7,25 @@ use Rattle.std.specs.List.Sorted.{IsPermutation}
 use Rattle.std.proofs.lemmas.List.Sorted.{IsPermutation-map, IsPermutation-sym, length_permutation}
 use Rattle.sqlite_value.specs.declared.value.Value.TheVariants.{Null}
 use Rattle.sqlite_value.specs.declared.keys.Key.{Key}
-use Rattle.sqlite.specs.Order.{Row}
-use Rattle.sqlite.specs.Table.{Table}
-use Rattle.sqlite.specs.Tree.{Trees}
-use Rattle.sqlite.specs.Schema.{Schema}
-use Rattle.sqlite.specs.Effect.{Database, Reads}
+use Rattle.store_tables.specs.Sql.{Row, Table, Trees, Schema, Database, State, Shown, Has}
+use Rattle.sqlite.specs.Effect.{Reads}
 use Rattle.sqlite.specs.Command.TheVariants.{Select}
 use Rattle.sqlite.specs.declared.types.Value.TheVariants.{Int}
 use Rattle.sqlite.specs.declared.error.Error.{Error}
-use Rattle.sqlite.specs.State.{State, Shown, FailsToQuery}
+use Rattle.sqlite.specs.State.{FailsToQuery}
 use Rattle.sqlite.proofs.Callers.{reads_as}
 use Rattle.sqlite_trees.proofs.ListLemmas.{map-map}
 use Rattle.sqlite_sql.specs.Term.{Term, eval_all, holds}
 use Rattle.sqlite_sql.specs.Query.{IsAnswer, Output, output}
 use Rattle.sqlite_sql.specs.Program.{overlay}
-use Rattle.store_tables.specs.Content.{cells, same_key}
+use Rattle.store_tables.specs.Content.{cells, same_key, Keeps}
 use Rattle.store_tables.specs.Put.{selects}
 use Rattle.store_tables.specs.Queries.{AreShownBy, Finds, by_others}
 use Rattle.store_tables.specs.Reading.{IsNoInput}
 use Rattle.store_tables.specs.Texts.{ids_text, by_first_text}
 use Rattle.store_tables.proofs.Proved.{each_shown, select_unchanged, no_input, same_length, sorted_rows, has_index}
 use Rattle.store_tables.proofs.Proved.{has_mapped, has_turned}
-use Rattle.sqlite_rules.specs.Lists.{Has}
 use Rattle.sqlite_rules.proofs.ListLemmas.{all_has, has_filtered}
-use Rattle.store_tables.specs.Content.{Keeps}
 use Rattle.store_sql.specs.declared.fault.ReadFault.{ReadFault}
 use Rattle.store_sql.specs.declared.fault.ReadFault.TheVariants.{Mistyped, Memory}
 use Rattle.store_sql.specs.Read.{AreReadOf, Blames, beginning_with}
@@ -88,7 +83,8 @@ shown_passing f g p q shows picks (x ∷ xs) =
 
 -- of the rowids that are shown there are as many as rows
 pub ids_number : (schema : Schema) (table : Table) (width : ℕ) → AreShownBy schema table width → (sql : List ℕ)
-    (params : Row) (old new : State) → sql ≡ ids_text table → params ≡ [] → (rows : List Row) → Shown sql params old new rows → old.now.schema ≡ schema
+    (params : Row) (old new : State) → sql ≡ ids_text table → params ≡ [] → (rows : List Row) → Shown sql params old
+    new rows → old.now.schema ≡ schema
     → length rows ≡ length (old.now.trees table.tree)
 ids_number schema table width is sql params old new text none rows shown has =
     let by = is.numbers in
@@ -100,14 +96,16 @@ ids_number schema table width is sql params old new text none rows shown has =
 module _ (schema : Schema) (table : Table) (width : ℕ) (is : AreShownBy schema table width) (sql : List ℕ)
     (params : Row) (old new : State) where
   -- the rows that begin with a number, each of them once
-  pub group_told : sql ≡ by_first_text table → (n : ℤ) → params ≡ Int n ∷ [] → (rows : List Row) → Shown sql params old new rows
+  pub group_told : sql ≡ by_first_text table → (n : ℤ) → params ≡ Int n ∷ [] → (rows : List Row)
+      → Shown sql params old new rows
       → old.now.schema ≡ schema → AreReadOf table width n rows old new
   group_told text n given rows shown has =
       let wanted : Row = Int n ∷ [] in
       let by : Finds schema table is.place (0 ∷ []) wanted wanted (by_first_text table)
       (by_others width) = is.some n in
       let here = subst₂ (λ s p. Shown s p old new rows) text given shown in
-      let reads = reads_as (by_first_text table) wanted old new schema has _ by.command by.plain by.unlisted rows here in
+      let reads = reads_as (by_first_text table) wanted old new schema has _ by.command by.plain by.unlisted rows here
+      in
       let once = each_passing old.now wanted table.tree by.filter by.project by.order by.names rows by.overlaid reads in
       record {
         once = subst (λ l. IsPermutation l rows)
@@ -119,9 +117,11 @@ module _ (schema : Schema) (table : Table) (width : ℕ) (is : AreShownBy schema
         same = select_unchanged (by_first_text table) is.group_is wanted old new rows here;
       }
 
-  pub group_known : sql ≡ by_first_text table → (n : ℤ) → params ≡ Int n ∷ [] → (e : Error) → FailsToQuery sql params old new e
+  pub group_known : sql ≡ by_first_text table → (n : ℤ) → params ≡ Int n ∷ [] → (e : Error)
+      → FailsToQuery sql params old new e
       → old.now.schema ≡ schema → IsNoInput e
-  group_known text n given e failed has = no_input schema (by_first_text table) (Int n ∷ []) old new e (is.some n).plain has
+  group_known text n given e failed has = no_input schema (by_first_text table) (Int n ∷ []) old new e (is.some
+      n).plain has
       (subst₂ (λ s p. FailsToQuery s p old new e) text given failed)
 
 -- each row that is shown is one of the table

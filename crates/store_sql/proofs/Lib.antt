@@ -1,4 +1,5 @@
 pub mod BoundLemmas
+pub mod CommitLemmas
 pub mod CreateLemmas
 pub mod GroupLemmas
 pub mod OpenLemmas

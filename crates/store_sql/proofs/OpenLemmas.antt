@@ -1,8 +1,7 @@
 -- What an opening finds of what a stop left.
 use Rattle.std.proofs.Common.{◌≡◌, IsTrue, sym, ap, subst}
-use Rattle.sqlite.specs.Tree.{Trees}
-use Rattle.sqlite.specs.Schema.{Schema}
-use Rattle.sqlite.specs.State.{State, Opens, IsLive}
+use Rattle.store_tables.specs.Sql.{Trees, Schema, State}
+use Rattle.sqlite.specs.State.{Opens, IsLive}
 use Rattle.sqlite_catalog.specs.Listing.{IsSound}
 use Rattle.sqlite_catalog.proofs.ReadLemmas.{reads, read_once}
 use Rattle.store_tables.specs.Contents.{Content, Leaves, IsExactly}

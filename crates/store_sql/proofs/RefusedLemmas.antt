@@ -1,10 +1,8 @@
 -- Why a text that is understood is not run: never for how it is written.
-use Rattle.std.proofs.Common.{ℕ, ◌≡◌, ◌∷◌, [], ℤ, List, Bool, true, false, Option, Some, None, Ok, Err}
-use Rattle.std.proofs.Common.{Result, sym, ap, subst, subst₂, ◌∙◌, inl, inr, MatchBool}
+use Rattle.std.proofs.Common.{ℕ, ◌≡◌, ◌∷◌, [], ℤ, List, Bool, true, false, Option, Some, None, Ok, Err, Result, sym, ap}
+use Rattle.std.proofs.Common.{subst, subst₂, ◌∙◌, inl, inr, MatchBool}
 use Rattle.sqlite_value.specs.Order.{Row}
-use Rattle.sqlite_trees.specs.Tree.{Trees}
-use Rattle.sqlite_schema.specs.declared.schema.Table.{Table}
-use Rattle.sqlite_schema.specs.declared.schema.Schema.{Schema}
+use Rattle.store_tables.specs.Sql.{Trees, Table, Schema, Database, understood, State, IsUnchanged}
 use Rattle.sqlite_schema.specs.declared.schema.Keys.{Keys}
 use Rattle.sqlite_schema.specs.declared.program.Program.{Program}
 use Rattle.sqlite_schema.specs.declared.command.Source.{Source}
@@ -18,14 +16,12 @@ use Rattle.sqlite_rules.specs.Edit.{Edit}
 use Rattle.sqlite.specs.declared.error.ErrorCode.{ErrorCode}
 use Rattle.sqlite.specs.declared.error.ErrorCode.TheVariants as code
 use Rattle.sqlite.specs.declared.error.Error.{Error}
-use Rattle.sqlite.specs.declared.error.Error.TheVariants.{SqliteFailure, InvalidQuery}
-use Rattle.sqlite.specs.declared.error.Error.TheVariants.{MultipleStatement, ExecuteReturnedResults}
-use Rattle.sqlite.specs.Effect.{Database, edit_error}
+use Rattle.sqlite.specs.declared.error.Error.TheVariants.{SqliteFailure, InvalidQuery, MultipleStatement}
+use Rattle.sqlite.specs.declared.error.Error.TheVariants.{ExecuteReturnedResults}
+use Rattle.sqlite.specs.Effect.{edit_error, alter_error}
 use Rattle.sqlite.specs.Rows.{Part, Gives, Refuses, Then, Queried, Sourced, Edited, Written, Task, Updates, Puts}
-use Rattle.sqlite.specs.Rows.{Clears}
-use Rattle.sqlite.specs.Rows.{Resolves, Meets, Upserts, Judged, Tries, TriesEach, Counts, CountsIn, Counter}
-use Rattle.sqlite.specs.Rows.{CounterIn, InsertsOr}
-use Rattle.sqlite.specs.Rows.{sequence, count_of, counting, nothing, passes_over}
+use Rattle.sqlite.specs.Rows.{Clears, Resolves, Meets, Upserts, Judged, Tries, TriesEach, Counts, CountsIn, Counter}
+use Rattle.sqlite.specs.Rows.{CounterIn, InsertsOr, sequence, count_of, counting, nothing, passes_over}
 use Rattle.std.specs.Prelude.{if◌then◌else◌, slice_get}
 use Rattle.sqlite_schema.specs.declared.schema.Constraint.TheVariants.{ForeignKey}
 use Rattle.sqlite_schema.specs.declared.schema.Among.{Among}
@@ -40,14 +36,11 @@ use Rattle.sqlite_trees.specs.declared.error.StoreError.{StoreError}
 use Rattle.sqlite_trees.specs.declared.error.StoreError.TheVariants.{OutOfMemory, Io, Corrupt, Full, Broken, Unstorable}
 use Rattle.sqlite_schema.specs.declared.command.Command.{Command}
 use Rattle.sqlite_resolve.specs.declared.compiled.Compiled.{Compiled}
-use Rattle.sqlite.specs.Listing.{understood}
 use Rattle.sqlite.specs.Clock.{timed}
-use Rattle.sqlite.specs.State.{State, ExecutesIn, ExecutesInside, Fails, IsMisplaced, IsNotRun, IsUnchanged}
-use Rattle.sqlite.specs.State.{RunsCommand}
-use Rattle.sqlite.specs.State.{mode_of, shows_rows, store_error}
+use Rattle.sqlite.specs.State.{ExecutesIn, ExecutesInside, Fails, IsMisplaced, IsNotRun, RunsCommand, mode_of}
+use Rattle.sqlite.specs.State.{shows_rows, store_error}
 use Rattle.sqlite.proofs.Callers.{IsPlain, command_of, statement_of}
 use Rattle.sqlite.specs.declared.run.Mode.{Mode}
-use Rattle.sqlite.specs.Effect.{alter_error}
 use Rattle.sqlite.specs.Does.{Tested, Tally, sequence_text, MakesTable, MakesSequence, lacks_sequence, Counted, Shows}
 use Rattle.sqlite.specs.Does.{Returns, Concludes, OnRows, AtPlace, Does}
 use Rattle.std.specs.Ordering.{is_lt, int_cmp}

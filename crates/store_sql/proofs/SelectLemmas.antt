@@ -6,15 +6,11 @@ use Rattle.std.proofs.lemmas.Result.{IfOk-weaker}
 use Rattle.std.specs.declared.cmp.Ordering.TheVariants.{Equal}
 use Rattle.std.specs.Prelude.{IfOk, IfErr, OnErr, IsTrue, is_ok, ◌≢◌, false}
 use Rattle.std.specs.List.Sorted.{IsSorted}
-use Rattle.sqlite.specs.Order.{Row, column}
-use Rattle.sqlite.specs.Table.{Table}
-use Rattle.sqlite.specs.Tree.{Trees}
-use Rattle.sqlite.specs.Schema.{Schema}
+use Rattle.store_tables.specs.Sql.{Row, column, Table, Trees, Schema, State, Shown, Survives, HasCleanDisk, IsUnchanged}
+use Rattle.store_tables.specs.Sql.{Has, rowid, Database}
 use Rattle.sqlite.specs.declared.types.Value.TheVariants.{Int}
 use Rattle.sqlite.specs.declared.error.Error.{Error}
-use Rattle.sqlite.specs.State.{State, Shown, FailsToQuery, Survives, HasCleanDisk, IsUnchanged, CommitsShowing}
-use Rattle.sqlite_rules.specs.Lists.{Has}
-use Rattle.sqlite_trees.specs.Tree.{rowid}
+use Rattle.sqlite.specs.State.{FailsToQuery, CommitsShowing}
 use Rattle.store_tables.specs.Beside.{Others, beside, no_others, HasRows, IsBeside}
 use Rattle.store_tables.specs.Changes.{HaveSame}
 use Rattle.store_tables.specs.Content.{Keeps, cells}
@@ -22,14 +18,12 @@ use Rattle.store_tables.specs.Contents.{Content, Stores, IsExactly, AreThose}
 use Rattle.store_tables.specs.Queries.{AreShownBy, Asks, Finds, IsSelect, by_others}
 use Rattle.store_tables.specs.Reading.{by_columns, Tells, TellsIds, IsNoInput, KeepsContent, KeepsMay, Reads}
 use Rattle.store_tables.proofs.Proved.{select_unchanged, only_reads, reads_by, unchanged_exactly, tells, tells_ids}
-use Rattle.store_tables.proofs.Proved.{tells_first}
-use Rattle.store_tables.proofs.Proved.{finds, no_input, ids_of, stored_at, all_alike, in_order, one_list, places_rise}
-use Rattle.store_tables.proofs.Proved.{same_length, got, at_schema, rows_of}
+use Rattle.store_tables.proofs.Proved.{tells_first, finds, no_input, ids_of, stored_at, all_alike, in_order, one_list}
+use Rattle.store_tables.proofs.Proved.{places_rise, same_length, got, at_schema, rows_of}
 use Rattle.store_tables.specs.Tables.{club_schema, standing}
 use Rattle.store_tables.specs.Texts.{all_text, ids_text, by_first_text, question_text}
 use Rattle.store_tables.specs.Names.{place_of}
 use Rattle.store_tables.specs.declared.names.Table as of_club
-use Rattle.sqlite.specs.Effect.{Database}
 use Rattle.store_sql.specs.declared.fault.ReadFault.{ReadFault}
 use Rattle.store_sql.specs.declared.fault.ReadFault.TheVariants.{Missing, Mistyped, Store, Memory}
 use Rattle.store_sql.specs.Read.{BeginWithPlaces, Blames, was_read}
@@ -131,41 +125,41 @@ moved table db xs ys one two z h = let r = one.stored z h in subst (Has ys) r.2 
 
 module _ (schema : Schema) (table : Table) (width : ℕ) (is : AreShownBy schema table width) (sql : List ℕ)
     (params : Row) (old new : State) where
-  pub all_told : sql ≡ all_text table → params ≡ [] → (rows : List Row) → Shown sql params old new rows → old.now.schema ≡ schema
-      → Tells table width rows old new
-  all_told text none rows shown has = tells schema table width (all_text table) is.columns is.rows is.whole old new rows has
-      (subst₂ (λ s p. Shown s p old new rows) text none shown)
+  pub all_told : sql ≡ all_text table → params ≡ [] → (rows : List Row) → Shown sql params old new rows
+      → old.now.schema ≡ schema → Tells table width rows old new
+  all_told text none rows shown has = tells schema table width (all_text table) is.columns is.rows is.whole old new
+      rows has (subst₂ (λ s p. Shown s p old new rows) text none shown)
 
-  pub ids_told : sql ≡ ids_text table → params ≡ [] → (rows : List Row) → Shown sql params old new rows → old.now.schema ≡ schema
-      → TellsIds table.tree rows old new
+  pub ids_told : sql ≡ ids_text table → params ≡ [] → (rows : List Row) → Shown sql params old new rows
+      → old.now.schema ≡ schema → TellsIds table.tree rows old new
   ids_told text none rows shown has =
-      tells_ids schema table.tree (ids_text table) is.firsts is.numbers (λ r. ap (λ x. column x 0) (is.first r)) old new rows has
-      (subst₂ (λ s p. Shown s p old new rows) text none shown)
+      tells_ids schema table.tree (ids_text table) is.firsts is.numbers (λ r. ap (λ x. column x 0) (is.first r)) old
+      new rows has (subst₂ (λ s p. Shown s p old new rows) text none shown)
 
-  pub all_known : sql ≡ all_text table → params ≡ [] → (e : Error) → FailsToQuery sql params old new e → old.now.schema ≡ schema
-      → IsNoInput e
+  pub all_known : sql ≡ all_text table → params ≡ [] → (e : Error) → FailsToQuery sql params old new e
+      → old.now.schema ≡ schema → IsNoInput e
   all_known text none e failed has = no_input schema (all_text table) [] old new e is.rows.plain has
       (subst₂ (λ s p. FailsToQuery s p old new e) text none failed)
 
-  pub ids_known : sql ≡ ids_text table → params ≡ [] → (e : Error) → FailsToQuery sql params old new e → old.now.schema ≡ schema
-      → IsNoInput e
+  pub ids_known : sql ≡ ids_text table → params ≡ [] → (e : Error) → FailsToQuery sql params old new e
+      → old.now.schema ≡ schema → IsNoInput e
   ids_known text none e failed has = no_input schema (ids_text table) [] old new e is.numbers.plain has
       (subst₂ (λ s p. FailsToQuery s p old new e) text none failed)
 
-  pub some_found : sql ≡ by_first_text table → (n : ℤ) → params ≡ Int n ∷ [] → Survives old new (CommitsShowing sql params old)
-      → HasCleanDisk new → (rows : List Row) → Shown sql params old new rows → (content : Content)
-      → IsExactly schema content old
+  pub some_found : sql ≡ by_first_text table → (n : ℤ) → params ≡ Int n ∷ []
+      → Survives old new (CommitsShowing sql params old) → HasCleanDisk new → (rows : List Row)
+      → Shown sql params old new rows → (content : Content) → IsExactly schema content old
       → AreThose (0 ∷ []) (Int n ∷ []) (content table.tree) rows × IsSorted (by_others width) rows
   some_found text n given survives clean rows shown content k =
-      let it = finds schema table is.place (0 ∷ []) (Int n ∷ []) (Int n ∷ []) (by_first_text table)
-      (by_others width) (is.some n) old
-      new rows
+      let it = finds schema table is.place (0 ∷ []) (Int n ∷ []) (Int n ∷ []) (by_first_text table) (by_others width)
+      (is.some n) old new rows
       (subst₂ (λ s p. Survives old new (CommitsShowing s p old)) text given survives) clean
       (subst₂ (λ s p. Shown s p old new rows) text given shown) content k in
       (it.0, it.1)
 
   -- the rowids that are shown are as many as the rows, where these begin with their places
-  pub counted : sql ≡ ids_text table → params ≡ [] → ((r : Row) → column (cells table r) 0 ≡ rowid r) → (rows : List Row)
+  pub counted : sql ≡ ids_text table → params ≡ [] → ((r : Row) → column (cells table r) 0 ≡ rowid r)
+      → (rows : List Row)
       → Shown sql params old new rows → (content : Content) → IsExactly schema content old
       → BeginWithPlaces (content table.tree) → length rows ≡ length (content table.tree)
   counted text none id rows shown content k places =
@@ -174,7 +168,8 @@ module _ (schema : Schema) (table : Table) (width : ℕ) (is : AreShownBy schema
       stored_at schema table is.place is.at old.now.trees content k.now.tables in
       let told = ids_told text none rows shown k.now.schema in
       let firsts = map (λ (r : Row). column r 0 ∷ []) (content table.tree) in
-      let same = tells_first schema table (ids_text table) is.firsts is.numbers (λ r. is.first r ∙ ap (λ v. v ∷ []) (sym (id r))) old
+      let same = tells_first schema table (ids_text table) is.firsts is.numbers (λ r. is.first r ∙ ap (λ v. v ∷ [])
+      (sym (id r))) old
       new rows (content table.tree) k.now.schema here stored.rows in
       let one : rows ≡ firsts = one_list rows firsts (in_order rows told.sorted (told.ids stored.apart))
       (places_rise firsts (places_first (content table.tree) places)) (λ z. (same z).0) (λ z. (same z).1) in

@@ -1,10 +1,10 @@
 -- Whether the table of the rules of events stands, by an answer to a SELECT from it.
-use Rattle.std.proofs.Common.{◌≡◌, ℕ, Bool, true, false, true≢false, List, Ok, Err, Result, refl, sym, ap, ◌∙◌}
-use Rattle.std.proofs.Common.{inl, inr, subst}
+use Rattle.std.proofs.Common.{◌≡◌, ℕ, Bool, true, false, true≢false, List, Ok, Err, Result, refl, sym, ap, ◌∙◌, inl}
+use Rattle.std.proofs.Common.{inr, subst}
 use Rattle.sqlite.specs.Clock.{timed}
-use Rattle.sqlite.specs.Order.{Row}
-use Rattle.sqlite.specs.Listing.{understood, listing_schema}
-use Rattle.sqlite.specs.State.{State, Shown, FailsToQuery, FailsToShow, IsNotRun, IsUnchanged, store_error}
+use Rattle.store_tables.specs.Sql.{Row, understood, State, Shown, IsUnchanged}
+use Rattle.sqlite.specs.Listing.{listing_schema}
+use Rattle.sqlite.specs.State.{FailsToQuery, FailsToShow, IsNotRun, store_error}
 use Rattle.sqlite.specs.declared.error.Error.{Error}
 use Rattle.sqlite_trees.specs.declared.error.StoreError.{StoreError}
 use Rattle.sqlite_trees.specs.declared.error.StoreError.TheVariants as failure

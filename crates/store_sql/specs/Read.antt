@@ -1,6 +1,6 @@
 -- What reading a table tells of what a connection holds, and what a fault says of its rows.
-use Rattle.std.specs.Prelude.{Bool, true, false, Result, Ok, Err, ◌≡◌, ◌⊎◌, ℕ, ℤ, ◌+◌, ◌<◌, pos, List, [], ◌∷◌}
-use Rattle.std.specs.Prelude.{map, filter, length, get_or}
+use Rattle.std.specs.Prelude.{Bool, true, false, Result, Ok, Err, ◌≡◌, ◌⊎◌, ℕ, ℤ, ◌+◌, ◌<◌, pos, List, [], ◌∷◌, map}
+use Rattle.std.specs.Prelude.{filter, length, get_or}
 use Rattle.std.specs.List.{AllByRecursion}
 use Rattle.std.specs.List.Sorted.{IsSorted, IsPermutation}
 use Rattle.sqlite.specs.Order.{Row, column}

@@ -5,15 +5,16 @@ use Rattle.store_tables.specs.Changed.{widened}
 use Rattle.store_tables.specs.Contents as of_schema
 use Rattle.store_tables.specs.Contents.{Content}
 use Rattle.store_tables.specs.Club.{Holds}
+use Rattle.store_tables.specs.Names.{tree_of}
 use Rattle.store_tables.specs.Tables.{first_schema}
+use Rattle.store_tables.specs.declared.names.Table.TheVariants.{EventRules}
 use Rattle.store_tables.specs.declared.rows.EventRuleRow.{EventRuleRow}
 use Rattle.store_tables.specs.declared.rows.MetaRow.{MetaRow}
 
 -- Inside a transaction the rows of schema 1 became those of schema 2, with these rules of events and this row of
--- `meta`,
--- and nothing was committed.
+-- `meta`, and nothing was committed.
 pub record WidensTo (rules : List EventRuleRow) (meta : MetaRow) (old new : State) : Type 0 where
-  pub holds : (content : Content) → content 16 ≡ [] → of_schema.Holds first_schema old.now content
-      → Holds new.now (widened rules meta content)
+  pub holds : (content : Content) → content (tree_of EventRules) ≡ []
+      → of_schema.Holds first_schema old.now content → Holds new.now (widened rules meta content)
   pub committed : new.committed ≡ old.committed
   pub inside : new.in_transaction ≡ true

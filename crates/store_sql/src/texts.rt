@@ -11,9 +11,7 @@ ghost use Rattle.store_tables.specs.Content.{cells as shown};
 ghost use Rattle.store_tables.specs.Queries.{AreShownBy};
 ghost use Rattle.store_tables.specs.Tables.{club_schema, first_schema, standing};
 ghost use Rattle.store_tables.specs.declared.names.Table.TheVariants as of_club;
-ghost use Rattle.store_tables.proofs.Proved.{meta_read, members_read, events_read, challenges_read, moves_read};
-ghost use Rattle.store_tables.proofs.Proved.{games_read, seen_read, scores_read, event_rules_read};
-ghost use Rattle.store_tables.proofs.Proved.{first_within};
+ghost use Rattle.store_tables.proofs.Proved.{first_within, is_shown};
 
 use store_tables::{
     ChallengeRow, EventRow, EventRuleRow, GameRecord, MemberRow, MetaRow, MoveRow, ScoreRow,
@@ -22,14 +20,15 @@ use store_tables::{
 
 /// A row whose table has texts that show its rows.
 pub trait Select: TableRow {
-    // its table, how many columns its key has, and whether the one column of its key is the rowid
+    // its table, how many columns its key has, and whether the one column of its key is the rowid, as in most tables
     ghost table: { Table };
 
-    ghost width: { ℕ };
+    ghost width: { ℕ } = { 1 };
 
-    ghost has_id: { Bool };
+    ghost has_id: { Bool } = { true };
+
     // the first of the schemas of a club that has the table
-    ghost club: { Schema };
+    ghost club: { Schema } = { first_schema };
 
     /// The table that has such rows.
     fn kept_in() -> Table
@@ -45,15 +44,9 @@ pub trait Select: TableRow {
 impl Select for MetaRow {
     ghost table = { standing of_club.Meta };
 
-    ghost width = { 1 };
-
-    ghost has_id = { true };
-
-    ghost club = { first_schema };
-
     ghost current = { first_within };
 
-    ghost read = { meta_read };
+    ghost read = { is_shown of_club.Meta };
 
     ghost numbered = { λ it. (refl, λ r. refl) };
 
@@ -65,15 +58,9 @@ impl Select for MetaRow {
 impl Select for MemberRow {
     ghost table = { standing of_club.Members };
 
-    ghost width = { 1 };
-
-    ghost has_id = { true };
-
-    ghost club = { first_schema };
-
     ghost current = { first_within };
 
-    ghost read = { members_read };
+    ghost read = { is_shown of_club.Members };
 
     ghost numbered = { λ it. (refl, λ r. refl) };
 
@@ -85,15 +72,9 @@ impl Select for MemberRow {
 impl Select for EventRow {
     ghost table = { standing of_club.Events };
 
-    ghost width = { 1 };
-
-    ghost has_id = { true };
-
-    ghost club = { first_schema };
-
     ghost current = { first_within };
 
-    ghost read = { events_read };
+    ghost read = { is_shown of_club.Events };
 
     ghost numbered = { λ it. (refl, λ r. refl) };
 
@@ -105,15 +86,11 @@ impl Select for EventRow {
 impl Select for EventRuleRow {
     ghost table = { standing of_club.EventRules };
 
-    ghost width = { 1 };
-
-    ghost has_id = { true };
-
     ghost club = { club_schema };
 
     ghost current = { λ schema is. is };
 
-    ghost read = { event_rules_read };
+    ghost read = { is_shown of_club.EventRules };
 
     ghost numbered = { λ it. (refl, λ r. refl) };
 
@@ -129,11 +106,9 @@ impl Select for ChallengeRow {
 
     ghost has_id = { false };
 
-    ghost club = { first_schema };
-
     ghost current = { first_within };
 
-    ghost read = { challenges_read };
+    ghost read = { is_shown of_club.Challenges };
 
     ghost numbered = { λ it. absurd (true≢false (sym it)) };
 
@@ -149,11 +124,9 @@ impl Select for MoveRow {
 
     ghost has_id = { false };
 
-    ghost club = { first_schema };
-
     ghost current = { first_within };
 
-    ghost read = { moves_read };
+    ghost read = { is_shown of_club.Moves };
 
     ghost numbered = { λ it. absurd (true≢false (sym it)) };
 
@@ -165,15 +138,9 @@ impl Select for MoveRow {
 impl Select for GameRecord {
     ghost table = { standing of_club.Games };
 
-    ghost width = { 1 };
-
-    ghost has_id = { true };
-
-    ghost club = { first_schema };
-
     ghost current = { first_within };
 
-    ghost read = { games_read };
+    ghost read = { is_shown of_club.Games };
 
     ghost numbered = { λ it. (refl, λ r. refl) };
 
@@ -189,11 +156,9 @@ impl Select for SeenRow {
 
     ghost has_id = { false };
 
-    ghost club = { first_schema };
-
     ghost current = { first_within };
 
-    ghost read = { seen_read };
+    ghost read = { is_shown of_club.Seen };
 
     ghost numbered = { λ it. absurd (true≢false (sym it)) };
 
@@ -209,11 +174,9 @@ impl Select for ScoreRow {
 
     ghost has_id = { false };
 
-    ghost club = { first_schema };
-
     ghost current = { first_within };
 
-    ghost read = { scores_read };
+    ghost read = { is_shown of_club.Scores };
 
     ghost numbered = { λ it. absurd (true≢false (sym it)) };
 

@@ -39,8 +39,8 @@ pub(crate) fn put_meta<S: Alter>(row: &MetaRow, tx: &mut Transaction<'_, S>) -> 
     ensures same_reference { tx.new.conn.ghost_name ≡ tx.old.conn.ghost_name }
     ensures put { HasCleanDisk (state S.Store tx.new.conn.now) → IsTrue
         (state S.Store tx.old.conn.now).in_transaction →
-        OnOk result (StepsBeside (put_in (tree_of of_club.Meta) (0 ∷ []) (meta_cells row.now)) (state S.Store tx.old.conn.now)
-        (state S.Store tx.new.conn.now)) }
+        OnOk result (StepsBeside (put_in (tree_of of_club.Meta) (0 ∷ []) (meta_cells row.now))
+        (state S.Store tx.old.conn.now) (state S.Store tx.new.conn.now)) }
     ensures known { HasCleanDisk (state S.Store tx.new.conn.now) → IsTrue
         (state S.Store tx.old.conn.now).in_transaction → (state S.Store tx.old.conn.now).now.schema ≡ club_schema →
         IfErr result IsNoInput }

@@ -48,10 +48,12 @@ pub fn widen<S: Alter>(
     requires { conn.old.in_transaction ≡ false }
     ensures idle { conn.new.in_transaction ≡ false }
     ensures clean { doubt (state S.Store conn.old).is_clean ≤ doubt (state S.Store conn.new).is_clean }
-    ensures stored { HasCleanDisk (state S.Store conn.new) → OnOk result ((content : _) → content (tree_of EventRules) ≡ [] →
+    ensures stored { HasCleanDisk (state S.Store conn.new) → OnOk result ((content : _) →
+        content (tree_of EventRules) ≡ [] →
         of_schema.IsExactly first_schema content (state S.Store conn.old) →
         IsExactly (widened rules.now meta.now content) (state S.Store conn.new)) }
-    ensures fault { HasCleanDisk (state S.Store conn.new) → OnErr result ((content : _) → content (tree_of EventRules) ≡ [] →
+    ensures fault { HasCleanDisk (state S.Store conn.new) → OnErr result ((content : _) →
+        content (tree_of EventRules) ≡ [] →
         of_schema.IsExactly first_schema content (state S.Store conn.old) → (db : _) →
         (state S.Store conn.new).may_leave db →
         of_schema.Leaves first_schema content db ⊎ Leaves (widened rules.now meta.now content) db) }

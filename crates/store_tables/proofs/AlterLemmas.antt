@@ -1,18 +1,17 @@
 -- Rows put in turn make the new table of the old.
 use Rattle.std.proofs.Common.{◌≡◌, ℕ, Bool, true, false, not, List, [], ◌∷◌, refl, ap, sym, subst, ◌∙◌, inl, inr, ◌⊎◌}
-use Rattle.std.proofs.Common.{true≢false, map, Option, Some, None}
+use Rattle.std.proofs.Common.{true≢false, Option, Some, None}
 use Rattle.std.specs.Prelude.{if◌then◌else◌, ◌==◌}
 use Rattle.std.proofs.lemmas.Bool.{cases_Bool, not-true}
-use Rattle.sqlite.specs.Order.{Row}
-use Rattle.sqlite_rules.specs.Lists.{Has}
+use Rattle.store_tables.specs.Sql.{Row, Has}
 use Rattle.sqlite_rules.proofs.ListLemmas.{has_filtered, has_kept}
 use Rattle.store_tables.specs.Content.{same_key, put}
 use Rattle.store_tables.specs.Contents.{Content, put_in, put_each}
 use Rattle.store_tables.specs.Changes.{HaveSame, AreSame, Alters, put_rows}
 use Rattle.store_tables.specs.Changed.{put_maybe, changed, maybe_row, AltersTables}
 use Rattle.store_tables.specs.Tables.{club_schema}
-use Rattle.store_tables.specs.Cells.{meta_cells, member_cells, event_cells, challenge_cells, move_cells, game_cells}
-use Rattle.store_tables.specs.Cells.{event_rule_cells, seen_cells, score_cells}
+use Rattle.store_tables.specs.Cells.{meta_cells}
+use Rattle.store_tables.proofs.SchemaLemmas.{each_of_club}
 use Rattle.store_tables.specs.declared.rows.MetaRow.{MetaRow}
 use Rattle.store_tables.specs.declared.rows.Changes.{Changes}
 
@@ -120,104 +119,50 @@ maybe_at : (o : Option MetaRow) (content : Content) (t : ℕ)
 maybe_at None content t = each_at (0 ∷ []) 0 [] content t
 maybe_at (Some meta) content t = each_at (0 ∷ []) 0 (meta_cells meta ∷ []) content t
 
+-- what is put into the table, and into another one
+module _ (t : ℕ) where
+  in_past : (tree : ℕ) (key : List ℕ) (row : Row) (content : Content) (rows : List Row) → (t == tree) ≡ false
+      → content t ≡ rows → put_in tree key row content t ≡ rows
+  in_past tree key row content rows other is =
+      ap (λ b. if b then put key row (content t) else content t) other ∙ is
+
+  pub each_past : (tree : ℕ) (key : List ℕ) (puts : List Row) (content : Content) (rows : List Row) → (t == tree)
+      ≡ false
+      → content t ≡ rows → put_each tree key puts content t ≡ rows
+  each_past tree key [] content rows other is = is
+  each_past tree key (row ∷ puts) content rows other is =
+      each_past tree key puts (put_in tree key row content) rows other (in_past tree key row content rows other is)
+
+  pub maybe_past : (meta : Option MetaRow) (content : Content) (rows : List Row) → (t == 0) ≡ false → content t ≡ rows
+      → put_maybe meta content t ≡ rows
+  maybe_past None content rows other is = is
+  maybe_past (Some meta) content rows other is = in_past 0 (0 ∷ []) (meta_cells meta) content rows other is
+
+  each_own : (tree : ℕ) (key : List ℕ) (puts : List Row) (content : Content) (was : List Row) → (t == tree) ≡ true
+      → content t ≡ was → put_each tree key puts content t ≡ put_rows key puts was
+  each_own tree key puts content was own is =
+      each_at key tree puts content t ∙ (λ i. if own i then put_rows key puts (is i) else is i)
+
+  maybe_own : (meta : Option MetaRow) (content : Content) (was : List Row) → (t == 0) ≡ true → content t ≡ was
+      → put_maybe meta content t ≡ put_rows (0 ∷ []) (maybe_row meta) was
+  maybe_own None content was own is = is
+  maybe_own (Some meta) content was own is = each_own 0 (0 ∷ []) (meta_cells meta ∷ []) content was own is
+
 -- What is put of each table makes the new content of the old.
 module _ (c : Changes) (old : Content) where
-  abbrev s1 : Content
-  s1 = put_each 1 (0 ∷ []) (map member_cells c.members.items) old
-
-  abbrev s2 : Content
-  s2 = put_each 4 (0 ∷ []) (map event_cells c.events.items) s1
-
-  abbrev s3 : Content
-  s3 = put_each 16 (0 ∷ []) (map event_rule_cells c.event_rules.items) s2
-
-  abbrev s4 : Content
-  s4 = put_each 6 (0 ∷ 1 ∷ []) (map challenge_cells c.challenges.items) s3
-
-  abbrev s5 : Content
-  s5 = put_each 10 (0 ∷ []) (map game_cells c.games.items) s4
-
-  abbrev s6 : Content
-  s6 = put_each 8 (0 ∷ 1 ∷ []) (map move_cells c.moves.items) s5
-
-  abbrev s7 : Content
-  s7 = put_each 12 (0 ∷ 1 ∷ []) (map seen_cells c.seen.items) s6
-
-  abbrev s8 : Content
-  s8 = put_each 14 (0 ∷ 1 ∷ 2 ∷ []) (map score_cells c.scores.items) s7
-
-  at_1 : (t : ℕ)
-      → s1 t ≡ (if t == 1 then put_rows (0 ∷ []) (map member_cells c.members.items) (old t) else old t)
-  at_1 t = each_at (0 ∷ []) 1 (map member_cells c.members.items) old t
-
-  at_2 : (t : ℕ)
-      → s2 t ≡ (if t == 4 then put_rows (0 ∷ []) (map event_cells c.events.items) (s1 t) else s1 t)
-  at_2 t = each_at (0 ∷ []) 4 (map event_cells c.events.items) s1 t
-
-  at_3 : (t : ℕ)
-      → s3 t ≡ (if t == 16 then put_rows (0 ∷ []) (map event_rule_cells c.event_rules.items) (s2 t) else s2 t)
-  at_3 t = each_at (0 ∷ []) 16 (map event_rule_cells c.event_rules.items) s2 t
-
-  at_4 : (t : ℕ)
-      → s4 t ≡ (if t == 6 then put_rows (0 ∷ 1 ∷ []) (map challenge_cells c.challenges.items) (s3 t) else s3 t)
-  at_4 t = each_at (0 ∷ 1 ∷ []) 6 (map challenge_cells c.challenges.items) s3 t
-
-  at_5 : (t : ℕ)
-      → s5 t ≡ (if t == 10 then put_rows (0 ∷ []) (map game_cells c.games.items) (s4 t) else s4 t)
-  at_5 t = each_at (0 ∷ []) 10 (map game_cells c.games.items) s4 t
-
-  at_6 : (t : ℕ)
-      → s6 t ≡ (if t == 8 then put_rows (0 ∷ 1 ∷ []) (map move_cells c.moves.items) (s5 t) else s5 t)
-  at_6 t = each_at (0 ∷ 1 ∷ []) 8 (map move_cells c.moves.items) s5 t
-
-  at_7 : (t : ℕ)
-      → s7 t ≡ (if t == 12 then put_rows (0 ∷ 1 ∷ []) (map seen_cells c.seen.items) (s6 t) else s6 t)
-  at_7 t = each_at (0 ∷ 1 ∷ []) 12 (map seen_cells c.seen.items) s6 t
-
-  at_8 : (t : ℕ)
-      → s8 t ≡ (if t == 14 then put_rows (0 ∷ 1 ∷ 2 ∷ []) (map score_cells c.scores.items) (s7 t) else s7 t)
-  at_8 t = each_at (0 ∷ 1 ∷ 2 ∷ []) 14 (map score_cells c.scores.items) s7 t
-
-  by : (key : List ℕ) (changed rows was now new : List Row) → rows ≡ put_rows key changed was → was ≡ now
-      → Alters key changed now new → HaveSame rows new
-  by key changed rows was now new is same it =
-      subst (λ l. HaveSame l new) (sym (is ∙ ap (put_rows key changed) same)) (altered key changed now new it)
+  by : (key : List ℕ) (changed rows was new : List Row) → Alters key changed was new → rows ≡ put_rows key changed was
+      → HaveSame rows new
+  by key changed rows was new it is = subst (λ l. HaveSame l new) (sym is) (altered key changed was new it)
 
   pub tables_altered : (new : Content) → AltersTables c old new → AreSame club_schema (changed c old) new
-  tables_altered new it = (
-    by (0 ∷ []) _ _ _ _ (new 0) (maybe_at c.meta s8 0) (at_8 0 ∙ at_7 0 ∙ at_6 0 ∙ at_5 0 ∙ at_4 0 ∙ at_3 0 ∙ at_2 0
-        ∙ at_1 0) it.meta,
-    (
-      by (0 ∷ []) _ _ _ _ (new 1) (maybe_at c.meta s8 1 ∙ at_8 1 ∙ at_7 1 ∙ at_6 1 ∙ at_5 1 ∙ at_4 1 ∙ at_3 1 ∙ at_2 1
-          ∙ at_1 1) refl it.members,
-      (
-        by (0 ∷ []) _ _ _ _ (new 4) (maybe_at c.meta s8 4 ∙ at_8 4 ∙ at_7 4 ∙ at_6 4 ∙ at_5 4 ∙ at_4 4 ∙ at_3 4 ∙ at_2
-            4) (at_1 4) it.events,
-        (
-          by (0 ∷ 1 ∷ []) _ _ _ _ (new 6) (maybe_at c.meta s8 6 ∙ at_8 6 ∙ at_7 6 ∙ at_6 6 ∙ at_5 6 ∙ at_4 6) (at_3 6 ∙
-              at_2 6 ∙ at_1 6) it.challenges,
-          (
-            by (0 ∷ 1 ∷ []) _ _ _ _ (new 8) (maybe_at c.meta s8 8 ∙ at_8 8 ∙ at_7 8 ∙ at_6 8) (at_5 8 ∙ at_4 8 ∙ at_3 8 ∙
-                at_2 8 ∙ at_1 8) it.moves,
-            (
-              by (0 ∷ []) _ _ _ _ (new 10) (maybe_at c.meta s8 10 ∙ at_8 10 ∙ at_7 10 ∙ at_6 10 ∙ at_5 10) (at_4 10 ∙ at_3 10
-                  ∙ at_2 10 ∙ at_1 10) it.games,
-              (
-                by (0 ∷ 1 ∷ []) _ _ _ _ (new 12) (maybe_at c.meta s8 12 ∙ at_8 12 ∙ at_7 12) (at_6 12 ∙ at_5 12 ∙ at_4 12 ∙ at_3
-                    12 ∙ at_2 12 ∙ at_1 12) it.seen,
-                (
-                  by (0 ∷ 1 ∷ 2 ∷ []) _ _ _ _ (new 14) (maybe_at c.meta s8 14 ∙ at_8 14) (at_7 14 ∙ at_6 14 ∙ at_5 14 ∙ at_4 14 ∙
-                      at_3 14 ∙ at_2 14 ∙ at_1 14) it.scores,
-                  (
-                    by (0 ∷ []) _ _ _ _ (new 16) (maybe_at c.meta s8 16 ∙ at_8 16 ∙ at_7 16 ∙ at_6 16 ∙ at_5 16 ∙ at_4 16 ∙ at_3 16)
-                        (at_2 16 ∙ at_1 16) it.event_rules,
-                    tt,
-                  ),
-                ),
-              ),
-            ),
-          ),
-        ),
-      ),
-    ),
-  )
+  tables_altered new it =
+      each_of_club (λ table. HaveSame (changed c old table.tree) (new table.tree))
+      (by _ _ _ _ _ it.meta (search (maybe_own, each_past) depth 12))
+      (by _ _ _ _ _ it.members (search (maybe_past, each_past, each_own) depth 12))
+      (by _ _ _ _ _ it.events (search (maybe_past, each_past, each_own) depth 12))
+      (by _ _ _ _ _ it.challenges (search (maybe_past, each_past, each_own) depth 12))
+      (by _ _ _ _ _ it.moves (search (maybe_past, each_past, each_own) depth 12))
+      (by _ _ _ _ _ it.games (search (maybe_past, each_past, each_own) depth 12))
+      (by _ _ _ _ _ it.seen (search (maybe_past, each_past, each_own) depth 12))
+      (by _ _ _ _ _ it.scores (search (maybe_past, each_past, each_own) depth 12))
+      (by _ _ _ _ _ it.event_rules (search (maybe_past, each_past, each_own) depth 12))

@@ -1,20 +1,17 @@
 -- What other programs made has no part in putting a row of the club.
-use Rattle.std.proofs.Common.{◌≡◌, ℕ, ◌==◌, ◌&&◌, ◌||◌, Bool, true, false, List, [], ◌∷◌, Option, Some, None}
-use Rattle.std.proofs.Common.{refl, sym, subst, ◌∙◌, flat_map, filter_map, IfSome}
+use Rattle.std.proofs.Common.{◌≡◌, ℕ, ◌==◌, ◌&&◌, ◌||◌, Bool, true, false, List, [], ◌∷◌, Option, Some, None, refl, sym}
+use Rattle.std.proofs.Common.{subst, ◌∙◌, flat_map, filter_map, IfSome}
 use Rattle.std.specs.List.{AllByRecursion, list_any}
 use Rattle.std.specs.Prelude.{if◌then◌else◌}
-use Rattle.sqlite.specs.Order.{Row}
+use Rattle.store_tables.specs.Sql.{Row, Has, Schema, Table}
 use Rattle.sqlite_rules.specs.Action.{Work, loses, pairs, work_by, work_for}
 use Rattle.sqlite_rules.specs.Keys.{aims, shares}
-use Rattle.sqlite_rules.specs.Lists.{Has}
 use Rattle.sqlite_rules.specs.declared.action.Deed.{Deed}
 use Rattle.sqlite_rules.proofs.ListLemmas.{all_has}
 use Rattle.sqlite_schema.specs.Rules.{ParentKey, agree, guards, parent_key}
 use Rattle.sqlite_schema.specs.declared.schema.Index.{Index}
 use Rattle.sqlite_schema.specs.declared.schema.Keys.{Keys}
 use Rattle.sqlite_schema.specs.declared.schema.Reference.{Reference}
-use Rattle.sqlite_schema.specs.declared.schema.Schema.{Schema}
-use Rattle.sqlite_schema.specs.declared.schema.Table.{Table}
 use Rattle.store_tables.specs.Beside.{no_others, IsNoKey, IsOfOthers, StandsClear, TakesRows}
 use Rattle.store_tables.specs.Tables.{club_schema}
 use Rattle.store_tables.proofs.ContentLemmas.{club_apart}

@@ -4,20 +4,14 @@ use Rattle.std.proofs.Common.{true≢false}
 use Rattle.std.specs.Prelude.{if◌then◌else◌}
 use Rattle.sqlite_schema.specs.declared.schema.Keys.TheVariants.{Enforced}
 use Rattle.std.proofs.lemmas.Bool.{cases_Bool, eqb-true, eq-eqb}
-use Rattle.sqlite.specs.Order.{Row}
-use Rattle.sqlite.specs.Tree.{Trees}
-use Rattle.sqlite.specs.Table.{Table}
-use Rattle.sqlite.specs.Schema.{Schema}
-use Rattle.sqlite.specs.Effect.{Database, IsDatabase}
+use Rattle.store_tables.specs.Sql.{Row, Trees, Table, Schema, Database, IsDatabase, State, understood, Has}
 use Rattle.sqlite.specs.Does.{Tally, Does, AtPlace, OnRows}
-use Rattle.sqlite.specs.State.{State, mode_of, Executes}
-use Rattle.sqlite.specs.Listing.{understood}
+use Rattle.sqlite.specs.State.{mode_of, Executes}
 use Rattle.sqlite.specs.Command.TheVariants.{InsertOr}
 use Rattle.sqlite_schema.specs.declared.command.Source.{Source}
 use Rattle.sqlite_schema.specs.declared.command.Conflict.TheVariants.{Abort}
 use Rattle.sqlite_trees.specs.Tree.{IsAscending}
 use Rattle.sqlite_sql.specs.Term.{Term}
-use Rattle.sqlite_rules.specs.Lists.{Has}
 use Rattle.sqlite_rules.proofs.ListLemmas.{all_has, all_from, has_got}
 use Rattle.sqlite_rules.proofs.RuleLemmas.{same_table}
 use Rattle.sqlite.proofs.Callers.{IsPlain, command_of, statement_of, runs_as}

@@ -1,8 +1,6 @@
 -- What `excluded.NAME` stands for in ON CONFLICT DO UPDATE, whatever further tables the schema has.
-use Rattle.std.proofs.Common.{◌≡◌, ℕ, Bool, true, false, List, [], ◌∷◌, ◌++◌, Option, Some, None, Ok, refl, sym}
-use Rattle.std.proofs.Common.{ap, subst, ◌∙◌}
-use Rattle.std.proofs.Common.{slice_get, length, option_map, is_some, not, ◌||◌, ◌&&◌, codes}
-use Rattle.std.proofs.Common.{map}
+use Rattle.std.proofs.Common.{◌≡◌, ℕ, Bool, true, false, List, [], ◌∷◌, ◌++◌, Option, Some, None, Ok, refl, sym, ap}
+use Rattle.std.proofs.Common.{subst, ◌∙◌, slice_get, length, option_map, is_some, not, ◌||◌, ◌&&◌, codes, map}
 use Rattle.std.proofs.lemmas.Bool.{and_parts, not-true}
 use Rattle.std.specs.List.{list_all}
 use Rattle.std.specs.Prelude.{if◌then◌else◌, option_and_then}
@@ -10,8 +8,7 @@ use Rattle.sqlite_ast.specs.declared.Expr.{Expr, out-Expr}
 use Rattle.sqlite_ast.specs.declared.Expr.TheOpen.{Expr-F}
 use Rattle.sqlite_ast.specs.declared.Expr.TheVariants as written_expr
 use Rattle.sqlite_sql.specs.Term.{Term, col}
-use Rattle.sqlite_schema.specs.declared.schema.Schema.{Schema}
-use Rattle.sqlite_schema.specs.declared.schema.Table.{Table}
+use Rattle.store_tables.specs.Sql.{Schema, Table}
 use Rattle.sqlite_schema.specs.Names.{same_name, column_named, place_of}
 use Rattle.sqlite_resolve.specs.declared.error.CompileError.TheVariants.{NoSuchColumn, Unsupported}
 use Rattle.sqlite_resolve.specs.declared.scope.Bound.{Bound}
@@ -19,11 +16,10 @@ use Rattle.sqlite_resolve.specs.declared.scope.Level.{Level}
 use Rattle.sqlite_resolve.specs.declared.scope.Found.TheVariants.{Column, Alias}
 use Rattle.sqlite_resolve.specs.declared.state.Carried.{Carried}
 use Rattle.sqlite_resolve.specs.declared.state.State.{State}
-use Rattle.sqlite_resolve.specs.Lowering.{Checked, Lowering, and_then, or_else, spend, begin, finish, carry, pure}
-use Rattle.sqlite_resolve.specs.Lowering.{lift, get, fail, fresh, max_budget, ◌>>◌, ◌>>=◌}
+use Rattle.sqlite_resolve.specs.Lowering.{Checked, Lowering, and_then, or_else, spend, begin, finish, carry, pure, lift}
+use Rattle.sqlite_resolve.specs.Lowering.{get, fail, fresh, max_budget, ◌>>◌, ◌>>=◌}
 use Rattle.sqlite_resolve.specs.Scope.{Context, Name, is_rowid, column_in, hit, only, in_level, find, find_from}
-use Rattle.sqlite_resolve.specs.Scope.{found_or}
-use Rattle.sqlite_resolve.specs.Scope.{column_at, term_of, column, at_most_one, alias_of, declared, is_hidden}
+use Rattle.sqlite_resolve.specs.Scope.{found_or, column_at, term_of, column, at_most_one, alias_of, declared, is_hidden}
 use Rattle.sqlite_resolve.specs.Scope.{is_meant}
 use Rattle.sqlite_resolve.specs.Expr.{lower, lower_to, node, node_at, opened, passes}
 use Rattle.sqlite_resolve.specs.Write.{level_of, with_place, sets_from, sets, assigned, updated_in, picked, row}

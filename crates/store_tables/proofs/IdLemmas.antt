@@ -12,12 +12,11 @@ use Rattle.sqlite_value.specs.declared.value.Value.{Value}
 use Rattle.sqlite_value.specs.declared.value.Value.TheVariants.{Int}
 use Rattle.sqlite_value.specs.Order.{value_cmp}
 use Rattle.sqlite_value.proofs.OrderLemmas.{value_cmp_total, value_cmp-Int}
-use Rattle.sqlite.specs.Order.{Row, column}
+use Rattle.store_tables.specs.Sql.{Row, column, Has}
 use Rattle.sqlite_trees.specs.Tree.{IsAscending}
 use Rattle.sqlite_trees.specs.View.{is_int}
 use Rattle.sqlite_trees.proofs.ListLemmas.{ascending_from_map, all_from_map, ascending-map, ascending_weaker}
 use Rattle.sqlite_rules.specs.Edit.{id_in}
-use Rattle.sqlite_rules.specs.Lists.{Has}
 use Rattle.sqlite_rules.proofs.ListLemmas.{all_has}
 use Rattle.sqlite_rules.proofs.TableLemmas.{int_is}
 use Rattle.store_tables.specs.Cells.{Rises}

@@ -1,10 +1,8 @@
 -- What the SELECTs by a whole key, or by a column that is UNIQUE, mean under the schema of a club, beside whatever else
 -- the database has, by computing.
 use Rattle.std.proofs.Common.{◌≡◌, ℕ, ℤ, List, [], ◌∷◌, Some, refl, slice_get}
-use Rattle.sqlite.specs.Listing.{understood}
-use Rattle.sqlite.specs.Order.{Row}
+use Rattle.store_tables.specs.Sql.{understood, Row, Table}
 use Rattle.sqlite.specs.Query.{Query}
-use Rattle.sqlite.specs.Table.{Table}
 use Rattle.sqlite.specs.declared.types.Value.TheVariants.{Null, Int, Text}
 use Rattle.sqlite_tied.specs.Compute.{everything}
 use Rattle.sqlite_value.specs.Keys.{first_key}
@@ -88,7 +86,9 @@ unfolding understood everything first_key
 seen_by_position_asks a b = asks Seen (0 ∷ 1 ∷ []) (1 ∷ 2 ∷ []) (Int a ∷ Text b ∷ []) (Int a ∷ Text b ∷ [])
     (λ others. (refl, λ d. refl, (refl, (refl, refl), refl, refl), λ r. refl))
 
-pub scores_by_pair_asks : (a b c : ℤ) → Asks Scores (0 ∷ 1 ∷ 2 ∷ []) (Int a ∷ Int b ∷ Int c ∷ []) (Int a ∷ Int b ∷ Int c ∷ [])
+pub scores_by_pair_asks : (a b c : ℤ) → Asks Scores (0 ∷ 1 ∷ 2 ∷ []) (Int a ∷ Int b ∷ Int c ∷ []) (Int a ∷ Int b ∷ Int
+    c ∷ [])
 unfolding understood everything first_key
-scores_by_pair_asks a b c = asks Scores (0 ∷ 1 ∷ 2 ∷ []) (1 ∷ 2 ∷ 3 ∷ []) (Int a ∷ Int b ∷ Int c ∷ []) (Int a ∷ Int b ∷ Int c ∷ [])
+scores_by_pair_asks a b c = asks Scores (0 ∷ 1 ∷ 2 ∷ []) (1 ∷ 2 ∷ 3 ∷ []) (Int a ∷ Int b ∷ Int c ∷ []) (Int a ∷ Int b ∷
+    Int c ∷ [])
     (λ others. (refl, λ d. refl, (refl, (refl, refl), refl, refl), λ r. refl))

@@ -1,20 +1,14 @@
 -- CREATE TABLE, one after the other.
-use Rattle.std.proofs.Common.{◌≡◌, ℕ, ◌+◌, false, true≢false, List, [], ◌∷◌, Ok, None, refl}
-use Rattle.std.proofs.Common.{sym, ap, subst, ◌∙◌, inl, inr}
+use Rattle.std.proofs.Common.{◌≡◌, ℕ, ◌+◌, false, true≢false, List, [], ◌∷◌, Ok, None, refl, sym, ap, subst, ◌∙◌, inl}
+use Rattle.std.proofs.Common.{inr}
 use Rattle.std.specs.Prelude.{is_ok}
 use Rattle.std.specs.List.{AllByRecursion}
-use Rattle.sqlite.specs.Order.{Row}
-use Rattle.sqlite.specs.Table.{Table}
-use Rattle.sqlite.specs.Schema.{Schema}
-use Rattle.sqlite.specs.Tree.{Trees}
+use Rattle.store_tables.specs.Sql.{Row, Table, Schema, Trees, Database, understood, State, Has}
 use Rattle.sqlite.specs.Command.TheVariants.{CreateTable}
 use Rattle.sqlite.specs.Change.{created, next_tree}
 use Rattle.sqlite.specs.Does.{Tally, lacks_sequence}
-use Rattle.sqlite.specs.Effect.{Database}
-use Rattle.sqlite.specs.Listing.{understood}
-use Rattle.sqlite.specs.State.{State, Writes, ExecutesIn}
+use Rattle.sqlite.specs.State.{Writes, ExecutesIn}
 use Rattle.sqlite_catalog.specs.Change.{KeepsRows}
-use Rattle.sqlite_rules.specs.Lists.{Has}
 use Rattle.sqlite_rules.proofs.ListLemmas.{all_has, all_from, has_either}
 use Rattle.sqlite.proofs.Callers.{runs_as}
 use Rattle.store_tables.specs.Content.{AreApart}
@@ -106,7 +100,8 @@ module _ (table : of_club.Table) (old new : State) (sql : List ℕ) (text : sql 
         record {
           schema = ap (λ (d : Database). d.schema) now ∙ is;
           sound = w.sound;
-          tables = subst (λ (s : Schema). AllByRecursion (λ t. Stores t new.now.trees content) s.tables) is_create.created
+          tables = subst (λ (s : Schema). AllByRecursion (λ t. Stores t new.now.trees content) s.tables)
+              is_create.created
               (all_from (λ t. Stores t new.now.trees content) (created before made).tables
               (λ t known. elim (has_either before.tables _ t known) [
                 | inl was ↦ stores_by t old.now.trees new.now.trees content

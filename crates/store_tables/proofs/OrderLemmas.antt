@@ -5,14 +5,12 @@ use Rattle.std.specs.Ordering.{is_lt}
 use Rattle.std.specs.List.Sorted.{IsSorted}
 use Rattle.sqlite_value.specs.declared.value.Value.TheVariants.{Null}
 use Rattle.sqlite_value.specs.declared.keys.Key.{Key}
-use Rattle.sqlite.specs.Order.{Row}
-use Rattle.sqlite.specs.Tree.{Trees}
-use Rattle.sqlite.specs.Effect.{Database, Reads}
+use Rattle.store_tables.specs.Sql.{Row, Trees, Database, Has}
+use Rattle.sqlite.specs.Effect.{Reads}
 use Rattle.sqlite.specs.Command.TheVariants.{Select}
 use Rattle.sqlite_sql.specs.Term.{Term, eval_all}
 use Rattle.sqlite_sql.specs.Query.{IsAnswer, Output, output, output_cmp}
 use Rattle.sqlite_sql.specs.Program.{overlay}
-use Rattle.sqlite_rules.specs.Lists.{Has}
 use Rattle.store_tables.specs.Put.{selects}
 use Rattle.store_tables.proofs.ReadLemmas.{env_of}
 

@@ -4,11 +4,7 @@ use Rattle.std.proofs.Common.{inl, inr, true≢false, arith}
 use Rattle.std.specs.Prelude.{◌==◌, ◌||◌, if◌then◌else◌}
 use Rattle.std.specs.List.{AllByRecursion}
 use Rattle.std.proofs.lemmas.Bool.{cases_Bool}
-use Rattle.sqlite.specs.Order.{Row}
-use Rattle.sqlite.specs.State.{State}
-use Rattle.sqlite.specs.Schema.{Schema}
-use Rattle.sqlite.specs.Table.{Table}
-use Rattle.sqlite.specs.Tree.{Trees}
+use Rattle.store_tables.specs.Sql.{Row, State, Schema, Table, Trees}
 use Rattle.store_tables.specs.Beside.{HasRows, Others, beside}
 use Rattle.store_tables.specs.Changed.{changed, put_maybe}
 use Rattle.store_tables.specs.Changes.{HaveSame, AreSame}
@@ -23,8 +19,9 @@ use Rattle.store_tables.specs.Reading.{KeepsContent}
 use Rattle.store_tables.specs.declared.rows.Changes.{Changes}
 use Rattle.store_tables.specs.declared.rows.MetaRow.{MetaRow}
 use Rattle.store_tables.specs.Cells.{meta_cells}
-use Rattle.store_tables.proofs.AlterLemmas.{same_itself, same_by}
+use Rattle.store_tables.proofs.AlterLemmas.{same_itself, same_by, each_past, maybe_past}
 use Rattle.store_tables.proofs.BesideLemmas.{clear_alone}
+use Rattle.store_tables.proofs.SchemaLemmas.{each_of_club}
 use Rattle.store_tables.proofs.SameLemmas.{exactly_same, leaves_same}
 use Rattle.store_tables.specs.Over.{over, has_tree, alone, Neighbours, IsBesideThem, LeavesBeside}
 
@@ -49,23 +46,6 @@ module _ (t : ℕ) where
 
   pub changed_alike : (c : Changes) (one other : Content) → one t ≡ other t → changed c one t ≡ changed c other t
   changed_alike c one other same = search (maybe_alike, each_alike, same) depth 12
-
-  -- a table of another program
-  in_past : (tree : ℕ) (key : List ℕ) (row : Row) (content : Content) (rows : List Row) → (t == tree) ≡ false
-      → content t ≡ rows → put_in tree key row content t ≡ rows
-  in_past tree key row content rows other is =
-      ap (λ b. if b then put key row (content t) else content t) other ∙ is
-
-  each_past : (tree : ℕ) (key : List ℕ) (puts : List Row) (content : Content) (rows : List Row) → (t == tree) ≡ false
-      → content t ≡ rows → put_each tree key puts content t ≡ rows
-  each_past tree key [] content rows other is = is
-  each_past tree key (row ∷ puts) content rows other is =
-      each_past tree key puts (put_in tree key row content) rows other (in_past tree key row content rows other is)
-
-  maybe_past : (meta : Option MetaRow) (content : Content) (rows : List Row) → (t == 0) ≡ false → content t ≡ rows
-      → put_maybe meta content t ≡ rows
-  maybe_past None content rows other is = is
-  maybe_past (Some meta) content rows other is = in_past 0 (0 ∷ []) (meta_cells meta) content rows other is
 
 or_false : (a b : Bool) → (a || b) ≡ false → (a ≡ false) × (b ≡ false)
 or_false true b is = absurd (true≢false is)
@@ -157,31 +137,10 @@ module _ (one other : Content) (same : (t : ℕ) → HaveSame (one t) (other t))
 -- ---- a club beside its neighbours
 
 same_alone : (content : Content) → AreSame club_schema content (over content nothing)
-same_alone content = (
-  same_itself (content 0),
-  (
-    same_itself (content 1),
-    (
-      same_itself (content 4),
-      (
-        same_itself (content 6),
-        (
-          same_itself (content 8),
-          (
-            same_itself (content 10),
-            (
-              same_itself (content 12),
-              (
-                same_itself (content 14),
-                (same_itself (content 16), tt),
-              ),
-            ),
-          ),
-        ),
-      ),
-    ),
-  ),
-)
+same_alone content =
+    each_of_club (λ table. HaveSame (content table.tree) (over content nothing table.tree)) (same_itself (content 0))
+    (same_itself (content 1)) (same_itself (content 4)) (same_itself (content 6)) (same_itself (content 8))
+    (same_itself (content 10)) (same_itself (content 12)) (same_itself (content 14)) (same_itself (content 16))
 
 same_back : (content : Content) → AreSame club_schema (over content nothing) content
 same_back content = same_alone content
@@ -231,7 +190,8 @@ module _ (c : Changes) (one other rest : Content) (same : AreSame club_schema (c
 
 -- ---- the rows of a club among those of all tables
 
-stores_over : (content rest : Content) (trees : Trees) (table : Table) → over content rest table.tree ≡ content table.tree
+stores_over : (content rest : Content) (trees : Trees) (table : Table) → over content rest table.tree
+    ≡ content table.tree
     → Stores table trees (over content rest) → Stores table trees content
 stores_over content rest trees table same s =
     record { rows = subst (Keeps table trees) same s.rows; apart = s.apart }
@@ -240,22 +200,8 @@ pub club_stored : (content rest : Content) (others : Others) (trees : Trees)
     → AreStored (beside club_schema others) trees (over content rest) → AreStored club_schema trees content
 club_stored content rest others trees stored =
     let (a, (b, (c, (d, (e, (f, (g, (h, (i, more))))))))) = stored in
-    let it = stores_over content rest trees in (
-      it (standing Meta) refl a,
-      (
-        it (standing Members) refl b,
-        (
-          it (standing Events) refl c,
-          (
-            it (standing Challenges) refl d,
-            (
-              it (standing Moves) refl e,
-              (
-                it (standing Games) refl f,
-                (it (standing Seen) refl g, (it (standing Scores) refl h, (it (standing EventRules) refl i, tt))),
-              ),
-            ),
-          ),
-        ),
-      ),
-    )
+    let it = stores_over content rest trees in
+    each_of_club (λ table. Stores table trees content) (it (standing Meta) refl a) (it (standing Members) refl b)
+    (it (standing Events) refl c) (it (standing Challenges) refl d) (it (standing Moves) refl e)
+    (it (standing Games) refl f) (it (standing Seen) refl g) (it (standing Scores) refl h)
+    (it (standing EventRules) refl i)

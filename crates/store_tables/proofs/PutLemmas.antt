@@ -1,46 +1,39 @@
 -- What a text that puts a row makes of the trees.
 use Rattle.std.proofs.Common.{◌≡◌, ◌≢◌, ◌⊎◌, ℕ, ℤ, Bool, true, false, cond, not, List, [], ◌∷◌, ◌++◌, map, flat_map}
 use Rattle.std.proofs.Common.{find, Some, None, Option, Ok, Equal, refl, sym, ap, subst, ◌∙◌, inl, inr, true≢false}
-use Rattle.std.proofs.Common.{unwrap_or}
-use Rattle.std.specs.Prelude.{MatchBool}
+use Rattle.std.proofs.Common.{unwrap_or, subst₂}
+use Rattle.std.specs.Prelude.{MatchBool, if◌then◌else◌}
 use Rattle.std.specs.List.{list_all}
 use Rattle.std.specs.List.Sorted.{IsPermutation}
 use Rattle.std.proofs.lemmas.Bool.{false_from_ne_true, and_parts}
 use Rattle.sqlite_value.specs.declared.value.Value.TheVariants.{Null, Int}
 use Rattle.sqlite_value.specs.Order.{Row, column, value_cmp}
-use Rattle.sqlite_trees.specs.Tree.{Trees, rowid, without_rowid, has_rowid, IsAscending}
+use Rattle.store_tables.specs.Sql.{Trees, rowid, Schema, Has, Table}
+use Rattle.sqlite_trees.specs.Tree.{without_rowid, has_rowid, IsAscending}
 use Rattle.sqlite_trees.specs.View.{is_int}
 use Rattle.sqlite_sql.specs.Term.{Term, eval_all, holds}
-use Rattle.std.proofs.Common.{subst₂}
 use Rattle.std.specs.Cmp.{tied_itself, tied_back}
 use Rattle.sqlite_rules.proofs.RuleLemmas.{Turns}
 use Rattle.sqlite_value.proofs.OrderLemmas.{value_cmp_total}
 use Rattle.sqlite.specs.Collation.TheVariants.{Binary}
 use Rattle.store_tables.proofs.KeyLemmas.{equal_cmp, equal_from, tied}
-use Rattle.std.specs.Ordering.{is_eq}
+use Rattle.std.specs.Ordering.{is_eq, is_lt, int_cmp}
 use Rattle.sqlite_schema.specs.declared.schema.Constraint.TheVariants.{Unique}
 use Rattle.sqlite_sql.specs.Query.{IsAnswer, Output, output, page}
 use Rattle.sqlite_sql.specs.Program.{overlay}
 use Rattle.sqlite_schema.specs.declared.command.Source.{Source}
 use Rattle.sqlite_schema.specs.declared.command.Conflict.TheVariants.{Abort}
 use Rattle.sqlite_schema.specs.declared.schema.Keys.TheVariants.{Enforced}
-use Rattle.sqlite_schema.specs.declared.schema.Schema.{Schema}
 use Rattle.sqlite_schema.specs.Rules.{equal}
-use Rattle.sqlite_rules.specs.Lists.{Has}
 use Rattle.sqlite_rules.specs.Keys.{conflicts}
-use Rattle.sqlite_rules.specs.Edit.{Edit, edit_of, Applies, taken_by, with_rowid, row_at}
+use Rattle.sqlite_rules.specs.Edit.{Edit, edit_of, Applies, taken_by, with_rowid, row_at, left_by, id_in}
 use Rattle.sqlite_rules.specs.Cast.{cast_row}
 use Rattle.sqlite_rules.specs.Calls.{ids_of}
 use Rattle.sqlite_rules.specs.declared.error.Refusal.{Refusal}
 use Rattle.sqlite_rules.specs.declared.error.Rowids.TheVariants.{Given, Chosen, Above}
 use Rattle.sqlite_rules.specs.declared.error.Rowids.{Rowids}
-use Rattle.std.specs.Ordering.{is_lt, int_cmp}
-use Rattle.std.specs.Prelude.{if◌then◌else◌}
 use Rattle.sqlite_rules.proofs.TableLemmas.{int_is, put_all_has, put_all_keeps, put_all_adds, without_all_has}
-use Rattle.sqlite_rules.specs.Edit.{left_by}
-use Rattle.sqlite_rules.specs.Edit.{id_in}
 use Rattle.sqlite_rules.proofs.ListLemmas.{all_has, has_filtered, has_kept, has_found}
-use Rattle.sqlite.specs.Table.{Table}
 use Rattle.sqlite.specs.Effect.{Answers}
 use Rattle.sqlite.specs.Rows.{Task, Written, InsertsOr, Tries, Upserts, Puts, Clears, Judged, TriesEach, nothing}
 use Rattle.sqlite.specs.Rows.{count_of, rowids_for, shown}

@@ -1,15 +1,13 @@
 -- A SELECT changes nothing, whatever the schema.
 use Rattle.std.proofs.Common.{◌≡◌, ℕ, Bool, true, false, true≢false, List, [], ◌∷◌, Ok, Err, Result, Option, None, refl}
 use Rattle.std.proofs.Common.{sym, ap, subst, ◌∙◌, inl, inr, ◌⊎◌, IsTrue, arith}
-use Rattle.std.specs.Prelude.{if◌then◌else◌, IfOk, IfErr, IsSome}
+use Rattle.std.specs.Prelude.{if◌then◌else◌, IfOk, IfErr, IsSome, slice_get, Some}
 use Rattle.std.proofs.lemmas.Bool.{cases_Bool}
-use Rattle.sqlite.specs.Order.{Row}
-use Rattle.sqlite.specs.Schema.{Schema}
+use Rattle.store_tables.specs.Sql.{Row, Schema, understood, State, Shown, IsUnchanged, Survives, HasCleanDisk, Table}
 use Rattle.sqlite.specs.Command.{Command}
 use Rattle.sqlite.specs.Clock.{timed}
-use Rattle.sqlite.specs.Listing.{understood, reads_listing, is_select as is_query, if_select, listing_schema}
-use Rattle.sqlite.specs.State.{State, Shown, ShowsRows, FailsToQuery, FailsToShow, IsNotRun, IsUnchanged, IsRolledBack}
-use Rattle.sqlite.specs.State.{Survives, CommitsShowing, HasCleanDisk}
+use Rattle.sqlite.specs.Listing.{reads_listing, is_select as is_query, if_select, listing_schema}
+use Rattle.sqlite.specs.State.{ShowsRows, FailsToQuery, FailsToShow, IsNotRun, IsRolledBack, CommitsShowing}
 use Rattle.sqlite.specs.declared.error.Error.{Error}
 use Rattle.sqlite_ast.specs.declared.Statement.{Statement}
 use Rattle.sqlite_ast.specs.declared.Statement.TheVariants as written
@@ -21,8 +19,6 @@ use Rattle.sqlite_resolve.specs.Lowering.{Checked, and_then}
 use Rattle.sqlite_resolve.specs.Compile.{first, compiled, planned, meaning, returning, command}
 use Rattle.store_tables.specs.Queries.{is_select, is_read_as_select, IsSelect}
 use Rattle.std.specs.List.{AllByRecursion}
-use Rattle.std.specs.Prelude.{slice_get, Some}
-use Rattle.sqlite.specs.Table.{Table}
 use Rattle.sqlite_rules.proofs.ListLemmas.{all_has, has_got}
 use Rattle.store_tables.specs.Beside.{no_others, HasRows}
 use Rattle.store_tables.specs.Contents.{Content, IsExactly}

@@ -7,22 +7,18 @@ use Rattle.std.specs.List.Sorted.{IsPermutation}
 use Rattle.std.proofs.lemmas.List.Sorted.{Contains-permutation, IsPermutation-sym}
 use Rattle.sqlite_value.specs.declared.value.Value.TheVariants.{Null}
 use Rattle.sqlite_value.specs.declared.keys.Key.{Key}
-use Rattle.sqlite.specs.Order.{Row}
-use Rattle.sqlite.specs.Tree.{Trees}
-use Rattle.sqlite.specs.Effect.{Database, Reads}
+use Rattle.store_tables.specs.Sql.{Row, Trees, Database, State, Shown, IsUnchanged, Survives, HasCleanDisk, Table}
+use Rattle.store_tables.specs.Sql.{understood, Schema, Has}
+use Rattle.sqlite.specs.Effect.{Reads}
 use Rattle.sqlite.specs.Command.TheVariants.{Select}
-use Rattle.sqlite.specs.State.{State, Shown, ShowsRows, CommitsShowing, IsUnchanged, Survives, HasCleanDisk}
+use Rattle.sqlite.specs.State.{ShowsRows, CommitsShowing}
 use Rattle.sqlite.specs.Clock.{timed}
-use Rattle.sqlite.specs.Table.{Table}
-use Rattle.sqlite.specs.Listing.{understood}
 use Rattle.sqlite.proofs.Callers.{IsPlain, never_commits}
 use Rattle.store_tables.specs.Content.{cells, Keeps}
-use Rattle.sqlite.specs.Schema.{Schema}
 use Rattle.store_tables.specs.Contents.{Content, Holds, Leaves, IsExactly}
 use Rattle.sqlite_sql.specs.Term.{Term, eval_all, holds}
 use Rattle.sqlite_sql.specs.Query.{IsAnswer, Output, output}
 use Rattle.sqlite_sql.specs.Program.{overlay}
-use Rattle.sqlite_rules.specs.Lists.{Has}
 use Rattle.sqlite_rules.proofs.ListLemmas.{has_contained, contains_had, has_either, has_left, has_right}
 use Rattle.store_tables.specs.Put.{selects}
 

@@ -1,7 +1,7 @@
 -- A row is its columns.
 use Rattle.std.proofs.Common.{◌≡◌, ℕ, zero, suc, [], ◌∷◌, length, refl, ap, arith}
 use Rattle.sqlite_value.specs.declared.value.Value.{Value}
-use Rattle.sqlite.specs.Order.{Row, column}
+use Rattle.store_tables.specs.Sql.{Row, column}
 
 abbrev pub columns_of : ℕ → (ℕ → Value) → Row
 columns_of zero f = []

@@ -1,10 +1,7 @@
 -- Contents whose tables have the same rows are held alike.
 use Rattle.std.proofs.Common.{List, [], ◌∷◌}
 use Rattle.std.specs.List.{AllByRecursion}
-use Rattle.sqlite.specs.Order.{Row}
-use Rattle.sqlite.specs.Table.{Table}
-use Rattle.sqlite.specs.Tree.{Trees}
-use Rattle.sqlite.specs.State.{State}
+use Rattle.store_tables.specs.Sql.{Row, Table, Trees, State}
 use Rattle.store_tables.specs.Changes.{HaveSame, AreSame}
 use Rattle.store_tables.specs.Content.{Keeps}
 use Rattle.store_tables.specs.Contents.{Content, Stores, AreStored}

@@ -1,8 +1,11 @@
 -- The schemas of a club as schema 1 beside further tables.
 use Rattle.std.proofs.Common.{◌∷◌, refl, sym, subst, inl, inr}
-use Rattle.sqlite.specs.Schema.{Schema}
+use Rattle.std.specs.List.{AllByRecursion}
+use Rattle.store_tables.specs.Sql.{Schema, Table}
 use Rattle.store_tables.specs.Beside.{Others, no_others, beside, IsBeside}
-use Rattle.store_tables.specs.Tables.{event_rules, club_schema, first_schema, IsClubSchema}
+use Rattle.store_tables.specs.Tables.{event_rules, club_schema, first_schema, standing, IsClubSchema}
+use Rattle.store_tables.specs.declared.names.Table.TheVariants.{Members, Events, EventRules, Challenges, Moves, Games}
+use Rattle.store_tables.specs.declared.names.Table.TheVariants.{Seen, Scores, Meta}
 
 -- a schema stands beside itself
 pub current_itself : IsBeside club_schema club_schema
@@ -24,3 +27,10 @@ first_of_club schema (inr current) = (with_rules no_others, current)
 pub at_schema : (club : Schema) (P : Schema → Type 0) → ((others : Others) → P (beside club others))
     → (schema : Schema) → IsBeside club schema → P schema
 at_schema club P says schema (others, is) = subst P (sym is) (says others)
+
+-- what holds of each table of a club
+module _ (P : Table → Type 0) where
+  pub each_of_club : P (standing Meta) → P (standing Members) → P (standing Events) → P (standing Challenges)
+      → P (standing Moves) → P (standing Games) → P (standing Seen) → P (standing Scores) → P (standing EventRules)
+      → AllByRecursion P club_schema.tables
+  each_of_club a b c d e f g h i = (a, (b, (c, (d, (e, (f, (g, (h, (i, tt)))))))))

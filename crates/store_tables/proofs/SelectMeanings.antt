@@ -1,17 +1,13 @@
 -- What each SELECT means under the schemas of a club, beside whatever else the database has, by computing.
-use Rattle.std.proofs.Common.{◌≡◌, ℕ, suc, ℤ, false, List, [], ◌∷◌, Some, refl, ap, map, drop, length}
-use Rattle.std.proofs.Common.{slice_get}
+use Rattle.std.proofs.Common.{◌≡◌, ℕ, suc, ℤ, false, List, [], ◌∷◌, Some, refl, ap, map, drop, length, slice_get}
 use Rattle.std.specs.List.{list_all, range_with_len}
 use Rattle.std.specs.declared.cmp.Ordering.{Ordering}
 use Rattle.sqlite.proofs.Callers.{IsPlain, command_of}
 use Rattle.sqlite.specs.Command.TheVariants.{Select}
-use Rattle.sqlite.specs.Listing.{understood, reads_listing}
-use Rattle.sqlite.specs.Order.{Row, column}
+use Rattle.store_tables.specs.Sql.{understood, Row, column, Schema, Table, Trees}
+use Rattle.sqlite.specs.Listing.{reads_listing}
 use Rattle.sqlite.specs.Query.{Query}
-use Rattle.sqlite.specs.Schema.{Schema}
-use Rattle.sqlite.specs.Table.{Table}
 use Rattle.sqlite.specs.Term.{Term, col, op2}
-use Rattle.sqlite.specs.Tree.{Trees}
 use Rattle.sqlite.specs.declared.types.Value.TheVariants.{Int}
 use Rattle.sqlite_schema.specs.Names.{place_of as stored_at}
 use Rattle.sqlite_sql.specs.declared.ops.BinaryOp.TheVariants.{Compare}
@@ -95,20 +91,37 @@ abbrev group_of : Table → Query
 group_of table =
     selects table.tree (as_given 0 (stored_at table 0 ∷ [])) (columns_of table) (rising_by (drop 1 (key_of table)))
 
-module _ (schema : Schema) (table : Table) (place width : ℕ) where
-  -- what is found by computing
-  abbrev AreQueries : Type 0
-  AreQueries =
-      (slice_get schema.tables place ≡ Some table) × IsBare table.tree
-      × IsQuery schema (all_text table) (all_of table) (names_of table) × ShowsIn (all_of table) [] (by_columns width)
-      × IsQuery schema (ids_text table) (ids_of table.tree) (id_name table ∷ [])
-      × IsQuery schema (by_first_text table) (group_of table) (names_of table)
-      × ((n : ℤ) → ShowsIn (group_of table) (Int n ∷ []) (by_others width))
-      × ((n : ℤ) → Picks table (0 ∷ []) (group_of table).filter (Int n ∷ []) (Int n ∷ []))
+-- the first schema of a club that has the table
+abbrev first_with : of_club.Table → Schema
+first_with EventRules = club_schema
+first_with _ = first_schema
 
-  shown_by : AreQueries → AreShownBy schema table width
-  shown_by (at, bare, all_is, by, ids_is, group_is, by_rest, picks) = record {
-    place = place;
+-- the texts of a table show its rows beside whatever others
+abbrev pub IsShown : of_club.Table → Type 0
+IsShown table = (others : Others)
+    → AreShownBy (beside (first_with table) others) (standing table) (length (standing table).primary)
+
+module _ (of_this : of_club.Table) (others : Others) where
+  abbrev width : ℕ
+  width = length (standing of_this).primary
+
+  abbrev table : Table
+  table = standing of_this
+
+  abbrev schema : Schema
+  schema = beside (first_with of_this) others
+
+  -- What is asked of a table is found by computing.
+  shown : slice_get schema.tables (place_of of_this) ≡ Some table → IsBare table.tree
+      → IsQuery schema (all_text table) (all_of table) (names_of table)
+      → ShowsIn (all_of table) [] (by_columns width)
+      → IsQuery schema (ids_text table) (ids_of table.tree) (id_name table ∷ [])
+      → IsQuery schema (by_first_text table) (group_of table) (names_of table)
+      → ((n : ℤ) → ShowsIn (group_of table) (Int n ∷ []) (by_others width))
+      → ((n : ℤ) → Picks table (0 ∷ []) (group_of table).filter (Int n ∷ []) (Int n ∷ []))
+      → AreShownBy schema table width
+  shown at bare all_is by ids_is group_is by_rest picks = record {
+    place = place_of of_this;
     at = at;
     columns = columns_of table;
     rows = record {
@@ -151,134 +164,33 @@ module _ (schema : Schema) (table : Table) (place width : ℕ) where
     group_is = group_is.3;
   }
 
--- the first schema of a club that has the table
-abbrev first_with : of_club.Table → Schema
-first_with EventRules = club_schema
-first_with _ = first_schema
-
--- the texts of a table show its rows beside whatever others
-abbrev pub IsShown : of_club.Table → ℕ → Type 0
-IsShown table width = (others : Others) → AreShownBy (beside (first_with table) others) (standing table) width
-
-abbrev shown : (table : of_club.Table) (width : ℕ)
-    → ((others : Others) → AreQueries (beside (first_with table) others) (standing table) (place_of table) width)
-    → IsShown table width
-shown table width are others =
-    shown_by (beside (first_with table) others) (standing table) (place_of table) width (are others)
-
-pub meta_read : IsShown Meta 1
+-- the texts of each table show its rows beside whatever others
+pub is_shown : (table : of_club.Table) → IsShown table
 unfolding understood everything first_key
-meta_read = shown Meta 1 (λ others. (
-  refl,
-  λ d. refl,
-  (refl, (refl, refl), refl, refl),
-  λ r s. refl,
-  (refl, (refl, refl), refl, refl),
-  (refl, (refl, refl), refl, refl),
-  λ n r s. refl,
-  λ n r. refl,
-))
-
-pub members_read : IsShown Members 1
-unfolding understood everything first_key
-members_read = shown Members 1 (λ others. (
-  refl,
-  λ d. refl,
-  (refl, (refl, refl), refl, refl),
-  λ r s. refl,
-  (refl, (refl, refl), refl, refl),
-  (refl, (refl, refl), refl, refl),
-  λ n r s. refl,
-  λ n r. refl,
-))
-
-pub events_read : IsShown Events 1
-unfolding understood everything first_key
-events_read = shown Events 1 (λ others. (
-  refl,
-  λ d. refl,
-  (refl, (refl, refl), refl, refl),
-  λ r s. refl,
-  (refl, (refl, refl), refl, refl),
-  (refl, (refl, refl), refl, refl),
-  λ n r s. refl,
-  λ n r. refl,
-))
-
-pub challenges_read : IsShown Challenges 2
-unfolding understood everything first_key
-challenges_read = shown Challenges 2 (λ others. (
-  refl,
-  λ d. refl,
-  (refl, (refl, refl), refl, refl),
-  λ r s. refl,
-  (refl, (refl, refl), refl, refl),
-  (refl, (refl, refl), refl, refl),
-  λ n r s. refl,
-  λ n r. refl,
-))
-
-pub moves_read : IsShown Moves 2
-unfolding understood everything first_key
-moves_read = shown Moves 2 (λ others. (
-  refl,
-  λ d. refl,
-  (refl, (refl, refl), refl, refl),
-  λ r s. refl,
-  (refl, (refl, refl), refl, refl),
-  (refl, (refl, refl), refl, refl),
-  λ n r s. refl,
-  λ n r. refl,
-))
-
-pub games_read : IsShown Games 1
-unfolding understood everything first_key
-games_read = shown Games 1 (λ others. (
-  refl,
-  λ d. refl,
-  (refl, (refl, refl), refl, refl),
-  λ r s. refl,
-  (refl, (refl, refl), refl, refl),
-  (refl, (refl, refl), refl, refl),
-  λ n r s. refl,
-  λ n r. refl,
-))
-
-pub seen_read : IsShown Seen 2
-unfolding understood everything first_key
-seen_read = shown Seen 2 (λ others. (
-  refl,
-  λ d. refl,
-  (refl, (refl, refl), refl, refl),
-  λ r s. refl,
-  (refl, (refl, refl), refl, refl),
-  (refl, (refl, refl), refl, refl),
-  λ n r s. refl,
-  λ n r. refl,
-))
-
-pub scores_read : IsShown Scores 3
-unfolding understood everything first_key
-scores_read = shown Scores 3 (λ others. (
-  refl,
-  λ d. refl,
-  (refl, (refl, refl), refl, refl),
-  λ r s. refl,
-  (refl, (refl, refl), refl, refl),
-  (refl, (refl, refl), refl, refl),
-  λ n r s. refl,
-  λ n r. refl,
-))
-
-pub event_rules_read : IsShown EventRules 1
-unfolding understood everything first_key
-event_rules_read = shown EventRules 1 (λ others. (
-  refl,
-  λ d. refl,
-  (refl, (refl, refl), refl, refl),
-  λ r s. refl,
-  (refl, (refl, refl), refl, refl),
-  (refl, (refl, refl), refl, refl),
-  λ n r s. refl,
-  λ n r. refl,
-))
+is_shown Meta others =
+    shown Meta others refl (λ d. refl) (refl, (refl, refl), refl, refl) (λ r s. refl)
+    (refl, (refl, refl), refl, refl) (refl, (refl, refl), refl, refl) (λ n r s. refl) (λ n r. refl)
+is_shown Members others =
+    shown Members others refl (λ d. refl) (refl, (refl, refl), refl, refl) (λ r s. refl)
+    (refl, (refl, refl), refl, refl) (refl, (refl, refl), refl, refl) (λ n r s. refl) (λ n r. refl)
+is_shown Events others =
+    shown Events others refl (λ d. refl) (refl, (refl, refl), refl, refl) (λ r s. refl)
+    (refl, (refl, refl), refl, refl) (refl, (refl, refl), refl, refl) (λ n r s. refl) (λ n r. refl)
+is_shown Challenges others =
+    shown Challenges others refl (λ d. refl) (refl, (refl, refl), refl, refl) (λ r s. refl)
+    (refl, (refl, refl), refl, refl) (refl, (refl, refl), refl, refl) (λ n r s. refl) (λ n r. refl)
+is_shown Moves others =
+    shown Moves others refl (λ d. refl) (refl, (refl, refl), refl, refl) (λ r s. refl)
+    (refl, (refl, refl), refl, refl) (refl, (refl, refl), refl, refl) (λ n r s. refl) (λ n r. refl)
+is_shown Games others =
+    shown Games others refl (λ d. refl) (refl, (refl, refl), refl, refl) (λ r s. refl)
+    (refl, (refl, refl), refl, refl) (refl, (refl, refl), refl, refl) (λ n r s. refl) (λ n r. refl)
+is_shown Seen others =
+    shown Seen others refl (λ d. refl) (refl, (refl, refl), refl, refl) (λ r s. refl)
+    (refl, (refl, refl), refl, refl) (refl, (refl, refl), refl, refl) (λ n r s. refl) (λ n r. refl)
+is_shown Scores others =
+    shown Scores others refl (λ d. refl) (refl, (refl, refl), refl, refl) (λ r s. refl)
+    (refl, (refl, refl), refl, refl) (refl, (refl, refl), refl, refl) (λ n r s. refl) (λ n r. refl)
+is_shown EventRules others =
+    shown EventRules others refl (λ d. refl) (refl, (refl, refl), refl, refl) (λ r s. refl)
+    (refl, (refl, refl), refl, refl) (refl, (refl, refl), refl, refl) (λ n r s. refl) (λ n r. refl)

@@ -1,6 +1,6 @@
 -- A table that stands is not made again, whatever else stands in the schema.
-use Rattle.std.proofs.Common.{◌≡◌, ℕ, Bool, true, false, List, [], Ok, Err, Option, Some, None, refl, sym}
-use Rattle.std.proofs.Common.{ap, subst, codes, inl, inr}
+use Rattle.std.proofs.Common.{◌≡◌, ℕ, Bool, true, false, List, [], Ok, Err, Option, Some, None, refl, sym, ap, subst}
+use Rattle.std.proofs.Common.{codes, inl, inr}
 use Rattle.std.specs.Prelude.{is_ok, is_some, if◌then◌else◌}
 use Rattle.std.specs.Option.{option_or}
 use Rattle.std.proofs.lemmas.Bool.{cases_Bool}
@@ -14,8 +14,8 @@ use Rattle.sqlite_resolve.specs.Compile.{command, compiled, create_table, create
 use Rattle.sqlite_resolve.specs.Compile.{meaning, planned, returning}
 use Rattle.sqlite_resolve.specs.Lowering.{Checked, and_then}
 use Rattle.sqlite_tied.specs.Compute.{everything}
-use Rattle.sqlite.specs.Listing.{if_select, listing_schema, reads_listing, understood}
-use Rattle.sqlite.specs.Schema.{Schema}
+use Rattle.store_tables.specs.Sql.{understood, Schema}
+use Rattle.sqlite.specs.Listing.{if_select, listing_schema, reads_listing}
 use Rattle.store_tables.specs.Beside.{Others, beside}
 use Rattle.store_tables.specs.Tables.{first_schema}
 use Rattle.store_tables.specs.Texts.{create_of}

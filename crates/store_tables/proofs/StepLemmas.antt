@@ -1,49 +1,26 @@
 -- What each statement that puts a row does inside a transaction, and what a commit makes of it.
-use Rattle.std.proofs.Common.{◌≡◌, ℕ, List, [], ◌∷◌, ◌++◌, Ok, refl, sym, subst, subst₂, ◌∙◌, ap, IsTrue, false}
-use Rattle.std.proofs.Common.{length}
-use Rattle.sqlite.specs.Order.{Row}
-use Rattle.sqlite.specs.Tree.{Trees}
-use Rattle.sqlite.specs.Schema.{Schema}
-use Rattle.sqlite.specs.Effect.{Database}
-use Rattle.sqlite.specs.Listing.{understood}
-use Rattle.sqlite.specs.State.{State, ExecutesInside, Shows}
+use Rattle.std.proofs.Common.{◌≡◌, ℕ, List, [], ◌∷◌, ◌++◌, Ok, refl, sym, subst, subst₂, ◌∙◌, ap, IsTrue, false, length}
+use Rattle.store_tables.specs.Sql.{Row, Trees, Schema, Database, understood, State}
+use Rattle.sqlite.specs.State.{ExecutesInside, Shows}
 use Rattle.sqlite.proofs.Callers.{IsPlain, command_of}
 use Rattle.sqlite_catalog.specs.Listing.{IsSound}
 use Rattle.sqlite_rules.proofs.ListLemmas.{all_has, has_got}
 use Rattle.store_tables.specs.Beside.{Others, no_others, beside, StandsClear, StepsBeside}
-use Rattle.store_tables.specs.Cells.{meta_cells, member_cells, event_cells, challenge_cells, move_cells, game_cells}
-use Rattle.store_tables.specs.Cells.{event_rule_cells, seen_cells, score_cells}
-use Rattle.store_tables.specs.Contents.{Content, put_in, put_each, nothing, opening_meta, Stores, Holds, Steps}
-use Rattle.store_tables.specs.Contents.{Leaves}
+use Rattle.store_tables.specs.Contents.{Content, put_in, put_each, nothing, opening_meta, Stores, Holds, Steps, Leaves}
 use Rattle.store_tables.specs.Contents.{IsExactly, Makes, Fills}
 use Rattle.store_tables.specs.Names.{place_of}
 use Rattle.store_tables.specs.Tables.{club_schema, standing}
 use Rattle.store_tables.specs.Texts.{put_text}
 use Rattle.store_tables.specs.declared.names.Table as of_club
-use Rattle.store_tables.specs.declared.names.Table.TheVariants.{Members, Events, EventRules, Challenges, Moves, Games}
-use Rattle.store_tables.specs.declared.names.Table.TheVariants.{Seen, Scores, Meta}
-use Rattle.store_tables.specs.declared.rows.MetaRow.{MetaRow}
-use Rattle.store_tables.specs.declared.rows.MemberRow.{MemberRow}
-use Rattle.store_tables.specs.declared.rows.EventRow.{EventRow}
-use Rattle.store_tables.specs.declared.rows.EventRuleRow.{EventRuleRow}
-use Rattle.store_tables.specs.declared.rows.ChallengeRow.{ChallengeRow}
-use Rattle.store_tables.specs.declared.rows.MoveRow.{MoveRow}
-use Rattle.store_tables.specs.declared.rows.GameRecord.{GameRecord}
-use Rattle.store_tables.specs.declared.rows.SeenRow.{SeenRow}
-use Rattle.store_tables.specs.declared.rows.ScoreRow.{ScoreRow}
+use Rattle.store_tables.specs.declared.names.Table.TheVariants.{Meta}
 use Rattle.store_tables.proofs.BesideLemmas.{clear_alone, takes_itself}
 use Rattle.store_tables.proofs.ContentLemmas.{put_by, turn_by}
-use Rattle.store_tables.proofs.Meanings.{Upserts, put_of, source_of, updates_of}
-use Rattle.store_tables.proofs.Meanings.{meta_upserts, members_upserts, events_upserts, challenges_upserts}
-use Rattle.store_tables.proofs.Meanings.{moves_upserts, games_upserts, seen_upserts, scores_upserts}
-use Rattle.store_tables.proofs.Meanings.{event_rules_upserts}
+use Rattle.store_tables.proofs.Meanings.{put_of, upserts, source_of, updates_of}
 use Rattle.store_tables.proofs.UpsertTexts.{parts_of, upsert_is, upsert_plain}
 use Rattle.store_tables.proofs.MakeLemmas.{holds_nothing}
 use Rattle.store_tables.proofs.PutMeanings.{Puts, key_of}
-use Rattle.store_tables.proofs.PutMeanings.{meta_puts, member_puts, event_puts, challenge_puts, move_puts, game_puts}
-use Rattle.store_tables.proofs.PutMeanings.{event_rule_puts, seen_puts, score_puts}
 
-module _ (table : of_club.Table) (row : Row) (is_put : Puts table row) (upserts : Upserts table) (others : Others)
+module _ (table : of_club.Table) (row : Row) (is_put : Puts table row) (others : Others)
     (clear : StandsClear club_schema others) where
   abbrev here : Schema
   here = beside club_schema others
@@ -54,7 +31,7 @@ module _ (table : of_club.Table) (row : Row) (is_put : Puts table row) (upserts 
       let there = standing table in
       let parts = parts_of there in
       let sql = put_text there in
-      let (place, it) = upserts others in
+      let (place, it) = upserts table others in
       let command = upsert_is here parts (place_of table) there sql (put_of table) it in
       let plain = upsert_plain here parts (place_of table) there sql (put_of table) it in
       record {
@@ -71,7 +48,8 @@ module _ (table : of_club.Table) (row : Row) (is_put : Puts table row) (upserts 
               sound = did.2;
               tables =
                   turn_by here clear.trees there row row (key_of table) (source_of there) there.primary
-                  (length there.columns) (updates_of there) (is_put others clear) sql (place_of table) command plain place
+                  (length there.columns) (updates_of there) (is_put others clear) sql (place_of table) command plain
+                  place
                   old.now.trees new.now.trees content did.1 k.tables;
             };
         committed = h.1.committed_is;
@@ -98,38 +76,11 @@ Put table row = (sql : List ℕ) (params : Row) (old new : State) (count : ℕ) 
     → params ≡ row → ExecutesInside 0 sql params old new (Ok count)
     → StepsBeside (put_in (standing table).tree (key_of table) row) old new
 
-put_row : (table : of_club.Table) (row : Row) → Puts table row → Upserts table → Put table row
-put_row table row is_put upserts sql params old new count text given h =
+pub put_row : (table : of_club.Table) (row : Row) → Puts table row → Put table row
+put_row table row is_put sql params old new count text given h =
     steps_beside (put_in (standing table).tree (key_of table) row) old new (λ others clear.
-    put_inside table row is_put upserts others clear old new count
+    put_inside table row is_put others clear old new count
     (subst₂ (λ s p. ExecutesInside 0 s p old new (Ok count)) text given h))
-
-pub meta_put_of : (r : MetaRow) → Put Meta (meta_cells r)
-meta_put_of r = put_row Meta (meta_cells r) (meta_puts r) meta_upserts
-
-pub member_put_of : (r : MemberRow) → Put Members (member_cells r)
-member_put_of r = put_row Members (member_cells r) (member_puts r) members_upserts
-
-pub event_put_of : (r : EventRow) → Put Events (event_cells r)
-event_put_of r = put_row Events (event_cells r) (event_puts r) events_upserts
-
-pub event_rule_put_of : (r : EventRuleRow) → Put EventRules (event_rule_cells r)
-event_rule_put_of r = put_row EventRules (event_rule_cells r) (event_rule_puts r) event_rules_upserts
-
-pub move_put_of : (r : MoveRow) → Put Moves (move_cells r)
-move_put_of r = put_row Moves (move_cells r) (move_puts r) moves_upserts
-
-pub challenge_put_of : (r : ChallengeRow) → Put Challenges (challenge_cells r)
-challenge_put_of r = put_row Challenges (challenge_cells r) (challenge_puts r) challenges_upserts
-
-pub seen_put_of : (r : SeenRow) → Put Seen (seen_cells r)
-seen_put_of r = put_row Seen (seen_cells r) (seen_puts r) seen_upserts
-
-pub score_put_of : (r : ScoreRow) → Put Scores (score_cells r)
-score_put_of r = put_row Scores (score_cells r) (score_puts r) scores_upserts
-
-pub game_put_of : (r : GameRecord) → Put Games (game_cells r)
-game_put_of r = put_row Games (game_cells r) (game_puts r) games_upserts
 
 pub steps_then : (f g : Content → Content) (a b c : State) → StepsBeside f a b → StepsBeside g b c
     → StepsBeside (λ content. g (f content)) a c
@@ -187,7 +138,7 @@ fills a b c one two = record {
 pub meta_put_means : (command_of (understood club_schema (put_text (standing Meta))) ≡ put_of Meta)
     × IsPlain (understood club_schema (put_text (standing Meta)))
 meta_put_means =
-    let it = (meta_upserts no_others).1 in (
+    let it = (upserts Meta no_others).1 in (
       upsert_is (beside club_schema no_others) (parts_of (standing Meta)) 0 (standing Meta) _ (put_of Meta) it,
       upsert_plain (beside club_schema no_others) (parts_of (standing Meta)) 0 (standing Meta) _ (put_of Meta) it,
     )

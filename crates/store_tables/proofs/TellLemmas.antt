@@ -1,6 +1,6 @@
 -- What a SELECT of all rows tells of whatever database, and what a SELECT by a key tells of a content.
-use Rattle.std.proofs.Common.{◌≡◌, ◌≢◌, ℕ, true, List, [], ◌∷◌, map, Ok, Err, Result, refl, sym, ap, subst}
-use Rattle.std.proofs.Common.{subst₂, ◌∙◌, inl, inr, IsTrue, Equal, Option, Some, slice_get, All, get_or}
+use Rattle.std.proofs.Common.{◌≡◌, ◌≢◌, ℕ, true, List, [], ◌∷◌, map, Ok, Err, Result, refl, sym, ap, subst, subst₂, ◌∙◌}
+use Rattle.std.proofs.Common.{inl, inr, IsTrue, Equal, Option, Some, slice_get, All, get_or}
 use Rattle.std.specs.List.{AllByRecursion}
 use Rattle.std.specs.List.Sorted.{IsSorted, IsPermutation}
 use Rattle.std.specs.Cmp.{tied_back, tied_itself}
@@ -8,19 +8,15 @@ use Rattle.std.specs.declared.cmp.Ordering.{Ordering}
 use Rattle.std.proofs.lemmas.List.Sorted.{IsPermutation-sym}
 use Rattle.sqlite_value.specs.Order.{value_cmp}
 use Rattle.sqlite_value.proofs.OrderLemmas.{value_cmp_total}
-use Rattle.sqlite.specs.Order.{Row, column}
-use Rattle.sqlite.specs.Tree.{Trees}
-use Rattle.sqlite.specs.Table.{Table}
+use Rattle.store_tables.specs.Sql.{Row, column, Trees, Table, Database, understood, State, Shown, Survives}
+use Rattle.store_tables.specs.Sql.{HasCleanDisk, IsUnchanged, rowid, Has, Schema}
 use Rattle.sqlite.specs.Command.{Command}
 use Rattle.sqlite.specs.Command.TheVariants.{Select, Rows}
 use Rattle.sqlite.specs.Clock.{timed}
-use Rattle.sqlite.specs.Effect.{Database, Reads, RefusesToRead}
-use Rattle.sqlite.specs.Listing.{understood}
-use Rattle.sqlite.specs.State.{State, Shown, FailsToQuery, FailsToShow, IsNotRun, IsNoStatement, store_error, Survives}
-use Rattle.sqlite.specs.State.{HasCleanDisk, CommitsShowing, IsUnchanged}
+use Rattle.sqlite.specs.Effect.{Reads, RefusesToRead}
+use Rattle.sqlite.specs.State.{FailsToQuery, FailsToShow, IsNotRun, IsNoStatement, store_error, CommitsShowing}
 use Rattle.sqlite.specs.declared.error.Error.{Error}
 use Rattle.sqlite.proofs.Callers.{IsPlain, reads_as, never_commits}
-use Rattle.sqlite_trees.specs.Tree.{rowid}
 use Rattle.sqlite_trees.specs.View.{is_int}
 use Rattle.sqlite_trees.specs.declared.error.StoreError.{StoreError}
 use Rattle.sqlite_trees.specs.declared.error.StoreError.TheVariants as failure
@@ -29,14 +25,12 @@ use Rattle.sqlite_trees.proofs.ListLemmas.{ascending_weaker, all_weaker}
 use Rattle.sqlite_resolve.specs.declared.compiled.Compiled.{Compiled}
 use Rattle.sqlite_resolve.specs.declared.error.CompileError.{CompileError}
 use Rattle.sqlite_sql.specs.Term.{Term, eval_all}
-use Rattle.sqlite_rules.specs.Lists.{Has}
 use Rattle.sqlite_rules.proofs.ListLemmas.{all_has, has_got}
 use Rattle.store_tables.specs.Content.{cells, same_key, Keeps, AreApart}
 use Rattle.store_tables.specs.Contents.{Content, Stores, AreStored, IsExactly, AreThose}
 use Rattle.store_tables.specs.Put.{selects}
 use Rattle.store_tables.specs.Reading.{AreIds, by_columns, Tells, TellsIds, IsNoInput, KeepsMay}
 use Rattle.store_tables.specs.Queries.{Selects, Finds}
-use Rattle.sqlite.specs.Schema.{Schema}
 use Rattle.store_tables.proofs.ApartLemmas.{pairs_turned, each_shown}
 use Rattle.store_tables.proofs.OrderLemmas.{sorted_rows, has_index}
 use Rattle.store_tables.proofs.ReadLemmas.{found_rows, shown_rows, has_map, has_mapped, shown_unchanged, may_as_before}

@@ -1,6 +1,6 @@
 -- A text that puts a row, in a schema with further tables.
-use Rattle.std.proofs.Common.{◌≡◌, ℕ, zero, suc, ◌+◌, ◌==◌, false, not, ◌&&◌, List, [], ◌∷◌, Option, Some, None}
-use Rattle.std.proofs.Common.{Ok, Err, sym, ap, subst, ◌∙◌, length, map}
+use Rattle.std.proofs.Common.{◌≡◌, ℕ, zero, suc, ◌+◌, ◌==◌, false, not, ◌&&◌, List, [], ◌∷◌, Option, Some, None, Ok}
+use Rattle.std.proofs.Common.{Err, sym, ap, subst, ◌∙◌, length, map}
 use Rattle.std.specs.Prelude.{if◌then◌else◌}
 use Rattle.sqlite_ast.specs.declared.Conflict.TheVariants as conflict
 use Rattle.sqlite_ast.specs.declared.Expr.{Expr}
@@ -16,21 +16,19 @@ use Rattle.sqlite_schema.specs.declared.command.Command.TheVariants.{InsertOr}
 use Rattle.sqlite_schema.specs.declared.command.Conflict.TheVariants.{Abort}
 use Rattle.sqlite_schema.specs.declared.command.Returning.{Returning}
 use Rattle.sqlite_schema.specs.declared.command.Upsert.{Upsert}
-use Rattle.sqlite_schema.specs.declared.schema.Schema.{Schema}
-use Rattle.sqlite_schema.specs.declared.schema.Table.{Table}
+use Rattle.store_tables.specs.Sql.{Schema, Table, understood}
 use Rattle.sqlite_draft.specs.declared.query.Draft.{Draft}
 use Rattle.sqlite_resolve.specs.declared.compiled.Compiled.{Compiled}
 use Rattle.sqlite_resolve.specs.declared.error.CompileError.TheVariants.{Misuse}
 use Rattle.sqlite_resolve.specs.Body.{table_at}
 use Rattle.sqlite_resolve.specs.Compile.{compiled, planned, meaning, command, insert_or, insert_or_abort, new_rows}
-use Rattle.sqlite_resolve.specs.Compile.{returning, shows, target}
-use Rattle.sqlite_resolve.specs.Compile.{first, small, timed, with_command}
+use Rattle.sqlite_resolve.specs.Compile.{returning, shows, target, first, small, timed, with_command}
 use Rattle.sqlite_schema.specs.Names.{same_name}
 use Rattle.sqlite_resolve.specs.Given.{do_update, given, key_meant, update, upsert, upserts}
 use Rattle.sqlite_resolve.specs.Lowering.{Checked, and_then}
 use Rattle.sqlite_resolve.specs.Program.{program}
 use Rattle.sqlite_resolve.specs.Scope.{Name}
-use Rattle.sqlite.specs.Listing.{understood, listing_schema, misses_table, if_select}
+use Rattle.sqlite.specs.Listing.{listing_schema, misses_table, if_select}
 use Rattle.sqlite.proofs.Callers.{IsPlain, command_of}
 use Rattle.store_tables.specs.Tables.{club_schema}
 use Rattle.store_tables.specs.Texts.{names_of, key_names, parameters_of, put_text}
@@ -82,7 +80,7 @@ parts_of table = record {
 }
 
 module _ (s : Schema) (p : Put) (at : ℕ) (table : Table) where
-  abbrev base : ℕ
+  abbrev pub base : ℕ
   base = small p.names + small []
 
   abbrev upserts_by : Checked Draft → Checked (List Upsert)

@@ -6,15 +6,15 @@ use Rattle.sqlite.specs.Values.{IsInt, or_null}
 use Rattle.sqlite.specs.Order.{Row, column}
 use Rattle.sqlite_trees.specs.Tree.{IsAscending}
 use Rattle.sqlite_trees.specs.View.{is_int}
-use Rattle.store_tables.specs.declared.rows.MetaRow.{MetaRow}
-use Rattle.store_tables.specs.declared.rows.MemberRow.{MemberRow}
-use Rattle.store_tables.specs.declared.rows.EventRow.{EventRow}
-use Rattle.store_tables.specs.declared.rows.EventRuleRow.{EventRuleRow}
-use Rattle.store_tables.specs.declared.rows.ChallengeRow.{ChallengeRow}
-use Rattle.store_tables.specs.declared.rows.MoveRow.{MoveRow}
-use Rattle.store_tables.specs.declared.rows.GameRecord.{GameRecord}
-use Rattle.store_tables.specs.declared.rows.SeenRow.{SeenRow}
-use Rattle.store_tables.specs.declared.rows.ScoreRow.{ScoreRow}
+pub use Rattle.store_tables.specs.declared.rows.MetaRow.{MetaRow}
+pub use Rattle.store_tables.specs.declared.rows.MemberRow.{MemberRow}
+pub use Rattle.store_tables.specs.declared.rows.EventRow.{EventRow}
+pub use Rattle.store_tables.specs.declared.rows.EventRuleRow.{EventRuleRow}
+pub use Rattle.store_tables.specs.declared.rows.ChallengeRow.{ChallengeRow}
+pub use Rattle.store_tables.specs.declared.rows.MoveRow.{MoveRow}
+pub use Rattle.store_tables.specs.declared.rows.GameRecord.{GameRecord}
+pub use Rattle.store_tables.specs.declared.rows.SeenRow.{SeenRow}
+pub use Rattle.store_tables.specs.declared.rows.ScoreRow.{ScoreRow}
 
 abbrev pub meta_cells : MetaRow → Row
 meta_cells r = Int r.id ∷ Int r.schema ∷ Int r.last ∷ []

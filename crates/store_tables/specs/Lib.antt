@@ -11,5 +11,6 @@ pub mod Put
 pub mod Queries
 pub mod Reading
 pub mod Rows
+pub mod Sql
 pub mod Tables
 pub mod Texts

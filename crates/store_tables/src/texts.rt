@@ -60,7 +60,7 @@ impl Table {
         }
     }
 
-    /// Puts a row in place of the one with its key.
+    /// The text that puts a row in place of the one with its key.
     pub fn put(self) -> &'static str
         ensures { result.now ≡ put_text (standing self) }
     {
@@ -95,7 +95,7 @@ impl Table {
         }
     }
 
-    /// Shows all rows, in the order of their key.
+    /// The text that shows all rows, in the order of their key.
     pub fn all(self) -> &'static str
         ensures { result.now ≡ all_text (standing self) }
     {
@@ -122,7 +122,7 @@ impl Table {
         }
     }
 
-    /// Shows the rowids, in their order.
+    /// The text that shows the rowids, in their order.
     pub fn ids(self) -> &'static str
         ensures { result.now ≡ ids_text (standing self) }
     {
@@ -139,7 +139,7 @@ impl Table {
         }
     }
 
-    /// Shows the rows whose first column is a given number, in the order of the rest of their key.
+    /// The text that shows the rows whose first column is a given number, in the order of the rest of their key.
     pub fn by_first(self) -> &'static str
         ensures { result.now ≡ by_first_text (standing self) }
     {

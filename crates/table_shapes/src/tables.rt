@@ -17,7 +17,7 @@ use sqlite_schema::code::Terms;
 use sqlite_schema::names::same_name;
 use sqlite_schema::schema::{Schema, Table};
 use std::alloc::{AllocError, Global};
-use store_tables::Version;
+use store_tables::{Table as ClubTable, Version};
 
 /// Whether no rule is stated by the terms.
 fn are_none(alloc: Global, terms: &Terms) -> Result<bool, AllocError>
@@ -78,18 +78,14 @@ fn made_stands(alloc: Global, schema: &Schema, sql: &str) -> Result<bool, AllocE
 }
 
 /// Whether this table of a club stands in the schema, or one that answers as it.
-fn stands(alloc: Global, schema: &Schema, table: store_tables::Table) -> Result<bool, AllocError>
+fn stands(alloc: Global, schema: &Schema, table: ClubTable) -> Result<bool, AllocError>
     ensures { IfOk result (λ stands. stands ≡ spec.has_table schema.now (made_as table 0)) }
 {
     made_stands(alloc, schema, table.create())
 }
 
 /// Whether each of these tables stands there.
-fn all_stand(
-    alloc: Global,
-    schema: &Schema,
-    tables: &[store_tables::Table],
-) -> Result<bool, AllocError>
+fn all_stand(alloc: Global, schema: &Schema, tables: &[ClubTable]) -> Result<bool, AllocError>
     ensures { IfOk result (λ stand. stand ≡ spec.have_tables schema.now tables.now) }
 {
     for table in tables {
@@ -127,8 +123,8 @@ fn versions_in(alloc: Global, schema: &Schema) -> Result<Versions, AllocError>
     ensures current { IfOk result (λ found. found.current ≡
         (spec.have_both schema.now && spec.has_table schema.now (event_rules 0))) }
 {
-    let first = all_stand(alloc, schema, &store_tables::Table::ALL[..8])?;
-    let rules = stands(alloc, schema, store_tables::Table::EventRules)?;
+    let first = all_stand(alloc, schema, &ClubTable::ALL[..8])?;
+    let rules = stands(alloc, schema, ClubTable::EventRules)?;
     Ok(Versions {
         first,
         current: first && rules,

@@ -1,6 +1,6 @@
 //! All rows of a recorded game but those of the scores.
 
-ghost use Rattle.std.specs.Prelude.{◌≡◌, Some, IfOk, IsTrue};
+ghost use Rattle.std.specs.Prelude.{Some, IfOk, IsTrue};
 ghost use Rattle.club_rules.specs.Records.{recorded_of, IsGameByRules};
 ghost use Rattle.club_core.specs.Imports.{imported};
 ghost use Rattle.club_requests.specs.Limits.{is_budget, is_increment};

@@ -3,6 +3,8 @@
 ghost use Rattle.std.specs.Prelude.{◌≡◌, map, IfOk, IsErrOf};
 ghost use Rattle.store_tables.specs.Cells.{game_cells, score_cells};
 ghost use Rattle.store_tables.specs.Changes.{HaveSame};
+ghost use Rattle.store_tables.specs.Names.{tree_of};
+ghost use Rattle.store_tables.specs.declared.names.Table.TheVariants.{Games, Scores};
 ghost use Rattle.club_rows.specs.Club.{ClubState, IsClub, tables};
 ghost use Rattle.club_changes.specs.Swept.{IsSwept};
 
@@ -36,11 +38,13 @@ pub fn swept_rows(
     scores: &[ScoreRow],
     moment: Moment,
 ) -> Result<SweptRows, SweepFault>
-    ensures rows { IfOk result (λ rows. (s : ClubState) → IsClub s → map game_cells games.now ≡ tables s 10 →
-        HaveSame (map score_cells scores.now) (tables s 14) → IsSwept s moment rows) }
+    ensures rows { IfOk result (λ rows. (s : ClubState) → IsClub s →
+        map game_cells games.now ≡ tables s (tree_of Games) →
+        HaveSame (map score_cells scores.now) (tables s (tree_of Scores)) → IsSwept s moment rows) }
     // No rows of a club are unfit: memory alone may be refused for them.
     ensures unfit { IsErrOf result SweepFault.Unfit → (s : ClubState) → IsClub s →
-        map game_cells games.now ≡ tables s 10 → ¬ HaveSame (map score_cells scores.now) (tables s 14) }
+        map game_cells games.now ≡ tables s (tree_of Games) →
+        ¬ HaveSame (map score_cells scores.now) (tables s (tree_of Scores)) }
 {
     let mut standings = standings_of(alloc, scores)?;
     let mut ended = Vec::new(alloc);

@@ -1,5 +1,5 @@
-use Rattle.std.proofs.Common.{◌≡◌, ◌+◌, pos, true, refl, ap, sym, ◌∙◌, subst, arith, rules}
-use Rattle.std.specs.Prelude.{string_bytes, IfSome}
+use Rattle.std.proofs.Common.{◌≡◌, ◌+◌, pos, true, ap, sym, ◌∙◌, arith, rules}
+use Rattle.std.specs.Prelude.{string_bytes}
 use Rattle.std.proofs.lemmas.Bool.{not-true}
 use Rattle.std.proofs.lemmas.Int.{ints}
 use Rattle.club_requests.specs.Limits.{is_name}
@@ -18,9 +18,7 @@ returns-in-Some-terms_of-clause-sound c = λ free.
     let kind = c.in-Some.field-0 in
     let game : row.game ≡ pos (kind_number kind) = search rules in
     let given = c.in-Some-terms_of.field-0 in
-    let terms : GivesTerms row given.budget given.increment =
-    subst (λ o. IfSome o (λ t. GivesTerms row t.budget t.increment)) c.in-Some-terms_of.is c.terms_of.ensures.some
-    in
+    let terms : GivesTerms row given.budget given.increment = rw c.in-Some-terms_of.is at c.terms_of.ensures.some in
     record {
       event = event_told row kind given.budget given.increment;
       cells = event-cells (c.args.place + 1) given.budget given.increment kind row id game terms.budget_is

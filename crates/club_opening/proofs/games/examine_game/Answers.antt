@@ -1,12 +1,10 @@
-use Rattle.std.proofs.Common.{List, length, Some, ap, inl, inr, refl, sym, subst, subst₂, true, ◌∙◌, arith}
+use Rattle.std.proofs.Common.{List, length, Some, ap, inl, inr, refl, sym, subst, subst₂, ◌∙◌, arith}
 use Rattle.club_audit.specs.Audit.{HasPeople}
 use Rattle.club_audit.specs.FirstWrong.{IsFirstWrong}
 use Rattle.club_audit.specs.GameAudit.{IsRightAt}
 use Rattle.club_rows.specs.Club.{ClubState}
 use Rattle.sqlite.specs.Held.{state}
-use Rattle.sqlite.specs.State.{HasCleanDisk}
 use Rattle.club_opening.proofs.StoredLemmas.{first_beside}
-use Rattle.store_tables.proofs.Proved.{read_then}
 use Rattle.store_tables.specs.Cells.{IsMove}
 use Rattle.store_tables.specs.Tables.{moves}
 use Rattle.store_tables.specs.declared.names.Table.TheVariants.{Moves, Seen}
@@ -14,10 +12,9 @@ use Rattle.store_tables.specs.declared.rows.MoveRow.{MoveRow}
 use Rattle.store_tables.specs.declared.rows.SeenRow.{SeenRow}
 use Rattle.club_opening.specs.Examined.{IsGameFound}
 use Rattle.club_opening.specs.RightTables.{IsUntyped}
-use Rattle.club_opening.proofs.BlameLemmas.{names_both, still}
-use Rattle.club_opening.proofs.ExaminedLemmas.{IsOneOf, game_found}
-use Rattle.club_opening.proofs.FirstLemmas.{either_later, moves_types_wrong, some_later}
-use Rattle.club_opening.proofs.FirstLemmas.{wrong_later}
+use Rattle.club_opening.proofs.BlameLemmas.{stays, clean_before, reads_on, names_both, still}
+use Rattle.club_opening.proofs.ExaminedLemmas.{game_found}
+use Rattle.club_opening.proofs.FirstLemmas.{either_later, moves_types_wrong, some_later, wrong_later}
 use Rattle.club_opening.proofs.MovesReadLemmas.{game_games_wrong, game_moves_right, game_moves_wrong, game_seen_wrong}
 use Rattle.club_opening.proofs.UntypedLemmas.{untyped_found}
 use Rattle.club_opening.proofs.games.examine_game.Goals as goal
@@ -36,40 +33,36 @@ returns-in-Err-clause-blames g c clean has =
 
 pub returns-in-Err-read_seen-clause-blames : goal.returns-in-Err-read_seen-clause-blames
 returns-in-Err-read_seen-clause-blames g c clean has =
-    let s0 = state g.S.Store c.args.conn.now in
-    let s1 = state g.S.Store c.read_of.new.conn in
-    let early : HasCleanDisk s1 = omega (arith, c.read_seen.ensures.reads.clean) in
+    let early = clean_before c.read_seen.ensures.reads clean in
     let one = c.in-Ok.ensures.rows early (first_beside _ has) in
-    elim (c.in-Err-read_seen.ensures.blames clean (still s0 s1 one.same has)) [
+    elim (c.in-Err-read_seen.ensures.blames clean (still one.same has)) [
       | inl store ↦ inl (inl store)
       | inr memory ↦ inl (inr (inl memory))
     ]
 
 pub returns-in-Err-read_seen-clause-later_fault : goal.returns-in-Err-read_seen-clause-later_fault
 returns-in-Err-read_seen-clause-later_fault g c clean has t is =
-    let s0 = state g.S.Store c.args.conn.now in
-    let s1 = state g.S.Store c.read_of.new.conn in
-    let early : HasCleanDisk s1 = omega (arith, c.read_seen.ensures.reads.clean) in
+    let early = clean_before c.read_seen.ensures.reads clean in
     let one = c.in-Ok.ensures.rows early (first_beside _ has) in
-    elim (c.in-Err-read_seen.ensures.blames clean (still s0 s1 one.same has)) [
+    elim (c.in-Err-read_seen.ensures.blames clean (still one.same has)) [
       | inl store ↦ absurd (store_undamaged c.in-Err-read_seen.fault store t is)
       | inr memory ↦ absurd (memory_undamaged c.in-Err-read_seen.fault memory t is)
     ]
 
 pub returns-in-Ok-found_of-clause-reads : goal.returns-in-Ok-found_of-clause-reads
-returns-in-Ok-found_of-clause-reads g c = read_then true _ _ _ c.in-Ok.ensures.reads c.in-Ok-read_seen.ensures.reads
+returns-in-Ok-found_of-clause-reads g c = reads_on c.in-Ok.ensures.reads c.in-Ok-read_seen.ensures.reads
 
 pub returns-in-Ok-found_of-2-clause-reads : goal.returns-in-Ok-found_of-2-clause-reads
-returns-in-Ok-found_of-2-clause-reads g c = read_then true _ _ _ c.in-Ok.ensures.reads c.in-Ok-read_seen.ensures.reads
+returns-in-Ok-found_of-2-clause-reads g c = reads_on c.in-Ok.ensures.reads c.in-Ok-read_seen.ensures.reads
 
 pub returns-in-Ok-found_of-clause-found : goal.returns-in-Ok-found_of-clause-found
 returns-in-Ok-found_of-clause-found g c clean has =
     let s0 = state g.S.Store c.args.conn.now in
     let s1 = state g.S.Store c.read_of.new.conn in
     let s2 = state g.S.Store c.read_seen.new.conn in
-    let early : HasCleanDisk s1 = omega (arith, c.read_seen.ensures.reads.clean) in
+    let early = clean_before c.read_seen.ensures.reads clean in
     let one = c.in-Ok.ensures.rows early (first_beside _ has) in
-    let two = (rw c.in-Some.is at (c.in-Ok-read_seen.ensures.rows clean)) (still s0 s1 one.same has) in
+    let two = (rw c.in-Some.is at (c.in-Ok-read_seen.ensures.rows clean)) (still one.same has) in
     let rows = c.args.rows.now in
     let game = c.args.game.now in
     let last = c.args.last.now in
@@ -81,22 +74,24 @@ returns-in-Ok-found_of-clause-found g c clean has =
     let first =
     subst₂ (λ (m : List MoveRow) (p : List SeenRow). (s : ClubState) → HasPeople s rows
     → IsFirstWrong (IsRightAt s rows c.args.place game m p last) wrong) c.deref.ensures.value
-    c.deref-in-Some.ensures.value c.in-Ok-found_of.ensures.first in
-    subst₂ (λ a b. IsGameFound rows last c.args.place game a b wrong s0 s2) (sym many_moves) (sym many_seen)
-    (game_found rows c.args.place game ms ss s0 s1 s2 one two last c.requires.last wrong first c.requires.at
-    (game_moves_wrong rows c.args.place game ms ss last s0 s1 one wrong first c.requires.at)
-    (game_games_wrong rows c.args.place game ms ss last s0 s1 one wrong first c.requires.at)
-    (game_seen_wrong rows c.args.place game ms ss last s0 s1 one wrong first c.requires.at s2 two)
-    (game_moves_right rows c.args.place game ms ss last s0 s1 one wrong first))
+    c.deref-in-Some.ensures.value c.in-Ok-found_of.ensures.first in (
+      stays one.same two.same,
+      subst₂ (λ a b. IsGameFound rows last c.args.place game a b wrong s0.now) (sym many_moves)
+          (sym many_seen)
+          (game_found rows c.args.place game ms ss s0 s1 s2 one two last c.requires.last wrong first c.requires.at
+          (game_moves_wrong rows c.args.place game ms ss last s0 s1 one wrong first c.requires.at)
+          (game_games_wrong rows c.args.place game ms ss last s0 s1 one wrong first c.requires.at)
+          (game_seen_wrong rows c.args.place game ms ss last s0 s1 one wrong first c.requires.at s2 two)
+          (game_moves_right rows c.args.place game ms ss last s0 s1 one wrong first)),
+    )
 
 pub returns-in-Ok-found_of-2-clause-found : goal.returns-in-Ok-found_of-2-clause-found
 returns-in-Ok-found_of-2-clause-found g c clean has =
     let s0 = state g.S.Store c.args.conn.now in
     let s1 = state g.S.Store c.read_of.new.conn in
-    let s2 = state g.S.Store c.read_seen.new.conn in
-    let early : HasCleanDisk s1 = omega (arith, c.read_seen.ensures.reads.clean) in
+    let early = clean_before c.read_seen.ensures.reads clean in
     let one = c.in-Ok.ensures.rows early (first_beside _ has) in
-    let (same, untyped) = c.in-Ok-read_seen.ensures.untyped clean c.in-None.is (still s0 s1 one.same has) in
+    let (same, untyped) = c.in-Ok-read_seen.ensures.untyped clean c.in-None.is (still one.same has) in
     let rows = c.args.rows.now in
     let game = c.args.game.now in
     let last = c.args.last.now in
@@ -107,12 +102,14 @@ returns-in-Ok-found_of-2-clause-found g c clean has =
     let first =
     subst₂ (λ (m : List MoveRow) (p : List SeenRow). (s : ClubState) → HasPeople s rows
     → IsFirstWrong (IsRightAt s rows c.args.place game m p last) wrong) c.deref-in-None.ensures.value none
-    c.in-Ok-found_of-2.ensures.first in
-    let one_of : IsOneOf wrong (Some Seen) c.first_of.result =
-    record { none = c.first_of.ensures.none; some = c.first_of.ensures.some; first = c.first_of.ensures.first } in
-    subst₂ (λ a b. IsGameFound rows last c.args.place game a b c.first_of.result s0 s2) (sym many_moves) (sym many_seen)
-    (untyped_found rows c.args.place game c.in-Ok.moves.items last s0 s1 s2 one same
-    (subst (IsUntyped Seen) one.same.0.now_is untyped) wrong c.first_of.result first one_of c.requires.at)
+    c.in-Ok-found_of-2.ensures.first in (
+      stays one.same same,
+      subst₂ (λ a b. IsGameFound rows last c.args.place game a b c.first_of.result s0.now)
+          (sym many_moves) (sym many_seen)
+          (untyped_found rows c.args.place game c.in-Ok.moves.items last s0 s1 one
+          (subst (IsUntyped Seen) one.same.0.now_is untyped) wrong c.first_of.result first c.first_of.ensures
+          c.requires.at),
+    )
 
 pub returns-in-Ok-found_of-clause-later : goal.returns-in-Ok-found_of-clause-later
 returns-in-Ok-found_of-clause-later g c s people =

@@ -1,16 +1,13 @@
-use Rattle.std.proofs.Common.{◌≡◌, ◌+◌, length, Some, refl, sym, ap, subst, subst₂, ◌∙◌, arith, true}
-use Rattle.sqlite.specs.Effect.{Database}
+use Rattle.std.proofs.Common.{◌≡◌, ◌+◌, length, Some, refl, sym, ap, subst₂, ◌∙◌, arith, true}
 use Rattle.club_opening.specs.RightTables.{NamesPlayed}
 use Rattle.std.specs.Prelude.{slice_get}
 use Rattle.std.proofs.lemmas.Option.{slice_get_read}
 use Rattle.sqlite.specs.Held.{state}
-use Rattle.sqlite.specs.State.{HasCleanDisk}
 use Rattle.sqlite.proofs.StateLemmas.{unchanged}
 use Rattle.store_tables.proofs.Proved.{read_nothing, read_then}
-use Rattle.club_opening.specs.Examined.{AreLeftAfter}
-use Rattle.club_opening.proofs.BlameLemmas.{still}
-use Rattle.club_opening.proofs.ExaminedLemmas.{IsOneOf, NamesLeft, blamed_before, both_after, left_all, left_more}
-use Rattle.club_opening.proofs.ExaminedLemmas.{left_start, not_last}
+use Rattle.club_opening.specs.Examined.{AreLeftAfter, IsGameFound}
+use Rattle.club_opening.proofs.BlameLemmas.{stays, clean_before, before, still}
+use Rattle.club_opening.proofs.ExaminedLemmas.{blamed_before, both_after, left_all, left_more, left_start}
 use Rattle.store_tables.specs.declared.names.Table.TheVariants.{Moves, Seen}
 use Rattle.club_opening.proofs.FirstLemmas.{either_later, left_later}
 use Rattle.club_opening.proofs.games.examine_games.Goals as goal
@@ -24,9 +21,11 @@ loop-place-init g c =
       kept = λ none. none;
       later = λ s people known. known;
       free = λ u after. after;
-      left = λ clean has is_open one two. left_start c.args.rows.now c.args.last c.args.all.moves c.args.all.seen
-          c.args.known s0 c.requires.known c.requires.known_moves c.requires.known_games c.requires.known_seen
-          (unchanged s0 is_open) one two;
+      left = λ clean has is_open one two. (
+        unchanged s0 is_open,
+        left_start c.args.rows.now c.args.last c.args.all.moves c.args.all.seen c.args.known s0.now c.requires.known
+            c.requires.known_moves c.requires.known_games c.requires.known_seen one two,
+      );
     }
 
 pub loop-place-preserved : goal.loop-place-preserved
@@ -43,13 +42,7 @@ loop-place-preserved g c =
     let mid = state g.S.Store c.loop-place.conn in
     let new = state g.S.Store c.examine_game.new.conn in
     let found = c.in-Ok.found in
-    let one_of : IsOneOf c.loop-place.wrong found.wrong c.first_of-wrong.result =
-    record {
-      none = c.first_of-wrong.ensures.none;
-      some = c.first_of-wrong.ensures.some;
-      first =
-          c.first_of-wrong.ensures.first;
-    } in
+    let one_of = c.first_of-wrong.ensures in
     record {
       items = c.loop-place.invariant.items;
       reads = read_then true s0 mid new c.loop-place.invariant.reads c.in-Ok.ensures.reads;
@@ -59,58 +52,38 @@ loop-place-preserved g c =
       free = λ u after. c.loop-place.invariant.free u
           (both_after u c.loop-place.wrong found.wrong c.first_of-wrong.result one_of after).0;
       left = λ clean has is_open one two.
-          let early : HasCleanDisk mid = omega (arith, c.examine_game.ensures.reads.clean) in
-          let was = c.loop-place.invariant.left early has is_open one two in
-          let here = still s0 mid was.same has in
-          subst₂ (λ a b. AreLeftAfter rows c.args.last (k + 1) a b c.first_of-wrong.result s0 new)
-          (sym c.saturating_sub-moves.ensures) (sym c.saturating_sub-seen.ensures)
-          (left_more rows c.args.last k game c.loop-place.moves c.loop-place.seen found.own.moves found.own.seen
-          c.loop-place.wrong found.wrong c.first_of-wrong.result s0 mid new stands was
-          (c.in-Ok.ensures.found clean here) one_of);
+          let early = clean_before c.examine_game.ensures.reads clean in
+          let (same, was) = c.loop-place.invariant.left early has is_open one two in
+          let (own_same, is) = c.in-Ok.ensures.found clean (still same has) in (
+            stays same own_same,
+            subst₂ (λ a b. AreLeftAfter rows c.args.last (k + 1) a b c.first_of-wrong.result s0.now)
+                (sym c.saturating_sub-moves.ensures) (sym c.saturating_sub-seen.ensures)
+                (left_more rows c.args.last k game c.loop-place.moves c.loop-place.seen found.own.moves found.own.seen
+                c.loop-place.wrong found.wrong c.first_of-wrong.result s0.now stands was
+                (before (IsGameFound rows c.args.last k game found.own.moves found.own.seen found.wrong) same is)
+                one_of),
+          );
     }
 
 pub returns-in-Err-clause-blames : goal.returns-in-Err-clause-blames
 returns-in-Err-clause-blames g c clean has is_open one two =
-    let s0 = state g.S.Store c.args.conn.now in
-    let mid = state g.S.Store c.loop-place.conn in
-    let early : HasCleanDisk mid = omega (arith, c.examine_game.ensures.reads.clean) in
-    let was = c.loop-place.invariant.left early has is_open one two in
-    let here = still s0 mid was.same has in
-    blamed_before c.args.rows.now s0 mid c.in-Err.fault was.same (c.in-Err.ensures.blames clean here)
+    let early = clean_before c.examine_game.ensures.reads clean in
+    let (same, was) = c.loop-place.invariant.left early has is_open one two in
+    blamed_before c.args.rows.now c.in-Err.fault same (c.in-Err.ensures.blames clean (still same has))
 
 pub returns-clause-found : goal.returns-clause-found
 returns-clause-found g c clean has is_open one two =
     let rows = c.args.rows.now in
     let l = c.loop-place in
     let s0 = state g.S.Store c.args.conn.now in
-    let s = state g.S.Store l.conn in
     let items = ap length l.invariant.items in
     let all : l.place ≡ length rows.games.items = omega (arith, items, c.loop-place-test.false) in
-    let of_moves : NamesLeft l.moves c.left_over.result =
-    record {
-      none = c.left_over.ensures.none;
-      some = λ t is. (c.left_over.ensures.some t is).1;
-      other = λ t is. not_last Moves t (omega arith) (c.left_over.ensures.some t is).0;
-    } in
-    let of_seen : NamesLeft l.seen c.left_over-2.result =
-    record {
-      none = c.left_over-2.ensures.none;
-      some = λ t is. (c.left_over-2.ensures.some t is).1;
-      other = λ t is. not_last Seen t (omega arith) (c.left_over-2.ensures.some t is).0;
-    } in
-    let first : IsOneOf l.wrong c.left_over.result c.first_of-with_moves.result =
-    record {
-      none = c.first_of-with_moves.ensures.none;
-      some = c.first_of-with_moves.ensures.some;
-      first = c.first_of-with_moves.ensures.first;
-    } in
-    let then : IsOneOf c.first_of-with_moves.result c.left_over-2.result c.first_of.result =
-    record { none = c.first_of.ensures.none; some = c.first_of.ensures.some; first = c.first_of.ensures.first } in
-    left_all rows c.args.last c.requires.last l.place l.moves l.seen l.wrong c.left_over.result
-    c.first_of-with_moves.result c.left_over-2.result c.first_of.result s0 s (l.invariant.left clean has is_open one
-    two)
-    all of_moves of_seen first then
-    (λ t is. (c.left_over-2.ensures.some t is).0) (λ t is. (c.left_over.ensures.some t is).0)
+    let (same, was) = l.invariant.left clean has is_open one two in (
+      same,
+      left_all rows c.args.last c.requires.last l.place l.moves l.seen l.wrong c.left_over.result
+          c.first_of-with_moves.result c.left_over-2.result c.first_of.result s0.now was all c.left_over.ensures
+          c.left_over-2.ensures c.first_of-with_moves.ensures c.first_of.ensures,
+    )
 
 pub returns-clause-known : goal.returns-clause-known
 returns-clause-known g c = λ none.
@@ -126,22 +99,15 @@ returns-clause-later g c s people known =
 
 pub returns-in-Err-clause-later_fault : goal.returns-in-Err-clause-later_fault
 returns-in-Err-clause-later_fault g c clean has is_open one two =
-    let s0 = state g.S.Store c.args.conn.now in
-    let mid = state g.S.Store c.loop-place.conn in
-    let early : HasCleanDisk mid = omega (arith, c.examine_game.ensures.reads.clean) in
-    let was = c.loop-place.invariant.left early has is_open one two in
-    subst (λ (d : Database). NamesPlayed c.args.rows.now d c.in-Err.fault) was.same.0.now_is
-    (c.in-Err.ensures.later_fault clean (still s0 mid was.same has))
+    let early = clean_before c.examine_game.ensures.reads clean in
+    let (same, was) = c.loop-place.invariant.left early has is_open one two in
+    before (λ d. NamesPlayed c.args.rows.now d c.in-Err.fault) same
+    (c.in-Err.ensures.later_fault clean (still same has))
 
 pub returns-clause-known_after : goal.returns-clause-known_after
 returns-clause-known_after g c u after =
-    let first : IsOneOf c.loop-place.wrong c.left_over.result c.first_of-with_moves.result = record {
-      none = c.first_of-with_moves.ensures.none;
-      some = c.first_of-with_moves.ensures.some;
-      first = c.first_of-with_moves.ensures.first;
-    } in
-    let then : IsOneOf c.first_of-with_moves.result c.left_over-2.result c.first_of.result =
-    record { none = c.first_of.ensures.none; some = c.first_of.ensures.some; first = c.first_of.ensures.first } in
-    let early = (both_after u c.first_of-with_moves.result c.left_over-2.result c.first_of.result then after).0 in
+    let early = (both_after u c.first_of-with_moves.result c.left_over-2.result c.first_of.result c.first_of.ensures
+    after).0 in
     c.loop-place.invariant.free u
-    (both_after u c.loop-place.wrong c.left_over.result c.first_of-with_moves.result first early).0
+    (both_after u c.loop-place.wrong c.left_over.result c.first_of-with_moves.result c.first_of-with_moves.ensures
+    early).0

@@ -1,5 +1,5 @@
 use Rattle.std.proofs.Common.{◌≡◌, length, IsTrue, true}
-use Rattle.sqlite.specs.State.{HasCleanDisk}
+use Rattle.sqlite.specs.State.{HasCleanDisk, IsUnchanged}
 use Rattle.sqlite.specs.Held.{state}
 use Rattle.store_tables.specs.Reading.{Reads}
 use Rattle.store_tables.specs.declared.names.Table.{Table}
@@ -22,6 +22,6 @@ invariant-loop-place g l = record {
       → IsTrue (state g.S.Store l.fn.conn).is_open
       → l.fn.all.moves ≡ length (moves_in (state g.S.Store l.fn.conn).now.trees)
       → l.fn.all.seen ≡ length (seen_in (state g.S.Store l.fn.conn).now.trees)
-      → AreLeftAfter l.rows l.fn.last l.place l.moves l.seen l.wrong (state g.S.Store l.fn.conn)
-      (state g.S.Store l.conn);
+      → IsUnchanged (state g.S.Store l.fn.conn) (state g.S.Store l.conn)
+      × AreLeftAfter l.rows l.fn.last l.place l.moves l.seen l.wrong (state g.S.Store l.fn.conn).now;
 }

@@ -1,20 +1,16 @@
-use Rattle.std.proofs.Common.{arith, false, inr, refl, subst, sym, true}
+use Rattle.std.proofs.Common.{inr, refl, subst, sym}
 use Rattle.sqlite.specs.Held.{state}
-use Rattle.sqlite.specs.State.{HasCleanDisk}
-use Rattle.sqlite.proofs.Callers.{unchanged_then}
-use Rattle.store_tables.proofs.Proved.{only_reading, read_then, reads_then}
+use Rattle.club_opening.proofs.BlameLemmas.{clean_before, reads_on, before, stays, have_ids, still}
+use Rattle.store_tables.proofs.Proved.{only_reading, reads_then}
 use Rattle.club_opening.specs.Places.{IsRegisterOf}
 use Rattle.club_opening.specs.Versions.{HasClub, IsExactlyClub, IsOpenedAt}
 use Rattle.club_rows.specs.Club.{ClubState}
 use Rattle.club_rows.specs.FirstSchema.{IsClubOf, tables_at}
 use Rattle.club_audit.proofs.Proved.{ruled-of}
-use Rattle.club_opening.proofs.BlameLemmas.{have_ids, still}
 use Rattle.club_opening.proofs.ClubLemmas.{club_read_as, good_taken}
 use Rattle.club_opening.proofs.RegisterLemmas.{club_exactly, examined_club, meta_found, play_blamed}
-use Rattle.club_opening.proofs.StoredLemmas.{alone_of, exactly_of, of_version, one_of, rows_held}
-use Rattle.club_opening.proofs.StoredLemmas.{tables_of_club}
-use Rattle.club_opening.proofs.FirstLemmas.{first_examined, has_people, have_challenges, pass_challenges}
-use Rattle.club_opening.proofs.FirstLemmas.{people_of_all, people_right}
+use Rattle.club_opening.proofs.StoredLemmas.{alone_of, exactly_of, of_version, one_of, rows_held, tables_of_club}
+use Rattle.club_opening.proofs.FirstLemmas.{first_examined, has_people, have_challenges, pass_challenges, people_read}
 use Rattle.sqlite.specs.Effect.{Database}
 use Rattle.club_opening.specs.RightTables.{NamesExamined}
 use Rattle.club_opening.proofs.PlayedLemmas.{games_right, has_scores, scores_right, seen_right, whole_unblamed}
@@ -25,23 +21,20 @@ use Rattle.club_opening.proofs.opening.examine_from.Goals as goal
 
 pub returns-in-Ok-examine_rows-clause-stays : goal.returns-in-Ok-examine_rows-clause-stays
 returns-in-Ok-examine_rows-clause-stays g c clean has =
-    let s0 = state g.S.Store c.args.conn.now in
-    let s1 = state g.S.Store c.read_rows.new.conn in
-    let s3 = state g.S.Store c.examine_rows.new.conn in
-    let clean1 : HasCleanDisk s1 = omega (arith, c.examine_rows.ensures.reads.clean) in
+    let clean1 = clean_before c.examine_rows.ensures.reads clean in
     let (own, read) = c.in-Ok.ensures.rows clean1 has in
-    let all = c.in-Ok-examine_rows.ensures.found clean (still s0 s1 read.same has) in
-    (own, unchanged_then s0 s1 s3 read.same all.play.games.same)
+    let all = c.in-Ok-examine_rows.ensures.found clean (still read.same has) in
+    (own, stays read.same all.play.same)
 
 pub returns-in-Ok-examine_rows-clause-held : goal.returns-in-Ok-examine_rows-clause-held
 returns-in-Ok-examine_rows-clause-held g c clean has sound =
     let s0 = state g.S.Store c.args.conn.now in
     let s1 = state g.S.Store c.read_rows.new.conn in
     let s3 = state g.S.Store c.examine_rows.new.conn in
-    let clean1 : HasCleanDisk s1 = omega (arith, c.examine_rows.ensures.reads.clean) in
+    let clean1 = clean_before c.examine_rows.ensures.reads clean in
     let found = c.in-Ok.found in
     let (own, read) = c.in-Ok.ensures.rows clean1 has in
-    let all = c.in-Ok-examine_rows.ensures.found clean (still s0 s1 read.same has) in
+    let all = c.in-Ok-examine_rows.ensures.found clean (still read.same has) in
     let n = all.moment in
     let (moment, within) = all.last in
     let (ms, are_ms) = c.in-Ok.ensures.members in
@@ -55,7 +48,7 @@ returns-in-Ok-examine_rows-clause-held g c clean has sound =
       club,
       register,
       subst (λ (d : Database). HasClub found.version d s)
-          (sym (unchanged_then s0 s1 s3 read.same all.play.games.same).0.now_is) holds,
+          (sym (stays read.same all.play.same).0.now_is) holds,
     )
 
 pub returns-in-Ok-examine_rows-clause-found : goal.returns-in-Ok-examine_rows-clause-found
@@ -63,7 +56,6 @@ returns-in-Ok-examine_rows-clause-found g c clean version opened =
     let s0 = state g.S.Store c.args.conn.now in
     let s1 = state g.S.Store c.read_rows.new.conn in
     let s3 = state g.S.Store c.examine_rows.new.conn in
-    let clean1 : HasCleanDisk s1 = omega (arith, c.examine_rows.ensures.reads.clean) in
     let found = c.in-Ok.found in
     let has = of_version version s0.now.schema (alone_of version s0.now.schema opened.schema) in
     let (own, unchanged) = returns-in-Ok-examine_rows-clause-stays g c clean has in
@@ -78,7 +70,7 @@ returns-in-Ok-examine_rows-clause-found g c clean version opened =
         club,
         register,
         club_exactly found.version s s0 s3 here
-            (subst (λ (d : Database). HasClub found.version d s) unchanged.0.now_is holds) unchanged (reads.may clean),
+            (before (λ d. HasClub found.version d s) unchanged holds) unchanged (reads.may clean),
       ),
     )
 
@@ -86,7 +78,7 @@ pub returns-in-Ok-examine_rows-clause-rows : goal.returns-in-Ok-examine_rows-cla
 returns-in-Ok-examine_rows-clause-rows g c clean version s club holds =
     let s0 = state g.S.Store c.args.conn.now in
     let s1 = state g.S.Store c.read_rows.new.conn in
-    let clean1 : HasCleanDisk s1 = omega (arith, c.examine_rows.ensures.reads.clean) in
+    let clean1 = clean_before c.examine_rows.ensures.reads clean in
     let found = c.in-Ok.found in
     let held = rows_held version s0.now (tables_at version s) holds in
     let (schema, read) = c.in-Ok.ensures.rows clean1 (of_version version s0.now.schema held.schema) in
@@ -103,17 +95,17 @@ pub returns-in-Err-examine_rows-clause-blames : goal.returns-in-Err-examine_rows
 returns-in-Err-examine_rows-clause-blames g c clean has =
     let s0 = state g.S.Store c.args.conn.now in
     let s1 = state g.S.Store c.read_rows.new.conn in
-    let clean1 : HasCleanDisk s1 = omega (arith, c.examine_rows.ensures.reads.clean) in
+    let clean1 = clean_before c.examine_rows.ensures.reads clean in
     let (schema, read) = c.in-Ok.ensures.rows clean1 has in
     play_blamed c.args.oldest c.in-Ok.found.version c.in-Ok.found.rows s0 s1 s1 c.in-Err-examine_rows.fault schema read
     read.same
-    (c.in-Err-examine_rows.ensures.blames clean (still s0 s1 read.same has))
+    (c.in-Err-examine_rows.ensures.blames clean (still read.same has))
 
 pub returns-in-Err-examine_rows-clause-first : goal.returns-in-Err-examine_rows-clause-first
 returns-in-Err-examine_rows-clause-first g c clean has =
     let s0 = state g.S.Store c.args.conn.now in
     let s1 = state g.S.Store c.read_rows.new.conn in
-    let clean1 : HasCleanDisk s1 = omega (arith, c.examine_rows.ensures.reads.clean) in
+    let clean1 = clean_before c.examine_rows.ensures.reads clean in
     let found = c.in-Ok.found in
     let rows = found.rows in
     let (schema, read) = c.in-Ok.ensures.rows clean1 has in
@@ -123,12 +115,12 @@ returns-in-Err-examine_rows-clause-first g c clean has =
     let (s, people) = has_people rows ms are_ms es are_es are_rules in
     let made = ruled-of es rows.events.items rows.event_rules.items are_es are_rules in
     let e = c.in-Err-examine_rows.fault in
-    let here = still s0 s1 read.same has in
+    let here = still read.same has in
     let names = play_blamed c.args.oldest found.version rows s0 s1 s1 e schema read read.same
     (c.in-Err-examine_rows.ensures.blames clean here) in
     first_examined s0.now rows e
-    (people_right found.version rows.members.items rows.events.items rows.event_rules.items s0.now
-    (people_of_all found.version rows s0 s1 schema read ms are_ms es are_es are_rules))
+    (people_read found.version rows.members.items rows.events.items rows.event_rules.items s0 s1 schema read.members
+    read.events read.rules ms are_ms es are_es are_rules)
     (have_challenges rows found.version s0 s1 read ms are_ms es are_es)
     (pass_challenges rows found.version s0 s1 read ms are_ms es are_es)
     (λ v content holds cs are_cs played. seen_right rows found.version s0 s1 read ms are_ms made.ruled made.events_are
@@ -143,7 +135,7 @@ returns-in-Err-examine_rows-clause-first g c clean has =
     (λ v content holds cs are_cs seated. games_right rows found.version s0 s1 read ms are_ms made.ruled made.events_are
     made.rules_are cs are_cs seated schema v content holds)
     (seen_told rows found.version s0 s1 read schema)
-    (subst (λ (d : Database). NamesExamined rows d e) read.same.0.now_is
+    (before (λ d. NamesExamined rows d e) read.same
     (c.in-Err-examine_rows.ensures.examined clean here s people (have_ids found.version rows s0 s1 read)))
 
 -- ---- whatever stands beside the tables
@@ -162,23 +154,21 @@ returns-in-Err-examine_rows-clause-good g c clean version s club holds shape tak
 
 pub returns-in-Ok-examine_rows-clause-newer : goal.returns-in-Ok-examine_rows-clause-newer
 returns-in-Ok-examine_rows-clause-newer g c clean has =
-    let s1 = state g.S.Store c.read_rows.new.conn in
-    let clean1 : HasCleanDisk s1 = omega (arith, c.examine_rows.ensures.reads.clean) in
+    let clean1 = clean_before c.examine_rows.ensures.reads clean in
     one_of c.in-Ok.found.version Current (state g.S.Store c.args.conn.now).now.schema
     (c.in-Ok.ensures.rows clean1 (inr has)).0 has
 
 pub returns-in-Ok-examine_rows-clause-standing : goal.returns-in-Ok-examine_rows-clause-standing
 returns-in-Ok-examine_rows-clause-standing g c clean version s club holds =
     let s0 = state g.S.Store c.args.conn.now in
-    let s1 = state g.S.Store c.read_rows.new.conn in
-    let clean1 : HasCleanDisk s1 = omega (arith, c.examine_rows.ensures.reads.clean) in
+    let clean1 = clean_before c.examine_rows.ensures.reads clean in
     one_of c.in-Ok.found.version version s0.now.schema
     (c.in-Ok.ensures.rows clean1 (of_version version s0.now.schema holds.schema)).0 holds.schema
 
 pub returns-in-Ok-examine_rows-clause-reads : goal.returns-in-Ok-examine_rows-clause-reads
 returns-in-Ok-examine_rows-clause-reads g c =
-    read_then true _ _ _ c.in-Ok.ensures.reads c.in-Ok-examine_rows.ensures.reads
+    reads_on c.in-Ok.ensures.reads c.in-Ok-examine_rows.ensures.reads
 
 pub returns-in-Err-examine_rows-clause-reads : goal.returns-in-Err-examine_rows-clause-reads
 returns-in-Err-examine_rows-clause-reads g c =
-    read_then false _ _ _ c.in-Ok.ensures.reads c.in-Err-examine_rows.ensures.reads
+    reads_on c.in-Ok.ensures.reads c.in-Err-examine_rows.ensures.reads

@@ -1,10 +1,9 @@
-use Rattle.std.proofs.Common.{true, None, Some, ap, arith, inl, inr, subst, sym, ◌∙◌}
+use Rattle.std.proofs.Common.{None, Some, ap, arith, inl, inr, subst, sym, ◌∙◌}
 use Rattle.std.proofs.lemmas.Int.{ints}
 use Rattle.std.proofs.lemmas.Option.{IfSome_then}
 use Rattle.sqlite.specs.Held.{state}
-use Rattle.sqlite.specs.State.{HasCleanDisk}
 use Rattle.club_opening.specs.Examined.{IsPlayExamined}
-use Rattle.club_opening.proofs.BlameLemmas.{still}
+use Rattle.club_opening.proofs.BlameLemmas.{clean_before, reads_on, before, still}
 use Rattle.club_opening.proofs.ExaminedLemmas.{blamed_before, moment_told, moment_of, play_later, played_after}
 use Rattle.club_opening.proofs.ExaminedLemmas.{scores_after, some_after}
 use Rattle.store_tables.specs.declared.names.Table.TheVariants.{Games, Moves}
@@ -13,7 +12,6 @@ use Rattle.sqlite.specs.Effect.{Database}
 use Rattle.club_opening.specs.RightTables.{IsWrongOfPlay, NamesScores}
 use Rattle.club_opening.proofs.FirstLemmas.{damaged_same}
 use Rattle.club_opening.proofs.PlayedLemmas.{are_played, are_scored, are_seated, before_last, meta_played, none_played}
-use Rattle.store_tables.proofs.Proved.{read_then}
 use Rattle.club_opening.proofs.opening.examine_rows.Goals as goal
 
 pub examine_play-requires-clause-last : goal.examine_play-requires-clause-last
@@ -40,13 +38,13 @@ returns-in-None-wrong-clause-found g c clean has =
     let s1 = state g.S.Store c.args.conn.now in
     let s2 = state g.S.Store c.examine_play.new.conn in
     let s3 = state g.S.Store c.examine_scores.new.conn in
-    let clean2 : HasCleanDisk s2 = omega (arith, c.examine_scores.ensures.reads.clean) in
+    let clean2 = clean_before c.examine_scores.ensures.reads clean in
     let rows = c.args.rows.now in
     let none = c.in-None-wrong.is in
     let play = subst (λ wrong. IsPlayExamined rows c.moment-last.result wrong s1 s2) none
     (c.in-Ok-examine_play.ensures.found clean2 has) in
     let free = c.in-Ok-examine_play.ensures.known none in
-    let scores = c.in-Ok-examine_scores.ensures.found clean (still s1 s2 play.games.same has) in
+    let scores = c.in-Ok-examine_scores.ensures.found clean (still play.same has) in
     let (n, moment, within) = c.in-Ok.ensures.moment free in
     let told = moment_told rows.meta.last c.moment-last.result
     (IfSome_then c.moment-last.result c.moment-last.ensures.some (λ m is. omega (arith, ints, is)))
@@ -59,7 +57,7 @@ returns-in-None-wrong-clause-found g c clean has =
       challenges = c.in-Ok.ensures.challenges;
       games = c.in-Ok.ensures.apart (played_after _ (none_played _ free));
       play = play_later rows _ s1 s2 s3 (subst (λ l. IsPlayExamined rows l None s1 s2) is_last play) scores.read.same;
-      scores = scores_after rows s1 s2 s3 play.games.same scores;
+      scores = scores_after rows s1 s2 s3 play.same scores;
     }
 
 pub returns-in-Err-clause-blames : goal.returns-in-Err-clause-blames
@@ -80,17 +78,14 @@ returns-in-Some-clause-blames g c clean has =
 
 pub returns-in-Err-examine_scores-clause-blames : goal.returns-in-Err-examine_scores-clause-blames
 returns-in-Err-examine_scores-clause-blames g c clean has =
-    let s1 = state g.S.Store c.args.conn.now in
-    let s2 = state g.S.Store c.examine_play.new.conn in
-    let clean2 : HasCleanDisk s2 = omega (arith, c.examine_scores.ensures.reads.clean) in
+    let clean2 = clean_before c.examine_scores.ensures.reads clean in
     let play = c.in-Ok-examine_play.ensures.found clean2 has in
-    blamed_before c.args.rows.now s1 s2 c.in-Err-examine_scores.fault play.games.same
-    (c.in-Err-examine_scores.ensures.blames clean (still s1 s2 play.games.same has))
+    blamed_before c.args.rows.now c.in-Err-examine_scores.fault play.same
+    (c.in-Err-examine_scores.ensures.blames clean (still play.same has))
 
 pub returns-in-Some-wrong-clause-blames : goal.returns-in-Some-wrong-clause-blames
 returns-in-Some-wrong-clause-blames g c clean has =
-    let s2 = state g.S.Store c.examine_play.new.conn in
-    let clean2 : HasCleanDisk s2 = omega (arith, c.examine_scores.ensures.reads.clean) in
+    let clean2 = clean_before c.examine_scores.ensures.reads clean in
     let play = c.in-Ok-examine_play.ensures.found clean2 has in
     inr (play.games.blamed c.in-Some-wrong.table c.in-Some-wrong.is)
 
@@ -135,14 +130,14 @@ returns-in-Err-examine_scores-clause-examined g c clean has s people ids t is =
     let s1 = state g.S.Store c.args.conn.now in
     let s2 = state g.S.Store c.examine_play.new.conn in
     let rows = c.args.rows.now in
-    let clean2 : HasCleanDisk s2 = omega (arith, c.examine_scores.ensures.reads.clean) in
+    let clean2 = clean_before c.examine_scores.ensures.reads clean in
     let play = c.in-Ok-examine_play.ensures.found clean2 has in
     let free = meta_played c.in-Ok-examine_play.wrong (c.before_scores.ensures.none c.in-None.is) in
     let apart = c.in-Ok.ensures.apart
     (c.in-Ok-examine_play.ensures.known_after Games (played_after c.in-Ok-examine_play.wrong free)) in
     let e = c.in-Err-examine_scores.fault in
-    let other = c.in-Err-examine_scores.ensures.scores clean (still s1 s2 play.games.same has) in
-    let (named, none) = subst (λ (d : Database). NamesScores rows d e) play.games.same.0.now_is other t is in
+    let other = c.in-Err-examine_scores.ensures.scores clean (still play.same has) in
+    let (named, none) = subst (λ (d : Database). NamesScores rows d e) play.same.0.now_is other t is in
     inr (
       c.in-Ok.ensures.challenges,
       inr (inl (
@@ -159,12 +154,12 @@ returns-in-Some-wrong-clause-examined g c clean has s people ids t is =
     let s2 = state g.S.Store c.examine_play.new.conn in
     let s3 = state g.S.Store c.examine_scores.new.conn in
     let rows = c.args.rows.now in
-    let clean2 : HasCleanDisk s2 = omega (arith, c.examine_scores.ensures.reads.clean) in
+    let clean2 = clean_before c.examine_scores.ensures.reads clean in
     let play = c.in-Ok-examine_play.ensures.found clean2 has in
     let free = meta_played c.in-Ok-examine_play.wrong (c.before_scores.ensures.none c.in-None.is) in
     let apart = c.in-Ok.ensures.apart
     (c.in-Ok-examine_play.ensures.known_after Games (played_after c.in-Ok-examine_play.wrong free)) in
-    let scored = c.in-Ok-examine_scores.ensures.found clean (still s1 s2 play.games.same has) in
+    let scored = c.in-Ok-examine_scores.ensures.found clean (still play.same has) in
     let table = c.in-Some-wrong.table in
     let last = free table c.in-Some-wrong.is in
     inr (
@@ -172,10 +167,10 @@ returns-in-Some-wrong-clause-examined g c clean has s people ids t is =
       inr (inr (
         sym (damaged_same table t is) ∙ last,
         are_played rows c.moment-last.result c.in-Ok-examine_play.wrong s1 s2 play free ids s people apart,
-        are_scored rows s1 s2 s3 play.games.same scored,
+        are_scored rows s1 s2 s3 play.same scored,
       )),
     )
 
 pub returns-in-None-wrong-clause-reads : goal.returns-in-None-wrong-clause-reads
 returns-in-None-wrong-clause-reads g c =
-    read_then true _ _ _ c.in-Ok-examine_play.ensures.reads c.in-Ok-examine_scores.ensures.reads
+    reads_on c.in-Ok-examine_play.ensures.reads c.in-Ok-examine_scores.ensures.reads

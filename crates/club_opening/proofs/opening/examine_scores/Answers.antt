@@ -1,6 +1,6 @@
 use Rattle.std.proofs.Common.{inl, refl, map, sym, ◌∙◌, subst, inr}
 use Rattle.sqlite.specs.Held.{state}
-use Rattle.store_tables.specs.Cells.{score_cells}
+use Rattle.store_tables.specs.Cells.{score_cells, IsScore}
 use Rattle.club_opening.proofs.StoredLemmas.{first_beside}
 use Rattle.club_audit.specs.Standings.{AreGamesOf}
 use Rattle.club_rows.specs.Club.{both_games}
@@ -8,7 +8,6 @@ use Rattle.club_rows.specs.EachOnce.{AreEachOnce}
 use Rattle.club_rows.specs.Scores.{scores_in}
 use Rattle.club_opening.proofs.RegisterLemmas.{scores_blamed}
 use Rattle.club_opening.proofs.PlayedLemmas.{score_types_wrong, scores_wrong}
-use Rattle.store_tables.specs.Cells.{IsScore}
 use Rattle.store_tables.specs.Tables.{scores}
 use Rattle.store_tables.specs.declared.names.Table.TheVariants.{Scores}
 use Rattle.club_opening.proofs.BlameLemmas.{names_both}

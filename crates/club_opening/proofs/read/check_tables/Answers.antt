@@ -1,7 +1,6 @@
-use Rattle.std.proofs.Common.{true}
-use Rattle.store_tables.proofs.Proved.{read_then}
+use Rattle.club_opening.proofs.BlameLemmas.{reads_on}
 use Rattle.club_opening.proofs.read.check_tables.Goals as goal
 
 pub returns-in-Ok-check_play-clause-reads : goal.returns-in-Ok-check_play-clause-reads
 returns-in-Ok-check_play-clause-reads g c =
-    read_then true _ _ _ c.in-Ok.ensures.reads c.in-Ok-check_play.ensures.reads
+    reads_on c.in-Ok.ensures.reads c.in-Ok-check_play.ensures.reads

@@ -1,13 +1,11 @@
-use Rattle.std.proofs.Common.{true, ap, arith, inl, inr, subst, sym}
+use Rattle.std.proofs.Common.{ap, inl, inr, subst, sym}
 use Rattle.sqlite.specs.Effect.{Database}
 use Rattle.sqlite.specs.Held.{state}
-use Rattle.sqlite.specs.State.{HasCleanDisk}
-use Rattle.sqlite.proofs.Callers.{unchanged_then}
+use Rattle.club_opening.proofs.BlameLemmas.{clean_before, reads_on, stays, foreign_named, meta_before, refused_named}
+use Rattle.club_opening.proofs.BlameLemmas.{still, still_of, told_blamed}
 use Rattle.club_opening.proofs.StoredLemmas.{first_beside}
-use Rattle.store_tables.proofs.Proved.{read_then}
 use Rattle.club_opening.specs.Blames.{IsMetaRead, NamesForeign, NamesSchema}
 use Rattle.club_opening.specs.Versions.{HasTablesOf}
-use Rattle.club_opening.proofs.BlameLemmas.{foreign_named, meta_before, refused_named, still, still_of, told_blamed}
 use Rattle.club_opening.proofs.read.read_head.Goals as goal
 use Rattle.club_opening.proofs.UndamagedLemmas.{foreign_undamaged, schema_undamaged, store_undamaged, told_undamaged}
 
@@ -19,7 +17,7 @@ pub returns-in-Err-check_rules-clause-blames : goal.returns-in-Err-check_rules-c
 returns-in-Err-check_rules-clause-blames g c clean has =
     let s0 = state g.S.Store c.args.conn.now in
     let s1 = state g.S.Store c.read_version.new.conn in
-    let clean1 : HasCleanDisk s1 = omega (arith, c.check_rules.ensures.reads.clean) in
+    let clean1 = clean_before c.check_rules.ensures.reads clean in
     let told = c.in-Ok.told in
     let found = c.in-Ok.ensures.found clean1 has in
     let same1 = c.in-Ok.ensures.same clean1 has in
@@ -31,14 +29,14 @@ returns-in-Err-check_rules-clause-blames g c clean has =
           (inl
           (subst (NamesForeign s0.now) (sym foreign)
           (foreign_named told.version told.meta s0 s1 found
-          (λ is. other (still_of s0 s1 told.version same1 is))))))
+          (λ is. other (still_of told.version same1 is))))))
     ]
 
 pub returns-in-Some-clause-blames : goal.returns-in-Some-clause-blames
 returns-in-Some-clause-blames g c clean has =
     let s0 = state g.S.Store c.args.conn.now in
     let s1 = state g.S.Store c.read_version.new.conn in
-    let clean1 : HasCleanDisk s1 = omega (arith, c.check_rules.ensures.reads.clean) in
+    let clean1 = clean_before c.check_rules.ensures.reads clean in
     let told = c.in-Ok.told in
     let found = c.in-Ok.ensures.found clean1 has in
     let (named, current, first) = c.in-Some.ensures.some in
@@ -49,49 +47,35 @@ returns-in-Some-clause-blames g c clean has =
 
 pub returns-in-Err-check_tables-clause-blames : goal.returns-in-Err-check_tables-clause-blames
 returns-in-Err-check_tables-clause-blames g c clean has =
-    let s0 = state g.S.Store c.args.conn.now in
-    let s1 = state g.S.Store c.read_version.new.conn in
-    let s2 = state g.S.Store c.check_rules.new.conn in
-    let clean2 : HasCleanDisk s2 = omega (arith, c.check_tables.ensures.reads.clean) in
-    let clean1 : HasCleanDisk s1 = omega (arith, c.check_rules.ensures.reads.clean, c.check_tables.ensures.reads.clean)
-    in
+    let clean2 = clean_before c.check_tables.ensures.reads clean in
+    let clean1 = clean_before c.check_rules.ensures.reads clean2 in
     let same1 = c.in-Ok.ensures.same clean1 has in
-    let same2 = unchanged_then s0 s1 s2 same1 (c.in-Ok-check_rules.ensures.same clean2 (still s0 s1 same1 has)) in
-    inl (inl (c.in-Err-check_tables.ensures.blames clean (first_beside _ (still s0 s2 same2 has))))
+    let same2 = stays same1 (c.in-Ok-check_rules.ensures.same clean2 (still same1 has)) in
+    inl (inl (c.in-Err-check_tables.ensures.blames clean (first_beside _ (still same2 has))))
 
 pub returns-in-Ok-check_tables-clause-found : goal.returns-in-Ok-check_tables-clause-found
 returns-in-Ok-check_tables-clause-found g c clean has =
-    let s0 = state g.S.Store c.args.conn.now in
-    let s1 = state g.S.Store c.read_version.new.conn in
-    let s2 = state g.S.Store c.check_rules.new.conn in
-    let s3 = state g.S.Store c.check_tables.new.conn in
-    let clean2 : HasCleanDisk s2 = omega (arith, c.check_tables.ensures.reads.clean) in
-    let clean1 : HasCleanDisk s1 = omega (arith, c.check_rules.ensures.reads.clean, c.check_tables.ensures.reads.clean)
-    in
+    let clean2 = clean_before c.check_tables.ensures.reads clean in
+    let clean1 = clean_before c.check_rules.ensures.reads clean2 in
     let told = c.in-Ok.told in
     let found = c.in-Ok.ensures.found clean1 has in
     let same1 = c.in-Ok.ensures.same clean1 has in
-    let has1 = still s0 s1 same1 has in
+    let has1 = still same1 has in
     let rules_same = c.in-Ok-check_rules.ensures.same clean2 has1 in
     let version = c.in-Ok-check_rules.ensures.version clean2 has1 in
-    let same2 = unchanged_then s0 s1 s2 same1 rules_same in
-    let tables_same = c.in-Ok-check_tables.ensures.same clean (first_beside _ (still s0 s2 same2 has)) in (
+    let same2 = stays same1 rules_same in
+    let tables_same = c.in-Ok-check_tables.ensures.same clean (first_beside _ (still same2 has)) in (
       subst (HasTablesOf told.version) (ap (λ (d : Database). d.schema) same1.0.now_is) version,
-      meta_before told.version told.meta s0 s1 s3 found (unchanged_then s1 s2 s3 rules_same tables_same),
+      meta_before told.version told.meta found (stays rules_same tables_same),
     )
 
 pub returns-in-Ok-check_tables-clause-same : goal.returns-in-Ok-check_tables-clause-same
 returns-in-Ok-check_tables-clause-same g c clean has =
-    let s0 = state g.S.Store c.args.conn.now in
-    let s1 = state g.S.Store c.read_version.new.conn in
-    let s2 = state g.S.Store c.check_rules.new.conn in
-    let s3 = state g.S.Store c.check_tables.new.conn in
-    let clean2 : HasCleanDisk s2 = omega (arith, c.check_tables.ensures.reads.clean) in
-    let clean1 : HasCleanDisk s1 = omega (arith, c.check_rules.ensures.reads.clean, c.check_tables.ensures.reads.clean)
-    in
+    let clean2 = clean_before c.check_tables.ensures.reads clean in
+    let clean1 = clean_before c.check_rules.ensures.reads clean2 in
     let same1 = c.in-Ok.ensures.same clean1 has in
-    let same2 = unchanged_then s0 s1 s2 same1 (c.in-Ok-check_rules.ensures.same clean2 (still s0 s1 same1 has)) in
-    unchanged_then s0 s2 s3 same2 (c.in-Ok-check_tables.ensures.same clean (first_beside _ (still s0 s2 same2 has)))
+    let same2 = stays same1 (c.in-Ok-check_rules.ensures.same clean2 (still same1 has)) in
+    stays same2 (c.in-Ok-check_tables.ensures.same clean (first_beside _ (still same2 has)))
 
 pub returns-in-Ok-check_tables-clause-taken : goal.returns-in-Ok-check_tables-clause-taken
 returns-in-Ok-check_tables-clause-taken g c is = c.refused.ensures.none c.in-None.is is
@@ -112,18 +96,14 @@ returns-in-Some-clause-undamaged g c clean has =
 
 pub returns-in-Err-check_tables-clause-undamaged : goal.returns-in-Err-check_tables-clause-undamaged
 returns-in-Err-check_tables-clause-undamaged g c clean has =
-    let s0 = state g.S.Store c.args.conn.now in
-    let s1 = state g.S.Store c.read_version.new.conn in
-    let s2 = state g.S.Store c.check_rules.new.conn in
-    let clean2 : HasCleanDisk s2 = omega (arith, c.check_tables.ensures.reads.clean) in
-    let clean1 : HasCleanDisk s1 = omega (arith, c.check_rules.ensures.reads.clean, c.check_tables.ensures.reads.clean)
-    in
+    let clean2 = clean_before c.check_tables.ensures.reads clean in
+    let clean1 = clean_before c.check_rules.ensures.reads clean2 in
     let same1 = c.in-Ok.ensures.same clean1 has in
-    let same2 = unchanged_then s0 s1 s2 same1 (c.in-Ok-check_rules.ensures.same clean2 (still s0 s1 same1 has)) in
+    let same2 = stays same1 (c.in-Ok-check_rules.ensures.same clean2 (still same1 has)) in
     store_undamaged c.in-Err-check_tables.fault (c.in-Err-check_tables.ensures.blames clean (first_beside _
-    (still s0 s2 same2 has)))
+    (still same2 has)))
 
 pub returns-in-Ok-check_tables-clause-reads : goal.returns-in-Ok-check_tables-clause-reads
 returns-in-Ok-check_tables-clause-reads g c =
-    read_then true _ _ _ c.in-Ok.ensures.reads
-    (read_then true _ _ _ c.in-Ok-check_rules.ensures.reads c.in-Ok-check_tables.ensures.reads)
+    reads_on c.in-Ok.ensures.reads
+    (reads_on c.in-Ok-check_rules.ensures.reads c.in-Ok-check_tables.ensures.reads)

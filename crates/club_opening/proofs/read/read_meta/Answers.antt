@@ -3,10 +3,9 @@ use Rattle.std.proofs.lemmas.Result.{IfOk-weaker}
 use Rattle.std.proofs.lemmas.Option.{IfSome_then}
 use Rattle.store_tables.specs.Cells.{meta_cells}
 use Rattle.sqlite.specs.Held.{state}
-use Rattle.club_opening.proofs.StoredLemmas.{first_beside}
+use Rattle.club_opening.proofs.StoredLemmas.{first_beside, of_version}
 use Rattle.store_tables.proofs.Proved.{read_nothing, read_then}
 use Rattle.club_opening.proofs.BlameLemmas.{shown_one, read_one}
-use Rattle.club_opening.proofs.StoredLemmas.{of_version}
 use Rattle.std.specs.Prelude.{OnOk, is_ok}
 use Rattle.club_opening.proofs.read.read_meta.Goals as goal
 

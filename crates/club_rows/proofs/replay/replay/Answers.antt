@@ -1,11 +1,9 @@
 use Rattle.std.proofs.Common.{◌≡◌, ◌<◌, ◌∙◌, refl, ap, subst, sym, arith}
-use Rattle.std.specs.Prelude.{IfSome, ℕ, Bool, ◌+◌, length, Some, slice_get}
+use Rattle.std.specs.Prelude.{ℕ, ◌+◌, length, Some, slice_get}
 use Rattle.std.proofs.lemmas.Option.{slice_get_read}
 use Rattle.club_rules.specs.Line.{position_after}
-use Rattle.club_core.specs.Game.{Game, Entry}
 use Rattle.club_core.proofs.Proved.{are_rules}
-use Rattle.club_rows.specs.Tables.{with_entry}
-use Rattle.club_rows.specs.Replay.{IsReplayed, Replays, Follows, game_from, terms_with, terms_given}
+use Rattle.club_rows.specs.Replay.{IsReplayed, game_from, terms_given}
 use Rattle.club_rows.proofs.WholeLemmas.{was-start, was-more, was-none, played-count}
 use Rattle.club_rows.proofs.replay.replay.Goals as goal
 
@@ -65,18 +63,8 @@ loop-row-preserved g c =
     let at : slice_get c.args.rows.now k ≡ Some c.row-item.result =
     slice_get_read c.args.rows.now (length c.args.rows.now) k c.row-item.result refl c.loop-row-test.true
     c.row-item.is in
-    let kept =
-    subst
-    (λ o. IfSome o (λ new. IsReplayed laws c.args.terms.increment (length c.loop-row.game.line.items + 1) new))
-    c.in-Some.is c.in_ok-game-2.ensures.safe in
-    let some =
-    subst
-    (λ o. IfSome o (λ new. (budget : ℕ) (declares : Bool) (game : Game g.row.R-Move.Denot)
-    → Replays laws (terms_with budget c.args.terms.increment declares) game c.loop-row.game
-    → (e : Entry g.row.R-Move.Denot)
-    × Follows laws (terms_with budget c.args.terms.increment declares) c.args.id game c.row-item.result e
-    × Replays laws (terms_with budget c.args.terms.increment declares) (with_entry game e) new)) c.in-Some.is
-    c.in_ok-game-2.ensures.some in
+    let kept = rw c.in-Some.is at c.in_ok-game-2.ensures.safe in
+    let some = rw c.in-Some.is at c.in_ok-game-2.ensures.some in
     let next = some c.args.terms.budget c.args.terms.declares (game_from c.args.from was.entries) was.replays in
     let room : k < 600 = omega (arith, c.loop-row-test.true, c.if-rows.false) in (
       subst (λ (n : ℕ). IsReplayed laws c.args.terms.increment (n + 1) new) old.plies_are kept,

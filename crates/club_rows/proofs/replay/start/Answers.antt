@@ -15,7 +15,6 @@ returns-clause-safe g c = λ increment.
     (c.in_ok-text.ensures ∙ ap laws.write_position c.start-position.ensures)
     (seen-none _ _ 0 none made.stood)
     (λ other. made.adds other ∙ ap (cond (same_text c.in_ok-text.text other) (Some c.in_ok-stood.stood))
-    (c.new-tally.ensures other))
-    in
+    (c.new-tally.ensures other)) in
     start-replayed laws increment _ c.new.ensures.items c.start-position.ensures
     (c.track_start.ensures ∙ ap laws.track_start c.start-position.ensures) told.0 told.1 c.requires c.requires

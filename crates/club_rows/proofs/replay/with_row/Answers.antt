@@ -1,5 +1,5 @@
 use Rattle.std.proofs.Common.{◌≡◌, ◌≤◌, ◌+◌, length, subst, sym, arith, ◌∙◌}
-use Rattle.std.specs.Prelude.{IfSome, string_bytes}
+use Rattle.std.specs.Prelude.{string_bytes}
 use Rattle.club_rules.specs.Line.{IsLegalLine}
 use Rattle.club_core.proofs.Proved.{are_rules}
 use Rattle.club_rows.specs.Replay.{IsNext, terms_with, left_in}
@@ -13,14 +13,10 @@ returns-in_ok-new-in-Some-clause-safe g c =
     let old = c.args.game in
     let made = c.in_ok-new-in-Some.ensures in
     let next : IsNext laws c.args.increment c.args.id old c.args.row.now c.in-Some.next.made c.in-Some.next.moment
-    c.in-Some.next.left =
-    subst (λ o. IfSome o (λ n. IsNext laws c.args.increment c.args.id old c.args.row.now n.made n.moment n.left))
-    c.in-Some.is c.in_ok-next.ensures.some in
+    c.in-Some.next.left = rw c.in-Some.is at c.in_ok-next.ensures.some in
     let position : c.in-Some.next.position ≡ laws.play old.position c.in-Some.next.made =
-    subst (λ o. IfSome o (λ n. n.position ≡ laws.play old.position n.made)) c.in-Some.is c.in_ok-next.ensures.after
-    in
-    let turn : c.in-Some.next.turn ≡ laws.turn old.position =
-    subst (λ o. IfSome o (λ n. n.turn ≡ laws.turn old.position)) c.in-Some.is c.in_ok-next.ensures.turn in
+    rw c.in-Some.is at c.in_ok-next.ensures.after in
+    let turn : c.in-Some.next.turn ≡ laws.turn old.position = rw c.in-Some.is at c.in_ok-next.ensures.turn in
     let most : c.in-Some.next.left ≤ left_in old (laws.turn old.position) + c.args.increment =
     omega (arith, next.time.left) in
     let room : left_in c.in_ok-new-in-Some.new c.in-Some.next.turn
@@ -28,8 +24,7 @@ returns-in_ok-new-in-Some-clause-safe g c =
     subst (λ n. n ≤ left_in old c.in-Some.next.turn + c.args.increment) (sym made.mover)
     (subst (λ s. c.in-Some.next.left ≤ left_in old s + c.args.increment) (sym turn) most) in
     let text : string_bytes c.in-Some.next.text ≡ laws.write_position (laws.play old.position c.in-Some.next.made) =
-    subst (λ o. IfSome o (λ n. string_bytes n.text ≡ laws.write_position (laws.play old.position n.made)))
-    c.in-Some.is c.in_ok-next.ensures.text in
+    rw c.in-Some.is at c.in_ok-next.ensures.text in
     replayed-more laws g.met.R.Rules.same_position_is g.met.R.Rules.texts_tell_positions c.args.increment
     (length old.line.items) old c.in_ok-new-in-Some.new c.in-Some.next.turn c.in-Some.next.made
     c.in-Some.next.position c.in-Some.next.text
@@ -44,14 +39,10 @@ returns-in_ok-new-in-Some-clause-some g c = λ budget declares game replays.
     let old = c.args.game in
     let made = c.in_ok-new-in-Some.ensures in
     let next : IsNext laws c.args.increment c.args.id old c.args.row.now c.in-Some.next.made c.in-Some.next.moment
-    c.in-Some.next.left =
-    subst (λ o. IfSome o (λ n. IsNext laws c.args.increment c.args.id old c.args.row.now n.made n.moment n.left))
-    c.in-Some.is c.in_ok-next.ensures.some in
+    c.in-Some.next.left = rw c.in-Some.is at c.in_ok-next.ensures.some in
     let position : c.in-Some.next.position ≡ laws.play old.position c.in-Some.next.made =
-    subst (λ o. IfSome o (λ n. n.position ≡ laws.play old.position n.made)) c.in-Some.is c.in_ok-next.ensures.after
-    in
-    let turn : c.in-Some.next.turn ≡ laws.turn old.position =
-    subst (λ o. IfSome o (λ n. n.turn ≡ laws.turn old.position)) c.in-Some.is c.in_ok-next.ensures.turn in
+    rw c.in-Some.is at c.in_ok-next.ensures.after in
+    let turn : c.in-Some.next.turn ≡ laws.turn old.position = rw c.in-Some.is at c.in_ok-next.ensures.turn in
     let line = subst (IsLegalLine laws laws.start) replays.line c.requires.game.line.legal in
     let terms = terms_with budget c.args.increment declares in (
       record { made = c.in-Some.next.made; moment = c.in-Some.next.moment },

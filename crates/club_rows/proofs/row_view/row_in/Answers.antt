@@ -14,8 +14,7 @@ returns-clause-shows g c = λ terms id game is numbers has last stands.
     given.second given.start numbers in
     let ruled : c.track_end-ruled.result ≡ rule_end laws game =
     c.track_end-ruled.ensures
-    ∙
-    (ap (λ t. laws.track_end t c.args.position.now counts.plies c.args.stood.times c.args.stood.first_ply)
+    ∙ (ap (λ t. laws.track_end t c.args.position.now counts.plies c.args.stood.times c.args.stood.first_ply)
     c.track_of-track.ensures
     ∙ ruled-is laws terms id stored game is g.met.R.Rules.tracks_tell_ends g.met.R.Rules.numbers_give_tracks
     c.args.stood stands counts has c.args.position.now last) in

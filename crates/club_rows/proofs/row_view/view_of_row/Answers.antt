@@ -13,8 +13,7 @@ returns-in-None-clause-found g c = λ id game is.
       event = is.fits.event;
       first = is.fits.first;
       second = is.fits.second;
-      start =
-          is.fits.start;
+      start = is.fits.start;
     })
     (numbers-told g.R.Rules.rules (terms_given c.args.terms) id c.args.row.now game is))
 
@@ -36,8 +35,7 @@ returns-clause-shows g c = λ id game is stands.
     let has = c.in-Some-counts_in.ensures.some in
     let text = c.as_str.ensures.value ∙ position-text laws terms id stored game is in
     let found = position-found laws g.R.Rules.StandsFor g.met.R.Rules.writes_positions g.met.R.Rules.stands_for_one
-    (moves_of game) is.legal.line.legal c.as_str.result.now text c.in_ok-position.field-0 c.in_ok-position.ensures
-    in
+    (moves_of game) is.legal.line.legal c.as_str.result.now text c.in_ok-position.field-0 c.in_ok-position.ensures in
     let last = some-same (sym c.in-Some-2.is ∙ found) in
     record {
       row = c.in_ok-new.ensures.shows terms id game is c.in-Some.ensures.some has last stands;

@@ -11,8 +11,7 @@ returns-clause-shows g c =
         numbers = told.numbers;
         ruled = told.ruled;
         offer = told.offer;
-        alone =
-            told.alone;
+        alone = told.alone;
         nothing = told.none;
         outside = told.outside;
       },

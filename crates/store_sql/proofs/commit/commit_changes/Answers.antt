@@ -1,15 +1,11 @@
-use Rattle.std.proofs.Common.{◌≡◌, arith, inl, inr, rules, sym, subst}
-use Rattle.sqlite.specs.Tree.{Trees}
+use Rattle.std.proofs.Common.{◌≡◌, arith, inl, inr, rules, subst}
 use Rattle.sqlite.specs.Held.{state}
-use Rattle.sqlite.specs.State.{HasCleanDisk, Survives}
-use Rattle.sqlite.proofs.StateLemmas.{survives_then}
-use Rattle.sqlite.proofs.Callers.{survives_begin}
-use Rattle.sqlite.specs.Schema.{Schema}
-use Rattle.store_tables.specs.Beside.{TakesRows}
+use Rattle.store_tables.specs.Sql.{HasCleanDisk}
 use Rattle.store_tables.specs.Contents as of_schema
 use Rattle.store_tables.specs.Contents.{Content}
 use Rattle.store_tables.specs.Changed.{changed}
 use Rattle.store_tables.proofs.Proved.{commits, leaves_of}
+use Rattle.store_sql.proofs.CommitLemmas.{commit_survives}
 use Rattle.store_sql.proofs.SelectLemmas.{always_err}
 use Rattle.store_sql.proofs.commit.commit_changes.Goals as goal
 
@@ -29,23 +25,12 @@ returns-clause-stored g c clean schema takes content k =
 
 pub returns-in_err-commit-clause-survives : goal.returns-in_err-commit-clause-survives
 returns-in_err-commit-clause-survives g c =
-    let same : c.commit.new.self.0 ≡ c.conn-2-1.given.0 = search rules in
-    let old = c.args.conn.now in
-    let last = c.put_changes.new.tx.conn.now in
     let begun = c.transaction-tx.ensures.begun in
-    let P = λ (trees : Trees). (schema : Schema) → TakesRows schema → (content : Content)
-    → of_schema.Holds schema (state g.S.Store old).now content
-    → of_schema.Leaves schema (changed c.args.changes.now content) trees in
-    let whole = survives_then (state g.S.Store old) (state g.S.Store last) (state g.S.Store c.commit.new.self.0) _ _ P
-    (λ _ db none. absurd none)
-    (λ clean db is schema takes content k.
-    let steps = c.in_ok-put_changes.ensures.put (omega (arith, c.commit.ensures.survives.clean)) (rw begun) in
-    let after = changed c.args.changes.now content in
-    subst (of_schema.Leaves schema after) (sym is)
-    (leaves_of schema (state g.S.Store last).now after ((rw begun at steps.holds) schema takes content k)))
-    (survives_begin g.S.Store old (state g.S.Store last) _ (rw begun at c.put_changes.ensures.survives))
-    c.commit.ensures.survives in
-    subst (λ h. Survives (state g.S.Store old) (state g.S.Store h) P) same whole
+    let last = c.put_changes.new.tx.conn.now in
+    commit_survives g.S.Store c.args.conn.now last c.commit.new.self.0 c.conn-2-1.given.0 _ (search rules)
+    (rw begun at c.put_changes.ensures.survives) c.commit.ensures.survives (λ clean schema takes content k.
+    leaves_of schema (state g.S.Store last).now (changed c.args.changes.now content)
+    ((rw begun at (c.in_ok-put_changes.ensures.put clean (rw begun)).holds) schema takes content k))
 
 pub returns-in_err-commit-clause-fault : goal.returns-in_err-commit-clause-fault
 returns-in_err-commit-clause-fault g c clean =
@@ -57,20 +42,9 @@ returns-in_err-commit-clause-fault g c clean =
 
 pub returns-clause-survives : goal.returns-clause-survives
 returns-clause-survives g c =
-    let same : c.commit.new.self.0 ≡ c.conn-2-1.given.0 = search rules in
-    let old = c.args.conn.now in
-    let last = c.put_changes.new.tx.conn.now in
     let begun = c.transaction-tx.ensures.begun in
-    let P = λ (trees : Trees). (schema : Schema) → TakesRows schema → (content : Content)
-    → of_schema.Holds schema (state g.S.Store old).now content
-    → of_schema.Leaves schema (changed c.args.changes.now content) trees in
-    let whole = survives_then (state g.S.Store old) (state g.S.Store last) (state g.S.Store c.commit.new.self.0) _ _ P
-    (λ _ db none. absurd none)
-    (λ clean db is schema takes content k.
-    let steps = c.in_ok-put_changes.ensures.put (omega (arith, c.commit.ensures.survives.clean)) (rw begun) in
-    let after = changed c.args.changes.now content in
-    subst (of_schema.Leaves schema after) (sym is)
-    (leaves_of schema (state g.S.Store last).now after ((rw begun at steps.holds) schema takes content k)))
-    (survives_begin g.S.Store old (state g.S.Store last) _ (rw begun at c.put_changes.ensures.survives))
-    c.commit.ensures.survives in
-    subst (λ h. Survives (state g.S.Store old) (state g.S.Store h) P) same whole
+    let last = c.put_changes.new.tx.conn.now in
+    commit_survives g.S.Store c.args.conn.now last c.commit.new.self.0 c.conn-2-1.given.0 _ (search rules)
+    (rw begun at c.put_changes.ensures.survives) c.commit.ensures.survives (λ clean schema takes content k.
+    leaves_of schema (state g.S.Store last).now (changed c.args.changes.now content)
+    ((rw begun at (c.in_ok-put_changes.ensures.put clean (rw begun)).holds) schema takes content k))

@@ -1,15 +1,12 @@
-use Rattle.std.proofs.Common.{◌≡◌, arith, rules, sym, subst, inl, inr}
-use Rattle.sqlite.specs.Tree.{Trees}
+use Rattle.std.proofs.Common.{◌≡◌, arith, rules, subst, inl, inr}
 use Rattle.sqlite.specs.Held.{state}
-use Rattle.sqlite.specs.State.{HasCleanDisk, Survives}
-use Rattle.sqlite.proofs.StateLemmas.{survives_then}
-use Rattle.sqlite.proofs.Callers.{survives_begin}
-use Rattle.store_tables.specs.Contents.{IsExactlyEmpty, opening}
+use Rattle.store_tables.specs.Sql.{HasCleanDisk}
+use Rattle.store_tables.specs.Contents.{opening}
 use Rattle.store_tables.specs.Changed.{changed}
-use Rattle.store_tables.specs.Club.{IsExactly, Leaves}
-use Rattle.store_tables.specs.Beside.{IsBeside}
-use Rattle.store_tables.specs.Tables.{club_schema, first_schema}
+use Rattle.store_tables.specs.Club.{IsExactly}
+use Rattle.store_tables.specs.Tables.{club_schema}
 use Rattle.store_tables.proofs.Proved.{commits, leaves_of}
+use Rattle.store_sql.proofs.CommitLemmas.{commit_survives}
 use Rattle.store_sql.proofs.SelectLemmas.{always_err}
 use Rattle.store_sql.proofs.filled.create_filled.Goals as goal
 
@@ -28,28 +25,14 @@ returns-clause-stored g c clean k =
 
 pub returns-in_err-commit-clause-survives : goal.returns-in_err-commit-clause-survives
 returns-in_err-commit-clause-survives g c =
-    let old = c.args.conn.now in
-    let last = c.fill_inside.new.tx.conn.now in
     let begun = c.transaction-tx.ensures.begun in
-    let P = λ (trees : Trees).
-    (IsExactlyEmpty (state g.S.Store old) → Leaves (changed c.args.changes.now opening) trees)
-    × (IsBeside first_schema (state g.S.Store old).now.schema → ⊥) in
-    let whole = survives_then (state g.S.Store old) (state g.S.Store last) (state g.S.Store c.commit.new.self.0) _ _ P
-    (λ _ db none. absurd none)
-    (λ clean db is. (
-      λ k.
-          let steps = c.in_ok-fill_inside.ensures.filled (omega (arith, c.commit.ensures.survives.clean)) (rw begun)
-          in
-          subst (Leaves (changed c.args.changes.now opening)) (sym is)
-          (leaves_of club_schema (state g.S.Store last).now (changed c.args.changes.now opening)
-          ((rw begun at steps.holds) k.now)),
-      λ has. c.in_ok-fill_inside.ensures.refuses (omega (arith, c.commit.ensures.survives.clean)) (rw begun)
-          (rw begun has),
+    let last = c.fill_inside.new.tx.conn.now in
+    commit_survives g.S.Store c.args.conn.now last c.commit.new.self.0 c.conn-2-1.given.0 _ (search rules)
+    (rw begun at c.fill_inside.ensures.survives) c.commit.ensures.survives (λ clean. (
+      λ k. leaves_of club_schema (state g.S.Store last).now (changed c.args.changes.now opening)
+          ((rw begun at (c.in_ok-fill_inside.ensures.filled clean (rw begun)).holds) k.now),
+      λ has. c.in_ok-fill_inside.ensures.refuses clean (rw begun) (rw begun has),
     ))
-    (survives_begin g.S.Store old (state g.S.Store last) _ (rw begun at c.fill_inside.ensures.survives))
-    c.commit.ensures.survives in
-    let same : c.commit.new.self.0 ≡ c.conn-2-1.given.0 = search rules in
-    subst (λ h. Survives (state g.S.Store old) (state g.S.Store h) P) same whole
 
 pub returns-in_err-commit-clause-fault : goal.returns-in_err-commit-clause-fault
 returns-in_err-commit-clause-fault g c clean =
@@ -59,25 +42,11 @@ returns-in_err-commit-clause-fault g c clean =
 
 pub returns-clause-survives : goal.returns-clause-survives
 returns-clause-survives g c =
-    let old = c.args.conn.now in
-    let last = c.fill_inside.new.tx.conn.now in
     let begun = c.transaction-tx.ensures.begun in
-    let P = λ (trees : Trees).
-    (IsExactlyEmpty (state g.S.Store old) → Leaves (changed c.args.changes.now opening) trees)
-    × (IsBeside first_schema (state g.S.Store old).now.schema → ⊥) in
-    let whole = survives_then (state g.S.Store old) (state g.S.Store last) (state g.S.Store c.commit.new.self.0) _ _ P
-    (λ _ db none. absurd none)
-    (λ clean db is. (
-      λ k.
-          let steps = c.in_ok-fill_inside.ensures.filled (omega (arith, c.commit.ensures.survives.clean)) (rw begun)
-          in
-          subst (Leaves (changed c.args.changes.now opening)) (sym is)
-          (leaves_of club_schema (state g.S.Store last).now (changed c.args.changes.now opening)
-          ((rw begun at steps.holds) k.now)),
-      λ has. c.in_ok-fill_inside.ensures.refuses (omega (arith, c.commit.ensures.survives.clean)) (rw begun)
-          (rw begun has),
+    let last = c.fill_inside.new.tx.conn.now in
+    commit_survives g.S.Store c.args.conn.now last c.commit.new.self.0 c.conn-2-1.given.0 _ (search rules)
+    (rw begun at c.fill_inside.ensures.survives) c.commit.ensures.survives (λ clean. (
+      λ k. leaves_of club_schema (state g.S.Store last).now (changed c.args.changes.now opening)
+          ((rw begun at (c.in_ok-fill_inside.ensures.filled clean (rw begun)).holds) k.now),
+      λ has. c.in_ok-fill_inside.ensures.refuses clean (rw begun) (rw begun has),
     ))
-    (survives_begin g.S.Store old (state g.S.Store last) _ (rw begun at c.fill_inside.ensures.survives))
-    c.commit.ensures.survives in
-    let same : c.commit.new.self.0 ≡ c.conn-2-1.given.0 = search rules in
-    subst (λ h. Survives (state g.S.Store old) (state g.S.Store h) P) same whole

@@ -1,5 +1,5 @@
 use Rattle.std.proofs.Common.{◌≡◌, IsTrue}
-use Rattle.sqlite.specs.State.{HasCleanDisk, Survives}
+use Rattle.store_tables.specs.Sql.{HasCleanDisk, Survives}
 use Rattle.sqlite.specs.Held.{state}
 use Rattle.store_sql.proofs.CreateLemmas.{Progress}
 use Rattle.store_sql.proofs.make.make_tables.Given as goal

@@ -1,8 +1,7 @@
 use Rattle.std.proofs.Common.{◌≡◌, rules, arith, ap, sym, subst}
 use Rattle.std.proofs.lemmas.Result.{IfErr-weaker}
-use Rattle.sqlite.specs.Effect.{Database}
+use Rattle.store_tables.specs.Sql.{Database, HasCleanDisk}
 use Rattle.sqlite.specs.Held.{state}
-use Rattle.sqlite.specs.State.{HasCleanDisk}
 use Rattle.store_tables.specs.Beside.{IsBeside}
 use Rattle.store_tables.proofs.Proved.{read_nothing, read_then}
 use Rattle.store_sql.proofs.SelectLemmas.{blame_types, failed_read}

@@ -21,8 +21,8 @@ returns-clause-rows g c clean =
     let text : c.all.result.now ≡ all_text g.T.Select.table = c.all.ensures ∙ ap all_text c.kept_in.ensures in
     let is = shown_at g.T.Select.club g.T.Select.table g.T.Select.width g.met.T.Select.read old.now.schema in
     IfOk-weaker c.query_all.result _ _ (λ rows shown has.
-    all_told old.now.schema g.T.Select.table g.T.Select.width (is has) c.all.result.now _ old (state g.S.Store c.query_all.new.self) text refl rows.items
-    shown refl) (c.query_all.ensures.ok clean)
+    all_told old.now.schema g.T.Select.table g.T.Select.width (is has) c.all.result.now _ old
+    (state g.S.Store c.query_all.new.self) text refl rows.items shown refl) (c.query_all.ensures.ok clean)
 
 pub returns-clause-known : goal.returns-clause-known
 returns-clause-known g c clean =
@@ -30,5 +30,5 @@ returns-clause-known g c clean =
     let text : c.all.result.now ≡ all_text g.T.Select.table = c.all.ensures ∙ ap all_text c.kept_in.ensures in
     let is = shown_at g.T.Select.club g.T.Select.table g.T.Select.width g.met.T.Select.read old.now.schema in
     IfErr-weaker c.query_all.result _ _ (λ e failed has.
-    all_known old.now.schema g.T.Select.table g.T.Select.width (is has) c.all.result.now _ old (state g.S.Store c.query_all.new.self) text refl e failed
-    refl) (c.query_all.ensures.err clean)
+    all_known old.now.schema g.T.Select.table g.T.Select.width (is has) c.all.result.now _ old
+    (state g.S.Store c.query_all.new.self) text refl e failed refl) (c.query_all.ensures.err clean)

@@ -1,5 +1,5 @@
 use Rattle.std.proofs.Common.{◌≡◌, IsTrue, map, take}
-use Rattle.sqlite.specs.State.{HasCleanDisk, Survives}
+use Rattle.store_tables.specs.Sql.{HasCleanDisk, Survives}
 use Rattle.sqlite.specs.Held.{state}
 use Rattle.store_tables.specs.Contents.{put_each}
 use Rattle.store_tables.specs.Beside.{StepsBeside}

@@ -1,15 +1,11 @@
-use Rattle.store_tables.specs.Tables.{club_schema, first_schema}
-use Rattle.store_tables.specs.Contents as of_schema
-use Rattle.std.proofs.Common.{◌≡◌, [], arith, rules, sym, subst}
-use Rattle.sqlite.specs.Tree.{Trees}
+use Rattle.store_tables.specs.Tables.{club_schema}
+use Rattle.std.proofs.Common.{◌≡◌, arith, rules, subst}
 use Rattle.sqlite.specs.Held.{state}
-use Rattle.sqlite.specs.State.{HasCleanDisk, Survives}
-use Rattle.sqlite.proofs.StateLemmas.{survives_then}
-use Rattle.sqlite.proofs.Callers.{survives_begin}
-use Rattle.store_tables.specs.Contents.{Content}
-use Rattle.store_tables.specs.Club.{IsExactly, Leaves}
+use Rattle.store_tables.specs.Sql.{HasCleanDisk}
+use Rattle.store_tables.specs.Club.{IsExactly}
 use Rattle.store_tables.specs.Changed.{widened}
 use Rattle.store_tables.proofs.Proved.{commits, leaves_of}
+use Rattle.store_sql.proofs.CommitLemmas.{commit_survives}
 use Rattle.store_sql.proofs.wider.widen.Goals as goal
 
 pub returns-clause-stored : goal.returns-clause-stored
@@ -28,40 +24,18 @@ returns-clause-stored g c clean content free k =
 
 pub returns-in_err-commit-clause-survives : goal.returns-in_err-commit-clause-survives
 returns-in_err-commit-clause-survives g c =
-    let same : c.commit.new.self.0 ≡ c.conn-2-1.given.0 = search rules in
-    let old = c.args.conn.now in
-    let last = c.widen_inside.new.tx.conn.now in
     let begun = c.transaction-tx.ensures.begun in
-    let P = λ (trees : Trees). (content : Content) → content 16 ≡ []
-    → of_schema.Holds first_schema (state g.S.Store old).now content
-    → Leaves (widened c.args.rules.now c.args.meta.now content) trees in
-    let whole = survives_then (state g.S.Store old) (state g.S.Store last) (state g.S.Store c.commit.new.self.0) _ _ P
-    (λ _ db none. absurd none)
-    (λ clean db is content free k.
-    let steps = c.in_ok-widen_inside.ensures.widened (omega (arith, c.commit.ensures.survives.clean)) (rw begun) in
-    let after = widened c.args.rules.now c.args.meta.now content in
-    subst (Leaves after) (sym is)
-    (leaves_of club_schema (state g.S.Store last).now after ((rw begun at steps.holds) content free k)))
-    (survives_begin g.S.Store old (state g.S.Store last) _ (rw begun at c.widen_inside.ensures.survives))
-    c.commit.ensures.survives in
-    subst (λ h. Survives (state g.S.Store old) (state g.S.Store h) P) same whole
+    let last = c.widen_inside.new.tx.conn.now in
+    commit_survives g.S.Store c.args.conn.now last c.commit.new.self.0 c.conn-2-1.given.0 _ (search rules)
+    (rw begun at c.widen_inside.ensures.survives) c.commit.ensures.survives (λ clean content free k.
+    leaves_of club_schema (state g.S.Store last).now (widened c.args.rules.now c.args.meta.now content)
+    ((rw begun at (c.in_ok-widen_inside.ensures.widened clean (rw begun)).holds) content free k))
 
 pub returns-clause-survives : goal.returns-clause-survives
 returns-clause-survives g c =
-    let same : c.commit.new.self.0 ≡ c.conn-2-1.given.0 = search rules in
-    let old = c.args.conn.now in
-    let last = c.widen_inside.new.tx.conn.now in
     let begun = c.transaction-tx.ensures.begun in
-    let P = λ (trees : Trees). (content : Content) → content 16 ≡ []
-    → of_schema.Holds first_schema (state g.S.Store old).now content
-    → Leaves (widened c.args.rules.now c.args.meta.now content) trees in
-    let whole = survives_then (state g.S.Store old) (state g.S.Store last) (state g.S.Store c.commit.new.self.0) _ _ P
-    (λ _ db none. absurd none)
-    (λ clean db is content free k.
-    let steps = c.in_ok-widen_inside.ensures.widened (omega (arith, c.commit.ensures.survives.clean)) (rw begun) in
-    let after = widened c.args.rules.now c.args.meta.now content in
-    subst (Leaves after) (sym is)
-    (leaves_of club_schema (state g.S.Store last).now after ((rw begun at steps.holds) content free k)))
-    (survives_begin g.S.Store old (state g.S.Store last) _ (rw begun at c.widen_inside.ensures.survives))
-    c.commit.ensures.survives in
-    subst (λ h. Survives (state g.S.Store old) (state g.S.Store h) P) same whole
+    let last = c.widen_inside.new.tx.conn.now in
+    commit_survives g.S.Store c.args.conn.now last c.commit.new.self.0 c.conn-2-1.given.0 _ (search rules)
+    (rw begun at c.widen_inside.ensures.survives) c.commit.ensures.survives (λ clean content free k.
+    leaves_of club_schema (state g.S.Store last).now (widened c.args.rules.now c.args.meta.now content)
+    ((rw begun at (c.in_ok-widen_inside.ensures.widened clean (rw begun)).holds) content free k))

@@ -1,6 +1,6 @@
 use Rattle.std.proofs.Common.{◌≡◌, map, take}
 use Rattle.sqlite_value.specs.declared.value.Value.TheVariants.{Int}
-use Rattle.sqlite.specs.Order.{column}
+use Rattle.store_tables.specs.Sql.{column}
 use Rattle.store_tables.proofs.ids.first_integers.Given as goal
 
 abbrev pub invariant-rows : goal.invariant-rows

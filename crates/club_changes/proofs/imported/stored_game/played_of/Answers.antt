@@ -1,5 +1,4 @@
-use Rattle.std.proofs.Common.{length, subst}
-use Rattle.std.specs.Prelude.{IfSome}
+use Rattle.std.proofs.Common.{length}
 use Rattle.club_rows.specs.Replay.{WasReplayed, terms_given}
 use Rattle.club_changes.proofs.StoredLemmas.{start-same, is-played, rows-are, line-is}
 use Rattle.club_changes.proofs.imported.stored_game.played_of.Goals as goal
@@ -13,8 +12,7 @@ returns-in-Some-2 g c game of same =
     let rows = c.args.moves.now in
     let replayed = c.in-Some-2.game in
     let was : WasReplayed laws terms id from rows (length rows) replayed =
-    subst (λ o. IfSome o (λ x. WasReplayed laws terms id from rows (length rows) x)) c.in-Some-2.is
-    c.in_ok-game.ensures.some in
+    rw c.in-Some-2.is at c.in_ok-game.ensures.some in
     let start = start-same laws terms id c.args.row.now game of.row from c.in-Some.ensures in
     let cells = rows-are laws terms id from rows replayed game was same in
     let played = is-played laws terms id from rows c.args.row.now game of start cells in
