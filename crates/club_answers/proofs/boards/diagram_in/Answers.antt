@@ -7,20 +7,20 @@ use Rattle.club_changes.proofs.Proved.{stored_as, tells-seen}
 use Rattle.club_answers.specs.Boards.{diagram_of}
 use Rattle.club_answers.proofs.boards.diagram_in.Goals as goal
 
-pub returns-in-Draughts-clause-shown : goal.returns-in-Draughts-clause-shown
-returns-in-Draughts-clause-shown g c clean =
-    IfOk-weaker c.diagram_by.result _ _ (λ text told s id game is_club at is k.
-    let (played, of) = stored_as in_draughts s is_club id game c.args.stored.now at is c.in-Draughts.is in
+pub returns-in-Draughts-by_kind-clause-shown : goal.returns-in-Draughts-by_kind-clause-shown
+returns-in-Draughts-by_kind-clause-shown g c clean =
+    IfOk-weaker c.by_kind-diagram_by.result _ _ (λ text told s id game is_club at is k.
+    let (played, of) = stored_as in_draughts s is_club id game c.args.stored.now at is c.in-Draughts-by_kind.is in
     let seen = subst (λ i. TellsSeen both_games.draughts i played (tables s)) (sym is.id_is)
     (tells-seen in_draughts s id played of.here) in
     told (tables s) played k seen of.is_row ∙ sym (ap (diagram_of c.args.letters) of.same))
-    (c.diagram_by.ensures.shown clean)
+    (c.by_kind-diagram_by.ensures.shown clean)
 
-pub returns-in-Shogi-clause-shown : goal.returns-in-Shogi-clause-shown
-returns-in-Shogi-clause-shown g c clean =
-    IfOk-weaker c.diagram_by-in-Shogi.result _ _ (λ text told s id game is_club at is k.
-    let (played, of) = stored_as in_shogi s is_club id game c.args.stored.now at is c.in-Shogi.is in
+pub returns-in-Shogi-by_kind-clause-shown : goal.returns-in-Shogi-by_kind-clause-shown
+returns-in-Shogi-by_kind-clause-shown g c clean =
+    IfOk-weaker c.by_kind-diagram_by-2.result _ _ (λ text told s id game is_club at is k.
+    let (played, of) = stored_as in_shogi s is_club id game c.args.stored.now at is c.in-Shogi-by_kind.is in
     let seen = subst (λ i. TellsSeen both_games.shogi i played (tables s)) (sym is.id_is)
     (tells-seen in_shogi s id played of.here) in
     told (tables s) played k seen of.is_row ∙ sym (ap (diagram_of c.args.letters) of.same))
-    (c.diagram_by-in-Shogi.ensures.shown clean)
+    (c.by_kind-diagram_by-2.ensures.shown clean)
