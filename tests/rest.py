@@ -294,28 +294,69 @@ def of_the_other(file):
         return found.execute("SELECT id, text, member FROM notes ORDER BY id").fetchall()
 
 
-def beside_tables_with_rows():
-    """Behind a club's tables another program keeps a table, an index and a view: the club goes on, and its rows stay."""
-    theirs = [(1, "pays in May", 1), (2, "", 2)]
-    seated("shared.db")
-    with contextlib.closing(sqlite3.connect("shared.db", isolation_level=None)) as found:
-        found.execute("CREATE TABLE notes (id INTEGER PRIMARY KEY, text TEXT, member INTEGER)")
-        found.executemany("INSERT INTO notes VALUES (?, ?, ?)", theirs)
+THEIRS = [(1, "pays in May", 1), (2, "", 2)]
+NOTES = "CREATE TABLE notes (id INTEGER PRIMARY KEY AUTOINCREMENT, text TEXT, member INTEGER)"
+
+
+def keep_notes(found):
+    """Another program's table, whose rows SQLite counts, an index of it and a view."""
+    found.execute(NOTES)
+    found.executemany("INSERT INTO notes VALUES (?, ?, ?)", THEIRS)
+    found.execute("CREATE INDEX notes_of ON notes (member)")
+    found.execute("CREATE VIEW long_notes AS SELECT text FROM notes WHERE length(text) > 5")
+
+
+def behind_them(file):
+    """Another program's tables stand first; `init` makes a club behind them."""
+    with contextlib.closing(sqlite3.connect(file, isolation_level=None)) as found:
+        keep_notes(found)
+    seated(file)
+
+
+def before_them(file):
+    """Another program's tables stand behind a club's, with an index on one of them."""
+    seated(file)
+    with contextlib.closing(sqlite3.connect(file, isolation_level=None)) as found:
+        keep_notes(found)
         found.execute("CREATE INDEX games_of ON games (event)")
-        found.execute("CREATE VIEW payers AS SELECT name FROM members")
-    verdict("a club before another program's table", (0, "sound"), club("shared.db", "verify"))
-    verdict("a move there", (0, "accepted ply 1 32-28"), move("shared.db", 1))
-    verdict("the move there again", (0, "repeated ply 1 32-28"), move("shared.db", 1))
-    verdict("a member there", (0, "accepted member 3"), club("shared.db", "member", "cora", "keycora33"))
-    with desk("shared.db") as port:
-        verdict("the desk shows a game there", (200, True), shown(port))
-    verdict("init there", (3, "store 70 Foreign"), club("shared.db", "init"))
-    verdict("the other program's rows stay", theirs, of_the_other("shared.db"))
-    verdict("a backup there", (0, "copied"), club("shared.db", "backup", "of_shared.db"))
-    verdict("the backup is the club", (0, "sound"), club("of_shared.db", "verify"))
-    with contextlib.closing(sqlite3.connect("of_shared.db")) as found:
-        names = {name for (name,) in found.execute("SELECT name FROM sqlite_schema WHERE sql IS NOT NULL")}
-    verdict("it has the club's tables alone", set(TABLES), names)
+
+
+def among_them(file):
+    """The tables of a club stand in another order, and another program's among them."""
+    seated("made.db")
+    with contextlib.closing(sqlite3.connect(file, isolation_level=None)) as found:
+        found.execute("ATTACH 'made.db' AS made")
+        for at, table in enumerate(reversed(TABLES)):
+            if at == 4:
+                keep_notes(found)
+            (text,) = found.execute("SELECT sql FROM made.sqlite_schema WHERE name = ?", (table,)).fetchone()
+            found.execute(text)
+            found.execute(f"INSERT INTO {table} SELECT * FROM made.{table}")
+    for end in ("", "-wal"):
+        pathlib.Path("made.db" + end).unlink(missing_ok=True)
+
+
+def with_tables_of_others():
+    """Wherever a club's tables stand among those of another program, the club goes on, and their rows stay."""
+    for make in (behind_them, before_them, among_them):
+        name, file = make.__name__.replace("_", " "), f"{make.__name__}.db"
+        make(file)
+        verdict(f"{name}: a club", (0, "sound"), club(file, "verify"))
+        verdict(f"{name}: a move", (0, "accepted ply 1 32-28"), move(file, 1))
+        verdict(f"{name}: the move again", (0, "repeated ply 1 32-28"), move(file, 1))
+        verdict(f"{name}: a member", (0, "accepted member 3"), club(file, "member", "cora", "keycora33"))
+        with desk(file) as port:
+            verdict(f"{name}: the desk shows a game", (200, True), shown(port))
+        verdict(f"{name}: init", (3, "store 70 Foreign"), club(file, "init"))
+        verdict(f"{name}: the other program's rows stay", THEIRS, of_the_other(file))
+        verdict(f"{name}: a backup", (0, "copied"), club(file, "backup", f"of_{file}"))
+        verdict(f"{name}: the backup is the club", (0, "sound"), club(f"of_{file}", "verify"))
+        with contextlib.closing(sqlite3.connect(f"of_{file}")) as found:
+            names = {it for (it,) in found.execute("SELECT name FROM sqlite_schema WHERE sql IS NOT NULL")}
+        verdict(f"{name}: it has the club's tables alone", set(TABLES), names)
+        with contextlib.closing(sqlite3.connect(file, isolation_level=None)) as found:
+            found.execute("UPDATE members SET name = 'A b' WHERE id = 1")
+        verdict(f"{name}: a damaged table", (3, "store 72 Damaged members"), club(file, "verify"))
 
 
 def kept_as_the_file_is():
@@ -380,7 +421,7 @@ def main():
         other_files_are_left()
         databases_of_others_are_left()
         tables_by_other_texts()
-        beside_tables_with_rows()
+        with_tables_of_others()
         kept_as_the_file_is()
         moved_away_while_served()
     return int(bool(bad))

@@ -110,6 +110,22 @@ def upgraded(name):
         verdict(f"{name}: the file is as it was after both", before, file_in(room))
 
 
+def among_tables_of_another(name):
+    """Another program's table stands behind those of schema 1: the upgrade puts its own behind both, and its rows stay."""
+    theirs = [(1, "pays in May"), (2, "")]
+    with old(name) as room:
+        with contextlib.closing(sqlite3.connect(f"{room}/c.db", isolation_level=None)) as found:
+            found.execute("CREATE TABLE notes (id INTEGER PRIMARY KEY, text TEXT UNIQUE)")
+            found.executemany("INSERT INTO notes VALUES (?, ?)", theirs)
+        verdict(f"{name} before a table of another: verify", (3, "store 71 Schema 1"), club(room, "verify"))
+        verdict(f"{name} before a table of another: upgrade", (0, "upgraded"), club(room, "upgrade"))
+        wanted = after(name) | {"notes": theirs}
+        verdict(f"{name} before a table of another: every row is kept", wanted, read(f"{room}/c.db", [*TABLES, "notes"]))
+        for words, told in (("verify", "sound"), ("upgrade", "repeated upgrade")):
+            verdict(f"{name} before a table of another: {words} again", (0, told), club(room, words))
+        verdict(f"{name} before a table of another: a member", 0, club(room, "member", "zoe", "keyzoe99")[0])
+
+
 def schemas_are_one():
     """A file that was upgraded has the schema of one that is made."""
     with old("worked.db") as room, tempfile.TemporaryDirectory() as other:
@@ -200,6 +216,7 @@ def main():
     for name in ("worked.db", "season.db"):
         refused_before(name)
         upgraded(name)
+        among_tables_of_another(name)
     schemas_are_one()
     worked_goes_on()
     for sql, wanted in DAMAGED:

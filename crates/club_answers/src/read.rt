@@ -3,7 +3,7 @@
 ghost use Rattle.std.specs.Prelude.{◌≡◌, IfOk, is_ok};
 ghost use Rattle.sqlite.specs.State.{HasCleanDisk};
 ghost use Rattle.sqlite.specs.Held.{state};
-ghost use Rattle.store_tables.specs.Beside.{HasRows};
+ghost use Rattle.store_tables.specs.Over.{HasRows};
 ghost use Rattle.store_tables.specs.Reading.{Reads};
 ghost use Rattle.club_rows.specs.Club.{ClubState, IsClub, tables};
 ghost use Rattle.club_lists.specs.SummaryViews.{all_by};

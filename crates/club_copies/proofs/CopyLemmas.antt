@@ -13,7 +13,7 @@ use Rattle.store_tables.specs.Changed.{changed, maybe_row}
 use Rattle.store_tables.specs.Changes.{HaveSame, AreSame, Alters}
 use Rattle.store_tables.specs.Content.{same_key}
 use Rattle.store_tables.specs.Contents.{Content, opening, opening_meta}
-use Rattle.store_tables.specs.Beside.{HasRows}
+use Rattle.store_tables.specs.Over.{HasRows}
 use Rattle.store_tables.specs.Tables.{club_schema}
 use Rattle.store_tables.specs.declared.rows.Changes.{Changes}
 use Rattle.store_tables.specs.declared.rows.MetaRow.{MetaRow}

@@ -4,11 +4,12 @@ ghost use Rattle.std.specs.Prelude.{◌≡◌, ◌≢◌, ◌≤◌, ◌⊎◌, 
 ghost use Rattle.sqlite.specs.State.{HasCleanDisk};
 ghost use Rattle.sqlite.specs.Held.{state};
 ghost use Rattle.sqlite_trees.specs.View.{doubt};
-ghost use Rattle.store_tables.specs.Beside.{HasRows, IsBeside};
+ghost use Rattle.store_tables.specs.Over.{HasRows};
+ghost use Rattle.store_tables.specs.Placed.{HasTables};
+ghost use Rattle.store_tables.specs.declared.names.Version.TheVariants.{First};
 ghost use Rattle.store_tables.specs.Club.{IsExactly, Leaves};
 ghost use Rattle.store_tables.specs.Contents.{IsExactlyEmpty, IsEmpty};
 ghost use Rattle.store_tables.specs.Reading.{KeepsContent, KeepsMay, Reads};
-ghost use Rattle.store_tables.specs.Tables.{first_schema};
 
 use crate::fault::CopyFault;
 use crate::rows::read_rows;
@@ -49,7 +50,7 @@ pub fn copy_tables<S: Alter, T: Alter>(
         IsEmpty db ⊎ Leaves content db) }
     ensures untouched { IfErr result (λ e. e ≢ CopyFault.Copy → copy.new ≡ copy.old) }
     ensures stands { HasCleanDisk (state T.Store copy.new) →
-        IsBeside first_schema (state T.Store copy.old).now.schema →
+        HasTables First (state T.Store copy.old).now.schema →
         IfOk result (λ _. ⊥) × KeepsMay (state T.Store copy.old) (state T.Store copy.new) }
 {
     let rows = match read_rows(alloc, club) {

@@ -56,9 +56,6 @@ told_of_call : (fault : StoreFault) → IsNamed fault → IsOfCall (told fault)
 told_of_call fault (inl is) = inl (ap told is)
 told_of_call fault (inr is) = inr (ap told is)
 
-pub of_call : (fault : StoreFault) (answer : ClubFault) → answer ≡ told fault → IsNamed fault → IsOfCall answer
-of_call fault answer is named = subst IsOfCall (sym is) (told_of_call fault named)
-
 module _ {A : Type 0} where
   -- a club that is shut tells the desk that it is to be opened again
   pub told_shut : (fault : ClubFault) (found : Result A StoreFault) → fault ≡ Reopen → found ≡ Err club.Reopen

@@ -4,11 +4,11 @@ ghost use Rattle.std.specs.Prelude.{◌≡◌, false, true, None, IfSome};
 ghost use Rattle.sqlite.specs.State.{HasCleanDisk, Opens, IsLive};
 ghost use Rattle.sqlite.specs.Held.{state};
 ghost use Rattle.store.specs.Histories.{HasState, IsReachable, IsHistory};
+ghost use Rattle.store_tables.specs.Placed.{HasClubTables};
 ghost use Rattle.store_tables.specs.declared.names.Version.TheVariants.{Current};
 ghost use Rattle.table_shapes.specs.Shapes.{is_of_club};
 ghost use Rattle.club_rows.specs.Club.{ClubState, IsClub};
 ghost use Rattle.club_opening.specs.Refused.{HoldClub};
-ghost use Rattle.club_opening.specs.Versions.{HasClubTables};
 ghost use Rattle.club_desk.specs.ToldFault.{IfTaken, IsOfClub, IsTold, fault_behind};
 ghost use Rattle.club_desk.specs.Turns.{IsHistoryOn, IsReachableOn};
 

@@ -8,6 +8,8 @@ use Rattle.sqlite.specs.Schema.{Schema}
 use Rattle.sqlite.specs.Tree.{Trees}
 use Rattle.sqlite.specs.State.{State, IsLive, Opens}
 use Rattle.sqlite.specs.Start.{FindsIn}
+use Rattle.store_tables.specs.Over.{Neighbours}
+use Rattle.store_tables.specs.Placed.{HasClubTables}
 use Rattle.store_tables.specs.declared.names.Version.TheVariants.{First, Current}
 use Rattle.store_sql.proofs.Proved.{schema_once}
 use Rattle.table_shapes.specs.Shapes.{is_of_club}
@@ -15,7 +17,6 @@ use Rattle.club_rows.specs.Club.{ClubState}
 use Rattle.club_opening.specs.Blames.{Names}
 use Rattle.club_opening.specs.Refused.{HoldClub, IsKept, IsRefusal}
 use Rattle.club_opening.specs.RightTables.{NamesFirst}
-use Rattle.club_opening.specs.Versions.{HasClubTables}
 use Rattle.club_opening.specs.declared.fault.OpenFault.{OpenFault}
 use Rattle.sessions.specs.Finds.{Finds, IsFoundIn}
 use Rattle.club_orders.specs.declared.report.Report.{Report}
@@ -113,9 +114,9 @@ module _ (files : Image) (old : State) (here : FindsIn files old) where
           kept = λ other. kept_files (refusal.kept other opens);
         }
 
-    pub carried_files : (s : ClubState) (report : Report) → IsCarriedOver s report new
-        → AreCarriedOver s report MayLeave
-    carried_files s report carried =
+    pub carried_files : (them : Neighbours) (s : ClubState) (report : Report) → IsCarriedOver them s report new
+        → AreCarriedOver them s report MayLeave
+    carried_files them s report carried =
         record {
           answer = carried.answer;
           leaves = λ left may later finds.

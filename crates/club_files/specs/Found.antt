@@ -3,14 +3,12 @@ use Rattle.std.specs.Prelude.{◌≡◌, ◌≢◌, ◌⊎◌, true, ⊤, Option
 use Rattle.sqlite_wal.specs.Recovery.{Image}
 use Rattle.sqlite.specs.Tree.{Trees}
 use Rattle.sqlite.specs.Effect.{Database}
-use Rattle.store_tables.specs.Contents as of_schema
-use Rattle.store_tables.specs.Tables.{first_schema}
+use Rattle.store_tables.specs.Placed.{HasClubTables}
+use Rattle.store_tables.specs.Over.{Neighbours}
 use Rattle.store_tables.specs.declared.names.Version.TheVariants.{First, Current}
 use Rattle.club_rows.specs.Club.{ClubState, IsClub}
-use Rattle.club_rows.specs.FirstSchema.{IsFirstClub, first_tables}
 use Rattle.club_opening.specs.Blames.{Names}
 use Rattle.club_opening.specs.RightTables.{NamesFirst}
-use Rattle.club_opening.specs.Versions.{HasClubTables}
 use Rattle.club_opening.specs.declared.fault.OpenFault.{OpenFault}
 use Rattle.club_opening.specs.declared.fault.OpenFault.TheVariants as opening
 use Rattle.sessions.specs.Finds.{IsFoundIn}
@@ -19,6 +17,7 @@ use Rattle.sqlite.specs.Schema.{Schema}
 use Rattle.store.specs.Histories.{HasState}
 use Rattle.table_shapes.specs.Shapes.{is_of_club}
 use Rattle.club_opening.specs.Refused.{HoldClub}
+use Rattle.club_orders.specs.Refused.{HasFirst}
 use Rattle.club_orders.specs.Report.{AreCarried, IsOfCopy, IsUpgraded}
 use Rattle.club_orders.specs.declared.report.Report.{Report}
 use Rattle.club_orders.specs.declared.report.Report.TheVariants as report
@@ -26,16 +25,15 @@ use Rattle.http_desk.specs.declared.faults.ClubFault.{ClubFault}
 use Rattle.http_desk.specs.declared.faults.ClubFault.TheVariants.{Reopen}
 use Rattle.club_desk.specs.Faults.{told_of_opening}
 
--- The files are those of this legal state: whatever an opening finds in them has its tables, alone or beside what other
+-- The files are those of this legal state: whatever an opening finds in them has its tables, alone or among what other
 -- programs made, and these answer as a club's.
 pub record AreFilesOf (s : ClubState) (files : Image) : Type 0 where
   pub legal : IsClub s
   pub finds : (found : Trees) → IsFoundIn files found → HasState s found
 
--- The files are those of this legal state in schema 1.
-pub record AreFirstFilesOf (s : ClubState) (files : Image) : Type 0 where
-  pub legal : IsFirstClub s
-  pub finds : (found : Trees) → IsFoundIn files found → of_schema.Leaves first_schema (first_tables s) found
+-- The files are those of this legal state in schema 1, alone or among what other programs made.
+pub record AreFirstFilesOf (them : Neighbours) (s : ClubState) (files : Image) : Type 0 where
+  pub finds : (found : Trees) → IsFoundIn files found → HasFirst them s found
 
 -- the trees list a schema that has the tables of a club, whatever their rows
 abbrev pub ListClub : Schema → Trees → Type 0
@@ -83,10 +81,12 @@ IsBackedUp (report.Unopened fault) = (fault ≡ opening.Store) ⊎ (fault ≡ op
 IsBackedUp other = IsOfCopy other
 
 -- What an upgrade of a club of schema 1 came to: later openings find the tables of its state, in schema 2, or where it
--- was not carried over in schema 1.
-pub record AreCarriedOver (s : ClubState) (report : Report) (MayLeave : Image → Type 0) : Type 0 where
-  pub answer : IsUpgraded report
-  pub leaves : (left : Image) → MayLeave left → (later : Trees) → IsFoundIn left later → ∥ AreCarried s report later ∥₁
+-- was not carried over in schema 1, beside the same tables of other programs.
+pub record AreCarriedOver (them : Neighbours) (s : ClubState) (report : Report) (MayLeave : Image → Type 0) : Type 0
+  where
+    pub answer : IsUpgraded report
+    pub leaves : (left : Image) → MayLeave left → (later : Trees) → IsFoundIn left later
+        → ∥ AreCarried them s report later ∥₁
 
 -- what is told of a stretch: nothing, that a call failed, or why the club was not taken over
 abbrev pub IsToldOf : Image → (Image → Type 0) → Option ClubFault → Type 0

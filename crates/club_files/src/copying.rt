@@ -7,7 +7,7 @@ ghost use Rattle.sqlite_trees.specs.View.{IsClean};
 ghost use Rattle.sqlite.specs.State.{HasCleanDisk};
 ghost use Rattle.sqlite.specs.Held.{state};
 ghost use Rattle.sqlite.specs.Files.{file_state};
-ghost use Rattle.store_tables.specs.Beside.{HasRows};
+ghost use Rattle.store_tables.specs.Over.{HasRows};
 ghost use Rattle.store_tables.specs.Club.{IsExactly};
 ghost use Rattle.store_tables.specs.Reading.{OnlyReads};
 ghost use Rattle.club_rows.specs.Club.{ClubState, tables};
@@ -131,7 +131,7 @@ pub fn back_up<S: RepeatableStart, T: Start>(
         (AreRefused (image_at S.Start) (store_state store).may_leave)) }
     ensures untaken { (fault : _) → result.0.report ≡ Unopened fault → result.0.copy ≡ None }
     ensures older { IfSome result.1 (λ store. IsClean (store_view store) →
-        (s : ClubState) → AreFirstFilesOf s (image_at S.Start) → OnlyUnopened result.0.report IsOlder) }
+        (them : _) (s : ClubState) → AreFirstFilesOf them s (image_at S.Start) → OnlyUnopened result.0.report IsOlder) }
     ensures named { IfSome result.1 (λ store. IsClean (store_view store) →
         (s : ClubState) → AreFilesOf s (image_at S.Start) → IsBackedUp result.0.report) }
     ensures sound { IfSome result.1 (λ store. IsClean (store_view store) → result.0.report ≡ Copied →

@@ -9,14 +9,14 @@ ghost use Rattle.sqlite.specs.Tree.{Trees};
 ghost use Rattle.club_core.specs.Answer.{answered, outcome_of};
 ghost use Rattle.club_rows.specs.Club.{ClubState};
 ghost use Rattle.club_changes.specs.Steps.{club_step};
-ghost use Rattle.sessions.specs.Finds.{IsFoundIn, AreReachable, AreVoid};
+ghost use Rattle.sessions.specs.Finds.{IsFoundIn, AreReachable, AreVoid, AreWithoutClub};
 ghost use Rattle.club_words.specs.declared.words.Task.TheVariants.{Init};
 ghost use Rattle.club_opening.specs.declared.fault.OpenFault.TheVariants.{Foreign};
 ghost use Rattle.club_orders.specs.declared.report.Report.TheVariants.{InUse, NotOpened, Sound, Unopened};
 ghost use Rattle.club_files.specs.declared.places.Purpose.TheVariants.{Making};
 ghost use Rattle.club_orders.specs.Batches.{AnswersBatch};
 ghost use Rattle.club_orders.specs.Report.{given, Answers, IfRequest, IfAsk, IfBatch, IfVerify};
-ghost use Rattle.club_orders.specs.Report.{Shows, IsPassed, IsBegun, task_sessions};
+ghost use Rattle.club_orders.specs.Report.{Shows, IsPassed, IsBegun, IsBegunBehind, task_sessions};
 ghost use Rattle.club_orders.specs.Report.{IfTaken, IfUnopened, IsRepeated, OnlyUnopened, writes};
 ghost use Rattle.club_orders.specs.Refused.{IfTakesOver, IfUpgrade, IsOlder};
 ghost use Rattle.club_files.specs.Found.{AreCarriedOver, AreFilesOf, AreFirstFilesOf, AreKept, AreNotUpgraded};
@@ -49,10 +49,10 @@ fn purpose_of(task: &Task) -> Purpose
 ///
 /// Where sessions led to whatever an opening finds in the files, they lead, with this command or these orders as one
 /// more, to whatever an opening finds in them after it, of whatever a stop leaves, beside the same tables of other
-/// programs. Where they were new, and a club was to be made, no session leads to that, or there is no table still. The
-/// answer is the machine's, what is shown is the club's, and a club's files are found sound. Files that are found sound
-/// are a club's; those that are not taken as a club's are blamed for it, and later openings find in them what this one
-/// found. Only a question writes to `out`.
+/// programs. Where they were new, or had tables of other programs alone, and a club was to be made, no session leads to
+/// that, beside these tables, or there is no club still. The answer is the machine's, what is shown is the club's, and
+/// a club's files are found sound. Files that are found sound are a club's; those that are not taken as a club's are
+/// blamed for it, and later openings find in them what this one found. Only a question writes to `out`.
 pub fn obey<S: RepeatableStart, W: Write>(
     rt: &HostRuntime,
     order: &Order,
@@ -66,6 +66,11 @@ pub fn obey<S: RepeatableStart, W: Write>(
         order.entry.now.task ≡ Init → AreVoid (image_at S.Start) →
         (left : Image) → (store_state store).may_leave left →
         (found : Trees) → IsFoundIn left found → ∥ IsBegun result.0 found ∥₁) }
+    // So it is behind the tables of other programs, whose rows stay.
+    ensures behind { IfSome result.1 (λ store. IsClean (store_view store) →
+        order.entry.now.task ≡ Init → (them : _) → AreWithoutClub them (image_at S.Start) →
+        (left : Image) → (store_state store).may_leave left →
+        (found : Trees) → IsFoundIn left found → ∥ IsBegunBehind them result.0 found ∥₁) }
     ensures answer { IfSome result.1 (λ store. IsClean (store_view store) →
         (s : ClubState) → AreFilesOf s (image_at S.Start) →
         IfRequest order.entry.now.task (λ command. Answers result.0 (λ outcome.
@@ -89,11 +94,11 @@ pub fn obey<S: RepeatableStart, W: Write>(
         IfTakesOver order.entry.now.task (IfUnopened result.0
         (AreRefused (image_at S.Start) (store_state store).may_leave))) }
     ensures older { IfSome result.1 (λ store. IsClean (store_view store) →
-        (s : ClubState) → AreFirstFilesOf s (image_at S.Start) →
+        (them : _) (s : ClubState) → AreFirstFilesOf them s (image_at S.Start) →
         IfTakesOver order.entry.now.task (OnlyUnopened result.0 IsOlder)) }
     ensures carries { IfSome result.1 (λ store. IsClean (store_view store) →
-        (s : ClubState) → AreFirstFilesOf s (image_at S.Start) →
-        IfUpgrade order.entry.now.task (AreCarriedOver s result.0 (store_state store).may_leave)) }
+        (them : _) (s : ClubState) → AreFirstFilesOf them s (image_at S.Start) →
+        IfUpgrade order.entry.now.task (AreCarriedOver them s result.0 (store_state store).may_leave)) }
     ensures repeats { IfSome result.1 (λ store. IsClean (store_view store) →
         (s : ClubState) → AreFilesOf s (image_at S.Start) →
         IfUpgrade order.entry.now.task (IsRepeated result.0 ×

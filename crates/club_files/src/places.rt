@@ -155,7 +155,7 @@ fn look(rt: &HostRuntime, file: &str) -> Place {
 
 /// Makes the file for its owner alone where a club is to be made and there is none. Else says why nothing is opened:
 /// there is no club, or what stands at the path is no database's file. Then nothing was touched. A club is also made
-/// beside the tables of another program.
+/// behind the tables of another program.
 pub(crate) fn prepare(rt: &HostRuntime, file: &str, purpose: Purpose) -> Result<(), Report>
     ensures { IfErr result (λ report.
         (report ≡ NotOpened) ⊎ ((report ≡ Unopened Foreign) × (purpose ≢ Making))) }

@@ -7,6 +7,7 @@ use Rattle.sqlite.specs.Order.{Row, column}
 use Rattle.sqlite.specs.Effect.{Database}
 use Rattle.sqlite.specs.Table.{Table as Definition}
 use Rattle.sqlite.specs.State.{State, HasCleanDisk, IsUnchanged}
+use Rattle.store_tables.specs.Placed.{HasClubTables, HasTablesOf, club_trees}
 use Rattle.store_tables.specs.Reading.{Reads, Tells, AreIds, by_columns}
 use Rattle.store_tables.proofs.Proved.{read_then, one_shown, ids_of, apart_of}
 use Rattle.sqlite.specs.declared.types.Value.TheVariants.{Int}
@@ -37,7 +38,7 @@ use Rattle.club_opening.specs.declared.fault.OpenFault.TheVariants as open_fault
 use Rattle.club_opening.specs.Blames.{AreRead, Blames, HasNumber, HasTypes, IsMetaRead, IsOneMeta, Names, NamesForeign}
 use Rattle.club_opening.specs.Blames.{AreRulesRead, IsNumberFrom, NamesSchema, NamesTable}
 use Rattle.club_opening.specs.Places.{NamesRows}
-use Rattle.club_opening.specs.Versions.{HasClubTables, HasTablesOf, HoldsRows}
+use Rattle.club_opening.specs.Versions.{HoldsRows}
 use Rattle.club_opening.proofs.StoredLemmas.{one_of}
 use Rattle.table_shapes.specs.Shapes.{is_of_club}
 
@@ -58,7 +59,7 @@ told_mistyped table t read_fault.Memory is = cc
 -- ---- the row of meta
 
 pub meta_stored : (version : Version) (db : Database) (content : Content)
-    → HoldsRows version content db → Stores (meta 0) db.trees content
+    → HoldsRows version content db → Stores (meta 0) (club_trees db) content
 meta_stored First db content k = k.tables.0
 meta_stored Current db content k = k.tables.0
 
@@ -69,21 +70,22 @@ one_is_meta rows row at one =
     (record { width = refl; id = (pos 1, refl); schema = (one.schema, refl); last = (one.last, refl) })
 
 pub shown_one : (db : Database) (version : Version) (content : Content) (slice shown : List Row) (old new : State)
-    → slice ≡ shown → db ≡ old.now → Tells (meta 0) 1 shown old new → HoldsRows version content db
+    → slice ≡ shown → db ≡ old.now → Tells (meta 0) 1 shown (club_trees old.now) old new → HoldsRows version content db
     → IsOneMeta (content 0) → IsOneMeta slice
 shown_one db version content slice shown old new is same tells k one =
-    let stored : Stores (meta 0) db.trees content = meta_stored version db content k in
+    let stored : Stores (meta 0) (club_trees db) content = meta_stored version db content k in
     let x : Row = Int (pos 1) ∷ Int one.schema ∷ Int one.last ∷ [] in
-    let kept : Keeps (meta 0) old.now.trees (x ∷ []) =
-    subst (λ (d : Database). Keeps (meta 0) d.trees (x ∷ [])) same
-    (subst (Keeps (meta 0) db.trees) one.is stored.rows) in
-    let apart : AreApart (old.now.trees 0) = subst (λ (d : Database). AreApart (d.trees 0)) same stored.apart in
+    let kept : Keeps (meta 0) (club_trees old.now) (x ∷ []) =
+    subst (λ (d : Database). Keeps (meta 0) (club_trees d) (x ∷ [])) same
+    (subst (Keeps (meta 0) (club_trees db)) one.is stored.rows) in
+    let apart : AreApart (club_trees old.now 0) =
+    subst (λ (d : Database). AreApart (club_trees d 0)) same stored.apart in
     record {
       schema = one.schema;
       last = one.last;
       is = is
-          ∙ one_shown (meta 0) old.now.trees shown x tells.keeps kept
-          (ids_of (meta 0) (old.now.trees 0) shown (λ r. refl) tells.once apart);
+          ∙ one_shown (meta 0) (club_trees old.now) shown x tells.keeps kept
+          (ids_of (meta 0) (club_trees old.now 0) shown (λ r. refl) tells.once apart);
     }
 
 -- ---- several tables in turn
@@ -99,7 +101,7 @@ place_in definition place first current Current = current
 pub names : (t : Table) (definition : Definition) (place : ℕ) (IsTyped : Row → Type 0) (old : State) (e : OpenFault)
     → ((version : Version) (content : Content) → HoldsRows version content old.now
     → HasTypes t content
-    → Stores definition old.now.trees content × AllByRecursion IsTyped (content definition.tree))
+    → Stores definition (club_trees old.now) content × AllByRecursion IsTyped (content definition.tree))
     → Blames t definition IsTyped old e → NamesTable old.now e
 names t definition place IsTyped old e typed (inl store) = inl store
 names t definition place IsTyped old e typed (inr (inl memory)) = inr (inl memory)
@@ -118,19 +120,10 @@ pub names_both : (t : Table) (definition : Definition) (place : ℕ) (IsTyped : 
     → Blames t definition IsTyped old e → NamesTable old.now e
 names_both t definition place IsTyped old e first current typed =
     names t definition place IsTyped old e (λ version content k all. (
-      all_has (λ d. Stores d old.now.trees content) (schema_of version).tables definition k.tables
+      all_has (λ d. Stores d (club_trees old.now) content) (schema_of version).tables definition k.tables
           (has_got (schema_of version).tables place definition (place_in definition place first current version)),
       typed content all,
     ))
-
--- where the disk is in no doubt after a call, it was in none before it
-pub clean_before : {answered : Bool} {old new : State} → Reads answered old new → HasCleanDisk new → HasCleanDisk old
-clean_before reads clean = omega (arith, clean, reads.clean)
-
--- a call after one that answered
-pub reads_on : {answered : Bool} {old mid new : State} → Reads true old mid → Reads answered mid new
-    → Reads answered old new
-reads_on one two = read_then _ _ _ _ one two
 
 -- nothing changed, by one call and by the next
 pub stays : {old mid new : State} → IsUnchanged old mid → IsUnchanged mid new → IsUnchanged old new
@@ -151,9 +144,9 @@ still_of version same has =
 pub read_after : {table : Definition} {count : ℕ} {rows : List Row} {old mid new : State} → IsUnchanged old mid
     → IsReadAs table count rows mid new → IsReadAs table count rows old new
 read_after {table} {rows} same it = record {
-  keeps = before (λ d. Keeps table d.trees rows) same it.keeps;
-  once = before (λ d. IsPermutation (map (cells table) (d.trees table.tree)) rows) same it.once;
-  apart = before (λ d. AreApart (d.trees table.tree)) same it.apart;
+  keeps = before (λ d. Keeps table (club_trees d) rows) same it.keeps;
+  once = before (λ d. IsPermutation (map (cells table) (club_trees d table.tree)) rows) same it.once;
+  apart = before (λ d. AreApart (club_trees d table.tree)) same it.apart;
   sorted = it.sorted;
   same = stays same it.same;
 }
@@ -201,7 +194,7 @@ rows_blamed_before oldest fault same (inr rows) = inr (inr (inr (before (λ d. N
 pub has_number : (found : MetaRow) (old new : State) → IsReadAs (meta 0) 1 (meta_cells found ∷ []) old new
     → found.id ≡ pos 1 → HasNumber old.now found.schema
 has_number found old new read id version content k =
-    let stored : Stores (meta 0) old.now.trees content = meta_stored version old.now content k in
+    let stored : Stores (meta 0) (club_trees old.now) content = meta_stored version old.now content k in
     let here = read.keeps.stored (meta_cells found) (inl refl) in
     let has : Has (content 0) (meta_cells found) = subst (Has (content 0)) here.2 (stored.rows.only here.0 here.1) in
     (found.last, subst (λ n. Has (content 0) (Int n ∷ Int found.schema ∷ Int found.last ∷ [])) id has)
@@ -278,15 +271,16 @@ refused_named row old mid e (inr missing) named = let no : First ≡ Current = m
 
 -- the one row of `meta` that is shown was read
 pub read_one : (slice rows : List Row) (row : Row) (id : ℤ) (old new : State) → slice ≡ rows → slice ≡ row ∷ []
-    → column row 0 ≡ Int id → Tells (meta 0) 1 rows old new → IsReadAs (meta 0) 1 (row ∷ []) old new
+    → column row 0 ≡ Int id → Tells (meta 0) 1 rows (club_trees old.now) old new
+    → IsReadAs (meta 0) 1 (row ∷ []) old new
 read_one slice rows row id old new whole one first tells =
     let is : rows ≡ row ∷ [] = sym whole ∙ one in
     let ids : AreIds (row ∷ []) =
     record { apart = (tt, tt); ints = (subst (λ v. IsTrue (is_int v)) (sym first) refl, tt) } in
     record {
-      keeps = subst (Keeps (meta 0) old.now.trees) is tells.keeps;
-      once = subst (IsPermutation (map (cells (meta 0)) (old.now.trees 0))) is tells.once;
-      apart = apart_of (meta 0) (old.now.trees 0) rows (λ r. refl) tells.once (subst AreIds (sym is) ids);
+      keeps = subst (Keeps (meta 0) (club_trees old.now)) is tells.keeps;
+      once = subst (IsPermutation (map (cells (meta 0)) (club_trees old.now 0))) is tells.once;
+      apart = apart_of (meta 0) (club_trees old.now 0) rows (λ r. refl) tells.once (subst AreIds (sym is) ids);
       sorted = subst (IsSorted (by_columns 1)) is tells.sorted;
       same = tells.same;
     }
@@ -294,10 +288,10 @@ read_one slice rows row id old new whole one first tells =
 -- no two members, events or games have one id
 pub have_ids : (version : Version) (rows : Rows) (old new : State) → AreRead version rows old new → HaveIds rows
 have_ids version rows old new it = record {
-  members = ids_of (members 1) (old.now.trees 1) (map member_cells rows.members.items) (λ r. refl) it.members.once
+  members = ids_of (members 1) (club_trees old.now 1) (map member_cells rows.members.items) (λ r. refl) it.members.once
       it.members.apart;
-  events = ids_of (events 4) (old.now.trees 4) (map event_cells rows.events.items) (λ r. refl) it.events.once
+  events = ids_of (events 4) (club_trees old.now 4) (map event_cells rows.events.items) (λ r. refl) it.events.once
       it.events.apart;
-  games = ids_of (games 10) (old.now.trees 10) (map game_cells rows.games.items) (λ r. refl) it.games.once
+  games = ids_of (games 10) (club_trees old.now 10) (map game_cells rows.games.items) (λ r. refl) it.games.once
       it.games.apart;
 }

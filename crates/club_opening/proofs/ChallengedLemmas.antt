@@ -9,6 +9,7 @@ use Rattle.sqlite.specs.Order.{Row, column}
 use Rattle.sqlite.specs.State.{State}
 use Rattle.sqlite_rules.specs.Lists.{Has}
 use Rattle.sqlite_rules.proofs.ListLemmas.{all_has, has_got}
+use Rattle.store_tables.specs.Placed.{club_trees}
 use Rattle.store_tables.specs.Cells.{IsChallenge, challenge_cells, event_cells, game_cells, member_cells}
 use Rattle.store_tables.specs.Changes.{HaveSame}
 use Rattle.store_tables.specs.Content.{cells}
@@ -195,13 +196,13 @@ module _ (content : Content) (rows : Rows) (ms : List Member) (are_ms : AreMembe
 
 -- rows of challenges that were read are those of the content, each once
 pub challenges_once : (version : Version) (content : Content) (rows : List Row) (old new : State)
-    → HoldsRows version content old.now → Stores (challenges 6) old.now.trees content
+    → HoldsRows version content old.now → Stores (challenges 6) (club_trees old.now) content
     → (have : HaveChallenges content) → IsReadAs (challenges 6) 2 rows old new
     → AreEachOnce rows (map challenge_row have.challenges)
 challenges_once version content rows old new holds stored have read =
     let made = map challenge_row have.challenges in
-    let keyed = challenge_key old.now.trees (unique_of version old.now content holds)
+    let keyed = challenge_key (club_trees old.now) (unique_of version old.now content holds)
     (λ r h. all_has IsChallenge made (cells (challenges 6) r) (challenges_typed have.challenges)
     (have.same.there (cells (challenges 6) r) (stored.rows.only r h))) in
     each_once (challenges 6) 2 (1 ∷ 2 ∷ []) rows made old new keyed
-    (keeps_same (challenges 6) old.now.trees (content 6) made have.same stored.rows) read
+    (keeps_same (challenges 6) (club_trees old.now) (content 6) made have.same stored.rows) read

@@ -11,6 +11,7 @@ use Rattle.sqlite.specs.Table.{Table as Definition}
 use Rattle.sqlite_rules.specs.Lists.{Has}
 use Rattle.club_core.specs.Events.{Event}
 use Rattle.club_core.specs.State.{draughts, shogi}
+use Rattle.store_tables.specs.Placed.{HasTablesOf, club_trees}
 use Rattle.store_tables.specs.Cells.{meta_cells, member_cells, event_cells, event_rule_cells, challenge_cells}
 use Rattle.store_tables.specs.Cells.{game_cells}
 use Rattle.sqlite_trees.specs.Tree.{rowid}
@@ -18,14 +19,14 @@ use Rattle.store_tables.specs.Content.{Keeps, cells}
 use Rattle.club_opening.proofs.BlameLemmas.{before}
 use Rattle.store_tables.specs.Reading.{AreIds}
 use Rattle.store_tables.specs.Rows.{HaveIds}
-use Rattle.store_tables.specs.Tables.{club_schema, schema_number, meta, members, events, event_rules, games}
+use Rattle.store_tables.specs.Tables.{schema_number, meta, members, events, event_rules, games}
 use Rattle.store_tables.specs.declared.names.Table.{Table}
 use Rattle.store_tables.specs.declared.names.Table.TheVariants.{Members, Events, EventRules, Challenges, Moves, Games}
 use Rattle.store_tables.specs.declared.names.Table.TheVariants.{Seen, Scores, Meta}
 use Rattle.store_tables.specs.declared.names.Version.{Version}
 use Rattle.store_tables.specs.declared.names.Version.TheVariants.{First, Current}
 use Rattle.store_tables.specs.declared.rows.Rows.{Rows}
-use Rattle.store_tables.proofs.Proved.{ids_of, in_order, one_list, places_rise}
+use Rattle.store_tables.proofs.Proved.{ids_of, in_order, one_list, places_rise, versions_apart}
 use Rattle.club_rows.specs.Club.{ClubGame, both_games, ClubState, IsClub}
 use Rattle.club_rows.specs.FirstSchema.{IsClubOf, tables_at}
 use Rattle.club_rows.specs.Tables.{declares_number, member_row, event_row, rule_row, numbered_from, row_of_game}
@@ -35,10 +36,9 @@ use Rattle.club_rows.proofs.Proved.{seen-typed}
 use Rattle.club_changes.proofs.Proved.{challenges_typed, moved}
 use Rattle.club_opening.proofs.OnceLemmas.{challenges_are}
 use Rattle.club_opening.specs.Blames.{AreRead, AreRulesRead, HasTypes, IsNumberFrom, Names, undeclared_row}
-use Rattle.club_opening.specs.Versions.{HasClub, HasEvents, HasTablesOf, HoldsClub}
+use Rattle.club_opening.specs.Versions.{HasClub, HasEvents, HoldsClub}
 use Rattle.table_shapes.specs.Shapes.{is_of_club}
 use Rattle.table_shapes.proofs.Proved.{club_is_of_club}
-use Rattle.store_tables.specs.Beside.{IsBeside}
 use Rattle.store_sql.specs.Read.{IsReadAs, BeginWithPlaces}
 use Rattle.club_opening.specs.Places.{IsRegisterOf, NamesRows}
 use Rattle.club_audit.specs.Audit.{AreEvents, AreMembers, AreRules}
@@ -50,8 +50,7 @@ use Rattle.store_tables.specs.declared.rows.EventRuleRow.{EventRuleRow}
 use Rattle.store_tables.specs.declared.rows.MemberRow.{MemberRow}
 use Rattle.club_opening.specs.declared.fault.OpenFault.{OpenFault}
 use Rattle.club_opening.specs.declared.fault.OpenFault.TheVariants.{Damaged, Schema, Store, Memory}
-use Rattle.club_opening.proofs.StoredLemmas.{IsStored, club_of_version, first_differs, one_of, rules_stored, rows_held}
-use Rattle.club_opening.proofs.StoredLemmas.{stored_of}
+use Rattle.club_opening.proofs.StoredLemmas.{IsStored, club_of_version, one_of, rules_stored, rows_held, stored_of}
 
 -- ---- places
 
@@ -183,11 +182,11 @@ good_fault s club db holds fault blamed = elim (good_in Current Current s club d
 -- rows with ids that are places were read as the list that they are
 pub ids_read : (table : Definition) (rows wanted : List Row) (old new : State) → IsReadAs table 1 rows old new
     → AreIds rows
-    → Keeps table old.now.trees wanted → BeginWithPlaces wanted → rows ≡ wanted
+    → Keeps table (club_trees old.now) wanted → BeginWithPlaces wanted → rows ≡ wanted
 ids_read table rows wanted old new read ids keeps places =
     one_list rows wanted (in_order rows read.sorted ids) (places_rise wanted places)
-    (moved table old.now.trees rows wanted read.keeps keeps)
-    (moved table old.now.trees wanted rows keeps read.keeps)
+    (moved table (club_trees old.now) rows wanted read.keeps keeps)
+    (moved table (club_trees old.now) wanted rows keeps read.keeps)
 
 one_last : (last moment : ℤ) (number schema : ℤ) (id : ℤ)
     → Has ((Int (pos 1) ∷ Int number ∷ Int moment ∷ []) ∷ []) (Int id ∷ Int schema ∷ Int last ∷ []) → last ≡ moment
@@ -197,25 +196,25 @@ one_last last moment number schema id (inr none) = absurd none
 -- numbered rows that were read where those of a list stand are its own
 numbered_kept : {A : Type 0} (table : Definition) (row : ℕ → A → Row) (xs : List A)
     → ((r : Row) → column (cells table r) 0 ≡ rowid r) → ((n : ℕ) (x : A) → column (row n x) 0 ≡ Int (pos n))
-    → {rows : List Row} {old new : State} → Keeps table old.now.trees (numbered_from row 1 xs)
+    → {rows : List Row} {old new : State} → Keeps table (club_trees old.now) (numbered_from row 1 xs)
     → IsReadAs table 1 rows old new → rows ≡ numbered_from row 1 xs
 numbered_kept table row xs by_rowid first {rows} {old} {new} keeps read =
     ids_read table rows (numbered_from row 1 xs) old new read
-    (ids_of table (old.now.trees table.tree) rows by_rowid read.once read.apart) keeps (begin_places row first xs)
+    (ids_of table (club_trees old.now table.tree) rows by_rowid read.once read.apart) keeps (begin_places row first xs)
 
 -- so are rows of members, of events and of their rules where those of a club stand
 pub members_kept : (s : ClubState) {rows : List Row} {old new : State}
-    → Keeps (members 1) old.now.trees (tables_of both_games s 1) → IsReadAs (members 1) 1 rows old new
+    → Keeps (members 1) (club_trees old.now) (tables_of both_games s 1) → IsReadAs (members 1) 1 rows old new
     → rows ≡ tables_of both_games s 1
 members_kept s = numbered_kept (members 1) member_row s.members (λ r. refl) (λ n x. refl)
 
 pub events_kept : (s : ClubState) {rows : List Row} {old new : State}
-    → Keeps (events 4) old.now.trees (tables_of both_games s 4) → IsReadAs (events 4) 1 rows old new
+    → Keeps (events 4) (club_trees old.now) (tables_of both_games s 4) → IsReadAs (events 4) 1 rows old new
     → rows ≡ tables_of both_games s 4
 events_kept s = numbered_kept (events 4) event_row s.events (λ r. refl) (λ n x. refl)
 
 pub rules_kept : (s : ClubState) {rows : List Row} {old new : State}
-    → Keeps (event_rules 16) old.now.trees (tables_of both_games s 16) → IsReadAs (event_rules 16) 1 rows old new
+    → Keeps (event_rules 16) (club_trees old.now) (tables_of both_games s 16) → IsReadAs (event_rules 16) 1 rows old new
     → rows ≡ tables_of both_games s 16
 rules_kept s = numbered_kept (event_rules 16) rule_row s.events (λ r. refl) (λ n x. refl)
 
@@ -266,13 +265,13 @@ has_events rows old new read version s club holds =
 
 -- rules of events that are those of no club with these rows of events are blamed
 pub rules_blamed : (events_rows : List EventRow) (rows : List EventRuleRow) (old new : State)
-    → HasEvents events_rows old.now → IsBeside club_schema old.now.schema
+    → HasEvents events_rows old.now → HasTablesOf Current old.now.schema
     → IsReadAs (event_rules 16) 1 (map event_rule_cells rows) old new → ¬ AreRules rows (length events_rows)
     → NamesRows old.now (Damaged EventRules)
 rules_blamed events_rows rows old new of has read none = (EventRules, refl, by_version)
   where
     by_version : (version : Version) (s : ClubState) → IsClubOf version s → HasClub version old.now s → ⊥
-    by_version First s club holds = first_differs old.now.schema holds.schema has
+    by_version First s club holds = versions_apart old.now.schema holds.schema has
     by_version Current s club holds =
         none
         (rules-counted s.events events_rows rows (events_of s club events_rows (of Current s club holds))
@@ -348,7 +347,7 @@ pub club_read : (version : Version) (s : ClubState) → IsClubOf version s → (
     → HasClub version old.now s → AreRead version rows old new → HaveIds rows → IsRegisterOf s rows
 club_read version s club rows old new holds read ids =
     let made = tables_of both_games s in
-    let db = old.now.trees in
+    let db = club_trees old.now in
     let stored = stored_of version old.now s holds in
     let events_are = events_kept s stored.events.rows read.events in
     record {

@@ -13,6 +13,7 @@ use Rattle.sqlite.specs.Tree.{Trees}
 use Rattle.club_opening.proofs.BlameLemmas.{before, stays, read_after}
 use Rattle.club_core.specs.LegalState.{IsLegalIn}
 use Rattle.club_laws.proofs.Proved.{each-append, got-append}
+use Rattle.store_tables.specs.Placed.{club_trees}
 use Rattle.store_tables.specs.Cells.{game_cells, move_cells, seen_cells}
 use Rattle.store_tables.specs.Content.{AreApart, cells}
 use Rattle.store_tables.specs.Rows.{HaveIds}
@@ -127,7 +128,7 @@ next_suc n = omega arith
 -- rows of moves that were judged to be all those of a legal game
 pub game_of : (place : ℕ) (game : GameRecord) (ms : List MoveRow) (old mid : State)
     → AreReadOf (moves 8) 2 game.id (map move_cells ms) old mid → (s : ClubState) (g : ClubGame)
-    → IsGameAt s (place + 1) game ms g → IsGameOf s (place + 1) game old.now.trees g
+    → IsGameAt s (place + 1) game ms g → IsGameOf s (place + 1) game (club_trees old.now) g
 game_of place game ms old mid one s g at = record {
   legal = at.legal;
   row_is = at.row_is;
@@ -137,15 +138,15 @@ game_of place game ms old mid one s g at = record {
 module _ (rows : Rows) (place : ℕ) (game : GameRecord) (ms : List MoveRow) (ss : List SeenRow) (old mid new : State)
     (one : AreReadOf (moves 8) 2 game.id (map move_cells ms) old mid)
     (two : AreReadOf (seen 12) 2 game.id (map seen_cells ss) mid new) where
-  trees_are : mid.now.trees ≡ old.now.trees
-  trees_are = ap (λ (d : Database). d.trees) one.same.0.now_is
+  trees_are : club_trees mid.now ≡ club_trees old.now
+  trees_are = ap club_trees one.same.0.now_is
 
-  seen_once : IsPermutation (beginning_with game.id (seen_in old.now.trees)) (map seen_cells ss)
+  seen_once : IsPermutation (beginning_with game.id (seen_in (club_trees old.now))) (map seen_cells ss)
   seen_once = subst (λ (t : Trees). IsPermutation (beginning_with game.id (seen_in t)) (map seen_cells ss)) trees_are
       two.once
 
   found_as : (s : ClubState) (g : ClubGame) → AreAllOf s (place + 1) game ms ss g
-      → IsFoundAs s (place + 1) game old.now.trees g
+      → IsFoundAs s (place + 1) game (club_trees old.now) g
   found_as s g all = record {
     game_is = game_of place game ms old mid one s g all.at;
     seen_are = same_on _ (map seen_cells ss) _ (turned_same _ _ seen_once) all.seen_are.same;
@@ -178,7 +179,7 @@ module _ (rows : Rows) (place : ℕ) (game : GameRecord) (ms : List MoveRow) (ss
   module _ (last : Option ℕ) (told : IsMomentOf rows.meta.last last) (wrong : Option Table)
       (first : (s : ClubState) → HasPeople s rows → IsFirstWrong (IsRightAt s rows place game ms ss last) wrong) where
     game_found_as : wrong ≡ None → (s : ClubState) → IsOf s rows last → (g : ClubGame)
-        × IsFoundAs s (place + 1) game old.now.trees g
+        × IsFoundAs s (place + 1) game (club_trees old.now) g
     game_found_as none s of =
         let right = all-right (IsRightAt s rows place game ms ss last) wrong (first s of.people) none Meta in
         let (g, all) = right-club s rows of.people place game ms ss last of.within of.moment right in
@@ -186,14 +187,14 @@ module _ (rows : Rows) (place : ℕ) (game : GameRecord) (ms : List MoveRow) (ss
 
     -- so they are up to the last moment of all, where at most `meta` is wrong
     game_played : IsPlayed wrong → (s : ClubState) → HasPeople s rows → (g : ClubGame)
-        × IsFoundAs (until last_moment s) (place + 1) game old.now.trees g
+        × IsFoundAs (until last_moment s) (place + 1) game (club_trees old.now) g
     game_played played s people =
         let (g, all) = (first s people).before Seen (seen_precedes wrong played) in
         (g, found_as (until last_moment s) g all)
 
     -- but for its positions, where no table up to the games is wrong
     game_seated : IsAfter Games wrong → (s : ClubState) → HasPeople s rows → (g : ClubGame)
-        × IsGameOf (until last_moment s) (place + 1) game old.now.trees g
+        × IsGameOf (until last_moment s) (place + 1) game (club_trees old.now) g
     game_seated after s people =
         let (low, g, at) = (first s people).before Games (after_precedes Games wrong after) in
         (g, game_of place game ms old mid one (until last_moment s) g at)
@@ -226,7 +227,8 @@ module _ (rows : Rows) (place : ℕ) (game : GameRecord) (ms : List MoveRow) (ss
     pub game_found : slice_get rows.games.items place ≡ Some game
         → (wrong ≡ Some Moves → (s : ClubState) → HasPeople s rows → MovesWrong rows old.now)
         → (wrong ≡ Some Games → GamesWrong rows old.now) → (wrong ≡ Some Seen → SeenWrong rows old.now)
-        → (IsAfter Moves wrong → (s : ClubState) → HasPeople s rows → HasMovesOf rows (moves_in old.now.trees) game)
+        → (IsAfter Moves wrong → (s : ClubState) → HasPeople s rows
+        → HasMovesOf rows (moves_in (club_trees old.now)) game)
         → IsGameFound rows last place game (length ms) (length ss) wrong old.now
     game_found at moves_wrong games_wrong seen_wrong moves_right = record {
       moves_number = sym (length-map ms move_cells) ∙ length_permutation _ (map move_cells ms) one.once;
@@ -262,9 +264,10 @@ none_found s rows db = record { played = none_seated s rows db; seen_are = λ n 
 pub left_start : (rows : Rows) (last : Option ℕ) (ms ss : ℕ) (known : Option Table) (db : Database)
     → ((t : Table) → known ≡ Some t → IsNoRegister rows) → (known ≡ Some Moves → ⊥)
     → (known ≡ Some Games → ¬ AreApartGames rows.games.items) → (known ≡ Some Seen → ⊥)
-    → ms ≡ length (moves_in db.trees) → ss ≡ length (seen_in db.trees) → AreLeftAfter rows last 0 ms ss known db
+    → ms ≡ length (moves_in (club_trees db)) → ss ≡ length (seen_in (club_trees db))
+    → AreLeftAfter rows last 0 ms ss known db
 left_start rows last ms ss known db none other apart unseen one two = record {
-  found = λ free s of. none_found s rows.games.items db.trees;
+  found = λ free s of. none_found s rows.games.items (club_trees db);
   blamed = λ t is. (
     t,
     refl,
@@ -272,8 +275,8 @@ left_start rows last ms ss known db none other apart unseen one two = record {
   );
   moves_left = λ free s of. one;
   seen_left = λ free s of. two;
-  played = λ free s people. none_found (until last_moment s) rows.games.items db.trees;
-  seated = λ after s people. none_seated (until last_moment s) rows.games.items db.trees;
+  played = λ free s people. none_found (until last_moment s) rows.games.items (club_trees db);
+  seated = λ after s people. none_seated (until last_moment s) rows.games.items (club_trees db);
   moves_rest = λ after s people. one;
   seen_rest = λ free s people. two;
   moves_wrong = λ named. absurd (other named);
@@ -396,7 +399,7 @@ none_named_of table (Some t) low played named =
 module _ (rows : Rows) (last : Option ℕ) (k : ℕ) (game : GameRecord) (ms ss a b : ℕ) (w v u : Option Table)
     (db : Database) (at : slice_get rows.games.items k ≡ Some game) (was : AreLeftAfter rows last k ms ss w db)
     (is : IsGameFound rows last k game a b v db) (one_of : IsOneOf w v u) where
-  id_of : (s : ClubState) (g : ClubGame) → IsGameOf s (k + 1) game db.trees g → game.id ≡ pos (suc k)
+  id_of : (s : ClubState) (g : ClubGame) → IsGameOf s (k + 1) game (club_trees db) g → game.id ≡ pos (suc k)
   id_of s g is_game = id-told s (k + 1) game g is_game.row_is ∙ ap pos (sym (next_suc k))
 
   past_more : (n own : ℕ) (shown : List Row) → own ≡ length (beginning_with game.id shown) → game.id ≡ pos (suc k)
@@ -417,7 +420,7 @@ module _ (rows : Rows) (last : Option ℕ) (k : ℕ) (game : GameRecord) (ms ss 
   left_more = record {
     found = λ none s of.
         let (early, here) = one_of.none none in
-        found_more s rows.games.items db.trees k game (was.found early s of) at (is.found here s of);
+        found_more s rows.games.items (club_trees db) k game (was.found early s of) at (is.found here s of);
     blamed = λ t named. elim (one_of.some t named) [
       | inl early ↦ was.blamed t early
       | inr here ↦ is.blamed t here
@@ -425,29 +428,30 @@ module _ (rows : Rows) (last : Option ℕ) (k : ℕ) (game : GameRecord) (ms ss 
     moves_left = λ none s of.
         let (early, here) = one_of.none none in
         let (g, found) = is.found here s of in
-        past_more ms a (moves_in db.trees) is.moves_number (id_of s g found.game_is) (was.moves_left early s of);
+        past_more ms a (moves_in (club_trees db)) is.moves_number (id_of s g found.game_is) (was.moves_left early s of);
     seen_left = λ none s of.
         let (early, here) = one_of.none none in
         let (g, found) = is.found here s of in
-        past_more ss b (seen_in db.trees) (is.seen_number (λ t named. absurd (none_some v t named here)))
+        past_more ss b (seen_in (club_trees db)) (is.seen_number (λ t named. absurd (none_some v t named here)))
         (id_of s g found.game_is) (was.seen_left early s of);
     played = λ free s people.
         let (early, here) = both_played w v u one_of free in
-        found_more (until last_moment s) rows.games.items db.trees k game (was.played early s people) at
+        found_more (until last_moment s) rows.games.items (club_trees db) k game (was.played early s people) at
         (is.played here s people);
     seated = λ after s people.
         let (early, here) = both_after Games w v u one_of after in
         let (g, is_game) = is.seated here s people in
-        seated_more (until last_moment s) rows.games.items db.trees k game (was.seated early s people) at g is_game;
+        seated_more (until last_moment s) rows.games.items (club_trees db) k game
+        (was.seated early s people) at g is_game;
     moves_rest = λ after s people.
         let (early, here) = both_after Games w v u one_of after in
         let (g, is_game) = is.seated here s people in
-        past_more ms a (moves_in db.trees) is.moves_number (id_of (until last_moment s) g is_game)
+        past_more ms a (moves_in (club_trees db)) is.moves_number (id_of (until last_moment s) g is_game)
         (was.moves_rest early s people);
     seen_rest = λ free s people.
         let (early, here) = both_played w v u one_of free in
         let (g, found) = is.played here s people in
-        past_more ss b (seen_in db.trees) (is.seen_number (seen_after v here))
+        past_more ss b (seen_in (club_trees db)) (is.seen_number (seen_after v here))
         (id_of (until last_moment s) g found.game_is) (was.seen_rest early s people);
     moves_wrong = λ named s people. elim (one_of.some Moves named) [
       | inl early ↦ was.moves_wrong early s people
@@ -468,12 +472,13 @@ module _ (rows : Rows) (last : Option ℕ) (k : ℕ) (game : GameRecord) (ms ss 
           | inl same ↦
               let both : ◌≡◌ {A = Option GameRecord} (Some game) (Some other) = sym at
               ∙ (ap (slice_get rows.games.items) (sym same) ∙ there) in
-              subst (HasMovesOf rows (moves_in db.trees)) (same_Some game other both) (is.moves_right here s people)
+              subst (HasMovesOf rows (moves_in (club_trees db))) (same_Some game other both)
+              (is.moves_right here s people)
         ];
-    moves_beyond = λ ids. beyond_more ids ms a (moves_in db.trees) is.moves_number (was.moves_beyond ids);
+    moves_beyond = λ ids. beyond_more ids ms a (moves_in (club_trees db)) is.moves_number (was.moves_beyond ids);
     seen_beyond = λ after ids.
         let (early, here) = both_after Seen w v u one_of after in
-        beyond_more ids ss b (seen_in db.trees) (is.seen_number here) (was.seen_beyond early ids);
+        beyond_more ids ss b (seen_in (club_trees db)) (is.seen_number here) (was.seen_beyond early ids);
   }
 
 -- a table that was known to be wrong is not forgotten
@@ -504,13 +509,13 @@ module _ (rows : Rows) (last : Option ℕ) (told : IsMomentOf rows.meta.last las
       let club = club_of_version version s of_version in
       let none = (none_left s club db (stored_of version db s holds)).0 in
       let left = was.moves_left (sym is) s (club_of s rows last told club register)
-      ∙ ap (λ n. length (past n (moves_in db.trees))) (counts s register) in
+      ∙ ap (λ n. length (past n (moves_in (club_trees db)))) (counts s register) in
       omega (arith, some, left, none)
   left_blames None is (inr some) version s of_version register holds =
       let club = club_of_version version s of_version in
       let none = (none_left s club db (stored_of version db s holds)).1 in
       let left = was.seen_left (sym is) s (club_of s rows last told club register)
-      ∙ ap (λ n. length (past n (seen_in db.trees))) (counts s register) in
+      ∙ ap (λ n. length (past n (seen_in (club_trees db)))) (counts s register) in
       omega (arith, some, left, none)
 
   -- a table that is named is that of a game, or has rows that are left
@@ -525,11 +530,11 @@ module _ (rows : Rows) (last : Option ℕ) (told : IsMomentOf rows.meta.last las
 
   -- no row of moves is another's, if no table up to the games is
   moves_over : IsAfter Games v → (s : ClubState) → HasPeople s rows
-      → length (past (length rows.games.items) (moves_in db.trees)) ≡ 0
+      → length (past (length rows.games.items) (moves_in (club_trees db))) ≡ 0
   moves_over after s people =
       let early = (both_after Games u b v then_of after).0 in
       let (before, from_moves) = both_after Games w a u one_of early in
-      ap (λ n. length (past n (moves_in db.trees))) (sym all)
+      ap (λ n. length (past n (moves_in (club_trees db)))) (sym all)
       ∙ (sym (was.moves_rest before s people)
       ∙ moves_left.none (none_after Games Moves a from_moves of_moves (omega arith)))
 
@@ -539,38 +544,38 @@ module _ (rows : Rows) (last : Option ℕ) (told : IsMomentOf rows.meta.last las
     found = λ none s of.
         let (early, no_seen) = then_of.none none in
         let (before, no_moves) = one_of.none early in
-        subst (WereFound s rows.games.items db.trees) all (was.found before s of);
+        subst (WereFound s rows.games.items (club_trees db)) all (was.found before s of);
     none_left = λ none s of.
         let (early, no_seen) = then_of.none none in
         let (before, no_moves) = one_of.none early in
         record {
-          moves = ap (λ n. length (past n (moves_in db.trees))) (sym all)
+          moves = ap (λ n. length (past n (moves_in (club_trees db)))) (sym all)
               ∙ (sym (was.moves_left before s of) ∙ moves_left.none no_moves);
-          seen = ap (λ n. length (past n (seen_in db.trees))) (sym all)
+          seen = ap (λ n. length (past n (seen_in (club_trees db)))) (sym all)
               ∙ (sym (was.seen_left before s of) ∙ seen_left.none no_seen);
         };
     played = λ free s people.
         let early = (both_played u b v then_of free).0 in
         let before = (both_played w a u one_of early).0 in
-        subst (WereFound (until last_moment s) rows.games.items db.trees) all (was.played before s people);
+        subst (WereFound (until last_moment s) rows.games.items (club_trees db)) all (was.played before s people);
     seated = λ after s people.
         let early = (both_after Games u b v then_of after).0 in
         let before = (both_after Games w a u one_of early).0 in
-        subst (WerePlayed (until last_moment s) rows.games.items db.trees) all (was.seated before s people);
+        subst (WerePlayed (until last_moment s) rows.games.items (club_trees db)) all (was.seated before s people);
     moves_end = moves_over;
     moves_right = λ after ids s people.
         let early = (both_after Moves u b v then_of after).0 in
         let (before, from_moves) = both_after Moves w a u one_of early in
         let none = moves_left.none (none_after Moves Moves a from_moves of_moves (omega arith)) in
-        moves_gathered rows (moves_in db.trees)
-        (ap (λ n. length (beyond rows n (moves_in db.trees))) (sym all) ∙ (sym (was.moves_beyond ids) ∙ none))
+        moves_gathered rows (moves_in (club_trees db))
+        (ap (λ n. length (beyond rows n (moves_in (club_trees db)))) (sym all) ∙ (sym (was.moves_beyond ids) ∙ none))
         (λ n game low at. was.moves_right before s people n game (omega (arith, all, low)) at);
     none_rests = λ free s people.
         let (early, from_seen) = both_played u b v then_of free in
         let (before, from_moves) = both_played w a u one_of early in
         record {
           moves = moves_over (played_after v free) s people;
-          seen = ap (λ n. length (past n (seen_in db.trees))) (sym all)
+          seen = ap (λ n. length (past n (seen_in (club_trees db)))) (sym all)
               ∙ (sym (was.seen_rest before s people)
               ∙ seen_left.none (none_named_of Seen b (omega arith) from_seen of_seen));
         };
@@ -581,8 +586,8 @@ module _ (rows : Rows) (last : Option ℕ) (told : IsMomentOf rows.meta.last las
         | inl before ↦ was.moves_wrong before s people
         | inr from_moves ↦ λ version content holds have.
             let some : 0 < ms = (moves_left.some Moves from_moves).1 in
-            let none = none_beyond rows (moves_in db.trees) have.owned in
-            let left = was.moves_beyond ids ∙ ap (λ n. length (beyond rows n (moves_in db.trees))) all in
+            let none = none_beyond rows (moves_in (club_trees db)) have.owned in
+            let left = was.moves_beyond ids ∙ ap (λ n. length (beyond rows n (moves_in (club_trees db)))) all in
             absurd (omega (arith, some, left, none))
       ]
     ];
@@ -604,9 +609,9 @@ module _ (rows : Rows) (last : Option ℕ) (told : IsMomentOf rows.meta.last las
             | inl before ↦ was.seen_wrong before
             | inr after ↦ λ version content holds have.
                 let some : 0 < ss = (seen_left.some Seen from_seen).1 in
-                let none = none_beyond rows (seen_in db.trees) (seen_owned rows _ _ have) in
+                let none = none_beyond rows (seen_in (club_trees db)) (seen_owned rows _ _ have) in
                 let left = was.seen_beyond after ids
-                ∙ ap (λ n. length (beyond rows n (seen_in db.trees))) all in
+                ∙ ap (λ n. length (beyond rows n (seen_in (club_trees db)))) all in
                 absurd (omega (arith, some, left, none))
           ]
     ];
@@ -624,15 +629,15 @@ module _ {old one two : State} {m n : ℕ} (moves_are : AreCounted 8 m old one) 
   both_same = stays moves_are.same seen_are.same
 
   -- so many rows there are
-  pub moves_number : m ≡ length (moves_in two.now.trees)
+  pub moves_number : m ≡ length (moves_in (club_trees two.now))
   moves_number = moves_are.number
-      ∙ (sym (length-map (old.now.trees 8) (cells (moves 8)))
-      ∙ ap (λ (d : Database). length (moves_in d.trees)) (sym both_same.0.now_is))
+      ∙ (sym (length-map (club_trees old.now 8) (cells (moves 8)))
+      ∙ ap (λ (d : Database). length (moves_in (club_trees d))) (sym both_same.0.now_is))
 
-  pub seen_number : n ≡ length (seen_in two.now.trees)
+  pub seen_number : n ≡ length (seen_in (club_trees two.now))
   seen_number = seen_are.number
-      ∙ (sym (length-map (one.now.trees 12) (cells (seen 12)))
-      ∙ ap (λ (d : Database). length (seen_in d.trees)) (sym seen_are.same.0.now_is))
+      ∙ (sym (length-map (club_trees one.now 12) (cells (seen 12)))
+      ∙ ap (λ (d : Database). length (seen_in (club_trees d))) (sym seen_are.same.0.now_is))
 
   pub play_examined : (rows : Rows) (last : Option ℕ) (wrong : Option Table) {new : State} → IsUnchanged two new
       → AreGamesFound rows last wrong two.now → IsPlayExamined rows last wrong old new
@@ -640,7 +645,7 @@ module _ {old one two : State} {m n : ℕ} (moves_are : AreCounted 8 m old one) 
     games = before (AreGamesFound rows last wrong) both_same found;
     same = stays both_same same;
     moves_apart = moves_are.apart;
-    seen_apart = before (λ d. AreApart (d.trees 12)) moves_are.same seen_are.apart;
+    seen_apart = before (λ d. AreApart (club_trees d 12)) moves_are.same seen_are.apart;
   }
 
 -- what was examined of a database that did not change after it

@@ -8,10 +8,10 @@ use Rattle.sqlite.specs.Effect.{Database}
 use Rattle.sqlite.specs.Order.{Row}
 use Rattle.sqlite.specs.State.{State, IsUnchanged}
 use Rattle.sqlite.specs.Table.{Table as Definition}
+use Rattle.store_tables.specs.Placed.{HasTablesOf, club_trees}
 use Rattle.club_opening.proofs.BlameLemmas.{before, place_in}
 use Rattle.sqlite_rules.specs.Lists.{Has}
 use Rattle.sqlite_rules.proofs.ListLemmas.{all_has, has_got}
-use Rattle.store_tables.specs.Beside.{IsBeside}
 use Rattle.store_tables.specs.Cells.{IsChallenge, IsEvent, IsEventRule, IsGame, IsMember, IsMove, IsSeen}
 use Rattle.store_tables.specs.Cells.{challenge_cells, event_cells, event_rule_cells, game_cells, member_cells}
 use Rattle.store_tables.specs.Changes.{HaveSame}
@@ -47,7 +47,7 @@ use Rattle.club_audit.specs.GameAudit.{IsRightAt}
 use Rattle.club_audit.proofs.Proved.{rules-counted, ruled-of}
 use Rattle.club_changes.proofs.Proved.{challenges_typed, moved}
 use Rattle.club_opening.specs.Blames.{HoldsOnly, AreRead, AreRulesRead, Blames, HasTypes, HoldsNone, undeclared_row}
-use Rattle.club_opening.specs.Versions.{HasTablesOf, HoldsRows}
+use Rattle.club_opening.specs.Versions.{HoldsRows}
 use Rattle.club_opening.specs.RightTables.{HasGame, AreOfClub, ArePlayed, AreScored, AreSeated, HasScores, HasTable}
 use Rattle.club_opening.specs.RightTables.{HaveChallenges, IsFirstIn, IsLater, IsOfPlay, IsRight, IsUnheld, IsUntyped}
 use Rattle.club_opening.specs.RightTables.{IsWrongOfPlay, NamesExamined, NamesFirst, NamesPlayed, NamesWrong}
@@ -62,43 +62,46 @@ use Rattle.club_opening.proofs.ClubLemmas.{undeclared_are}
 use Rattle.club_opening.specs.Examined.{moves_in, seen_in}
 use Rattle.club_opening.specs.RightMoves.{HaveGamesOf, HaveMoves, HaveMovesOf, HaveSeenOf, SeenWrong}
 use Rattle.club_opening.proofs.RegisterLemmas.{keeps_same, keeps_shown, none_declared}
-use Rattle.club_opening.proofs.StoredLemmas.{club_of_version, first_differs, one_of}
+use Rattle.club_opening.proofs.StoredLemmas.{club_of_version, one_of}
+use Rattle.store_tables.proofs.Proved.{versions_apart}
 
 -- ---- tables that a database holds
 
 -- a table of both versions, by its place
 pub stores_of : (definition : Definition) (place : ℕ) → slice_get first_schema.tables place ≡ Some definition
     → slice_get club_schema.tables place ≡ Some definition → {version : Version} {db : Database} {content : Content}
-    → HoldsRows version content db → Stores definition db.trees content
+    → HoldsRows version content db → Stores definition (club_trees db) content
 stores_of definition place first current {version} {db} {content} holds =
-    all_has (λ d. Stores d db.trees content) (schema_of version).tables definition holds.tables
+    all_has (λ d. Stores d (club_trees db) content) (schema_of version).tables definition holds.tables
     (has_got (schema_of version).tables place definition (place_in definition place first current version))
 
 pub rules_in : (db : Database) (content : Content) → HoldsRows Current content db
-    → Stores (event_rules 16) db.trees content
+    → Stores (event_rules 16) (club_trees db) content
 rules_in db content holds = holds.tables.1.1.1.1.1.1.1.1.0
 
 -- what a table is kept by is what it has
-pub kept_same : (table : Definition) (db : Database) (one other : List Row) → Keeps table db.trees one
-    → Keeps table db.trees other → HaveSame one other
+pub kept_same : (table : Definition) (db : Database) (one other : List Row) → Keeps table (club_trees db) one
+    → Keeps table (club_trees db) other → HaveSame one other
 kept_same table db one other first second = record {
-  there = moved table db.trees one other first second;
-  back = moved table db.trees other one second first;
+  there = moved table (club_trees db) one other first second;
+  back = moved table (club_trees db) other one second first;
 }
 
 -- the rows that the database is known to have are those of the content
 pub held_same : (table : Definition) (place : ℕ) → slice_get first_schema.tables place ≡ Some table
     → slice_get club_schema.tables place ≡ Some table → {version : Version} {db : Database} {content : Content}
-    {rows : List Row} → HoldsRows version content db → Keeps table db.trees rows → HaveSame (content table.tree) rows
+    {rows : List Row} → HoldsRows version content db → Keeps table (club_trees db) rows
+    → HaveSame (content table.tree) rows
 held_same table place first current {db} {content} {rows} holds =
     kept_same table db (content table.tree) rows (stores_of table place first current holds).rows
 
 -- and rows that are those of the content it has
 pub keeps_held : (table : Definition) (place : ℕ) → slice_get first_schema.tables place ≡ Some table
     → slice_get club_schema.tables place ≡ Some table → {version : Version} {db : Database} {content : Content}
-    {rows : List Row} → HoldsRows version content db → HaveSame (content table.tree) rows → Keeps table db.trees rows
+    {rows : List Row} → HoldsRows version content db → HaveSame (content table.tree) rows
+    → Keeps table (club_trees db) rows
 keeps_held table place first current {db} {content} {rows} holds same =
-    keeps_same table db.trees (content table.tree) rows same (stores_of table place first current holds).rows
+    keeps_same table (club_trees db) (content table.tree) rows same (stores_of table place first current holds).rows
 
 pub members_at : (version : Version) (s : ClubState) → tables_at version s 1 ≡ tables_of both_games s 1
 members_at First s = refl
@@ -133,7 +136,7 @@ pub types_none : (table : Table) (definition : Definition) (IsTyped : Row → Ty
     (old : State) (e : OpenFault)
     → ((version : Version) (content : Content) → HoldsRows version content old.now
     → IsSo version content
-    → Stores definition old.now.trees content × AllByRecursion IsTyped (content definition.tree))
+    → Stores definition (club_trees old.now) content × AllByRecursion IsTyped (content definition.tree))
     → Blames table definition IsTyped old e → (t : Table) → e ≡ Damaged t → (t ≡ table) × HoldsNone old.now IsSo
 types_none table definition IsTyped IsSo old e typed (inl store) t is =
     let both : ◌≡◌ {A = OpenFault} Store (Damaged t) = sym store ∙ is in absurd cc
@@ -163,14 +166,14 @@ event_types_wrong old e = types_none Events (events 4) IsEvent (IsRight Events) 
       (typed_at version club.state (club_of_version version club.state club.legal) Events),
 ))
 
-pub rule_types_wrong : (old : State) (e : OpenFault) → IsBeside club_schema old.now.schema
+pub rule_types_wrong : (old : State) (e : OpenFault) → HasTablesOf Current old.now.schema
     → Blames EventRules (event_rules 16) IsEventRule old e → NamesWrong EventRules old.now e
 rule_types_wrong old e has = types_none EventRules (event_rules 16) IsEventRule (IsRight EventRules) old e by_version
   where
     by_version : (version : Version) (content : Content) → HoldsRows version content old.now
         → AreOfClub version EventRules content
-        → Stores (event_rules 16) old.now.trees content × AllByRecursion IsEventRule (content 16)
-    by_version First content holds club = absurd (first_differs old.now.schema holds.schema has)
+        → Stores (event_rules 16) (club_trees old.now) content × AllByRecursion IsEventRule (content 16)
+    by_version First content holds club = absurd (versions_apart old.now.schema holds.schema has)
     by_version Current content holds club = (
       rules_in old.now content holds,
       types_same IsEventRule (content 16) (tables_at Current club.state 16)
@@ -193,21 +196,21 @@ pub members_wrong : (rows : List MemberRow) (old new : State) → IsReadAs (memb
     → ((ms : List Member) → ¬ AreMembers ms rows) → NamesWrong Members old.now (Damaged Members)
 members_wrong rows old new read none = named_wrong Members old.now (λ version content holds club.
     let s = club.state in
-    let kept : Keeps (members 1) old.now.trees (tables_at version s 1) =
+    let kept : Keeps (members 1) (club_trees old.now) (tables_at version s 1) =
     keeps_held (members 1) 1 refl refl holds (club.same Members tt (omega arith)) in
     none s.members
     (members_of s (club_of_version version s club.legal) rows
-    (members_kept s (subst (Keeps (members 1) old.now.trees) (members_at version s) kept) read)))
+    (members_kept s (subst (Keeps (members 1) (club_trees old.now)) (members_at version s) kept) read)))
 
 pub events_wrong : (rows : List EventRow) (old new : State) → IsReadAs (events 4) 1 (map event_cells rows) old new
     → ((es : List Event) → ¬ AreEvents es rows) → NamesWrong Events old.now (Damaged Events)
 events_wrong rows old new read none = named_wrong Events old.now (λ version content holds club.
     let s = club.state in
-    let kept : Keeps (events 4) old.now.trees (tables_at version s 4) =
+    let kept : Keeps (events 4) (club_trees old.now) (tables_at version s 4) =
     keeps_held (events 4) 2 refl refl holds (club.same Events tt (omega arith)) in
     none s.events
     (events_of s (club_of_version version s club.legal) rows
-    (events_kept s (subst (Keeps (events 4) old.now.trees) (events_at version s) kept) read)))
+    (events_kept s (subst (Keeps (events 4) (club_trees old.now)) (events_at version s) kept) read)))
 
 -- rows of events that were read are those of each club that has the rows
 pub tells_events : (rows : List EventRow) (old new : State) → IsReadAs (events 4) 1 (map event_cells rows) old new
@@ -220,17 +223,17 @@ tells_events rows old new read version content holds s same =
 
 -- rules of events that are those of no club with these rows of events are wrong
 pub rules_wrong : (events_rows : List EventRow) (rows : List EventRuleRow) (old new : State)
-    → TellsEvents events_rows old.now → IsBeside club_schema old.now.schema
+    → TellsEvents events_rows old.now → HasTablesOf Current old.now.schema
     → IsReadAs (event_rules 16) 1 (map event_rule_cells rows) old new → ¬ AreRules rows (length events_rows)
     → NamesWrong EventRules old.now (Damaged EventRules)
 rules_wrong events_rows rows old new told has read none = named_wrong EventRules old.now by_version
   where
     by_version : (version : Version) (content : Content) → HoldsRows version content old.now
         → ¬ AreOfClub version EventRules content
-    by_version First content holds club = first_differs old.now.schema holds.schema has
+    by_version First content holds club = versions_apart old.now.schema holds.schema has
     by_version Current content holds club =
         let s = club.state in
-        let kept = keeps_same (event_rules 16) old.now.trees (content 16) (tables_of both_games s 16)
+        let kept = keeps_same (event_rules 16) (club_trees old.now) (content 16) (tables_of both_games s 16)
         (club.same EventRules tt (omega arith)) (rules_in old.now content holds).rows in
         none
         (rules-counted s.events events_rows rows
@@ -330,7 +333,7 @@ undeclared_shown (e ∷ es) = ap (λ l. undeclared_row e ∷ l) (undeclared_show
 
 module _ (version : Version) (content : Content) (db : Database) (holds : HoldsRows version content db)
     (ms : List Member) (member_rows : List MemberRow) (are_ms : AreMembers ms member_rows)
-    (kept_ms : Keeps (members 1) db.trees (map member_cells member_rows)) where
+    (kept_ms : Keeps (members 1) (club_trees db) (map member_cells member_rows)) where
   same_members : (es : List Event) → HaveSame (content 1) (tables_at version (club_with ms es) 1)
   same_members es =
       subst (HaveSame (content 1)) (are_ms.rows_are ∙ sym (members_at version (club_with ms es)))
@@ -347,7 +350,7 @@ module _ (version : Version) (content : Content) (db : Database) (holds : HoldsR
         (omega arith) u low there;
   }
 
-  module _ (event_rows : List EventRow) (kept_es : Keeps (events 4) db.trees (map event_cells event_rows)) where
+  module _ (event_rows : List EventRow) (kept_es : Keeps (events 4) (club_trees db) (map event_cells event_rows)) where
     same_events : (es : List Event) → AreEvents es event_rows
         → HaveSame (content 4) (tables_at version (club_with ms es) 4)
     same_events es are_es =
@@ -376,12 +379,12 @@ pub record ArePeople (version : Version) (member_rows : List MemberRow) (event_r
   pub schema : HasTablesOf version db.schema
   pub ms : List Member
   pub members_are : AreMembers ms member_rows
-  pub members_kept : Keeps (members 1) db.trees (map member_cells member_rows)
+  pub members_kept : Keeps (members 1) (club_trees db) (map member_cells member_rows)
   pub es : List Event
   pub events_are : AreEvents es event_rows
-  pub events_kept : Keeps (events 4) db.trees (map event_cells event_rows)
+  pub events_kept : Keeps (events 4) (club_trees db) (map event_cells event_rows)
   pub rules_are : AreRules rule_rows (length event_rows)
-  pub rules_kept : version ≡ Current → Keeps (event_rules 16) db.trees (map event_rule_cells rule_rows)
+  pub rules_kept : version ≡ Current → Keeps (event_rules 16) (club_trees db) (map event_rule_cells rule_rows)
   pub undeclared : version ≡ First → map event_rule_cells rule_rows ≡ map undeclared_row event_rows
 
 people_at : (version : Version) (member_rows : List MemberRow) (event_rows : List EventRow)
@@ -509,14 +512,16 @@ module _ (db : Database) (rows : Rows) (e : OpenFault)
     → AreScored rows db → AreOfClub version Scores content))
     (has : HoldsOnly db (λ version content. AreOfClub version Scores content → HasScores rows content))
     (whole : HoldsOnly db (λ version content. AreOfClub version Meta content → (t : Table) → e ≢ Damaged t))
-    (read_moves : HoldsOnly db (λ version content. HaveMoves version content → HaveMovesOf rows (moves_in db.trees)))
-    (moves_of : HoldsOnly db (λ version content. HaveMovesOf rows (moves_in db.trees) → HaveMoves version content))
+    (read_moves : HoldsOnly db (λ version content. HaveMoves version content
+    → HaveMovesOf rows (moves_in (club_trees db))))
+    (moves_of : HoldsOnly db (λ version content. HaveMovesOf rows (moves_in (club_trees db))
+    → HaveMoves version content))
     (read_games : HoldsOnly db (λ version content. AreOfClub version Games content
-    → HaveGamesOf rows (moves_in db.trees)))
+    → HaveGamesOf rows (moves_in (club_trees db))))
     (games_of : HoldsOnly db (λ version content. (cs : List Challenge) → AreChallenges cs rows → AreSeated rows db
     → AreOfClub version Games content))
     (read_seen : HoldsOnly db (λ version content. AreOfClub version Seen content
-    → HaveSeenOf rows (moves_in db.trees) (seen_in db.trees))) where
+    → HaveSeenOf rows (moves_in (club_trees db)) (seen_in (club_trees db)))) where
   -- where it is one of play
   play_first : (t : Table) → IsWrongOfPlay rows db t → (cs : List Challenge) → AreChallenges cs rows
       → HoldsOnly db (λ version content. IsFirstIn version content t)
@@ -595,12 +600,13 @@ first_before e = before (λ d. NamesFirst d e)
 pub moves_types_wrong : (rows : Rows) (old : State) (e : OpenFault) → Blames Moves (moves 8) IsMove old e
     → NamesPlayed rows old.now e
 moves_types_wrong rows old e blames t is =
-    let (named, none) = types_none Moves (moves 8) IsMove (λ version content. HaveMovesOf rows (moves_in old.now.trees))
+    let (named, none) = types_none Moves (moves 8) IsMove
+    (λ version content. HaveMovesOf rows (moves_in (club_trees old.now)))
     old e
     (λ version content holds have.
-    let same = held_same (moves 8) 4 refl refl holds (keeps_shown (moves 8) old.now.trees) in (
+    let same = held_same (moves 8) 4 refl refl holds (keeps_shown (moves 8) (club_trees old.now)) in (
       stores_of (moves 8) 4 refl refl holds,
-      types_same IsMove (content 8) (moves_in old.now.trees) same.there
+      types_same IsMove (content 8) (moves_in (club_trees old.now)) same.there
           have.typed,
     ))
     blames t is in
@@ -614,7 +620,7 @@ moves_types_wrong rows old e blames t is =
 
 -- positions whose rowids are not apart are no club's
 pub seen_torn_wrong : (rows : Rows) (old : State) (e : OpenFault) → Blames Seen (seen 12) IsSeen old e
-    → ((t : Table) → e ≡ Damaged t → ¬ AreApart (old.now.trees 12)) → NamesPlayed rows old.now e
+    → ((t : Table) → e ≡ Damaged t → ¬ AreApart (club_trees old.now 12)) → NamesPlayed rows old.now e
 seen_torn_wrong rows old e blames torn t is =
     let (named, untyped) = types_none Seen (seen 12) IsSeen (λ version content. HasTypes Seen content) old e
     (λ version content holds typed. (stores_of (seen 12) 6 refl refl holds, typed)) blames t is in
@@ -631,10 +637,10 @@ seen_torn_wrong rows old e blames torn t is =
 -- positions whose values have other types are those of no legal club
 pub untyped_wrong : (rows : Rows) (old : State) → IsUntyped Seen old.now → SeenWrong rows old.now
 untyped_wrong rows old untyped version content holds have =
-    let same = held_same (seen 12) 6 refl refl holds (keeps_shown (seen 12) old.now.trees) in
+    let same = held_same (seen 12) 6 refl refl holds (keeps_shown (seen 12) (club_trees old.now)) in
     untyped version content holds
-    (types_same IsSeen (content 12) (seen_in old.now.trees) same.there
-    (types_same IsSeen (seen_in old.now.trees) (tables_of both_games have.games.state 12) have.same.there
+    (types_same IsSeen (content 12) (seen_in (club_trees old.now)) same.there
+    (types_same IsSeen (seen_in (club_trees old.now)) (tables_of both_games have.games.state 12) have.same.there
     (seen-typed have.games.state have.games.legal)))
 
 -- of the tables that the rows of a game may show to be wrong none is one up to the challenges
@@ -674,7 +680,7 @@ some_later table later t is = subst (λ (u : Table). IsOfPlay u ⊎ (u ≡ Meta)
 -- rows of rules that were read of a database
 pub kept_rules : (version : Version) (event_rows : List EventRow) (rule_rows : List EventRuleRow) (old new : State)
     → AreRulesRead version event_rows rule_rows old new → version ≡ Current
-    → Keeps (event_rules 16) old.now.trees (map event_rule_cells rule_rows)
+    → Keeps (event_rules 16) (club_trees old.now) (map event_rule_cells rule_rows)
 kept_rules First event_rows rule_rows old new read is = let no : First ≡ Current = is in absurd cc
 kept_rules Current event_rows rule_rows old new read is = read.keeps
 
@@ -723,8 +729,8 @@ has_people rows ms are_ms es are_es are_rules =
 -- whatever content the database may hold, and back.
 module _ (rows : Rows) {old new : State} (ms : List Member) (are_ms : AreMembers ms rows.members.items)
     (es : List Event) (are_es : AreEvents es rows.events.items)
-    (kept_ms : Keeps (members 1) old.now.trees (map member_cells rows.members.items))
-    (kept_es : Keeps (events 4) old.now.trees (map event_cells rows.events.items))
+    (kept_ms : Keeps (members 1) (club_trees old.now) (map member_cells rows.members.items))
+    (kept_es : Keeps (events 4) (club_trees old.now) (map event_cells rows.events.items))
     (read_cs : IsReadAs (challenges 6) 2 (map challenge_cells rows.challenges.items) old new) (v : Version)
     (content : Content) (holds : HoldsRows v content old.now)
     (there : (id : ℕ) (p : Pairing) → HasGame (content 10) id p → IsGameAmong rows.games.items id p)

@@ -18,6 +18,7 @@ use Rattle.sqlite.specs.Values.{IsInt}
 use Rattle.sqlite_rules.specs.Lists.{Has}
 use Rattle.sqlite_rules.proofs.ListLemmas.{all_has}
 use Rattle.sqlite_trees.proofs.ListLemmas.{ascending-filter}
+use Rattle.store_tables.specs.Placed.{club_trees}
 use Rattle.store_tables.specs.Cells.{IsMove, IsSeen}
 use Rattle.store_tables.specs.Content.{AreApart, Keeps, cells, same_key}
 use Rattle.store_tables.specs.Contents.{Stores}
@@ -87,7 +88,8 @@ by_sorted rows n all sorted k d low high =
 -- rows of positions with the number of a game are the game's, each once, where the table is that of the club
 pub seen_of_game : (s : ClubState) → IsClub s → (trees : Trees) → AreUnique trees → AreApart (trees 12)
     → HaveSame (seen_in trees) (tables_of both_games s 12) → (n : ℕ) (g : ClubGame) → slice_get s.games n ≡ Some g
-    → (rows : List Row) (old new : State) → old.now.trees ≡ trees → AreReadOf (seen 12) 2 (pos (1 + n)) rows old new
+    → (rows : List Row) (old new : State) → club_trees old.now ≡ trees
+    → AreReadOf (seen 12) 2 (pos (1 + n)) rows old new
     → AreEachOnce rows (rows_of_seen both_games (1 + n) g)
 seen_of_game s club trees unique apart same_all n g at rows old new trees_are read =
     let made = rows_of_seen both_games (1 + n) g in
@@ -107,42 +109,42 @@ seen_of_game s club trees unique apart same_all n g at rows old new trees_are re
     }
 
 module _ (s : ClubState) (club : IsClub s) (db : Database) (holds : IsStored db s) where
-  moves_stored : Stores (moves 8) db.trees (tables_of both_games s)
+  moves_stored : Stores (moves 8) (club_trees db) (tables_of both_games s)
   moves_stored = holds.moves
 
-  seen_stored : Stores (seen 12) db.trees (tables_of both_games s)
+  seen_stored : Stores (seen 12) (club_trees db) (tables_of both_games s)
   seen_stored = holds.seen
 
-  pub moves_same : HaveSame (moves_in db.trees) (tables_of both_games s 8)
-  moves_same = shown_same (moves 8) db.trees (tables_of both_games s 8) moves_stored.rows
+  pub moves_same : HaveSame (moves_in (club_trees db)) (tables_of both_games s 8)
+  moves_same = shown_same (moves 8) (club_trees db) (tables_of both_games s 8) moves_stored.rows
 
-  pub seen_same : HaveSame (seen_in db.trees) (tables_of both_games s 12)
-  seen_same = shown_same (seen 12) db.trees (tables_of both_games s 12) seen_stored.rows
+  pub seen_same : HaveSame (seen_in (club_trees db)) (tables_of both_games s 12)
+  seen_same = shown_same (seen 12) (club_trees db) (tables_of both_games s 12) seen_stored.rows
 
   -- no row is left when those of all games were read
-  pub none_left : (length (past (length s.games) (moves_in db.trees)) ≡ 0)
-      × (length (past (length s.games) (seen_in db.trees)) ≡ 0)
+  pub none_left : (length (past (length s.games) (moves_in (club_trees db))) ≡ 0)
+      × (length (past (length s.games) (seen_in (club_trees db))) ≡ 0)
   none_left = (
     table_past (rows_of_moves both_games s.events) (λ id g z h. moves_had both_games s.events id g z h)
-        (moves_in db.trees) s.games moves_same,
-    table_past (rows_of_seen both_games) (λ id g z h. seen_had id g z h) (seen_in db.trees) s.games seen_same,
+        (moves_in (club_trees db)) s.games moves_same,
+    table_past (rows_of_seen both_games) (λ id g z h. seen_had id g z h) (seen_in (club_trees db)) s.games seen_same,
   )
 
-  ints : (r : Row) → Has (db.trees 8) r → IsInt (column r 1) × IsInt (column r 2)
+  ints : (r : Row) → Has (club_trees db 8) r → IsInt (column r 1) × IsInt (column r 2)
   ints r h = let typed = all_has IsMove (tables_of both_games s 8) (cells (moves 8) r) (moves-typed s club)
       (moves_stored.rows.only r h) in (typed.game, typed.ply)
 
   module _ (n : ℕ) (g : ClubGame) (at : slice_get s.games n ≡ Some g) (rows : List Row) (old new : State)
       (here : old.now ≡ db) where
-    trees_are : old.now.trees ≡ db.trees
-    trees_are = ap (λ (d : Database). d.trees) here
+    trees_are : club_trees old.now ≡ club_trees db
+    trees_are = ap club_trees here
 
     -- the rows of its moves are those of the game, in their order
     pub own_moves : AreReadOf (moves 8) 2 (pos (1 + n)) rows old new
         → rows ≡ rows_of_moves both_games s.events (1 + n) g
     own_moves read =
         let made = rows_of_moves both_games s.events (1 + n) g in
-        let shown = moves_in db.trees in
+        let shown = moves_in (club_trees db) in
         let once : IsPermutation (beginning_with (pos (1 + n)) shown) rows =
         subst (λ (t : Trees). IsPermutation (beginning_with (pos (1 + n)) (moves_in t)) rows) trees_are read.once in
         let group = table_group (rows_of_moves both_games s.events) (λ id x z h. moves_had both_games s.events id x z h)
@@ -153,10 +155,11 @@ module _ (s : ClubState) (club : IsClub s) (db : Database) (holds : IsStored db 
         read.sorted in
         let apart = pairs_turned Apart apart_back (beginning_with (pos (1 + n)) shown) rows once
         (ascending-filter Apart (λ x. same_key (0 ∷ []) x (Int (pos (1 + n)) ∷ [])) shown
-        (stored_apart db.trees holds.unique.moves moves_stored.apart ints)) in
+        (stored_apart (club_trees db) holds.unique.moves moves_stored.apart ints)) in
         one_rising rows made (rises rows sorted apart) (game_rise s.events (1 + n) g) same.there same.back
 
     -- those of its positions are the game's, each once
     pub own_seen : AreReadOf (seen 12) 2 (pos (1 + n)) rows old new
         → AreEachOnce rows (rows_of_seen both_games (1 + n) g)
-    own_seen = seen_of_game s club db.trees holds.unique seen_stored.apart seen_same n g at rows old new trees_are
+    own_seen = seen_of_game s club (club_trees db) holds.unique seen_stored.apart seen_same n g at rows old new
+        trees_are

@@ -9,6 +9,7 @@ use Rattle.sqlite.specs.Effect.{Database}
 use Rattle.sqlite.specs.State.{State, IsUnchanged}
 use Rattle.club_opening.proofs.BlameLemmas.{before, stays, read_after}
 use Rattle.sqlite_rules.specs.Lists.{Has}
+use Rattle.store_tables.specs.Placed.{club_trees}
 use Rattle.store_tables.specs.Cells.{IsGame, challenge_cells, event_cells, member_cells}
 use Rattle.store_tables.specs.Changes.{HaveSame}
 use Rattle.store_tables.specs.Content.{AreApart, Keeps}
@@ -124,10 +125,10 @@ module _ (games : List GameRecord) (rows shown : List Row) (same : HaveSame rows
 -- the database may hold, and back
 module _ (rows : Rows) (old two : State) (ms : List Member) (are_ms : AreMembers ms rows.members.items)
     (es : List Event) (are_es : AreEvents es rows.events.items)
-    (kept_ms : Keeps (members 1) old.now.trees (map member_cells rows.members.items))
-    (kept_es : Keeps (events 4) old.now.trees (map event_cells rows.events.items))
+    (kept_ms : Keeps (members 1) (club_trees old.now) (map member_cells rows.members.items))
+    (kept_es : Keeps (events 4) (club_trees old.now) (map event_cells rows.events.items))
     (read_cs : IsReadAs (challenges 6) 2 (map challenge_cells rows.challenges.items) old two)
-    (shown : List Row) (kept_games : Keeps (games 10) old.now.trees shown)
+    (shown : List Row) (kept_games : Keeps (games 10) (club_trees old.now) shown)
     (seats : map game_seat rows.games.items ≡ map row_seat shown) (v : Version) (content : Content)
     (holds : HoldsRows v content old.now) where
   same_games : HaveSame (content 10) shown
@@ -146,9 +147,9 @@ module _ (rows : Rows) (old two : State) (ms : List Member) (are_ms : AreMembers
 -- ---- what was shown
 
 module _ (old mid new : State) (count : ℕ) (shown : List Row) (counted : AreCounted 10 count old mid)
-    (tells : Tells (games 10) 1 shown mid new) where
-  kept_shown : Keeps (games 10) old.now.trees shown
-  kept_shown = subst (λ (d : Database). Keeps (games 10) d.trees shown) counted.same.0.now_is tells.keeps
+    (tells : Tells (games 10) 1 shown (club_trees mid.now) mid new) where
+  kept_shown : Keeps (games 10) (club_trees old.now) shown
+  kept_shown = subst (λ (d : Database). Keeps (games 10) (club_trees d) shown) counted.same.0.now_is tells.keeps
 
   -- rows of games that have the types of their columns were read
   pub read_shown : (slice rows : List Row) → slice ≡ shown → slice ≡ rows → IsReadAs (games 10) 1 rows old new
@@ -156,7 +157,7 @@ module _ (old mid new : State) (count : ℕ) (shown : List Row) (counted : AreCo
       (read_after counted.same (record {
         keeps = tells.keeps;
         once = tells.once;
-        apart = subst (λ (d : Database). AreApart (d.trees 10)) (sym counted.same.0.now_is) counted.apart;
+        apart = subst (λ (d : Database). AreApart (club_trees d 10)) (sym counted.same.0.now_is) counted.apart;
         sorted = tells.sorted;
         same = tells.same;
       }))
@@ -168,12 +169,12 @@ module _ (old mid new : State) (count : ℕ) (shown : List Row) (counted : AreCo
   known_shown slice known_rows judged_rows is other seats are = record {
     shown = shown;
     keeps = kept_shown;
-    ids = ids_of (games 10) (mid.now.trees 10) shown (λ r. refl) tells.once
-        (subst (λ (d : Database). AreApart (d.trees 10)) (sym counted.same.0.now_is) counted.apart);
+    ids = ids_of (games 10) (club_trees mid.now 10) shown (λ r. refl) tells.once
+        (subst (λ (d : Database). AreApart (club_trees d 10)) (sym counted.same.0.now_is) counted.apart);
     seats = seats ∙ ap (map row_seat) is;
     judged = subst (λ l. AreJudged l judged_rows) is are;
     untyped = λ version content holds typed. other (subst (All IsGame) (sym is)
-        (all_alike (games 10) old.now.trees IsGame shown (content 10) kept_shown
+        (all_alike (games 10) (club_trees old.now) IsGame shown (content 10) kept_shown
         (stores_of (games 10) 5 refl refl holds).rows typed));
     same = stays counted.same tells.same;
   }
@@ -183,7 +184,7 @@ pub known_before : {known_rows judged_rows : List GameRecord} {old mid new : Sta
     → AreGamesKnown known_rows judged_rows mid new → AreGamesKnown known_rows judged_rows old new
 known_before same it = record {
   shown = it.shown;
-  keeps = before (λ d. Keeps (games 10) d.trees it.shown) same it.keeps;
+  keeps = before (λ d. Keeps (games 10) (club_trees d) it.shown) same it.keeps;
   ids = it.ids;
   seats = it.seats;
   judged = it.judged;
@@ -208,8 +209,8 @@ pub first_untyped : (known_rows judged_rows : Rows) (db : Database) (e : OpenFau
     → HoldsOnly db (λ version content. AreOfClub version EventRules content)
     → HoldsOnly db (λ version content. (cs : List Challenge) → AreChallenges cs known_rows → HaveChallenges content)
     → HoldsOnly db (λ version content. HaveChallenges content → (cs : List Challenge) × AreChallenges cs known_rows)
-    → HoldsOnly db (λ version content. HaveMoves version content → HaveMovesOf judged_rows (moves_in db.trees))
-    → HoldsOnly db (λ version content. HaveMovesOf judged_rows (moves_in db.trees) → HaveMoves version content)
+    → HoldsOnly db (λ version content. HaveMoves version content → HaveMovesOf judged_rows (moves_in (club_trees db)))
+    → HoldsOnly db (λ version content. HaveMovesOf judged_rows (moves_in (club_trees db)) → HaveMoves version content)
     → NamesUntyped known_rows judged_rows db e → NamesFirst db e
 first_untyped known_rows judged_rows db e untyped right have pass told back (inl store) =
     first_none db e (store_undamaged e store)
@@ -229,6 +230,6 @@ first_untyped known_rows judged_rows db e untyped right have pass told back
     (λ version content holds. either version content holds play))
   where
     either : (version : Version) (content : Content) → HoldsRows version content db
-        → IsUnheld db ⊎ HaveMovesOf judged_rows (moves_in db.trees) → HaveMoves version content
+        → IsUnheld db ⊎ HaveMovesOf judged_rows (moves_in (club_trees db)) → HaveMoves version content
     either version content holds (inl unheld) = absurd (unheld version content holds tt)
     either version content holds (inr moves) = back version content holds moves

@@ -1,5 +1,5 @@
 -- The moves of a club are read as the list that they are: by game and ply, each of them once.
-use Rattle.std.proofs.Common.{◌≡◌, ◌≢◌, ℕ, ℤ, suc, pos, ◌+◌, ◌<◌, ◌≤◌, ◌&&◌, ◌||◌, Bool, true, false, not, ltb, List}
+use Rattle.std.proofs.Common.{◌≡◌, ◌≢◌, ℕ, ℤ, suc, pos, ◌+◌, ◌<◌, ◌≤◌, ◌&&◌, ◌||◌, Bool, true, false, ltb, List}
 use Rattle.std.proofs.Common.{[], ◌∷◌, ◌++◌, length, map, refl, ap, sym, subst, subst₂, ◌∙◌, arith, inl, inr, Less}
 use Rattle.std.proofs.Common.{Equal, Greater, Ordering, true≢false, IsTrue, length-append, get_or}
 use Rattle.std.specs.Cmp.{IsTotalOrder}
@@ -212,10 +212,6 @@ then_parts Greater b e = cc
 then_parts Equal Less e = cc
 then_parts Equal Greater e = cc
 then_parts Equal Equal e = (refl, refl)
-
-pub not_true : (a : Bool) → not a ≡ true → a ≡ false
-not_true true e = cc
-not_true false e = refl
 
 or_both : (a b : Bool) → (a || b) ≡ false → (a ≡ false) × (b ≡ false)
 or_both true b e = cc

@@ -12,6 +12,7 @@ use Rattle.sqlite_rules.specs.Lists.{Has}
 use Rattle.sqlite_rules.proofs.ListLemmas.{all_has, has_filtered}
 use Rattle.sqlite_trees.specs.Tree.{IsAscending}
 use Rattle.sqlite_trees.proofs.ListLemmas.{ascending-filter}
+use Rattle.store_tables.specs.Placed.{club_trees}
 use Rattle.store_tables.specs.Cells.{IsMove, move_cells, seen_cells, game_cells}
 use Rattle.store_tables.specs.Changes.{HaveSame}
 use Rattle.store_tables.specs.Content.{AreApart, cells, same_key}
@@ -44,7 +45,6 @@ use Rattle.club_opening.proofs.StoredLemmas.{AreUnique, unique_of}
 use Rattle.club_opening.proofs.FirstLemmas.{stores_of}
 use Rattle.club_opening.proofs.ExaminedLemmas.{after_precedes}
 use Rattle.club_rows.specs.EachOnce.{AreEachOnce}
-use Rattle.sqlite.specs.Effect.{Database}
 use Rattle.std.proofs.lemmas.Str.{IsUtf8-string_bytes}
 use Rattle.store_tables.specs.Contents.{Content}
 use Rattle.store_tables.specs.declared.names.Version.{Version}
@@ -98,7 +98,7 @@ module _ (trees : Trees) (unique : AreUnique trees) (apart : AreApart (trees 8))
       subst (λ (y : Row). IsInt (column y 0)) (sym is) (typed r stored).game
 
   -- those of one game rise
-  read_rises : (n : ℤ) (rows : List Row) (old new : State) → old.now.trees ≡ trees
+  read_rises : (n : ℤ) (rows : List Row) (old new : State) → club_trees old.now ≡ trees
       → AreReadOf (moves 8) 2 n rows old new
       → IsAscending Before rows
   read_rises n rows old new here read =
@@ -119,7 +119,7 @@ module _ (trees : Trees) (unique : AreUnique trees) (apart : AreApart (trees 8))
   -- where the table has those of a legal game, they are it
   read_are : {P M E T : Type 0} (rules : GameRules P M E T) (terms : Terms) (game : GameRecord)
       (rows other : List MoveRow)
-      (old new : State) → old.now.trees ≡ trees → AreReadOf (moves 8) 2 game.id (map move_cells rows) old new
+      (old new : State) → club_trees old.now ≡ trees → AreReadOf (moves 8) 2 game.id (map move_cells rows) old new
       → HaveSame (beginning_with game.id (moves_in trees)) (map move_cells other) → AreMovesOf rules terms game other
       → AreMovesOf rules terms game rows
   read_are rules terms game rows other old new here read same are =
@@ -136,7 +136,7 @@ module _ (trees : Trees) (unique : AreUnique trees) (apart : AreApart (trees 8))
       are
 
   of_kind : (kind : GameKind) (terms : Terms) (last : Option ℕ) (game : GameRecord) (rows : List MoveRow)
-      (ss : List SeenRow) (old new : State) → old.now.trees ≡ trees
+      (ss : List SeenRow) (old new : State) → club_trees old.now ≡ trees
       → AreReadOf (moves 8) 2 game.id (map move_cells rows) old new → HasItsMoves (moves_in trees) game kind terms
       → IsRightOf kind terms last game rows ss Moves
   of_kind Draughts terms last game rows ss old new here read its =
@@ -148,7 +148,7 @@ module _ (trees : Trees) (unique : AreUnique trees) (apart : AreApart (trees 8))
 pub moves_right_at : (trees : Trees) → AreUnique trees → AreApart (trees 8) → (rows : Rows)
     → HaveMovesOf rows (moves_in trees) → (s : ClubState) (place : ℕ) (game : GameRecord)
     → slice_get rows.games.items place ≡ Some game → (ms : List MoveRow) (ss : List SeenRow) (last : Option ℕ)
-    (old new : State) → old.now.trees ≡ trees → AreReadOf (moves 8) 2 game.id (map move_cells ms) old new
+    (old new : State) → club_trees old.now ≡ trees → AreReadOf (moves 8) 2 game.id (map move_cells ms) old new
     → IsRightAt s rows place game ms ss last Moves
 moves_right_at trees unique apart rows have s place game at ms ss last old new here read id event declares named ruled
     kind budget increment kind_is gives =
@@ -170,7 +170,7 @@ pub game_moves_wrong : (rows : Rows) (place : ℕ) (game : GameRecord) (ms : Lis
     → MovesWrong rows old.now
 game_moves_wrong rows place game ms ss last old mid read wrong first at is s people version content holds have =
     named_first (IsRightAt s rows place game ms ss last) wrong Moves (first s people) is
-    (moves_right_at old.now.trees (unique_of version old.now content holds)
+    (moves_right_at (club_trees old.now) (unique_of version old.now content holds)
     (stores_of (moves 8) 4 refl refl holds).apart rows have s place game at ms ss last old mid
     refl read)
 
@@ -197,15 +197,16 @@ pub game_moves_right : (rows : Rows) (place : ℕ) (game : GameRecord) (ms : Lis
     (last : Option ℕ) (old mid : State) → AreReadOf (moves 8) 2 game.id (map move_cells ms) old mid
     → (wrong : Option Table)
     → ((s : ClubState) → HasPeople s rows → IsFirstWrong (IsRightAt s rows place game ms ss last) wrong)
-    → IsAfter Moves wrong → (s : ClubState) → HasPeople s rows → HasMovesOf rows (moves_in old.now.trees) game
+    → IsAfter Moves wrong → (s : ClubState) → HasPeople s rows → HasMovesOf rows (moves_in (club_trees old.now)) game
 game_moves_right rows place game ms ss last old mid read wrong first after s people = record {
   typed = λ x h.
       let (row, there, is) = has_mapped move_cells ms x
-      ((turned_same (beginning_with game.id (moves_in old.now.trees)) (map move_cells ms) read.once).there x h) in
+      ((turned_same (beginning_with game.id (moves_in (club_trees old.now)))
+      (map move_cells ms) read.once).there x h) in
       subst IsMove (sym is) (move_typed row);
   played = λ id event declares named ruled kind budget increment kind_is gives. record {
     moves = ms;
-    same = turned_same (beginning_with game.id (moves_in old.now.trees)) (map move_cells ms) read.once;
+    same = turned_same (beginning_with game.id (moves_in (club_trees old.now))) (map move_cells ms) read.once;
     are = moves_alone kind (terms_told budget increment declares) last game ms ss
         ((first s people).before Moves (after_precedes Moves wrong after) id event declares named ruled kind budget
         increment kind_is gives);
@@ -228,10 +229,10 @@ module _ (rows : Rows) (place : ℕ) (game : GameRecord) (ms : List MoveRow) (ss
     (first : (s : ClubState) → HasPeople s rows → IsFirstWrong (IsRightAt s rows place game ms ss last) wrong)
     (at : slice_get rows.games.items place ≡ Some game) where
   has_game : (version : Version) (content : Content) → HoldsRows version content old.now
-      → (have : HaveGamesOf rows (moves_in old.now.trees)) → HasGameAt have.state place game ms
+      → (have : HaveGamesOf rows (moves_in (club_trees old.now))) → HasGameAt have.state place game ms
   has_game version content holds have =
       let s = have.state in
-      let trees = old.now.trees in
+      let trees = club_trees old.now in
       let shown = moves_in trees in
       let (g, stands, cells_are) = numbered-at game_cells (row_of_game both_games s.events) 1 rows.games.items s.games
       have.games place game at in
@@ -279,8 +280,8 @@ module _ (rows : Rows) (place : ℕ) (game : GameRecord) (ms : List MoveRow) (ss
       let s = have.games.state in
       let legal = have.games.legal in
       let has = has_game version content holds have.games in
-      let trees_are : mid.now.trees ≡ old.now.trees = ap (λ (d : Database). d.trees) read.same.0.now_is in
-      let seen_are = seen_of_game s legal old.now.trees (unique_of version old.now content holds)
+      let trees_are : club_trees mid.now ≡ club_trees old.now = ap club_trees read.same.0.now_is in
+      let seen_are = seen_of_game s legal (club_trees old.now) (unique_of version old.now content holds)
       (stores_of (seen 12) 6 refl refl holds).apart have.same place has.it has.stands
       (map seen_cells ss) mid new trees_are
       (subst (λ n. AreReadOf (seen 12) 2 n (map seen_cells ss) mid new) has.id two) in

@@ -7,6 +7,7 @@ use Rattle.sqlite.specs.Order.{Row, column}
 use Rattle.sqlite.specs.State.{State}
 use Rattle.sqlite_rules.specs.Lists.{Has}
 use Rattle.sqlite_rules.proofs.ListLemmas.{has_filtered, has_got, has_kept}
+use Rattle.store_tables.specs.Placed.{HasTablesOf, club_trees}
 use Rattle.club_rows.proofs.Proved.{same-pos}
 use Rattle.club_rows.specs.Club.{ClubState, both_games}
 use Rattle.club_rows.specs.LegalRows.{AreMovesOf}
@@ -35,7 +36,7 @@ use Rattle.store_tables.specs.declared.rows.Rows.{Rows}
 use Rattle.store_tables.proofs.Proved.{has_map, has_mapped}
 use Rattle.store_sql.specs.Read.{beginning_with}
 use Rattle.club_opening.specs.Blames.{AreRead, AreRulesRead, undeclared_row}
-use Rattle.club_opening.specs.Versions.{HasTablesOf, HoldsRows}
+use Rattle.club_opening.specs.Versions.{HoldsRows}
 use Rattle.club_opening.specs.Examined.{moves_in}
 use Rattle.club_opening.specs.RightMoves.{DeclaresIn, HaveMoves, HaveMovesOf}
 use Rattle.club_opening.proofs.FirstLemmas.{held_same, kept_same, rules_in, types_same}
@@ -154,13 +155,13 @@ same_in listed rows same = record {
 }
 
 module _ (rows : Rows) (version : Version) (old new : State)
-    (kept_events : Keeps (events 4) old.now.trees (map event_cells rows.events.items))
+    (kept_events : Keeps (events 4) (club_trees old.now) (map event_cells rows.events.items))
     (rules : AreRulesRead version rows.events.items rows.event_rules.items old new)
     (schema : HasTablesOf version old.now.schema) (s : ClubState) (people : HasPeople s rows) (v : Version)
     (content : Content) (holds : HoldsRows v content old.now)
     (games_in : AreGamesIn rows.games.items (content 10)) where
-  shown_same : HaveSame (content 8) (moves_in old.now.trees)
-  shown_same = held_same (moves 8) 4 refl refl holds (keeps_shown (moves 8) old.now.trees)
+  shown_same : HaveSame (content 8) (moves_in (club_trees old.now))
+  shown_same = held_same (moves 8) 4 refl refl holds (keeps_shown (moves 8) (club_trees old.now))
 
   events_same : HaveSame (content 4) (map event_cells rows.events.items)
   events_same = held_same (events 4) 2 refl refl holds kept_events
@@ -189,12 +190,12 @@ module _ (rows : Rows) (version : Version) (old new : State)
   named_there game id (inl there) is = there
   named_there game id (inr never) is = absurd (never id is)
 
-  pub judged_told : HaveMoves v content → HaveMovesOf rows (moves_in old.now.trees)
+  pub judged_told : HaveMoves v content → HaveMovesOf rows (moves_in (club_trees old.now))
   judged_told have =
       let same : version ≡ v = one_of version v old.now.schema schema holds.schema in
       let told = subst (λ w. AreRulesRead w rows.events.items rows.event_rules.items old new) same rules in
       record {
-        typed = types_same IsMove (moves_in old.now.trees) (content 8) shown_same.back have.typed;
+        typed = types_same IsMove (moves_in (club_trees old.now)) (content 8) shown_same.back have.typed;
         owned = λ row h.
             let (cells, there, is) = have.owned row (shown_same.back row h) in
             let (game, in_games, id_is) = games_in.owner cells there in
@@ -212,9 +213,11 @@ module _ (rows : Rows) (version : Version) (old new : State)
             kind budget increment kind_is gives in
             record {
               moves = its.moves;
-              same = same_on (beginning_with game.id (moves_in old.now.trees)) (beginning_with game.id (content 8))
+              same = same_on (beginning_with game.id (moves_in (club_trees old.now)))
+                  (beginning_with game.id (content 8))
                   (map move_cells its.moves)
-                  (filtered_same (λ x. same_key (0 ∷ []) x (Int game.id ∷ [])) (moves_in old.now.trees) (content 8)
+                  (filtered_same (λ x. same_key (0 ∷ []) x (Int game.id ∷ [])) (moves_in (club_trees old.now))
+                  (content 8)
                   (record { there = shown_same.back; back = shown_same.there }))
                   its.same;
               are = its.are;
@@ -255,12 +258,12 @@ module _ (rows : Rows) (version : Version) (old new : State)
       }
 
   -- moves that are right for what was read are so in the file
-  pub judged_back : HaveMovesOf rows (moves_in old.now.trees) → HaveMoves v content
+  pub judged_back : HaveMovesOf rows (moves_in (club_trees old.now)) → HaveMoves v content
   judged_back have =
       let same : version ≡ v = one_of version v old.now.schema schema holds.schema in
       let told = subst (λ w. AreRulesRead w rows.events.items rows.event_rules.items old new) same rules in
       record {
-        typed = types_same IsMove (content 8) (moves_in old.now.trees) shown_same.there have.typed;
+        typed = types_same IsMove (content 8) (moves_in (club_trees old.now)) shown_same.there have.typed;
         owned = λ row h.
             let (n, game, at, is) = have.owned row (shown_same.there row h) in
             let (cells, there, id_is) = games_in.owned game (has_got rows.games.items n game at) in
@@ -290,9 +293,10 @@ module _ (rows : Rows) (version : Version) (old new : State)
               moves = its.moves;
               same = subst (λ (k : ℤ). HaveSame (beginning_with k (content 8)) (map move_cells its.moves)) (sym id)
                   (same_on (beginning_with its_game.id (content 8)) (beginning_with its_game.id
-                  (moves_in old.now.trees))
+                  (moves_in (club_trees old.now)))
                   (map move_cells its.moves)
-                  (filtered_same (λ x. same_key (0 ∷ []) x (Int its_game.id ∷ [])) (content 8) (moves_in old.now.trees)
+                  (filtered_same (λ x. same_key (0 ∷ []) x (Int its_game.id ∷ [])) (content 8)
+                  (moves_in (club_trees old.now))
                   shown_same)
                   its.same);
               are = alike_of kind (terms_told budget increment declares) its_game game its.moves id start its.are;
@@ -307,8 +311,8 @@ module _ (rows : Rows) (version : Version) (old new : State) (read : AreRead ver
   read_in = same_in rows.games.items (content 10)
       (held_same (games 10) 5 refl refl holds read.games.keeps)
 
-  pub moves_told : HaveMoves v content → HaveMovesOf rows (moves_in old.now.trees)
+  pub moves_told : HaveMoves v content → HaveMovesOf rows (moves_in (club_trees old.now))
   moves_told = judged_told rows version old new read.events.keeps read.rules schema s people v content holds read_in
 
-  pub moves_back : HaveMovesOf rows (moves_in old.now.trees) → HaveMoves v content
+  pub moves_back : HaveMovesOf rows (moves_in (club_trees old.now)) → HaveMoves v content
   moves_back = judged_back rows version old new read.events.keeps read.rules schema s people v content holds read_in

@@ -21,6 +21,7 @@ use Rattle.sqlite_trees.specs.Tree.{IsAscending, rowid}
 use Rattle.sqlite_trees.proofs.ListLemmas.{all_both, ascending-map}
 use Rattle.sqlite_rules.specs.Lists.{Has}
 use Rattle.sqlite_rules.proofs.ListLemmas.{all_has, has_got}
+use Rattle.store_tables.specs.Placed.{club_trees}
 use Rattle.store_tables.specs.Cells.{IsText, IsChallenge, IsSeen, IsScore}
 use Rattle.store_tables.specs.Content.{AreApart, Keeps, cells}
 use Rattle.store_tables.specs.Contents.{Stores}
@@ -102,15 +103,16 @@ shown_once table key stored rows apart keyed once =
 
 -- Rows that were read of a table are those that it has, each once, in whatever order.
 pub each_once : (table : Definition) (width : ℕ) (key : List ℕ) (rows made : List Row) (old new : State)
-    → HasKey table key (old.now.trees table.tree) → Keeps table old.now.trees made → IsReadAs table width rows old new
+    → HasKey table key (club_trees old.now table.tree) → Keeps table (club_trees old.now) made
+    → IsReadAs table width rows old new
     → AreEachOnce rows made
 each_once table width key rows made old new keyed keeps read = record {
   same =
       record {
-        there = moved table old.now.trees rows made read.keeps keeps;
-        back = moved table old.now.trees made rows keeps read.keeps;
+        there = moved table (club_trees old.now) rows made read.keeps keeps;
+        back = moved table (club_trees old.now) made rows keeps read.keeps;
       };
-  once = at_once rows (shown_once table key (old.now.trees table.tree) rows read.apart keyed read.once);
+  once = at_once rows (shown_once table key (club_trees old.now table.tree) rows read.apart keyed read.once);
 }
 
 -- ---- challenges, positions and scores
@@ -152,8 +154,8 @@ pub scores_are : (s : ClubState) → IsClub s → (rows : List Row) (old new : S
     → AreEachOnce rows (tables_of both_games s 14)
 scores_are s club rows old new holds read =
     let made = tables_of both_games s 14 in
-    let stored : Stores (scores 14) old.now.trees (tables_of both_games s) = holds.scores in
-    let keyed = score_key old.now.trees holds.unique
+    let stored : Stores (scores 14) (club_trees old.now) (tables_of both_games s) = holds.scores in
+    let keyed = score_key (club_trees old.now) holds.unique
     (λ r h. all_has IsScore made (cells (scores 14) r) (scores_typed both_games s.games) (stored.rows.only r h)) in
     each_once (scores 14) 3 (1 ∷ 2 ∷ 3 ∷ []) rows made old new keyed stored.rows read
 
@@ -162,8 +164,8 @@ pub challenges_are : (s : ClubState) → (rows : List Row) (old new : State) →
     → IsReadAs (challenges 6) 2 rows old new → AreEachOnce rows (tables_of both_games s 6)
 challenges_are s rows old new holds read =
     let made = tables_of both_games s 6 in
-    let stored : Stores (challenges 6) old.now.trees (tables_of both_games s) = holds.challenges in
-    let keyed = challenge_key old.now.trees holds.unique
+    let stored : Stores (challenges 6) (club_trees old.now) (tables_of both_games s) = holds.challenges in
+    let keyed = challenge_key (club_trees old.now) holds.unique
     (λ r h. all_has IsChallenge made (cells (challenges 6) r) (challenges_typed s.challenges)
     (stored.rows.only r h)) in
     each_once (challenges 6) 2 (1 ∷ 2 ∷ []) rows made old new keyed stored.rows read

@@ -7,6 +7,7 @@ use Rattle.sqlite.specs.Effect.{Database}
 use Rattle.sqlite.specs.Order.{Row}
 use Rattle.sqlite.specs.State.{State, IsUnchanged}
 use Rattle.sqlite_rules.proofs.ListLemmas.{all_has}
+use Rattle.store_tables.specs.Placed.{HasTablesOf, club_trees}
 use Rattle.store_tables.specs.Cells.{IsScore, challenge_cells, event_rule_cells, game_cells, score_cells}
 use Rattle.store_tables.specs.Changes as changes
 use Rattle.store_tables.specs.Changes.{HaveSame}
@@ -43,7 +44,7 @@ use Rattle.club_opening.specs.Examined.{moves_in, past, seen_in}
 use Rattle.club_opening.specs.Places.{last_moment}
 use Rattle.club_opening.specs.RightTables.{AreOfClub, ArePlayed, AreScored, AreSeated, HasScores, HasTable, IsOfPlay}
 use Rattle.club_opening.specs.RightTables.{NamesScores, rows_in}
-use Rattle.club_opening.specs.Versions.{HasClub, HasTablesOf, HoldsRows}
+use Rattle.club_opening.specs.Versions.{HasClub, HoldsRows}
 use Rattle.club_opening.specs.declared.fault.OpenFault.{OpenFault}
 use Rattle.club_opening.specs.declared.fault.OpenFault.TheVariants.{Damaged}
 use Rattle.store_tables.specs.Rows.{HaveIds}
@@ -80,13 +81,13 @@ scores_wrong rows scored_rows old new read complete t is = (
   λ version content holds has.
       let s = has.state in
       let made = tables_of both_games s 14 in
-      let stored : Stores (scores 14) old.now.trees content =
+      let stored : Stores (scores 14) (club_trees old.now) content =
       stores_of (scores 14) 7 refl refl holds in
-      let keyed = score_key old.now.trees (unique_of version old.now content holds)
+      let keyed = score_key (club_trees old.now) (unique_of version old.now content holds)
       (λ r h. all_has IsScore made (cells (scores 14) r) (scores_typed both_games s.games)
       (has.same.there (cells (scores 14) r) (stored.rows.only r h))) in
       let once = each_once (scores 14) 3 (1 ∷ 2 ∷ 3 ∷ []) (map score_cells scored_rows) made old new keyed
-      (keeps_same (scores 14) old.now.trees (content 14) made has.same stored.rows) read in
+      (keeps_same (scores 14) (club_trees old.now) (content 14) made has.same stored.rows) read in
       true≢false (sym (complete s (record { few = has.legal.game_count; rows_are = has.games }) once)),
 )
 
@@ -129,7 +130,7 @@ pub are_scored : (rows : Rows) (old mid new : State) → IsUnchanged old mid →
     → AreScored rows old.now
 are_scored rows old mid new same scored = record {
   scored = scored.rows_of;
-  keeps = subst (λ (d : Database). Keeps (scores 14) d.trees scored.rows_of) same.0.now_is scored.read.keeps;
+  keeps = subst (λ (d : Database). Keeps (scores 14) (club_trees d) scored.rows_of) same.0.now_is scored.read.keeps;
   are = scored.are;
 }
 
@@ -164,7 +165,7 @@ module _ (rows : Rows) (version : Version) (old mid : State) (read : AreRead ver
   pub people : HasPeople known rows
   people = record { members = are_ms; events = are_fs; rules = rules_are }
 
-  abbrev found : WerePlayed known rows.games.items old.now.trees (length rows.games.items)
+  abbrev found : WerePlayed known rows.games.items (club_trees old.now) (length rows.games.items)
   found = seated.found known people
 
   abbrev all : ClubState
@@ -198,12 +199,12 @@ module _ (rows : Rows) (version : Version) (old mid : State) (read : AreRead ver
   legal = of_either version all club (λ is. none_declared 1 fs rows.events.items
       (sym (none_said version rows.events.items rows.event_rules.items old mid read.rules is) ∙ rules_are))
 
-  moves_same : HaveSame (moves_in old.now.trees) (tables_of both_games all 8)
+  moves_same : HaveSame (moves_in (club_trees old.now)) (tables_of both_games all 8)
   moves_same =
       let none = seated.none_left known people in
       table_gathered (rows_of_moves both_games fs) (λ id g z h. moves_had both_games fs id g z h)
-      (moves_in old.now.trees) found.games
-      (subst (λ n. length (past n (moves_in old.now.trees)) ≡ 0) (sym found.number_of) none) found.moves_are
+      (moves_in (club_trees old.now)) found.games
+      (subst (λ n. length (past n (moves_in (club_trees old.now))) ≡ 0) (sym found.number_of) none) found.moves_are
 
   module _ (content : Content) (holds : HoldsRows version content old.now) where
     rules_same : (v : Version) → v ≡ version → HasTable EventRules v → HoldsRows v content old.now
@@ -230,8 +231,8 @@ module _ (rows : Rows) (version : Version) (old mid : State) (read : AreRead ver
         (held_same (challenges 6) 3 refl refl holds read.challenges.keeps)
         are_cs.rows_are.same
     same_plain Moves low there =
-        same_then (content 8) (moves_in old.now.trees) (tables_of both_games all 8)
-        (held_same (moves 8) 4 refl refl holds (keeps_shown (moves 8) old.now.trees))
+        same_then (content 8) (moves_in (club_trees old.now)) (tables_of both_games all 8)
+        (held_same (moves 8) 4 refl refl holds (keeps_shown (moves 8) (club_trees old.now)))
         moves_same
     same_plain Games low there =
         subst (HaveSame (content 10)) rows_are
@@ -246,17 +247,18 @@ module _ (rows : Rows) (version : Version) (old mid : State) (read : AreRead ver
           (omega (arith, low)) there)) (same_plain u low there);
     }
 
-    module _ (seen_are : AreSeenOf found.games old.now.trees)
-        (none_seen : length (past (length rows.games.items) (seen_in old.now.trees)) ≡ 0) where
-      seen_shown : HaveSame (seen_in old.now.trees) (tables_of both_games all 12)
+    module _ (seen_are : AreSeenOf found.games (club_trees old.now))
+        (none_seen : length (past (length rows.games.items) (seen_in (club_trees old.now))) ≡ 0) where
+      seen_shown : HaveSame (seen_in (club_trees old.now)) (tables_of both_games all 12)
       seen_shown =
-          table_gathered (rows_of_seen both_games) (λ id g z h. seen_had id g z h) (seen_in old.now.trees) found.games
-          (subst (λ n. length (past n (seen_in old.now.trees)) ≡ 0) (sym found.number_of) none_seen) seen_are
+          table_gathered (rows_of_seen both_games) (λ id g z h. seen_had id g z h)
+          (seen_in (club_trees old.now)) found.games
+          (subst (λ n. length (past n (seen_in (club_trees old.now))) ≡ 0) (sym found.number_of) none_seen) seen_are
 
       seen_same : HaveSame (content 12) (tables_of both_games all 12)
       seen_same =
-          same_then (content 12) (seen_in old.now.trees) (tables_of both_games all 12)
-          (held_same (seen 12) 6 refl refl holds (keeps_shown (seen 12) old.now.trees))
+          same_then (content 12) (seen_in (club_trees old.now)) (tables_of both_games all 12)
+          (held_same (seen 12) 6 refl refl holds (keeps_shown (seen 12) (club_trees old.now)))
           seen_shown
 
       seen_at : AreOfClub version Seen content
@@ -308,13 +310,13 @@ module _ (rows : Rows) (version : Version) (old mid : State) (read : AreRead ver
     pub games_right : AreOfClub v Games content
     games_right = subst (λ w. AreOfClub w Games content) of_version (games_at content here)
 
-    pub seen_right : AreSeenOf found.games old.now.trees
-        → length (past (length rows.games.items) (seen_in old.now.trees)) ≡ 0 → AreOfClub v Seen content
+    pub seen_right : AreSeenOf found.games (club_trees old.now)
+        → length (past (length rows.games.items) (seen_in (club_trees old.now))) ≡ 0 → AreOfClub v Seen content
     seen_right seen_are none_seen =
         subst (λ w. AreOfClub w Seen content) of_version (seen_at content here seen_are none_seen)
 
-    pub scores_right : AreSeenOf found.games old.now.trees
-        → length (past (length rows.games.items) (seen_in old.now.trees)) ≡ 0 → AreScored rows old.now
+    pub scores_right : AreSeenOf found.games (club_trees old.now)
+        → length (past (length rows.games.items) (seen_in (club_trees old.now))) ≡ 0 → AreScored rows old.now
         → AreOfClub v Scores content
     scores_right seen_are none_seen scored =
         subst (λ w. AreOfClub w Scores content) of_version (scores_at content here seen_are none_seen scored)
@@ -325,14 +327,14 @@ pub has_scores : (rows : Rows) (version : Version) (old mid : State) → AreRead
     → HasScores rows content
 has_scores rows version old mid read v content holds club =
     let s = club.state in
-    let kept : Keeps (games 10) old.now.trees (tables_of both_games s 10) =
+    let kept : Keeps (games 10) (club_trees old.now) (tables_of both_games s 10) =
     keeps_held (games 10) 5 refl refl holds
     (subst (HaveSame (content 10)) (rows_at v s Games (omega arith) tt) (club.same Games tt (omega arith))) in
     record {
       state = s;
       legal = club_of_version v s club.legal;
       games = ids_read (games 10) (map game_cells rows.games.items) (tables_of both_games s 10) old mid read.games
-          (ids_of (games 10) (old.now.trees 10) (map game_cells rows.games.items) (λ r. refl) read.games.once
+          (ids_of (games 10) (club_trees old.now 10) (map game_cells rows.games.items) (λ r. refl) read.games.once
           read.games.apart) kept (begin_places (row_of_game both_games s.events) (row_id s.events) s.games);
       same = subst (HaveSame (content 14)) (rows_at v s Scores (omega arith) tt) (club.same Scores tt (omega arith));
     }
@@ -357,7 +359,8 @@ whole_unblamed oldest old e names v content holds club =
     let all : HasClub v old.now club.state = record {
       schema = holds.schema;
       sound = holds.sound;
-      tables = stored_same (schema_of v) old.now.trees content (tables_at v club.state) (same_all v club) holds.tables;
+      tables = stored_same (schema_of v) (club_trees old.now) content (tables_at v club.state)
+          (same_all v club) holds.tables;
     } in
     good_undamaged oldest v club.state club.legal old.now all e names
   where

@@ -11,6 +11,7 @@ use Rattle.sqlite.specs.Order.{Row}
 use Rattle.sqlite.specs.State.{State, IsUnchanged}
 use Rattle.sqlite.specs.Table.{Table as Definition}
 use Rattle.sqlite.specs.Tree.{Trees}
+use Rattle.store_tables.specs.Placed.{HasTablesOf, club_trees}
 use Rattle.store_tables.specs.Cells.{meta_cells, member_cells, event_cells, event_rule_cells, challenge_cells}
 use Rattle.store_tables.specs.Cells.{game_cells, score_cells}
 use Rattle.store_tables.specs.Changes as changes
@@ -32,7 +33,7 @@ use Rattle.club_rows.specs.Club.{both_games, ClubState, IsClub}
 use Rattle.club_rows.specs.FirstSchema.{IsClubOf, tables_at}
 use Rattle.club_rows.proofs.Proved.{declares-alike, same-pos}
 use Rattle.club_core.specs.LegalState.{Each}
-use Rattle.club_opening.specs.Versions.{HasClub, HasTablesOf, IsExactlyClub, IsOpenedAt}
+use Rattle.club_opening.specs.Versions.{HasClub, IsExactlyClub, IsOpenedAt}
 use Rattle.club_rows.specs.EachOnce.{AreEachOnce}
 use Rattle.club_rows.specs.Scores.{scores_in}
 use Rattle.club_rows.specs.Tables.{declares_number, meta_row, numbered_from, rule_row, rows_of_moves, rows_of_seen}
@@ -58,7 +59,7 @@ use Rattle.club_opening.proofs.GroupRows.{seen_had}
 use Rattle.club_changes.proofs.Proved.{◌&◌, moves_had}
 use Rattle.club_opening.proofs.OnceLemmas.{scores_are}
 use Rattle.club_opening.proofs.PastLemmas.{table_gathered}
-use Rattle.club_opening.proofs.StoredLemmas.{club_of_version, stored_of}
+use Rattle.club_opening.proofs.StoredLemmas.{club_of_version, held_alone, stored_of}
 
 -- the challenges of a legal club are those of its register, and its games stand beside one another
 pub register_challenges : (s : ClubState) (rows : Rows) → IsClub s → IsRegisterOf s rows
@@ -134,7 +135,11 @@ club_exactly version s old new opened club unchanged may =
     let same = unchanged.0 in
     let content = tables_at version s in
     let holds : of_schema.Holds (schema_of version) old.now content =
-    record { schema = opened.schema; sound = opened.sound; tables = club.tables } in
+    record {
+      schema = opened.schema;
+      sound = opened.sound;
+      tables = held_alone version old.now content opened.schema club.tables;
+    } in
     record {
       is_open = same.is_open;
       idle = same.mode ∙ opened.idle;
@@ -153,25 +158,25 @@ module _ (version : Version) (rows : Rows) (last : Option ℕ) (old mid new : St
   mid_is : mid.now ≡ old.now
   mid_is = read.same.0.now_is
 
-  trees_are : mid.now.trees ≡ old.now.trees
-  trees_are = ap (λ (d : Database). d.trees) mid_is
+  trees_are : club_trees mid.now ≡ club_trees old.now
+  trees_are = ap club_trees mid_is
 
   abbrev content : Content
-  content = content_with rows scores.rows_of old.now.trees
+  content = content_with rows scores.rows_of (club_trees old.now)
 
-  first_eight : AreStored first_schema old.now.trees content
+  first_eight : AreStored first_schema (club_trees old.now) content
   first_eight =
       record { rows = one.0.keeps; apart = one.0.apart }
       & record { rows = read.members.keeps; apart = read.members.apart }
       & record { rows = read.events.keeps; apart = read.events.apart }
       & record { rows = read.challenges.keeps; apart = read.challenges.apart }
       & record {
-        rows = keeps_shown (moves 8) old.now.trees;
+        rows = keeps_shown (moves 8) (club_trees old.now);
         apart = subst (λ (t : Trees). AreApart (t 8)) trees_are play.moves_apart;
       }
       & record { rows = read.games.keeps; apart = read.games.apart }
       & record {
-        rows = keeps_shown (seen 12) old.now.trees;
+        rows = keeps_shown (seen 12) (club_trees old.now);
         apart = subst (λ (t : Trees). AreApart (t 12)) trees_are play.seen_apart;
       }
       & record {
@@ -179,7 +184,7 @@ module _ (version : Version) (rows : Rows) (last : Option ℕ) (old mid new : St
         apart = subst (λ (t : Trees). AreApart (t 14)) trees_are scores.read.apart;
       } & tt
 
-  all_of : (v : Version) → v ≡ version → AreStored (schema_of v) old.now.trees content
+  all_of : (v : Version) → v ≡ version → AreStored (schema_of v) (club_trees old.now) content
   all_of First is = first_eight
   all_of Current is =
       let rules : IsReadAs (event_rules 16) 1 (map event_rule_cells rows.event_rules.items) old mid =
@@ -215,15 +220,15 @@ module _ (version : Version) (rows : Rows) (last : Option ℕ) (old mid new : St
         let few : length found.played.games ≤ 5000 = let count = found.played.number_of in let low = apart.few in
         omega (arith, count, low) in
         let t : ClubState = record s { games = found.played.games } in
-        let are_moves : HaveSame (moves_in mid.now.trees) (tables_of both_games t 8) =
+        let are_moves : HaveSame (moves_in (club_trees mid.now)) (tables_of both_games t 8) =
         table_gathered (rows_of_moves both_games s.events) (λ id g z h. moves_had both_games s.events id g z h)
-        (moves_in mid.now.trees) found.played.games
-        (subst (λ n. length (past n (moves_in mid.now.trees)) ≡ 0) (sym found.played.number_of) none.moves)
+        (moves_in (club_trees mid.now)) found.played.games
+        (subst (λ n. length (past n (moves_in (club_trees mid.now))) ≡ 0) (sym found.played.number_of) none.moves)
         found.played.moves_are in
-        let are_seen : HaveSame (seen_in mid.now.trees) (tables_of both_games t 12) =
+        let are_seen : HaveSame (seen_in (club_trees mid.now)) (tables_of both_games t 12) =
         table_gathered (rows_of_seen both_games) (λ id g z h. seen_had id g z h)
-        (seen_in mid.now.trees) found.played.games
-        (subst (λ n. length (past n (seen_in mid.now.trees)) ≡ 0) (sym found.played.number_of) none.seen)
+        (seen_in (club_trees mid.now)) found.played.games
+        (subst (λ n. length (past n (seen_in (club_trees mid.now))) ≡ 0) (sym found.played.number_of) none.seen)
         found.seen_are in
         let are_scores = scores.are t (record { few = few; rows_are = rows_are }) in
         let club : IsClub t = record {
@@ -276,8 +281,8 @@ module _ (version : Version) (rows : Rows) (last : Option ℕ) (old mid new : St
             ∷ []
 
         same_at : (v : Version) → v ≡ version → (t : ClubState) → IsRegisterOf t rows
-            → HaveSame (moves_in old.now.trees) (tables_of both_games t 8)
-            → HaveSame (seen_in old.now.trees) (tables_of both_games t 12)
+            → HaveSame (moves_in (club_trees old.now)) (tables_of both_games t 8)
+            → HaveSame (seen_in (club_trees old.now)) (tables_of both_games t 12)
             → HaveSame scores.rows_of (tables_of both_games t 14)
             → changes.AreSame (schema_of v) content (tables_at v t)
         same_at First is t register are_moves are_seen are_scores =
@@ -301,13 +306,13 @@ module _ (version : Version) (rows : Rows) (last : Option ℕ) (old mid new : St
             & same_by _ _ register.rules & tt
 
         same_tables : (v : Version) → v ≡ version → (t : ClubState) → IsRegisterOf t rows
-            → HaveSame (moves_in old.now.trees) (tables_of both_games t 8)
-            → HaveSame (seen_in old.now.trees) (tables_of both_games t 12)
+            → HaveSame (moves_in (club_trees old.now)) (tables_of both_games t 8)
+            → HaveSame (seen_in (club_trees old.now)) (tables_of both_games t 12)
             → HaveSame scores.rows_of (tables_of both_games t 14) → HasClub v old.now t
         same_tables v is t register are_moves are_seen are_scores = record {
           schema = subst (λ w. HasTablesOf w old.now.schema) (sym is) has;
           sound = sound;
-          tables = stored_same (schema_of v) old.now.trees content (tables_at v t)
+          tables = stored_same (schema_of v) (club_trees old.now) content (tables_at v t)
               (same_at v is t register are_moves are_seen are_scores) (all_of v is);
         }
 

@@ -6,6 +6,7 @@ use Rattle.std.proofs.lemmas.List.{length-map}
 use Rattle.std.proofs.lemmas.List.Sorted.{length_permutation}
 use Rattle.std.proofs.lemmas.Option.{same_Some}
 use Rattle.sqlite.specs.State.{State}
+use Rattle.store_tables.specs.Placed.{club_trees}
 use Rattle.store_tables.specs.Cells.{IsSeen, move_cells}
 use Rattle.store_tables.specs.Contents.{Stores}
 use Rattle.store_tables.specs.Tables.{moves, seen}
@@ -42,7 +43,7 @@ pub seen_untyped : (old : State) (e : ReadFault) → e ≡ Mistyped → BlamesRe
 seen_untyped old e is (inl store) = let both : Mistyped ≡ ReadStore = sym is ∙ store in absurd cc
 seen_untyped old e is (inr (inl memory)) = let both : Mistyped ≡ ReadMemory = sym is ∙ memory in absurd cc
 seen_untyped old e is (inr (inr (named, wrong))) = λ version content holds typed.
-    let stored : Stores (seen 12) old.now.trees content = stores_of
+    let stored : Stores (seen 12) (club_trees old.now) content = stores_of
     (seen 12) 6 refl refl holds in
     wrong (content 12) stored.rows stored.apart typed
 

@@ -7,13 +7,14 @@ use Rattle.sqlite.specs.Effect.{Database}
 use Rattle.sqlite.specs.State.{State, IsUnchanged}
 use Rattle.sqlite.specs.declared.types.Value.TheVariants.{Int}
 use Rattle.sqlite_rules.specs.Lists.{Has}
+use Rattle.store_tables.specs.Placed.{HasTablesOf, club_trees}
 use Rattle.store_tables.specs.Cells.{meta_cells, member_cells, event_cells, challenge_cells, game_cells}
 use Rattle.store_tables.specs.Cells.{event_rule_cells, IsEventRule, IsMember, IsEvent, IsChallenge, IsMove, IsGame}
 use Rattle.store_tables.specs.Cells.{IsSeen, IsScore}
 use Rattle.store_tables.specs.Content.{Keeps, AreApart}
 use Rattle.store_tables.specs.Contents.{Content}
 use Rattle.store_sql.specs.Read.{IsReadAs}
-use Rattle.store_tables.specs.Tables.{meta, members, events, event_rules, challenges, games, schema_number}
+use Rattle.store_tables.specs.Tables.{events, schema_number}
 use Rattle.store_tables.specs.declared.rows.EventRow.{EventRow}
 use Rattle.store_tables.specs.declared.rows.EventRuleRow.{EventRuleRow}
 use Rattle.store_tables.specs.declared.rows.MetaRow.{MetaRow}
@@ -27,7 +28,7 @@ use Rattle.store_tables.specs.Names.{tree_of}
 use Rattle.store_tables.specs.Tables.{standing}
 use Rattle.table_shapes.specs.Shapes.{is_of_club}
 use Rattle.club_opening.specs.Places.{NamesRows}
-use Rattle.club_opening.specs.Versions.{HasTablesOf, HoldsRows}
+use Rattle.club_opening.specs.Versions.{HoldsRows}
 use Rattle.club_opening.specs.declared.fault.OpenFault.{OpenFault}
 use Rattle.club_opening.specs.declared.read.People.{People}
 use Rattle.club_opening.specs.declared.fault.OpenFault.TheVariants.{Foreign, Schema, Damaged, Store, Memory}
@@ -108,8 +109,8 @@ Faults table Reason fault = (fault ≡ Memory) ⊎ ((fault ≡ Damaged table) ×
 abbrev pub Blames : Table → Definition → (Row → Type 0) → State → OpenFault → Type 0
 Blames table definition IsTyped old fault =
     (fault ≡ Store)
-    ⊎ Faults table ((rows : List Row) → Keeps definition old.now.trees rows
-    → AreApart (old.now.trees definition.tree) → ¬ AllByRecursion IsTyped rows) fault
+    ⊎ Faults table ((rows : List Row) → Keeps definition (club_trees old.now) rows
+    → AreApart (club_trees old.now definition.tree) → ¬ AllByRecursion IsTyped rows) fault
 
 -- a call failed, or a table is named whose rows, whatever content the database holds, do not have the types of its
 -- columns

@@ -11,9 +11,9 @@ use Rattle.club_rows.specs.FirstSchema.{IsClubOf}
 use Rattle.club_rows.specs.EachOnce.{AreEachOnce}
 use Rattle.club_rows.specs.Scores.{scores_in}
 use Rattle.club_rows.specs.Tables.{numbered_from, row_of_game, rows_of_moves, rows_of_seen}
+use Rattle.store_tables.specs.Placed.{club_trees}
 use Rattle.store_tables.specs.Cells.{game_cells}
 use Rattle.store_tables.specs.Content.{AreApart, cells}
-use Rattle.store_tables.specs.Tables.{moves, scores, seen}
 use Rattle.store_tables.specs.declared.rows.GameRecord.{GameRecord}
 use Rattle.store_sql.specs.Read.{IsReadAs, beginning_with}
 use Rattle.store_tables.specs.declared.names.Table.{Table}
@@ -111,16 +111,16 @@ pub record NamesLeft (table : Table) (count : ℕ) (named : Option Table) : Type
 -- of a legal game at its place, or a wrong table.
 pub record IsGameFound (rows : Rows) (last : Option ℕ) (place : ℕ) (game : GameRecord) (moves seen : ℕ)
     (wrong : Option Table) (db : Database) : Type 0 where
-  pub moves_number : moves ≡ length (beginning_with game.id (moves_in db.trees))
-  pub seen_number : IsAfter Seen wrong → seen ≡ length (beginning_with game.id (seen_in db.trees))
+  pub moves_number : moves ≡ length (beginning_with game.id (moves_in (club_trees db)))
+  pub seen_number : IsAfter Seen wrong → seen ≡ length (beginning_with game.id (seen_in (club_trees db)))
   pub found : wrong ≡ None → (s : ClubState) → IsOf s rows last → (g : ClubGame)
-      × IsFoundAs s (place + 1) game db.trees g
+      × IsFoundAs s (place + 1) game (club_trees db) g
   pub played : IsPlayed wrong → (s : ClubState) → HasPeople s rows → (g : ClubGame)
-      × IsFoundAs (until last_moment s) (place + 1) game db.trees g
+      × IsFoundAs (until last_moment s) (place + 1) game (club_trees db) g
   pub seated : IsAfter Games wrong → (s : ClubState) → HasPeople s rows → (g : ClubGame)
-      × IsGameOf (until last_moment s) (place + 1) game db.trees g
+      × IsGameOf (until last_moment s) (place + 1) game (club_trees db) g
   pub moves_right : IsAfter Moves wrong → (s : ClubState) → HasPeople s rows
-      → HasMovesOf rows (moves_in db.trees) game
+      → HasMovesOf rows (moves_in (club_trees db)) game
   pub blamed : (t : Table) → wrong ≡ Some t → NamesPlay rows db (Damaged t)
   pub moves_wrong : wrong ≡ Some Moves → (s : ClubState) → HasPeople s rows → MovesWrong rows db
   pub games_wrong : wrong ≡ Some Games → GamesWrong rows db
@@ -134,19 +134,19 @@ pub record NoneIsLeft (db : Trees) (count : ℕ) : Type 0 where
 -- What was read of all games tells: they are those of a club, and no row is another's, or a wrong table.
 pub record AreGamesFound (rows : Rows) (last : Option ℕ) (wrong : Option Table) (db : Database) : Type 0 where
   pub found : wrong ≡ None → (s : ClubState) → IsOf s rows last
-      → WereFound s rows.games.items db.trees (length rows.games.items)
+      → WereFound s rows.games.items (club_trees db) (length rows.games.items)
   pub none_left : wrong ≡ None → (s : ClubState) → IsOf s rows last
-      → NoneIsLeft db.trees (length rows.games.items)
+      → NoneIsLeft (club_trees db) (length rows.games.items)
   pub played : IsPlayed wrong → (s : ClubState) → HasPeople s rows
-      → WereFound (until last_moment s) rows.games.items db.trees (length rows.games.items)
+      → WereFound (until last_moment s) rows.games.items (club_trees db) (length rows.games.items)
   pub seated : IsAfter Games wrong → (s : ClubState) → HasPeople s rows
-      → WerePlayed (until last_moment s) rows.games.items db.trees (length rows.games.items)
+      → WerePlayed (until last_moment s) rows.games.items (club_trees db) (length rows.games.items)
   pub moves_end : IsAfter Games wrong → (s : ClubState) → HasPeople s rows
-      → length (past (length rows.games.items) (moves_in db.trees)) ≡ 0
+      → length (past (length rows.games.items) (moves_in (club_trees db))) ≡ 0
   pub moves_right : IsAfter Moves wrong → HaveIds rows → (s : ClubState) → HasPeople s rows
-      → HaveMovesOf rows (moves_in db.trees)
+      → HaveMovesOf rows (moves_in (club_trees db))
   pub none_rests : IsPlayed wrong → (s : ClubState) → HasPeople s rows
-      → NoneIsLeft db.trees (length rows.games.items)
+      → NoneIsLeft (club_trees db) (length rows.games.items)
   pub blamed : (t : Table) → wrong ≡ Some t → NamesPlay rows db (Damaged t)
   pub moves_wrong : wrong ≡ Some Moves → HaveIds rows → (s : ClubState) → HasPeople s rows → MovesWrong rows db
   pub games_wrong : wrong ≡ Some Games → GamesWrong rows db
@@ -155,34 +155,34 @@ pub record AreGamesFound (rows : Rows) (last : Option ℕ) (wrong : Option Table
 -- and what is left of the rows when so many games were read, of which a table was wrong or none
 pub record AreLeftAfter (rows : Rows) (last : Option ℕ) (place moves seen : ℕ) (wrong : Option Table) (db : Database)
     : Type 0 where
-  pub found : wrong ≡ None → (s : ClubState) → IsOf s rows last → WereFound s rows.games.items db.trees place
+  pub found : wrong ≡ None → (s : ClubState) → IsOf s rows last → WereFound s rows.games.items (club_trees db) place
   pub blamed : (t : Table) → wrong ≡ Some t → NamesPlay rows db (Damaged t)
   pub moves_left : wrong ≡ None → (s : ClubState) → IsOf s rows last
-      → moves ≡ length (past place (moves_in db.trees))
+      → moves ≡ length (past place (moves_in (club_trees db)))
   pub seen_left : wrong ≡ None → (s : ClubState) → IsOf s rows last
-      → seen ≡ length (past place (seen_in db.trees))
+      → seen ≡ length (past place (seen_in (club_trees db)))
   pub played : IsPlayed wrong → (s : ClubState) → HasPeople s rows
-      → WereFound (until last_moment s) rows.games.items db.trees place
+      → WereFound (until last_moment s) rows.games.items (club_trees db) place
   pub seated : IsAfter Games wrong → (s : ClubState) → HasPeople s rows
-      → WerePlayed (until last_moment s) rows.games.items db.trees place
+      → WerePlayed (until last_moment s) rows.games.items (club_trees db) place
   pub moves_rest : IsAfter Games wrong → (s : ClubState) → HasPeople s rows
-      → moves ≡ length (past place (moves_in db.trees))
+      → moves ≡ length (past place (moves_in (club_trees db)))
   pub seen_rest : IsPlayed wrong → (s : ClubState) → HasPeople s rows
-      → seen ≡ length (past place (seen_in db.trees))
+      → seen ≡ length (past place (seen_in (club_trees db)))
   pub moves_wrong : wrong ≡ Some Moves → (s : ClubState) → HasPeople s rows → MovesWrong rows db
   pub games_wrong : wrong ≡ Some Games → GamesWrong rows db
   pub seen_wrong : wrong ≡ Some Seen → SeenWrong rows db
   pub moves_right : IsAfter Moves wrong → (s : ClubState) → HasPeople s rows → (n : ℕ) (game : GameRecord)
-      → n < place → slice_get rows.games.items n ≡ Some game → HasMovesOf rows (moves_in db.trees) game
-  pub moves_beyond : HaveIds rows → moves ≡ length (beyond rows place (moves_in db.trees))
-  pub seen_beyond : IsAfter Seen wrong → HaveIds rows → seen ≡ length (beyond rows place (seen_in db.trees))
+      → n < place → slice_get rows.games.items n ≡ Some game → HasMovesOf rows (moves_in (club_trees db)) game
+  pub moves_beyond : HaveIds rows → moves ≡ length (beyond rows place (moves_in (club_trees db)))
+  pub seen_beyond : IsAfter Seen wrong → HaveIds rows → seen ≡ length (beyond rows place (seen_in (club_trees db)))
 
 -- what was read of all games tells, with the rowids of both tables
 pub record IsPlayExamined (rows : Rows) (last : Option ℕ) (wrong : Option Table) (old new : State) : Type 0 where
   pub games : AreGamesFound rows last wrong old.now
   pub same : IsUnchanged old new
-  pub moves_apart : AreApart (old.now.trees 8)
-  pub seen_apart : AreApart (old.now.trees 12)
+  pub moves_apart : AreApart (club_trees old.now 8)
+  pub seen_apart : AreApart (club_trees old.now 12)
 
 -- the scores that were read are those of the club whose games the rows are, each once
 pub record AreScoresExamined (rows : Rows) (old new : State) : Type 0 where

@@ -6,10 +6,10 @@ use Rattle.sqlite_value.specs.declared.value.Value.TheVariants.{Int}
 use Rattle.sqlite.specs.Order.{Row, column}
 use Rattle.sqlite.specs.Effect.{Database}
 use Rattle.sqlite.specs.State.{State, IsUnchanged}
+use Rattle.store_tables.specs.Placed.{club_trees}
 use Rattle.store_tables.specs.Cells.{IsGame, game_cells}
 use Rattle.store_tables.specs.Content.{Keeps}
 use Rattle.store_tables.specs.Reading.{AreIds}
-use Rattle.store_tables.specs.Tables.{games}
 use Rattle.store_tables.specs.declared.names.Table.TheVariants.{Challenges, Games, Moves}
 use Rattle.store_tables.specs.declared.rows.GameRecord.{GameRecord}
 use Rattle.store_tables.specs.declared.rows.Rows.{Rows}
@@ -52,7 +52,7 @@ AreJudged (row ∷ shown) (game ∷ judged) = IsJudged row game × AreJudged sho
 -- and by these their moves are judged.
 pub record AreGamesKnown (known_games judged_games : List GameRecord) (old new : State) : Type 0 where
   pub shown : List Row
-  pub keeps : Keeps (standing Games) old.now.trees shown
+  pub keeps : Keeps (standing Games) (club_trees old.now) shown
   pub ids : AreIds shown
   pub seats : map game_seat known_games ≡ map row_seat shown
   pub judged : AreJudged shown judged_games
@@ -67,4 +67,4 @@ NamesUntyped known_rows judged_rows db fault = (fault ≡ Store)
     ⊎ (((fault ≡ Damaged Challenges) × ((cs : List Challenge) → ¬ AreChallenges cs known_rows))
     ⊎ (((cs : List Challenge) × AreChallenges cs known_rows)
     × (((fault ≡ Damaged Moves) × MovesWrong judged_rows db)
-    ⊎ ((fault ≡ Damaged Games) × (IsUnheld db ⊎ HaveMovesOf judged_rows (moves_in db.trees)))))))
+    ⊎ ((fault ≡ Damaged Games) × (IsUnheld db ⊎ HaveMovesOf judged_rows (moves_in (club_trees db))))))))

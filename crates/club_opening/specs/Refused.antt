@@ -2,18 +2,19 @@
 use Rattle.std.specs.Prelude.{◌≡◌}
 use Rattle.sqlite.specs.Tree.{Trees}
 use Rattle.sqlite.specs.State.{State, Opens}
+use Rattle.store_tables.specs.Placed.{HasClubTables}
 use Rattle.store_tables.specs.declared.names.Version.TheVariants.{Current}
 use Rattle.club_rows.specs.Club.{ClubState, IsClub, tables}
 use Rattle.club_opening.specs.Blames.{Names}
 use Rattle.club_opening.specs.RightTables.{NamesFirst}
-use Rattle.club_opening.specs.Versions.{HasClubTables, LeavesRows}
+use Rattle.club_opening.specs.Versions.{LeavesRows}
 use Rattle.club_opening.specs.declared.fault.OpenFault.{OpenFault}
 
 -- a stop leaves what the opening found, and nothing else
 abbrev pub IsKept : State → State → Type 0
 IsKept old new = (db : Trees) → new.may_leave db → db ≡ old.committed.trees
 
--- a legal state has the tables that stand there, alone or beside what other programs made
+-- a legal state has the tables that stand there, alone or among what other programs made
 pub record HoldClub (trees : Trees) : Type 0 where
   pub state : ClubState
   pub legal : IsClub state

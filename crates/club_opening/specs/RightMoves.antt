@@ -9,11 +9,11 @@ use Rattle.sqlite_rules.specs.Lists.{Has}
 use Rattle.club_core.specs.Events.{Terms}
 use Rattle.club_rules.specs.declared.names.GameKind.{GameKind}
 use Rattle.store_sql.specs.Read.{beginning_with}
+use Rattle.store_tables.specs.Placed.{club_trees}
 use Rattle.store_tables.specs.Cells.{IsMove, event_cells, game_cells, move_cells}
 use Rattle.store_tables.specs.Changes.{HaveSame}
 use Rattle.store_tables.specs.Content.{cells, same_key}
 use Rattle.store_tables.specs.Contents.{Content}
-use Rattle.store_tables.specs.Tables.{moves}
 use Rattle.store_tables.specs.declared.names.Table.TheVariants.{Moves}
 use Rattle.store_tables.specs.declared.names.Version.{Version}
 use Rattle.store_tables.specs.declared.names.Version.TheVariants.{First, Current}
@@ -96,18 +96,18 @@ id_at rows place = get_or (map (λ g. g.id) rows.games.items) place (pos 0)
 -- whatever content the database holds, its rows of moves are not right for the games and the events that were read
 abbrev pub MovesWrong : Rows → Database → Type 0
 MovesWrong rows db =
-    HoldsNone db (λ version content. HaveMovesOf rows (map (cells (standing Moves)) (db.trees (tree_of Moves))))
+    HoldsNone db (λ version content. HaveMovesOf rows (map (cells (standing Moves)) (club_trees db (tree_of Moves))))
 
 -- whatever content the database holds, the games that were read are those of no legal club with its rows of moves
 abbrev pub GamesWrong : Rows → Database → Type 0
 GamesWrong rows db =
-    HoldsNone db (λ version content. HaveGamesOf rows (map (cells (standing Moves)) (db.trees (tree_of Moves))))
+    HoldsNone db (λ version content. HaveGamesOf rows (map (cells (standing Moves)) (club_trees db (tree_of Moves))))
 
 -- nor is there one with these games and with its rows of moves and of positions
 abbrev pub SeenWrong : Rows → Database → Type 0
 SeenWrong rows db = HoldsNone db (λ version content.
-    HaveSeenOf rows (map (cells (standing Moves)) (db.trees (tree_of Moves)))
-    (map (cells (standing Seen)) (db.trees (tree_of Seen))))
+    HaveSeenOf rows (map (cells (standing Moves)) (club_trees db (tree_of Moves)))
+    (map (cells (standing Seen)) (club_trees db (tree_of Seen))))
 
 -- those of the rows that begin with none of the first so many of these ids
 abbrev pub without : (ℕ → ℤ) → ℕ → List Row → List Row

@@ -4,11 +4,11 @@ use Rattle.std.specs.Prelude.{◌≡◌, ◌≢◌, ◌⊎◌, ◌<◌, ◌≤�
 use Rattle.sqlite.specs.Effect.{Database}
 use Rattle.sqlite.specs.Order.{Row, column}
 use Rattle.sqlite_rules.specs.Lists.{Has}
+use Rattle.store_tables.specs.Placed.{club_trees}
 use Rattle.store_tables.specs.Cells.{event_cells, game_cells}
 use Rattle.store_tables.specs.Changes.{HaveSame}
 use Rattle.store_tables.specs.Content.{Keeps}
 use Rattle.store_tables.specs.Contents.{Content}
-use Rattle.store_tables.specs.Tables.{scores}
 use Rattle.store_tables.specs.declared.names.Table.{Table}
 use Rattle.store_tables.specs.declared.names.Table.TheVariants.{Members, Events, EventRules, Challenges, Moves, Games}
 use Rattle.store_tables.specs.declared.names.Table.TheVariants.{Seen, Scores, Meta}
@@ -135,17 +135,17 @@ IsUntyped t db = HoldsNone db (λ version content. HasTypes t content)
 
 -- Whatever the last moment is: the rows of moves are right, and these games, with them, are those of a club.
 pub record AreSeated (rows : Rows) (db : Database) : Type 0 where
-  pub moves : HaveMovesOf rows (moves_in db.trees)
+  pub moves : HaveMovesOf rows (moves_in (club_trees db))
   pub apart : AreApartGames rows.games.items
   pub found : (s : ClubState) → HasPeople s rows
-      → WerePlayed (until last_moment s) rows.games.items db.trees (length rows.games.items)
+      → WerePlayed (until last_moment s) rows.games.items (club_trees db) (length rows.games.items)
   pub none_left : (s : ClubState) → HasPeople s rows
-      → length (past (length rows.games.items) (moves_in db.trees)) ≡ 0
+      → length (past (length rows.games.items) (moves_in (club_trees db))) ≡ 0
 
 -- the moves, where the games or the positions are named, and the games, where the positions are, are right
 abbrev pub AreRightBefore : Rows → Database → Table → Type 0
 AreRightBefore rows db t =
-    (order Moves < order t → HaveMovesOf rows (moves_in db.trees)) × (order Games < order t → AreSeated rows db)
+    (order Moves < order t → HaveMovesOf rows (moves_in (club_trees db))) × (order Games < order t → AreSeated rows db)
 
 -- A table of play that is wrong for what was read, where those of play before it are right, if the database holds any
 -- content.
@@ -184,14 +184,14 @@ NamesScores rows db fault = (t : Table) → fault ≡ Damaged t
 -- Those games, with the rows of positions, too, are those of a club, and no row is another's.
 pub record ArePlayed (rows : Rows) (db : Database) : Type 0 where
   pub seated : AreSeated rows db
-  pub seen_are : (s : ClubState) (people : HasPeople s rows) → AreSeenOf (seated.found s people).games db.trees
+  pub seen_are : (s : ClubState) (people : HasPeople s rows) → AreSeenOf (seated.found s people).games (club_trees db)
   pub none_seen : (s : ClubState) → HasPeople s rows
-      → length (past (length rows.games.items) (seen_in db.trees)) ≡ 0
+      → length (past (length rows.games.items) (seen_in (club_trees db))) ≡ 0
 
 -- the rows of scores are those of these games
 pub record AreScored (rows : Rows) (db : Database) : Type 0 where
   pub scored : List Row
-  pub keeps : Keeps (standing Scores) db.trees scored
+  pub keeps : Keeps (standing Scores) (club_trees db) scored
   pub are : (s : ClubState) → AreGamesOf s rows.games.items → AreEachOnce scored (scores_in both_games s.games)
 
 -- a table after the challenges, where these are right: one of play; or the scores, where those of play are right; or

@@ -1,18 +1,17 @@
 -- The tables of a club in a database, by the schema of a version.
-use Rattle.std.specs.Prelude.{◌≡◌, ◌⊎◌, List, map}
+use Rattle.std.specs.Prelude.{◌≡◌, List, map}
 use Rattle.sqlite.specs.Effect.{Database, IsDatabase}
 use Rattle.sqlite.specs.Schema.{Schema}
 use Rattle.sqlite.specs.State.{State}
 use Rattle.sqlite.specs.Tree.{Trees}
 use Rattle.sqlite_catalog.specs.Listing.{IsSound}
-use Rattle.store_tables.specs.Beside.{IsBeside}
 use Rattle.store_tables.specs.Contents as of_schema
 use Rattle.store_tables.specs.Contents.{Content, AreStored}
 use Rattle.store_tables.specs.Cells.{event_cells}
-use Rattle.store_tables.specs.Tables.{club_schema, first_schema, schema_of}
+use Rattle.store_tables.specs.Placed.{HasTablesOf, by_club, club_trees}
+use Rattle.store_tables.specs.Tables.{schema_of}
 use Rattle.store_tables.specs.declared.rows.EventRow.{EventRow}
 use Rattle.store_tables.specs.declared.names.Version.{Version}
-use Rattle.store_tables.specs.declared.names.Version.TheVariants.{First, Current}
 use Rattle.club_rows.specs.Club.{ClubState}
 use Rattle.club_rows.specs.FirstSchema.{IsClubOf, tables_at}
 use Rattle.club_rows.specs.Tables.{event_row, numbered_from}
@@ -21,30 +20,20 @@ use Rattle.club_rows.specs.Tables.{event_row, numbered_from}
 abbrev pub HoldsClub : Version → Database → ClubState → Type 0
 HoldsClub version db s = of_schema.Holds (schema_of version) db (tables_at version s)
 
--- The schema has the tables of this version: those of schema 1 alone, and those of schema 2 alone or beside what other
--- programs made.
-abbrev pub HasTablesOf : Version → Schema → Type 0
-HasTablesOf First schema = schema ≡ first_schema
-HasTablesOf Current schema = IsBeside club_schema schema
-
--- those of one of the versions
-abbrev pub HasClubTables : Schema → Type 0
-HasClubTables schema = HasTablesOf First schema ⊎ HasTablesOf Current schema
-
--- the database has these rows in the tables of this version
+-- the database has these rows in the tables of this version, wherever they stand
 pub record HoldsRows (version : Version) (content : Content) (db : Database) : Type 0 where
   pub schema : HasTablesOf version db.schema
   pub sound : IsDatabase db
-  pub tables : AreStored (schema_of version) db.trees content
+  pub tables : AreStored (schema_of version) (club_trees db) content
 
 -- a later opening finds these rows in the tables of this version
 pub record LeavesRows (version : Version) (content : Content) (trees : Trees) : Type 0 where
   pub schema : Schema
   pub stands : HasTablesOf version schema
   pub sound : IsSound schema trees
-  pub tables : AreStored (schema_of version) trees content
+  pub tables : AreStored (schema_of version) (by_club schema trees) content
 
--- The database has the tables of this club, in this version: in schema 2 alone or beside what other programs made.
+-- The database has the tables of this club, in this version, alone or among those that other programs made.
 abbrev pub HasClub : Version → Database → ClubState → Type 0
 HasClub version db s = HoldsRows version (tables_at version s) db
 

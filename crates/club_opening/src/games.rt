@@ -4,7 +4,7 @@ ghost use Rattle.std.specs.Prelude.{◌≡◌, ◌≢◌, ◌⊎◌, ◌<◌, No
 ghost use Rattle.std.specs.Prelude.{length, slice_get};
 ghost use Rattle.sqlite.specs.State.{HasCleanDisk, IsUnchanged};
 ghost use Rattle.sqlite.specs.Held.{state};
-ghost use Rattle.store_tables.specs.Beside.{IsBeside};
+ghost use Rattle.store_tables.specs.Placed.{HasClubTables, Stands, club_trees};
 ghost use Rattle.store_tables.specs.Reading.{Reads};
 ghost use Rattle.store_tables.specs.Cells.{seen_cells};
 ghost use Rattle.store_tables.specs.Content.{AreApart};
@@ -18,7 +18,6 @@ ghost use Rattle.club_audit.specs.GameAudit.{IsRightAt};
 ghost use Rattle.club_audit.specs.Audit.{AreApartGames, HasPeople};
 ghost use Rattle.club_opening.specs.Places.{IsMomentOf, IsNoRegister};
 ghost use Rattle.club_opening.specs.RightTables.{IsLater, IsUntyped, NamesPlayed};
-ghost use Rattle.club_opening.specs.Versions.{HasClubTables};
 ghost use Rattle.club_rows.specs.Club.{ClubState};
 ghost use Rattle.club_opening.specs.Examined.{AreGamesFound, IsAfter, IsGameFound, IsOneOf, NamesLeft, NamesPlay};
 ghost use Rattle.club_opening.specs.Examined.{moves_in, seen_in};
@@ -97,14 +96,14 @@ pub(crate) fn count_of<T: Select, S: Alter>(
 ) -> Result<usize, OpenFault>
     ensures reads { Reads (is_ok result) (state S.Store conn.old) (state S.Store conn.new) }
     ensures counted { HasCleanDisk (state S.Store conn.new) → IfOk result (λ count.
-        IsBeside T.club (state S.Store conn.old).now.schema → AreCounted T.table.tree count
+        Stands (state S.Store conn.old).now.schema T.which → AreCounted T.table.tree count
         (state S.Store conn.old) (state S.Store conn.new)) }
     ensures blames { HasCleanDisk (state S.Store conn.new) → IfErr result (λ e.
-        IsBeside T.club (state S.Store conn.old).now.schema → Blames table T.table T.IsTyped
+        Stands (state S.Store conn.old).now.schema T.which → Blames table T.table T.IsTyped
         (state S.Store conn.old) e) }
     ensures apart { HasCleanDisk (state S.Store conn.new) → IfErr result (λ e. (t : _) → e ≡ OpenFault.Damaged t →
-        IsBeside T.club (state S.Store conn.old).now.schema →
-        ¬ AreApart ((state S.Store conn.old).now.trees T.table.tree)) }
+        Stands (state S.Store conn.old).now.schema T.which →
+        ¬ AreApart (club_trees (state S.Store conn.old).now T.table.tree)) }
 {
     match check_rowids::<T, S>(alloc, conn) {
         Ok(count) => Ok(count),
@@ -121,10 +120,10 @@ fn read_of<T: Select, S: Alter>(
 ) -> Result<Vec<T>, OpenFault>
     ensures reads { Reads (is_ok result) (state S.Store conn.old) (state S.Store conn.new) }
     ensures rows { HasCleanDisk (state S.Store conn.new) → IfOk result (λ found.
-        IsBeside T.club (state S.Store conn.old).now.schema → AreReadOf T.table T.width game.now.id
+        Stands (state S.Store conn.old).now.schema T.which → AreReadOf T.table T.width game.now.id
         (map T.cells found.items) (state S.Store conn.old) (state S.Store conn.new)) }
     ensures blames { HasCleanDisk (state S.Store conn.new) → IfErr result (λ e.
-        IsBeside T.club (state S.Store conn.old).now.schema → Blames table T.table T.IsTyped
+        Stands (state S.Store conn.old).now.schema T.which → Blames table T.table T.IsTyped
         (state S.Store conn.old) e) }
 {
     match read_by_first(alloc, conn, &game.id) {
@@ -270,22 +269,22 @@ pub(crate) fn examine_games<S: Alter>(
     ensures reads { Reads (is_ok result) (state S.Store conn.old) (state S.Store conn.new) }
     ensures found { HasCleanDisk (state S.Store conn.new) → IfOk result (λ wrong.
         HasClubTables (state S.Store conn.old).now.schema → IsTrue (state S.Store conn.old).is_open →
-        all.moves ≡ length (moves_in (state S.Store conn.old).now.trees) →
-        all.seen ≡ length (seen_in (state S.Store conn.old).now.trees) →
+        all.moves ≡ length (moves_in (club_trees (state S.Store conn.old).now)) →
+        all.seen ≡ length (seen_in (club_trees (state S.Store conn.old).now)) →
         IsUnchanged (state S.Store conn.old) (state S.Store conn.new) ×
         AreGamesFound rows.now last wrong (state S.Store conn.old).now) }
     ensures known { IfOk result (λ wrong. wrong ≡ None → known ≡ None) }
     ensures known_after { IfOk result (λ wrong. (u : Table) → IsAfter u wrong → IsAfter u known) }
     ensures blames { HasCleanDisk (state S.Store conn.new) → IfErr result (λ e.
         HasClubTables (state S.Store conn.old).now.schema → IsTrue (state S.Store conn.old).is_open →
-        all.moves ≡ length (moves_in (state S.Store conn.old).now.trees) →
-        all.seen ≡ length (seen_in (state S.Store conn.old).now.trees) →
+        all.moves ≡ length (moves_in (club_trees (state S.Store conn.old).now)) →
+        all.seen ≡ length (seen_in (club_trees (state S.Store conn.old).now)) →
         NamesTable (state S.Store conn.old).now e ⊎ NamesPlay rows.now (state S.Store conn.old).now e) }
     ensures later { IfOk result (λ wrong. (s : ClubState) → HasPeople s rows.now → IsLater known → IsLater wrong) }
     ensures later_fault { HasCleanDisk (state S.Store conn.new) → IfErr result (λ e.
         HasClubTables (state S.Store conn.old).now.schema → IsTrue (state S.Store conn.old).is_open →
-        all.moves ≡ length (moves_in (state S.Store conn.old).now.trees) →
-        all.seen ≡ length (seen_in (state S.Store conn.old).now.trees) →
+        all.moves ≡ length (moves_in (club_trees (state S.Store conn.old).now)) →
+        all.seen ≡ length (seen_in (club_trees (state S.Store conn.old).now)) →
         NamesPlayed rows.now (state S.Store conn.old).now e) }
 {
     let mut moves = all.moves;

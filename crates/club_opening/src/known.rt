@@ -6,6 +6,7 @@ ghost use Rattle.sqlite.specs.Order.{column};
 ghost use Rattle.sqlite.specs.State.{HasCleanDisk};
 ghost use Rattle.sqlite_value.specs.Value.{owned};
 ghost use Rattle.store_sql.specs.Read.{IsReadAs};
+ghost use Rattle.store_tables.specs.Placed.{HasClubTables};
 ghost use Rattle.store_tables.specs.Cells.{IsGame, game_cells};
 ghost use Rattle.store_tables.specs.Reading.{Reads};
 ghost use Rattle.store_tables.specs.Tables.{games};
@@ -14,7 +15,6 @@ ghost use Rattle.store_tables.specs.declared.names.Table.TheVariants.{Games};
 ghost use Rattle.club_opening.specs.Blames.{NamesTable};
 ghost use Rattle.club_opening.specs.KnownGames.{AreGamesKnown, AreJudged, IsJudged, game_seat, known, row_seat};
 ghost use Rattle.club_opening.specs.RightTables.{IsUnheld};
-ghost use Rattle.club_opening.specs.Versions.{HasClubTables};
 
 use crate::fault::OpenFault;
 use crate::games::count_of;

@@ -4,7 +4,7 @@ ghost use Rattle.std.specs.Prelude.{◌≡◌, ◌≢◌, ◌⊎◌, true, false
 ghost use Rattle.sqlite.specs.State.{HasCleanDisk, IsUnchanged};
 ghost use Rattle.sqlite.specs.Effect.{IsDatabase};
 ghost use Rattle.sqlite.specs.Held.{state};
-ghost use Rattle.store_tables.specs.Beside.{IsBeside};
+ghost use Rattle.store_tables.specs.Placed.{HasClubTables, HasTablesOf};
 ghost use Rattle.store_tables.specs.Club.{IsExactly, IsOpened};
 ghost use Rattle.store_tables.specs.Reading.{Reads};
 ghost use Rattle.store_tables.specs.Rows.{HaveIds};
@@ -12,7 +12,7 @@ ghost use Rattle.store_tables.specs.Tables.{club_schema, IsClubSchema, schema_of
 ghost use Rattle.store_tables.specs.declared.names.Version.TheVariants.{Current};
 ghost use Rattle.table_shapes.specs.Shapes.{is_of_club};
 ghost use Rattle.club_opening.specs.Blames.{Names, NamesTable};
-ghost use Rattle.club_opening.specs.Versions.{HasClub, HasClubTables, HasTablesOf, HoldsClub, HoldsRows};
+ghost use Rattle.club_opening.specs.Versions.{HasClub, HoldsClub, HoldsRows};
 ghost use Rattle.club_opening.specs.Versions.{IsExactlyClub, IsOpenedAt};
 ghost use Rattle.club_opening.specs.Examined.{AreExamined, AreScoresExamined, IsAfter, IsPlayExamined, NamesPlay};
 ghost use Rattle.club_rows.specs.FirstSchema.{IsClubOf, tables_at};
@@ -203,19 +203,19 @@ pub fn examine<S: Alter>(alloc: Global, conn: &mut Connection<S>) -> Result<(), 
         IsClubSchema (state S.Store conn.old).now.schema →
         ((state S.Store conn.old).now.schema ≡ club_schema) ×
         IsUnchanged (state S.Store conn.old) (state S.Store conn.new)) }
-    // Where its tables stand, alone or beside what other programs made, nothing was changed; and they have the rows of
+    // Where its tables stand, alone or among what other programs made, nothing was changed; and they have the rows of
     // a legal club.
     ensures stays { HasCleanDisk (state S.Store conn.new) → OnOk result (
-        IsBeside club_schema (state S.Store conn.old).now.schema →
+        HasTablesOf Current (state S.Store conn.old).now.schema →
         IsUnchanged (state S.Store conn.old) (state S.Store conn.new)) }
     ensures held { HasCleanDisk (state S.Store conn.new) → OnOk result (
-        IsBeside club_schema (state S.Store conn.old).now.schema → IsDatabase (state S.Store conn.old).now →
+        HasTablesOf Current (state S.Store conn.old).now.schema → IsDatabase (state S.Store conn.old).now →
         (s : _) × IsClub s × HasClub Current (state S.Store conn.new).now s) }
     ensures blames { HasCleanDisk (state S.Store conn.new) → IfErr result (λ e.
         HasClubTables (state S.Store conn.old).now.schema → Names Current (state S.Store conn.old).now e) }
     ensures first { HasCleanDisk (state S.Store conn.new) → IfErr result (λ e.
         HasClubTables (state S.Store conn.old).now.schema → NamesFirst (state S.Store conn.old).now e) }
-    // A legal club, alone or beside what other programs made, is taken.
+    // A legal club, alone or among what other programs made, is taken.
     ensures good { HasCleanDisk (state S.Store conn.new) → IfErr result (λ e. (s : ClubState) → IsClub s →
         HoldsRows Current (tables s) (state S.Store conn.old).now →
         is_of_club Current (state S.Store conn.old).now.schema ≡ true →
@@ -247,7 +247,7 @@ pub fn examine_from<S: Alter>(
         IsClubSchema (state S.Store conn.old).now.schema →
         ((state S.Store conn.old).now.schema ≡ schema_of found.version) ×
         IsUnchanged (state S.Store conn.old) (state S.Store conn.new)) }
-    // Where the tables of a version stand, alone or beside what other programs made, nothing was changed; and they have
+    // Where the tables of a version stand, alone or among what other programs made, nothing was changed; and they have
     // the rows of a legal club, to which those that were read belong.
     ensures stays { HasCleanDisk (state S.Store conn.new) → IfOk result (λ found.
         HasClubTables (state S.Store conn.old).now.schema →
@@ -261,13 +261,13 @@ pub fn examine_from<S: Alter>(
         HasClubTables (state S.Store conn.old).now.schema → Names oldest (state S.Store conn.old).now e) }
     ensures first { HasCleanDisk (state S.Store conn.new) → IfErr result (λ e.
         HasClubTables (state S.Store conn.old).now.schema → NamesFirst (state S.Store conn.old).now e) }
-    // A legal club of a version that is taken, alone or beside what other programs made, is found to be one.
+    // A legal club of a version that is taken, alone or among what other programs made, is found to be one.
     ensures good { HasCleanDisk (state S.Store conn.new) → IfErr result (λ e. (version : _) (s : ClubState) →
         IsClubOf version s → HoldsRows version (tables_at version s) (state S.Store conn.old).now →
         is_of_club version (state S.Store conn.old).now.schema ≡ true →
         (oldest ≡ Current → version ≡ Current) → (e ≡ OpenFault.Store) ⊎ (e ≡ OpenFault.Memory)) }
     ensures newer { HasCleanDisk (state S.Store conn.new) → IfOk result (λ found.
-        IsBeside club_schema (state S.Store conn.old).now.schema → found.version ≡ Current) }
+        HasTablesOf Current (state S.Store conn.old).now.schema → found.version ≡ Current) }
     ensures standing { HasCleanDisk (state S.Store conn.new) → IfOk result (λ found. (version : _) (s : ClubState) →
         IsClubOf version s → HoldsRows version (tables_at version s) (state S.Store conn.old).now →
         found.version ≡ version) }

@@ -7,11 +7,10 @@ ghost use Rattle.sqlite.specs.Held.{state};
 ghost use Rattle.club_audit.specs.Audit.{AreEvents, AreMembers, AreRules};
 ghost use Rattle.club_core.specs.Events.{Event};
 ghost use Rattle.club_core.specs.Members.{Member};
+ghost use Rattle.store_tables.specs.Placed.{HasClubTables, HasTables, HasTablesOf, Stands};
 ghost use Rattle.store_tables.specs.Cells.{meta_cells, member_cells, event_cells, event_rule_cells};
-ghost use Rattle.store_tables.specs.Beside.{IsBeside};
 ghost use Rattle.store_tables.specs.Reading.{IsNoInput, Reads};
 ghost use Rattle.store_tables.specs.Tables.{schema_number, meta, members, events};
-ghost use Rattle.store_tables.specs.Tables.{first_schema};
 ghost use Rattle.store_tables.specs.declared.names.Version.TheVariants.{First, Current};
 ghost use Rattle.store_tables.specs.Tables.{standing};
 ghost use Rattle.store_tables.specs.declared.names.Table.TheVariants.{Meta, Members, Events};
@@ -20,7 +19,7 @@ ghost use Rattle.club_opening.specs.Blames.{AreRead, AreRulesRead, IsNumberFrom,
 ghost use Rattle.club_opening.specs.Blames.{ArePeopleRead};
 ghost use Rattle.club_opening.specs.Places.{NamesRows};
 ghost use Rattle.club_opening.specs.RightTables.{NamesFirst, NamesWrong, TellsEvents};
-ghost use Rattle.club_opening.specs.Versions.{HasClubTables, HasEvents, HasTablesOf};
+ghost use Rattle.club_opening.specs.Versions.{HasEvents};
 ghost use Rattle.club_opening.specs.Faults.{told};
 ghost use Rattle.store_sql.specs.Read.{IsReadAs};
 ghost use Rattle.table_shapes.specs.Shapes.{is_of_club};
@@ -73,10 +72,10 @@ pub(crate) fn read<T: Select, S: Alter>(
 ) -> Result<Vec<T>, OpenFault>
     ensures reads { Reads (is_ok result) (state S.Store conn.old) (state S.Store conn.new) }
     ensures rows { HasCleanDisk (state S.Store conn.new) → IfOk result (λ found.
-        IsBeside T.club (state S.Store conn.old).now.schema → IsReadAs T.table T.width (map T.cells found.items)
+        Stands (state S.Store conn.old).now.schema T.which → IsReadAs T.table T.width (map T.cells found.items)
         (state S.Store conn.old) (state S.Store conn.new)) }
     ensures blames { HasCleanDisk (state S.Store conn.new) → IfErr result (λ e.
-        IsBeside T.club (state S.Store conn.old).now.schema → Blames table T.table T.IsTyped
+        Stands (state S.Store conn.old).now.schema T.which → Blames table T.table T.IsTyped
         (state S.Store conn.old) e) }
 {
     match read_all(alloc, conn) {
@@ -253,10 +252,10 @@ fn refused(oldest: Version, version: Version) -> Option<OpenFault>
 fn check_table<T: Select, S: Alter>(conn: &mut Connection<S>, table: Table) -> Result<(), OpenFault>
     ensures reads { Reads (is_ok result) (state S.Store conn.old) (state S.Store conn.new) }
     ensures same { HasCleanDisk (state S.Store conn.new) →
-        OnOk result (IsBeside T.club (state S.Store conn.old).now.schema → IsUnchanged (state S.Store conn.old)
+        OnOk result (Stands (state S.Store conn.old).now.schema T.which → IsUnchanged (state S.Store conn.old)
         (state S.Store conn.new)) }
     ensures blames { HasCleanDisk (state S.Store conn.new) → IfErr result (λ e.
-        IsBeside T.club (state S.Store conn.old).now.schema → e ≡ OpenFault.Store) }
+        Stands (state S.Store conn.old).now.schema T.which → e ≡ OpenFault.Store) }
 {
     match check_columns::<T, S>(conn) {
         Ok(()) => Ok(()),
@@ -268,10 +267,10 @@ fn check_table<T: Select, S: Alter>(conn: &mut Connection<S>, table: Table) -> R
 fn check_tables<S: Alter>(conn: &mut Connection<S>) -> Result<(), OpenFault>
     ensures reads { Reads (is_ok result) (state S.Store conn.old) (state S.Store conn.new) }
     ensures same { HasCleanDisk (state S.Store conn.new) →
-        OnOk result (IsBeside first_schema (state S.Store conn.old).now.schema → IsUnchanged (state S.Store conn.old)
+        OnOk result (HasTables First (state S.Store conn.old).now.schema → IsUnchanged (state S.Store conn.old)
         (state S.Store conn.new)) }
     ensures blames { HasCleanDisk (state S.Store conn.new) → IfErr result (λ e.
-        IsBeside first_schema (state S.Store conn.old).now.schema → e ≡ OpenFault.Store) }
+        HasTables First (state S.Store conn.old).now.schema → e ≡ OpenFault.Store) }
 {
     match check_people::<S>(conn) {
         Ok(()) => {}
@@ -313,10 +312,10 @@ fn check_rules<S: Alter>(conn: &mut Connection<S>, version: Version) -> Result<(
 fn check_people<S: Alter>(conn: &mut Connection<S>) -> Result<(), OpenFault>
     ensures reads { Reads (is_ok result) (state S.Store conn.old) (state S.Store conn.new) }
     ensures same { HasCleanDisk (state S.Store conn.new) →
-        OnOk result (IsBeside first_schema (state S.Store conn.old).now.schema → IsUnchanged (state S.Store conn.old)
+        OnOk result (HasTables First (state S.Store conn.old).now.schema → IsUnchanged (state S.Store conn.old)
         (state S.Store conn.new)) }
     ensures blames { HasCleanDisk (state S.Store conn.new) → IfErr result (λ e.
-        IsBeside first_schema (state S.Store conn.old).now.schema → e ≡ OpenFault.Store) }
+        HasTables First (state S.Store conn.old).now.schema → e ≡ OpenFault.Store) }
 {
     match check_table::<MemberRow, S>(conn, Table::Members) {
         Ok(()) => {}
@@ -340,10 +339,10 @@ fn check_people<S: Alter>(conn: &mut Connection<S>) -> Result<(), OpenFault>
 fn check_play<S: Alter>(conn: &mut Connection<S>) -> Result<(), OpenFault>
     ensures reads { Reads (is_ok result) (state S.Store conn.old) (state S.Store conn.new) }
     ensures same { HasCleanDisk (state S.Store conn.new) →
-        OnOk result (IsBeside first_schema (state S.Store conn.old).now.schema → IsUnchanged (state S.Store conn.old)
+        OnOk result (HasTables First (state S.Store conn.old).now.schema → IsUnchanged (state S.Store conn.old)
         (state S.Store conn.new)) }
     ensures blames { HasCleanDisk (state S.Store conn.new) → IfErr result (λ e.
-        IsBeside first_schema (state S.Store conn.old).now.schema → e ≡ OpenFault.Store) }
+        HasTables First (state S.Store conn.old).now.schema → e ≡ OpenFault.Store) }
 {
     match check_table::<MoveRow, S>(conn, Table::Moves) {
         Ok(()) => {}

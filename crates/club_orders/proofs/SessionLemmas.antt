@@ -1,16 +1,14 @@
 -- What sessions led to, and what stands where they led.
-use Rattle.std.proofs.Common.{List, [], ◌++◌, append-nil, sym, subst, inl}
+use Rattle.std.proofs.Common.{List, [], ◌++◌, append-nil, sym, subst}
 use Rattle.sqlite.specs.Tree.{Trees}
 use Rattle.sqlite.specs.State.{State}
-use Rattle.store_tables.specs.Beside.{IsBeside}
-use Rattle.store_tables.specs.Over.{Neighbours}
-use Rattle.store_tables.specs.Tables.{first_schema}
+use Rattle.store_tables.specs.Over.{IsFirstBeside, Neighbours}
+use Rattle.store_tables.specs.Placed.{HasTables}
 use Rattle.store_tables.specs.declared.names.Version.{Version}
 use Rattle.store_tables.specs.declared.names.Version.TheVariants.{First, Current}
-use Rattle.store_tables.proofs.Proved.{first_of_club, first_within, leaves_beside}
+use Rattle.store_tables.proofs.Proved.{first_of_current, leaves_beside}
 use Rattle.club_rows.specs.Club.{ClubState, tables}
-use Rattle.club_rows.specs.FirstSchema.{IsFirstClub}
-use Rattle.club_opening.specs.Versions.{IsExactlyClub}
+use Rattle.club_rows.specs.FirstSchema.{IsFirstClub, first_tables}
 use Rattle.store.specs.Histories.{Chapter, IsReachable, IsHistory, IsHistoryAt}
 
 -- with no session more
@@ -31,13 +29,15 @@ left_led them sessions s at db left = record {
 
 -- tables that are not those of schema 1 stand where the sessions lead in schema 2
 pub newer_history : (version : Version) (them : Neighbours) (sessions : List Chapter) (s : State)
-    → ((c : ClubState) → IsFirstClub c → ¬ IsExactlyClub First c s) → IsHistoryAt version them sessions s
+    → ((c : ClubState) → IsFirstClub c → ¬ IsFirstBeside them (first_tables c) s) → IsHistoryAt version them sessions s
     → IsHistory them sessions s
-newer_history First them sessions s newer at = absurd (newer at.after at.legal at.exactly.1)
+newer_history First them sessions s newer at = absurd (newer at.after at.legal at.exactly)
 newer_history Current them sessions s newer at = at
 
--- wherever sessions lead, the tables of schema 1 stand first
+-- wherever sessions lead, the tables of schema 1 stand
 pub stand_first : (version : Version) (them : Neighbours) (sessions : List Chapter) (s : State)
-    → IsHistoryAt version them sessions s → IsBeside first_schema s.now.schema
-stand_first First them sessions s at = first_of_club s.now.schema (inl at.exactly.1.now.schema)
-stand_first Current them sessions s at = first_within s.now.schema (them.made, at.exactly.exactly.now.schema)
+    → IsHistoryAt version them sessions s → HasTables First s.now.schema
+stand_first First them sessions s at =
+    subst (HasTables First) (sym at.exactly.exactly.now.schema) at.exactly.before.tables.0
+stand_first Current them sessions s at =
+    subst (HasTables First) (sym at.exactly.exactly.now.schema) (first_of_current them.schema at.exactly.clear.club)

@@ -1,26 +1,26 @@
--- A club that an opening found, alone or beside what other programs made.
-use Rattle.std.proofs.Common.{◌≡◌, true, ap, ◌∙◌, Result, Ok, Err}
+-- A club that an opening found, alone or among what other programs made.
+use Rattle.std.proofs.Common.{◌≡◌, true, ap, sym, subst, ◌∙◌, Result, Ok, Err}
 use Rattle.std.specs.Prelude.{IfOk, IfErr}
 use Rattle.sqlite.specs.State.{State}
-use Rattle.store_tables.specs.Beside.{HasRows, IsBeside}
 use Rattle.store_tables.specs.Contents as of_schema
 use Rattle.store_tables.specs.Contents.{Content}
-use Rattle.store_tables.specs.Over.{IsBesideThem}
+use Rattle.store_tables.specs.Over.{HasRows, IsBesideThem, IsFirstBeside, Neighbours}
+use Rattle.store_tables.specs.Placed.{HasTablesOf}
 use Rattle.store_tables.specs.Reading.{KeepsContent}
-use Rattle.store_tables.specs.Tables.{club_schema}
+use Rattle.store_tables.specs.Room.{IsWithoutClub, LeavesNoClub}
 use Rattle.store_tables.specs.declared.names.Version.TheVariants.{First, Current}
 use Rattle.store_tables.proofs.Proved.{rows_beside, still_beside}
 use Rattle.sqlite.specs.Schema.{Schema}
 use Rattle.table_shapes.specs.Shapes.{is_of_club}
-use Rattle.table_shapes.proofs.Proved.{club_is_of_club}
 use Rattle.club_rows.specs.Club.{ClubState, tables}
 use Rattle.club_rows.specs.FirstSchema.{first_tables}
-use Rattle.club_opening.specs.Versions.{HoldsRows, IsExactlyClub}
+use Rattle.club_opening.specs.Versions.{HoldsRows}
 use Rattle.club_orders.specs.declared.report.Report.{Report}
 use Rattle.club_orders.specs.declared.report.Report.TheVariants.{Unopened}
+use Rattle.club_orders.specs.Refused.{HasFirst}
 use Rattle.club_orders.specs.Report.{IfTaken}
 use Rattle.store.specs.Histories.{HasState}
-use Rattle.store.proofs.Proved.{holds_beside}
+use Rattle.store.proofs.Proved.{holds_beside, holds_first}
 
 -- what a later opening would find the connection holds exactly
 abbrev pub IsExact : State → Type 0
@@ -38,8 +38,8 @@ module _ (club : ClubState) (s : State) (exact : IsExact s) (has : HasState club
       let at = stands_beside in
       takes (holds_beside has.them (tables club) s at) (ap (is_of_club Current) at.exactly.now.schema ∙ has.shape)
 
-  pub stand_beside : IsBeside club_schema s.now.schema
-  stand_beside = (has.them.made, stands_beside.exactly.now.schema)
+  pub stand_beside : HasTablesOf Current s.now.schema
+  stand_beside = subst (HasTablesOf Current) (sym stands_beside.exactly.now.schema) has.leaves.clear.club
 
   -- a call that answered left the rows
   pub still_there : (new : State) → KeepsContent s new → HasRows (tables club) new
@@ -47,11 +47,27 @@ module _ (club : ClubState) (s : State) (exact : IsExact s) (has : HasState club
       rows_beside has.them (tables club) new (still_beside s new kept has.them (tables club) stands_beside)
 
 -- the same of a club of schema 1
-pub is_taken_first : (club : ClubState) (s : State) (P : Type 0) → IsExactlyClub First club s
-    → (HoldsRows First (first_tables club) s.now → is_of_club First s.now.schema ≡ true → P) → P
-is_taken_first club s P at takes =
-    takes (record { schema = at.now.schema; sound = at.now.sound; tables = at.now.tables })
-    (ap (is_of_club First) at.now.schema ∙ club_is_of_club First)
+module _ (them : Neighbours) (club : ClubState) (s : State) (exact : IsExact s)
+    (has : HasFirst them club s.committed.trees) where
+  pub first_beside : IsFirstBeside them (first_tables club) s
+  first_beside = record {
+    schema = has.leaves.schema;
+    before = has.leaves.before;
+    exactly = exact _ _ has.leaves.leaves;
+  }
+
+  pub first_shape : is_of_club First s.now.schema ≡ true
+  first_shape = ap (is_of_club First) (exact _ _ has.leaves.leaves).now.schema ∙ has.shape
+
+  pub is_taken_first : (P : Type 0)
+      → (HoldsRows First (first_tables club) s.now → is_of_club First s.now.schema ≡ true → P) → P
+  is_taken_first P takes = takes (holds_first them (first_tables club) s first_beside) first_shape
+
+-- a connection that opens on the tables of other programs alone has exactly these
+pub without_club : (them : Neighbours) (s : State) → IsExact s → LeavesNoClub them s.committed.trees
+    → IsWithoutClub them s
+without_club them s exact left =
+    record { schema = left.schema; before = left.before; exactly = exact _ _ left.leaves }
 
 -- what was taken over is told of whatever report that it was
 pub taken_so : (P : Type 0) (report : Report) → P → IfTaken report P

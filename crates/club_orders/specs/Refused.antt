@@ -1,18 +1,16 @@
 -- Which orders take a club over, and what is said of tables that are taken over, or not upgraded.
-use Rattle.std.specs.Prelude.{◌≡◌, ◌≢◌, ◌⊎◌, List, pos, ⊤}
+use Rattle.std.specs.Prelude.{◌≡◌, ◌≢◌, ◌⊎◌, List, pos, true, ⊤}
 use Rattle.sqlite.specs.Tree.{Trees}
 use Rattle.sqlite.specs.State.{State, Opens}
-use Rattle.store_tables.specs.Beside.{HasRows}
-use Rattle.store_tables.specs.Contents as of_schema
-use Rattle.store_tables.specs.Over.{Neighbours, IsBesideThem}
-use Rattle.store_tables.specs.Tables.{first_schema}
+use Rattle.store_tables.specs.Placed.{HasClubTables}
+use Rattle.store_tables.specs.Over.{HasRows, IsBesideThem, LeavesFirst, Neighbours}
 use Rattle.store_tables.specs.declared.names.Version.TheVariants.{First}
 use Rattle.club_rows.specs.Club.{ClubState, tables}
 use Rattle.club_rows.specs.FirstSchema.{IsFirstClub, first_tables}
+use Rattle.table_shapes.specs.Shapes.{is_of_club}
 use Rattle.club_opening.specs.Blames.{Names}
 use Rattle.club_opening.specs.Refused.{HoldClub, IsKept}
 use Rattle.club_opening.specs.RightTables.{NamesFirst}
-use Rattle.club_opening.specs.Versions.{HasClubTables}
 use Rattle.club_opening.specs.declared.fault.OpenFault.{OpenFault}
 use Rattle.club_opening.specs.declared.fault.OpenFault.TheVariants.{Schema, Store, Memory}
 use Rattle.store.specs.Histories.{Chapter, HasState, IsHistory, IsReachable}
@@ -30,14 +28,17 @@ pub record IsUpgradeRefusal (old new : State) (fault : OpenFault) : Type 0 where
 abbrev pub IsOlder : OpenFault → Type 0
 IsOlder fault = (fault ≡ Schema (pos 1)) ⊎ ((fault ≡ Store) ⊎ (fault ≡ Memory))
 
--- a legal state of schema 1 has the tables that stand there
-abbrev pub HasFirst : ClubState → Trees → Type 0
-HasFirst s trees = IsFirstClub s × of_schema.Leaves first_schema (first_tables s) trees
+-- A legal state of schema 1 has the tables that stand there, alone or among what other programs made, and these answer
+-- as a club's.
+pub record HasFirst (them : Neighbours) (s : ClubState) (trees : Trees) : Type 0 where
+  pub legal : IsFirstClub s
+  pub leaves : LeavesFirst them (first_tables s) trees
+  pub shape : is_of_club First leaves.schema ≡ true
 
 -- A club was taken over: it is not of schema 1, and legal if its tables are a club's. Its state and its history go on
 -- from what was found, beside the same tables of other programs, and so they do from whatever a stop leaves.
 pub record IsTakenOver (old new : State) : Type 0 where
-  pub newer : (s : ClubState) → ¬ HasFirst s old.committed.trees
+  pub newer : (them : Neighbours) (s : ClubState) → ¬ HasFirst them s old.committed.trees
   pub legal : HasClubTables old.now.schema → HoldClub old.committed.trees
   pub stands : (s : ClubState) → (has : HasState s old.committed.trees) → IsBesideThem has.them (tables s) new
   pub rows : (s : ClubState) → HasState s old.committed.trees → HasRows (tables s) new

@@ -4,11 +4,9 @@ use Rattle.std.specs.Prelude.{Bool, true, false, codes, decimal, ⊤}
 use Rattle.std.specs.Io.KnownBytes.{Appends}
 use Rattle.sqlite.specs.Tree.{Trees}
 use Rattle.sqlite.specs.State.{State}
-use Rattle.store_tables.specs.Contents as of_schema
 use Rattle.store_tables.specs.Contents.{IsEmpty}
-use Rattle.store_tables.specs.Club.{Leaves}
-use Rattle.store_tables.specs.Over.{alone}
-use Rattle.store_tables.specs.Tables.{first_schema}
+use Rattle.store_tables.specs.Over.{LeavesBeside, LeavesFirst, Neighbours, alone}
+use Rattle.store_tables.specs.Room.{LeavesNoClub}
 use Rattle.club_requests.specs.declared.requests.Who.TheVariants.{Officer}
 use Rattle.club_requests.specs.declared.requests.Command.{Command}
 use Rattle.club_requests.specs.declared.answers.Outcome.{Outcome}
@@ -205,14 +203,14 @@ IsUpgraded (Unopened fault) = (fault ≡ open_fault.Store) ⊎ (fault ≡ open_f
 IsUpgraded _ = ⊥
 
 -- the tables of the state in schema 2; or, where the file was not carried over, in schema 1
-abbrev pub AreCarried : ClubState → Report → Trees → Type 0
-AreCarried s Upgraded trees = Leaves (tables s) trees
-AreCarried s _ trees = of_schema.Leaves first_schema (first_tables s) trees ⊎ Leaves (tables s) trees
+abbrev pub AreCarried : Neighbours → ClubState → Report → Trees → Type 0
+AreCarried them s Upgraded trees = LeavesBeside them (tables s) trees
+AreCarried them s _ trees = LeavesFirst them (first_tables s) trees ⊎ LeavesBeside them (tables s) trees
 
--- what an upgrade of a club of schema 1 came to
-pub record IsCarriedOver (s : ClubState) (report : Report) (new : State) : Type 0 where
+-- what an upgrade of a club of schema 1 came to, beside the same tables of other programs
+pub record IsCarriedOver (them : Neighbours) (s : ClubState) (report : Report) (new : State) : Type 0 where
   pub answer : IsUpgraded report
-  pub leaves : (db : Trees) → new.may_leave db → AreCarried s report db
+  pub leaves : (db : Trees) → new.may_leave db → AreCarried them s report db
 
 -- the file was of schema 2; or a call of the database failed, or memory was refused
 abbrev pub IsRepeated : Report → Type 0
@@ -239,3 +237,8 @@ OnlyUnopened _ Holds = ⊥
 abbrev pub IsBegun : Report → Trees → Type 0
 IsBegun Ready trees = IsReachable alone [] trees
 IsBegun _ trees = IsEmpty trees ⊎ IsReachable alone [] trees
+
+-- The same of a club that was to be made behind the tables of these programs.
+abbrev pub IsBegunBehind : Neighbours → Report → Trees → Type 0
+IsBegunBehind them Ready trees = IsReachable them [] trees
+IsBegunBehind them _ trees = LeavesNoClub them trees ⊎ IsReachable them [] trees

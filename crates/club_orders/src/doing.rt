@@ -4,7 +4,9 @@ ghost use Rattle.std.specs.Prelude.{◌≡◌, ◌≢◌, ◌≤◌, ◌++◌, �
 ghost use Rattle.sqlite.specs.State.{HasCleanDisk, Opens, IsLive};
 ghost use Rattle.sqlite.specs.Held.{state};
 ghost use Rattle.sqlite_trees.specs.View.{doubt};
+ghost use Rattle.store_tables.specs.Placed.{HasClubTables};
 ghost use Rattle.store_tables.specs.Contents.{IsEmpty};
+ghost use Rattle.store_tables.specs.Room.{LeavesNoClub};
 ghost use Rattle.store_tables.specs.Club.{IsExactly, IsOpened};
 ghost use Rattle.store_tables.specs.Reading.{KeepsContent};
 ghost use Rattle.store_tables.specs.declared.names.Version.TheVariants.{Current};
@@ -17,9 +19,9 @@ ghost use Rattle.club_words.specs.declared.words.Task.TheVariants.{Init};
 ghost use Rattle.club_orders.specs.Batches.{AnswersBatch};
 ghost use Rattle.club_orders.specs.Report.{given, Answers, ask_report, IfRequest, IfAsk, IfBatch, IfVerify, IfUnopened};
 ghost use Rattle.club_orders.specs.Report.{IfTaken, IsCarriedOver, IsRepeated, OnlyUnopened, upgrade_of};
-ghost use Rattle.club_orders.specs.Report.{Shows, IsPassed, IsBegun, request_sessions, task_sessions, writes};
+ghost use Rattle.club_orders.specs.Report.{Shows, IsPassed, IsBegun, IsBegunBehind, request_sessions, task_sessions};
+ghost use Rattle.club_orders.specs.Report.{writes};
 ghost use Rattle.club_opening.specs.Refused.{HoldClub, IsKept, IsRefusal};
-ghost use Rattle.club_opening.specs.Versions.{HasClubTables};
 ghost use Rattle.club_orders.specs.Refused.{HasFirst, IfTakesOver, IfUpgrade, IsOlder, IsUpgradeRefusal};
 
 use crate::report::Report;
@@ -46,6 +48,11 @@ fn init<S: Alter>(alloc: Global, conn: Connection<S>) -> (Report, Connection<S>)
         (db : _) → (state S.Store result.1).may_leave db → IsBegun result.0 db }
     ensures empty { HasCleanDisk (state S.Store result.1) → Opens (state S.Store conn) → IsLive (state S.Store conn) →
         IsEmpty (state S.Store conn).committed.trees → IfUnopened result.0 (λ fault. fault ≡ OpenFault.Store) }
+    // Behind the tables of other programs, whose rows stay.
+    ensures behind { HasCleanDisk (state S.Store result.1) → Opens (state S.Store conn) → IsLive (state S.Store conn) →
+        (them : _) → LeavesNoClub them (state S.Store conn).committed.trees →
+        IfUnopened result.0 (λ fault. fault ≡ OpenFault.Store)
+        × ((db : _) → (state S.Store result.1).may_leave db → IsBegunBehind them result.0 db) }
     ensures spares { HasCleanDisk (state S.Store result.1) → Opens (state S.Store conn) →
         result.0 ≡ Report.Unopened OpenFault.Foreign → IsKept (state S.Store conn) (state S.Store result.1) }
     ensures led { HasCleanDisk (state S.Store result.1) → Opens (state S.Store conn) → IsLive (state S.Store conn) →
@@ -53,6 +60,7 @@ fn init<S: Alter>(alloc: Global, conn: Connection<S>) -> (Report, Connection<S>)
         (db : _) → (state S.Store result.1).may_leave db → IsReachable them sessions db }
 {
     holds_nothing(&conn);
+    holds_exactly(&conn);
     holds_what_sessions_left(&conn);
     leaves_what_sessions_left(&conn);
     match create(alloc, conn) {
@@ -129,8 +137,8 @@ fn carry<S: Alter>(alloc: Global, conn: Connection<S>) -> (Report, Connection<S>
     ensures idle { result.1.in_transaction ≡ false }
     ensures clean { doubt (state S.Store conn).is_clean ≤ doubt (state S.Store result.1).is_clean }
     ensures carries { HasCleanDisk (state S.Store result.1) → Opens (state S.Store conn) → IsLive (state S.Store conn) →
-        (s : ClubState) → HasFirst s (state S.Store conn).committed.trees →
-        IsCarriedOver s result.0 (state S.Store result.1) }
+        (them : _) (s : ClubState) → HasFirst them s (state S.Store conn).committed.trees →
+        IsCarriedOver them s result.0 (state S.Store result.1) }
     ensures repeats { HasCleanDisk (state S.Store result.1) → Opens (state S.Store conn) → IsLive (state S.Store conn) →
         (s : ClubState) → IsClub s → HasState s (state S.Store conn).committed.trees →
         IsRepeated result.0 × IsKept (state S.Store conn) (state S.Store result.1) }
@@ -186,7 +194,8 @@ pub fn verify<S: Alter>(alloc: Global, conn: Connection<S>) -> (Report, Connecti
     ensures refuses { HasCleanDisk (state S.Store result.1) →
         IfUnopened result.0 (IsRefusal (state S.Store conn) (state S.Store result.1)) }
     ensures older { HasCleanDisk (state S.Store result.1) → Opens (state S.Store conn) → IsLive (state S.Store conn) →
-        (s : ClubState) → HasFirst s (state S.Store conn).committed.trees → OnlyUnopened result.0 IsOlder }
+        (them : _) (s : ClubState) → HasFirst them s (state S.Store conn).committed.trees →
+        OnlyUnopened result.0 IsOlder }
     ensures led { HasCleanDisk (state S.Store result.1) → Opens (state S.Store conn) → IsLive (state S.Store conn) →
         (them : _) (sessions : _) → IsReachable them sessions (state S.Store conn).committed.trees →
         (db : _) → (state S.Store result.1).may_leave db → IsReachable them sessions db }
@@ -202,9 +211,9 @@ pub fn verify<S: Alter>(alloc: Global, conn: Connection<S>) -> (Report, Connecti
 /// writes what that is shown to `out`, tests that the rows are those of a club, or carries a club of schema 1 over to
 /// schema 2; every other word refuses schema 1 by its number. Of a backup it does what comes first, and tests the rows.
 /// The answer is the machine's. Sessions that led to what the opening found lead, with this request or these orders as
-/// one more, to whatever a stop leaves, beside the same tables of other programs; where there was no table, and a club
-/// was to be made, none led to it, or there is no table still. Tables that are not taken as a club's are blamed for it,
-/// and stay as they were found; those that are found sound are a club's.
+/// one more, to whatever a stop leaves, beside the same tables of other programs; where there was no table, or none but
+/// those of other programs, and a club was to be made, none led to it, or there is none still. Tables that are not
+/// taken as a club's are blamed for it, and stay as they were found; those that are found sound are a club's.
 pub fn act<S: Alter, W: Write>(
     alloc: Global,
     conn: Connection<S>,
@@ -222,6 +231,11 @@ pub fn act<S: Alter, W: Write>(
     ensures empty { HasCleanDisk (state S.Store result.1) → Opens (state S.Store conn) → IsLive (state S.Store conn) →
         task.now ≡ Init → IsEmpty (state S.Store conn).committed.trees →
         IfUnopened result.0 (λ fault. fault ≡ OpenFault.Store) }
+    // So it is behind the tables of other programs, whose rows stay.
+    ensures behind { HasCleanDisk (state S.Store result.1) → Opens (state S.Store conn) → IsLive (state S.Store conn) →
+        task.now ≡ Init → (them : _) → LeavesNoClub them (state S.Store conn).committed.trees →
+        IfUnopened result.0 (λ fault. fault ≡ OpenFault.Store)
+        × ((db : _) → (state S.Store result.1).may_leave db → IsBegunBehind them result.0 db) }
     ensures answer { HasCleanDisk (state S.Store result.1) → Opens (state S.Store conn) → IsLive (state S.Store conn) →
         (s : ClubState) → IsClub s → HasState s (state S.Store conn).committed.trees →
         IfRequest task.now (λ command. Answers result.0 (λ outcome.
@@ -247,11 +261,11 @@ pub fn act<S: Alter, W: Write>(
     ensures refuses { HasCleanDisk (state S.Store result.1) → IfTakesOver task.now (IfUnopened result.0
         (IsRefusal (state S.Store conn) (state S.Store result.1))) }
     ensures older { HasCleanDisk (state S.Store result.1) → Opens (state S.Store conn) → IsLive (state S.Store conn) →
-        (s : ClubState) → HasFirst s (state S.Store conn).committed.trees →
+        (them : _) (s : ClubState) → HasFirst them s (state S.Store conn).committed.trees →
         IfTakesOver task.now (OnlyUnopened result.0 IsOlder) }
     ensures carries { HasCleanDisk (state S.Store result.1) → Opens (state S.Store conn) → IsLive (state S.Store conn) →
-        (s : ClubState) → HasFirst s (state S.Store conn).committed.trees →
-        IfUpgrade task.now (IsCarriedOver s result.0 (state S.Store result.1)) }
+        (them : _) (s : ClubState) → HasFirst them s (state S.Store conn).committed.trees →
+        IfUpgrade task.now (IsCarriedOver them s result.0 (state S.Store result.1)) }
     ensures repeats { HasCleanDisk (state S.Store result.1) → Opens (state S.Store conn) → IsLive (state S.Store conn) →
         (s : ClubState) → IsClub s → HasState s (state S.Store conn).committed.trees →
         IfUpgrade task.now (IsRepeated result.0 × IsKept (state S.Store conn) (state S.Store result.1)) }

@@ -42,15 +42,15 @@ pub(crate) fn take_over<S: Alter>(
     ensures kept { IfOk result (λ club. Reads true (state S.Store conn) (state S.Store club.connection)) }
     ensures idle { IfErr result (λ u. u.conn.in_transaction ≡ false) }
     ensures reads { IfErr result (λ u. OnlyReads (state S.Store conn) (state S.Store u.conn)) }
-    // A legal club, alone or beside what other programs made, is taken.
+    // A legal club, alone or among what other programs made, is taken.
     ensures good { IfErr result (λ u. HasCleanDisk (state S.Store u.conn) → Opens (state S.Store conn) →
         IsLive (state S.Store conn) → (s : ClubState) → IsClub s → HasState s (state S.Store conn).committed.trees →
         (u.fault ≡ OpenFault.Store) ⊎ (u.fault ≡ OpenFault.Memory)) }
     ensures refuses { IfErr result (λ u. HasCleanDisk (state S.Store u.conn) →
         IsRefusal (state S.Store conn) (state S.Store u.conn) u.fault) }
     ensures older { IfErr result (λ u. HasCleanDisk (state S.Store u.conn) → Opens (state S.Store conn) →
-        IsLive (state S.Store conn) → (s : ClubState) → HasFirst s (state S.Store conn).committed.trees →
-        IsOlder u.fault) }
+        IsLive (state S.Store conn) → (them : _) (s : ClubState) →
+        HasFirst them s (state S.Store conn).committed.trees → IsOlder u.fault) }
     ensures led { IfErr result (λ u. HasCleanDisk (state S.Store u.conn) → Opens (state S.Store conn) →
         IsLive (state S.Store conn) → (them : _) (sessions : _) →
         IsReachable them sessions (state S.Store conn).committed.trees →
@@ -125,7 +125,8 @@ pub(crate) fn do_in_club<S: Alter, T: ClubTask, W: Write>(
     ensures refuses { HasCleanDisk (state S.Store result.1) →
         IfUnopened result.0 (IsRefusal (state S.Store conn) (state S.Store result.1)) }
     ensures older { HasCleanDisk (state S.Store result.1) → Opens (state S.Store conn) → IsLive (state S.Store conn) →
-        (s : ClubState) → HasFirst s (state S.Store conn).committed.trees → OnlyUnopened result.0 IsOlder }
+        (them : _) (s : ClubState) → HasFirst them s (state S.Store conn).committed.trees →
+        OnlyUnopened result.0 IsOlder }
     ensures led { HasCleanDisk (state S.Store result.1) → Opens (state S.Store conn) → IsLive (state S.Store conn) →
         (them : _) (sessions : _) → IsReachable them sessions (state S.Store conn).committed.trees →
         (db : _) → (state S.Store result.1).may_leave db →

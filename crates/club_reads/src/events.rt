@@ -10,7 +10,7 @@ ghost use Rattle.club_core.specs.State as club;
 ghost use Rattle.club_core.specs.State.{place};
 ghost use Rattle.club_rows.specs.Tables.{number, numbered_from, event_row, rule_row};
 ghost use Rattle.store_tables.specs.Cells.{event_cells, event_rule_cells};
-ghost use Rattle.store_tables.specs.Beside.{HasRows};
+ghost use Rattle.store_tables.specs.Over.{HasRows};
 ghost use Rattle.store_tables.specs.Reading.{Reads};
 ghost use Rattle.club_rows.specs.Club.{ClubState, IsClub, tables};
 

@@ -1,5 +1,4 @@
 pub mod CrossTableLemmas
 pub mod EntryRows
 pub mod Proved
-pub mod ReadLemmas
 pub mod ViewedLemmas

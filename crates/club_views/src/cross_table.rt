@@ -13,7 +13,7 @@ ghost use Rattle.club_rows.specs.Club.{ClubState, IsClub, tables};
 ghost use Rattle.club_rows.specs.Tables.{event_row};
 ghost use Rattle.cross_tables.specs.Lines.{header_text};
 ghost use Rattle.store_tables.specs.Cells.{event_cells};
-ghost use Rattle.store_tables.specs.Beside.{HasRows};
+ghost use Rattle.store_tables.specs.Over.{HasRows};
 ghost use Rattle.store_tables.specs.Reading.{Reads};
 ghost use Rattle.club_views.specs.CrossTable.{name_in, standing_line, lines_from, AreScoresIn, AreTableRows};
 ghost use Rattle.club_views.specs.CrossTable.{IsCrossTable};

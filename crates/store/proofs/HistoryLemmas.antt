@@ -1,5 +1,6 @@
 -- What sessions of a club lead to, counted by the requests that are accepted.
-use Rattle.store_tables.specs.Tables.{club_schema, first_schema, schema_after}
+use Rattle.store_tables.specs.Placed.{HasClubTables, HasTablesOf}
+use Rattle.store_tables.specs.Tables.{schema_after}
 use Rattle.std.proofs.Common.{◌≡◌, ◌⊎◌, ℕ, zero, suc, ◌+◌, ◌≤◌, Bool, true, false, List, [], ◌∷◌, ◌++◌, map, length}
 use Rattle.std.proofs.Common.{take, Option, Some, None, IsSome, IsTrue, is_none, refl, sym, ap, subst, ◌∙◌, inl, inr}
 use Rattle.std.proofs.Common.{arith}
@@ -17,12 +18,12 @@ use Rattle.club_requests.specs.Outcome.{Outcome, accepted, repeated, refused}
 use Rattle.club_core.specs.State.{Request, opening_state, is_accepted}
 use Rattle.club_laws.proofs.Proved.{folds-accepted}
 use Rattle.club_rows.specs.Club.{both_games, ClubState, IsClub, tables}
-use Rattle.store_tables.specs.Beside.{IsBeside, Others, beside}
-use Rattle.store_tables.specs.Contents.{AreStored, Content, IsEmpty, IsExactlyEmpty}
+use Rattle.store_tables.specs.Contents.{Content, IsEmpty, IsExactlyEmpty}
 use Rattle.store_tables.specs.Club.{IsExactly, Leaves}
-use Rattle.store_tables.specs.Over.{alone, IsBesideThem, LeavesBeside, Neighbours, over}
+use Rattle.store_tables.specs.Over.{alone, IsBesideThem, IsFirstBeside, LeavesBeside, Neighbours, over}
 use Rattle.store_tables.specs.Reading.{KeepsContent}
-use Rattle.store_tables.proofs.Proved.{beside_alone, leaves_beside, left_alone, still_beside}
+use Rattle.store_tables.proofs.Proved.{beside_alone, club_held, leaves_beside, leaves_first, left_alone, still_beside}
+use Rattle.store_tables.proofs.Proved.{first_held, versions_apart}
 use Rattle.store.specs.declared.club.run.Run.{Run}
 use Rattle.store.specs.declared.fault.StoreFault.{StoreFault}
 use Rattle.club_changes.specs.Steps.{club_step, club_next}
@@ -32,8 +33,7 @@ use Rattle.store.specs.Histories.{Chapter, Leads, Place, SessionReaches, Reaches
 use Rattle.store.specs.Histories.{IsAfter, is_taken, opens_as, run_session, served, session_of, answered_session}
 use Rattle.store.specs.Histories.{IsExactlyAt, LeavesAt, Session, cut_session}
 use Rattle.club_rows.specs.FirstSchema.{first_tables}
-use Rattle.club_opening.specs.Versions.{HasClubTables, HoldsRows}
-use Rattle.club_opening.proofs.Proved.{one_of}
+use Rattle.club_opening.specs.Versions.{HoldsRows}
 use Rattle.store_tables.specs.declared.names.Version.{Version}
 use Rattle.store_tables.specs.declared.names.Version.TheVariants.{First, Current}
 
@@ -319,28 +319,28 @@ opening_legal = record {
   challenge_numbers = λ i j x y at. absurd (let h = at in cc);
 }
 
+-- a club that was just made, beside whatever neighbours, has a history with no session
+pub made_led : (them : Neighbours) (trees : Trees) → LeavesBeside them (tables opening_state) trees
+    → IsReachable them [] trees
+made_led them trees left =
+    record { from = Current; after = at_state opening_state; legal = opening_legal; leads = refl; leaves = left }
+
+pub made_stands : (them : Neighbours) (now : State) → IsBesideThem them (tables opening_state) now
+    → IsHistory them [] now
+made_stands them now exactly =
+    record { from = Current; after = opening_state; legal = opening_legal; leads = refl; exactly = exactly }
+
+-- so has one that stands alone
 pub opening_led : (trees : Trees) → Leaves (tables opening_state) trees → IsReachable alone [] trees
-opening_led trees left = record {
-  from = Current;
-  after = at_state opening_state;
-  legal = opening_legal;
-  leads = refl;
-  leaves = left_alone (tables opening_state) trees left;
-}
+opening_led trees left = made_led alone trees (left_alone (tables opening_state) trees left)
 
 pub opening_stands : (now : State) → IsExactly (tables opening_state) now → IsHistory alone [] now
-opening_stands now exactly = record {
-  from = Current;
-  after = opening_state;
-  legal = opening_legal;
-  leads = refl;
-  exactly = beside_alone (tables opening_state) now exactly;
-}
+opening_stands now exactly = made_stands alone now (beside_alone (tables opening_state) now exactly)
 
 -- what a stop leaves of a place in a history
 pub left_at : (version : Version) (them : Neighbours) (after : ClubState) (now : State)
     → IsExactlyAt version them after now → (trees : Trees) → now.may_leave trees → LeavesAt version them after trees
-left_at First them after now k trees left = (k.0, k.1.may_leave trees left)
+left_at First them after now k trees left = leaves_first them (first_tables after) now k trees left
 left_at Current them after now k trees left = leaves_beside them (tables after) now k trees left
 
 pub stops_led : (version : Version) (them : Neighbours) (chapters : List Chapter) (now : State)
@@ -360,13 +360,18 @@ module _ (s : State) (opens : Opens s) (live : IsLive s)
       → IsBesideThem them content s
   opens_beside them content left = record {
     clear = left.clear;
-    exactly = opens_exactly (beside club_schema them.made) (over content them.rows) s opens live settled left.leaves;
+    exactly =
+        opens_exactly them.schema (over them.schema content them.rows) s opens live settled left.leaves;
   }
 
   opens_at : (version : Version) (them : Neighbours) (after : ClubState)
       → LeavesAt version them after s.committed.trees → IsExactlyAt version them after s
-  opens_at First them after left =
-      (left.0, opens_exactly first_schema (first_tables after) s opens live settled left.1)
+  opens_at First them after left = record {
+    schema = left.schema;
+    before = left.before;
+    exactly =
+        opens_exactly left.schema (over left.schema (first_tables after) them.rows) s opens live settled left.leaves;
+  }
   opens_at Current them after left = opens_beside them (tables after) left
 
   pub opens_led : (them : Neighbours) (chapters : List Chapter) → IsReachable them chapters s.committed.trees
@@ -401,12 +406,11 @@ module _ (s : State) (opens : Opens s) (live : IsLive s)
 
 -- a history whose tables were taken as those of the last schema, if they are a club's, is one of the last version
 pub current_taken : (them : Neighbours) (chapters : List Chapter) (s : State)
-    → (HasClubTables s.now.schema → IsBeside club_schema s.now.schema)
+    → (HasClubTables s.now.schema → HasTablesOf Current s.now.schema)
     → (version : Version) × IsHistoryAt version them chapters s → IsHistory them chapters s
 current_taken them chapters s taken (First, at) =
-    let first : s.now.schema ≡ first_schema = at.exactly.1.now.schema in
-    let same : First ≡ Current = one_of First Current s.now.schema first (taken (inl first)) in
-    absurd (let x = same in cc)
+    let first = subst (HasTablesOf First) (sym at.exactly.exactly.now.schema) at.exactly.before.tables in
+    absurd (versions_apart s.now.schema first (taken (inl first)))
 current_taken them chapters s taken (Current, at) = at
 
 -- what keeps the tables keeps where they stand
@@ -422,39 +426,20 @@ still_stands them chapters old new kept at = record {
 
 -- ---- the rows of a club among those of all tables
 
-club_stored : (content rest : Content) (others : Others) (trees : Trees)
-    → AreStored (beside club_schema others) trees (over content rest) → AreStored club_schema trees content
-club_stored content rest others trees t = (
-  record { rows = t.0.rows; apart = t.0.apart },
-  (
-    record { rows = t.1.0.rows; apart = t.1.0.apart },
-    (
-      record { rows = t.1.1.0.rows; apart = t.1.1.0.apart },
-      (
-        record { rows = t.1.1.1.0.rows; apart = t.1.1.1.0.apart },
-        (
-          record { rows = t.1.1.1.1.0.rows; apart = t.1.1.1.1.0.apart },
-          (
-            record { rows = t.1.1.1.1.1.0.rows; apart = t.1.1.1.1.1.0.apart },
-            (
-              record { rows = t.1.1.1.1.1.1.0.rows; apart = t.1.1.1.1.1.1.0.apart },
-              (
-                record { rows = t.1.1.1.1.1.1.1.0.rows; apart = t.1.1.1.1.1.1.1.0.apart },
-                (record { rows = t.1.1.1.1.1.1.1.1.0.rows; apart = t.1.1.1.1.1.1.1.1.0.apart }, tt),
-              ),
-            ),
-          ),
-        ),
-      ),
-    ),
-  ),
-)
-
 -- what an opening is told of a club beside its neighbours
 pub holds_beside : (them : Neighbours) (content : Content) (s : State) → IsBesideThem them content s
     → HoldsRows Current content s.now
 holds_beside them content s k = record {
-  schema = (them.made, k.exactly.now.schema);
+  schema = subst (HasTablesOf Current) (sym k.exactly.now.schema) k.clear.club;
   sound = k.exactly.now.sound;
-  tables = club_stored content them.rows them.made s.now.trees k.exactly.now.tables;
+  tables = club_held them content s.now k.clear k.exactly.now;
+}
+
+-- the same of a club of schema 1
+pub holds_first : (them : Neighbours) (content : Content) (s : State) → IsFirstBeside them content s
+    → HoldsRows First content s.now
+holds_first them content s k = record {
+  schema = subst (HasTablesOf First) (sym k.exactly.now.schema) k.before.tables;
+  sound = k.exactly.now.sound;
+  tables = first_held them content s.now (record { schema = k.schema; before = k.before; holds = k.exactly.now });
 }

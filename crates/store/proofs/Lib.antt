@@ -1,4 +1,3 @@
-pub mod BesideLemmas
 pub mod HistoryLemmas
 pub mod LegalLemmas
 pub mod OpeningLemmas

@@ -1,18 +1,27 @@
 -- The rows of a club that was just made are the tables of the machine's opening state; and which tables were taken.
-use Rattle.std.proofs.Common.{◌≡◌, ◌∙◌, ℕ, Bool, true, false, List, [], inl, inr, refl, subst, sym}
-use Rattle.std.specs.Prelude.{if◌then◌else◌, ◌==◌}
+use Rattle.std.proofs.Common.{◌≡◌, ◌∙◌, ℕ, ◌+◌, Bool, true, false, List, [], ◌∷◌, inl, inr, refl, subst, sym}
+use Rattle.std.proofs.Common.{true≢false}
+use Rattle.std.proofs.lemmas.Bool.{and_parts, cases_Bool, or_parts}
+use Rattle.std.specs.List.{list_any, position_from}
+use Rattle.std.specs.Prelude.{if◌then◌else◌, ◌==◌, is_some}
 use Rattle.sqlite.specs.Order.{Row}
 use Rattle.sqlite.specs.Schema.{Schema}
+use Rattle.sqlite.specs.Table.{Table}
 use Rattle.sqlite.specs.Tree.{Trees}
 use Rattle.sqlite.specs.State.{State}
 use Rattle.club_core.specs.State.{opening_state}
+use Rattle.store_tables.specs.Placed.{HasClubTables, HasTablesOf}
+use Rattle.store_tables.specs.Names.{table_name}
+use Rattle.store_tables.specs.Over.{IsBesideThem, LeavesBeside, Neighbours}
+use Rattle.store_tables.specs.declared.names.Table.TheVariants.{EventRules}
+use Rattle.store_tables.specs.declared.names.Version.TheVariants.{First, Current}
+use Rattle.sqlite_catalog.proofs.SoundLemmas.{lowered}
+use Rattle.sqlite_schema.specs.Names.{same_name}
+use Rattle.table_shapes.specs.Shapes.{answers_as, is_of_club}
 use Rattle.club_rows.specs.Club.{tables}
-use Rattle.store_tables.specs.Beside.{IsBeside}
 use Rattle.store_tables.specs.Contents.{Content, opening}
 use Rattle.store_tables.specs.Club.{IsExactly, Leaves}
-use Rattle.store_tables.specs.Tables.{club_schema, IsClubSchema}
-use Rattle.club_opening.specs.Versions.{HasClubTables}
-use Rattle.club_opening.proofs.Proved.{schemas_differ}
+use Rattle.store_tables.specs.Tables.{event_rules}
 
 nothing-else : (z a b c d e f g h : Bool) (rows : List Row)
     → ◌≡◌ {A = List Row} (if z then rows else [])
@@ -45,8 +54,44 @@ opening-exactly s is = subst (λ c. IsExactly c s) opening-is is
 pub opening-left : (db : Trees) → Leaves opening db → Leaves (tables opening_state) db
 opening-left db is = subst (λ c. Leaves c db) opening-is is
 
--- a club's tables that are those of schema 2, if they are a club's alone, are these beside whatever others
-pub beside_taken : (schema : Schema) → (IsClubSchema schema → schema ≡ club_schema) → HasClubTables schema
-    → IsBeside club_schema schema
-beside_taken schema taken (inl first) = absurd (schemas_differ (sym first ∙ taken (inl first)))
-beside_taken schema taken (inr beside) = beside
+pub opening-beside : (them : Neighbours) (s : State) → IsBesideThem them opening s
+    → IsBesideThem them (tables opening_state) s
+opening-beside them s is = subst (λ c. IsBesideThem them c s) opening-is is
+
+pub opening-left_beside : (them : Neighbours) (db : Trees) → LeavesBeside them opening db
+    → LeavesBeside them (tables opening_state) db
+opening-left_beside them db is = subst (λ c. LeavesBeside them c db) opening-is is
+
+-- ---- which tables were taken
+
+named_back : (a b : List ℕ) → same_name a b ≡ true → same_name b a ≡ true
+named_back a b is = (lowered b a).1 (sym ((lowered a b).0 is))
+
+-- A table that answers as that of the rules of events has its name.
+answers_named : (schema : Schema) (listed : List Table) (n : ℕ)
+    → list_any (answers_as schema (event_rules 0)) listed ≡ true
+    → is_some (position_from (λ (t : Table). same_name t.name (table_name EventRules)) n listed) ≡ true
+answers_named schema [] n answers = absurd (true≢false (sym answers))
+answers_named schema (t ∷ listed) n answers = elim (cases_Bool (same_name t.name (table_name EventRules))) [
+  | inl named ↦ rw named refl
+  | inr other ↦
+      elim (cases_Bool (answers_as schema (event_rules 0) t)) [
+        | inl is ↦
+            let named = (and_parts _ _ (and_parts _ _ (and_parts _ _ is).0).0).0 in
+            absurd (true≢false (sym (named_back (table_name EventRules) t.name named) ∙ other))
+        | inr past ↦ rw other (answers_named schema listed (n + 1) (rw past at answers))
+      ]
+]
+
+-- Tables of schema 1 do not answer as those of schema 2, since the name of the last is free.
+pub first_answers : (schema : Schema) → HasTablesOf First schema → is_of_club Current schema ≡ true → ⊥
+first_answers schema first shape =
+    true≢false
+    (sym (answers_named schema schema.tables 0 (and_parts _ _ shape).1)
+    ∙ (or_parts _ _ (or_parts _ _ first.1).0).0)
+
+-- A club's tables that answer as those of schema 2 are these.
+pub current_by_shape : (schema : Schema) → is_of_club Current schema ≡ true → HasClubTables schema
+    → HasTablesOf Current schema
+current_by_shape schema shape (inl first) = absurd (first_answers schema first shape)
+current_by_shape schema shape (inr current) = current

@@ -5,11 +5,8 @@ use Rattle.std.specs.Prelude.{is_none}
 use Rattle.std.specs.List.{count_by}
 use Rattle.sqlite.specs.Tree.{Trees}
 use Rattle.sqlite.specs.State.{State}
-use Rattle.store_tables.specs.Contents as of_schema
-use Rattle.store_tables.specs.Beside.{beside}
 use Rattle.store_tables.specs.Club.{Leaves}
-use Rattle.store_tables.specs.Over.{Neighbours, alone, IsBesideThem, LeavesBeside}
-use Rattle.store_tables.specs.Tables.{club_schema, first_schema}
+use Rattle.store_tables.specs.Over.{Neighbours, alone, IsBesideThem, IsFirstBeside, LeavesBeside, LeavesFirst}
 use Rattle.store_tables.specs.declared.names.Version.{Version}
 use Rattle.store_tables.specs.declared.names.Version.TheVariants.{First, Current}
 use Rattle.club_requests.specs.declared.requests.Request as given_request
@@ -18,7 +15,6 @@ use Rattle.club_core.specs.Answer.{outcome_of, request_of}
 use Rattle.club_core.specs.State.{Request, opening_state, is_accepted}
 use Rattle.club_rows.specs.Club.{ClubState, IsClub, tables}
 use Rattle.club_rows.specs.FirstSchema.{IsClubOf, first_tables}
-use Rattle.club_opening.specs.Versions.{IsExactlyClub}
 use Rattle.table_shapes.specs.Shapes.{is_of_club}
 use Rattle.store.specs.declared.club.run.Run.{Run}
 use Rattle.store.specs.FirstRuns.{first_accepted, first_fold}
@@ -81,22 +77,22 @@ Reaches before (chapter ∷ chapters) after = (between : Place) × Leads before 
 abbrev pub opens_as : Version → Place
 opens_as version = record { version = version; state = opening_state }
 
--- A later opening finds the tables of this state beside their neighbours. A club of schema 1 stands alone: the table
--- that an upgrade makes would come after theirs.
+-- A later opening finds the tables of this state beside their neighbours, which are those of a club of schema 1 as it
+-- will stand once it is upgraded.
 abbrev pub LeavesAt : Version → Neighbours → ClubState → Trees → Type 0
-LeavesAt First them s trees = (them ≡ alone) × of_schema.Leaves first_schema (first_tables s) trees
+LeavesAt First them s trees = LeavesFirst them (first_tables s) trees
 LeavesAt Current them s trees = LeavesBeside them (tables s) trees
 
 -- the same of what an open connection holds, and of all that a stop may leave of it
 abbrev pub IsExactlyAt : Version → Neighbours → ClubState → State → Type 0
-IsExactlyAt First them s now = (them ≡ alone) × IsExactlyClub First s now
+IsExactlyAt First them s now = IsFirstBeside them (first_tables s) now
 IsExactlyAt Current them s now = IsBesideThem them (tables s) now
 
--- The trees have the tables of this state, alone or beside what other programs made, and these answer as a club's.
+-- The trees have the tables of this state, alone or among what other programs made, and these answer as a club's.
 pub record HasState (s : ClubState) (trees : Trees) : Type 0 where
   pub them : Neighbours
   pub leaves : LeavesBeside them (tables s) trees
-  pub shape : is_of_club Current (beside club_schema them.made) ≡ true
+  pub shape : is_of_club Current them.schema ≡ true
 
 -- From the opening of a club, of whatever version, the chapters lead to a legal state whose tables these trees have,
 -- for any later opening, beside these neighbours.

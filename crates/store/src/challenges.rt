@@ -11,7 +11,7 @@ ghost use Rattle.club_requests.specs.Outcome.{by_member};
 ghost use Rattle.club_core.specs.Seats.{has_member_name};
 ghost use Rattle.club_core.specs.State.{open_challenge, withdraw_challenge, answer_challenge};
 ghost use Rattle.club_rows.specs.Club.{ClubState, IsClub, tables};
-ghost use Rattle.store_tables.specs.Beside.{HasRows};
+ghost use Rattle.store_tables.specs.Over.{HasRows};
 ghost use Rattle.store_tables.specs.Reading.{Reads};
 
 use crate::decides::Decides;

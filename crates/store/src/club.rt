@@ -5,19 +5,18 @@ ghost use Rattle.sqlite.specs.Effect.{IsDatabase};
 ghost use Rattle.sqlite.specs.State.{HasCleanDisk, IsUnchanged};
 ghost use Rattle.sqlite.specs.Held.{state};
 ghost use Rattle.sqlite_trees.specs.View.{doubt};
-ghost use Rattle.store_tables.specs.Beside.{HasRows, IsBeside, TakesRows};
-ghost use Rattle.store_tables.specs.Contents as of_schema;
+ghost use Rattle.store_tables.specs.Placed.{HasClubTables, HasTables, HasTablesOf};
 ghost use Rattle.store_tables.specs.Contents.{IsExactlyEmpty, IsEmpty};
 ghost use Rattle.store_tables.specs.Club.{IsExactly, IsOpened, Leaves};
-ghost use Rattle.store_tables.specs.Over.{alone, IsBesideThem, LeavesBeside};
+ghost use Rattle.store_tables.specs.Over.{alone, HasRows, IsBesideThem, IsFirstBeside, LeavesBeside};
+ghost use Rattle.store_tables.specs.Room.{IsWithoutClub, LeavesNoClub};
 ghost use Rattle.store_tables.specs.Reading.{KeepsContent, KeepsMay, OnlyReads, Reads};
-ghost use Rattle.store_tables.specs.Tables.{club_schema, first_schema};
 ghost use Rattle.store_tables.specs.declared.names.Version.TheVariants.{First, Current};
 ghost use Rattle.table_shapes.specs.Shapes.{is_of_club};
 ghost use Rattle.club_opening.specs.Blames.{Names};
 ghost use Rattle.club_opening.specs.RightTables.{NamesFirst};
-ghost use Rattle.club_opening.specs.Versions.{HasClub, HasClubTables, HoldsRows, IsExactlyClub};
-ghost use Rattle.club_rows.specs.FirstSchema.{IsFirstClub};
+ghost use Rattle.club_opening.specs.Versions.{HasClub, HoldsRows};
+ghost use Rattle.club_rows.specs.FirstSchema.{IsFirstClub, first_tables};
 ghost use Rattle.store.specs.Histories.{IsReachable, IsHistory, answered_session, cut_session};
 ghost use Rattle.store_tables.specs.Changed.{changed};
 ghost use Rattle.club_changes.specs.Whole.{IsAccepted};
@@ -74,15 +73,15 @@ pub struct Unopened<S: Alter> {
     pub conn: Connection<S>,
 }
 
-/// Makes the tables of a club with nothing in it, in an empty database, by one transaction with one commit. A
-/// database where one of the tables stands is left as it is. Nothing is allocated so far.
+/// Makes the tables of a club with nothing in it, in an empty database or behind the tables of other programs, by one
+/// transaction with one commit. A database where a club's tables stand is left as it is. Nothing is allocated so far.
 pub fn create<S: Alter>(_alloc: Global, conn: Connection<S>) -> Result<Club<S>, Unopened<S>>
     requires { conn.in_transaction ≡ false }
     ensures ready { IfOk result (λ club. club.needs_reopening ≡ false) }
     ensures stored { IfOk result (λ club. HasCleanDisk (state S.Store club.connection) → IsExactlyEmpty
         (state S.Store conn) → IsExactly (tables opening_state) (state S.Store club.connection)) }
     ensures fresh { IfOk result (λ club. HasCleanDisk (state S.Store club.connection) →
-        ¬ IsBeside first_schema (state S.Store conn).now.schema) }
+        ¬ HasTables First (state S.Store conn).now.schema) }
     ensures clean { IfOk result (λ club. doubt (state S.Store conn).is_clean ≤ doubt
         (state S.Store club.connection).is_clean) }
     ensures idle { IfErr result (λ u. u.conn.in_transaction ≡ false) }
@@ -95,8 +94,14 @@ pub fn create<S: Alter>(_alloc: Global, conn: Connection<S>) -> Result<Club<S>, 
         (state S.Store conn) → IsHistory alone [] (state S.Store club.connection)) }
     ensures cut_off { IfErr result (λ u. HasCleanDisk (state S.Store u.conn) → IsExactlyEmpty (state S.Store conn) →
         (db : _) → (state S.Store u.conn).may_leave db → IsEmpty db ⊎ IsReachable alone [] db) }
+    // Behind the tables of other programs, whose rows stay.
+    ensures behind { IfOk result (λ club. HasCleanDisk (state S.Store club.connection) → (them : _) →
+        IsWithoutClub them (state S.Store conn) → IsHistory them [] (state S.Store club.connection)) }
+    ensures behind_fault { IfErr result (λ u. HasCleanDisk (state S.Store u.conn) → (them : _) →
+        IsWithoutClub them (state S.Store conn) → (u.fault ≡ OpenFault.Store) × ((db : _) →
+        (state S.Store u.conn).may_leave db → LeavesNoClub them db ⊎ IsReachable them [] db)) }
     ensures stays { IfErr result (λ u. HasCleanDisk (state S.Store u.conn) →
-        IsBeside first_schema (state S.Store conn).now.schema →
+        HasTables First (state S.Store conn).now.schema →
         KeepsMay (state S.Store conn) (state S.Store u.conn)) }
     ensures refused { IfErr result (λ u. HasCleanDisk (state S.Store u.conn) → u.fault ≡ OpenFault.Foreign → KeepsMay
         (state S.Store conn) (state S.Store u.conn)) }
@@ -123,7 +128,7 @@ pub fn adopt<S: Alter>(alloc: Global, conn: Connection<S>) -> Result<Club<S>, Un
         (state S.Store conn) → (s : _) × IsClub s × IsExactly (tables s) (state S.Store club.connection)) }
     ensures unchanged { IfOk result (λ club. HasCleanDisk (state S.Store club.connection) →
         HasClubTables (state S.Store conn).now.schema →
-        IsBeside club_schema (state S.Store conn).now.schema × IsUnchanged (state S.Store conn)
+        HasTablesOf Current (state S.Store conn).now.schema × IsUnchanged (state S.Store conn)
         (state S.Store club.connection) × KeepsMay (state S.Store conn) (state S.Store club.connection)) }
     ensures held { IfOk result (λ club. HasCleanDisk (state S.Store club.connection) →
         HasClubTables (state S.Store conn).now.schema → IsDatabase (state S.Store conn).now →
@@ -139,12 +144,13 @@ pub fn adopt<S: Alter>(alloc: Global, conn: Connection<S>) -> Result<Club<S>, Un
         HasClubTables (state S.Store conn).now.schema → Names Current (state S.Store conn).now u.fault) }
     ensures named { IfErr result (λ u. HasCleanDisk (state S.Store u.conn) →
         HasClubTables (state S.Store conn).now.schema → NamesFirst (state S.Store conn).now u.fault) }
-    ensures older { IfOk result (λ club. HasCleanDisk (state S.Store club.connection) → (s : _) → IsFirstClub s →
-        ¬ IsExactlyClub First s (state S.Store conn)) }
-    ensures first { IfErr result (λ u. HasCleanDisk (state S.Store u.conn) → (s : _) → IsFirstClub s →
-        IsExactlyClub First s (state S.Store conn) → (u.fault ≡ OpenFault.Schema (pos 1))
+    ensures older { IfOk result (λ club. HasCleanDisk (state S.Store club.connection) → (them : _) (s : _) →
+        IsFirstClub s → ¬ IsFirstBeside them (first_tables s) (state S.Store conn)) }
+    ensures first { IfErr result (λ u. HasCleanDisk (state S.Store u.conn) → (them : _) (s : _) → IsFirstClub s →
+        IsFirstBeside them (first_tables s) (state S.Store conn) →
+        is_of_club First (state S.Store conn).now.schema ≡ true → (u.fault ≡ OpenFault.Schema (pos 1))
         ⊎ ((u.fault ≡ OpenFault.Store) ⊎ (u.fault ≡ OpenFault.Memory))) }
-    // A legal club, alone or beside what other programs made, is taken.
+    // A legal club, alone or among what other programs made, is taken.
     ensures good { IfErr result (λ u. HasCleanDisk (state S.Store u.conn) → (s : _) → IsClub s →
         HoldsRows Current (tables s) (state S.Store conn).now →
         is_of_club Current (state S.Store conn).now.schema ≡ true →
@@ -183,14 +189,14 @@ impl<S: Alter> Club<S> {
         ensures goes_on { OnOk result (self.new.needs_reopening ≡ false) }
         ensures ends { OnErr result (self.new.needs_reopening ≡ true) }
         ensures named { IfErr result (λ fault. self.old.needs_reopening ≡ false → fault ≡ StoreFault.Store) }
-        ensures stored { HasCleanDisk (state S.Store self.new.connection) → OnOk result ((schema : _) →
-            TakesRows schema → (content : _) → of_schema.IsExactly schema content (state S.Store self.old.connection) →
-            of_schema.IsExactly schema (changed changes.now content) (state S.Store self.new.connection)) }
+        ensures stored { HasCleanDisk (state S.Store self.new.connection) → OnOk result ((them : _) (content : _) →
+            IsBesideThem them content (state S.Store self.old.connection) →
+            IsBesideThem them (changed changes.now content) (state S.Store self.new.connection)) }
         ensures fault { HasCleanDisk (state S.Store self.new.connection) →
-            OnErr result (self.old.needs_reopening ≡ false → (schema : _) → TakesRows schema → (content : _) →
-            of_schema.IsExactly schema content (state S.Store self.old.connection) → (db : _) →
+            OnErr result (self.old.needs_reopening ≡ false → (them : _) (content : _) →
+            IsBesideThem them content (state S.Store self.old.connection) → (db : _) →
             (state S.Store self.new.connection).may_leave db →
-            of_schema.Leaves schema content db ⊎ of_schema.Leaves schema (changed changes.now content) db) }
+            LeavesBeside them content db ⊎ LeavesBeside them (changed changes.now content) db) }
     {
         if self.needs_reopening {
             return Err(StoreFault::Reopen);

@@ -13,7 +13,7 @@ ghost use Rattle.club_core.specs.View.{IsConcluded, IsDecision, IsSound, Shows, 
 ghost use Rattle.club_rows.specs.Replay.{terms_given};
 ghost use Rattle.sqlite.specs.State.{HasCleanDisk};
 ghost use Rattle.sqlite.specs.Held.{state};
-ghost use Rattle.store_tables.specs.Beside.{HasRows};
+ghost use Rattle.store_tables.specs.Over.{HasRows};
 ghost use Rattle.store_tables.specs.Contents.{Content};
 ghost use Rattle.store_tables.specs.Reading.{Reads};
 ghost use Rattle.store_tables.specs.Names.{tree_of};

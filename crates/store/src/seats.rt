@@ -8,7 +8,7 @@ ghost use Rattle.club_core.specs.Answer.{members_of, events_of, seating_of};
 ghost use Rattle.club_core.specs.Seats.{seat_step};
 ghost use Rattle.club_core.specs.State.{game_under};
 ghost use Rattle.club_core.specs.State as club;
-ghost use Rattle.store_tables.specs.Beside.{HasRows};
+ghost use Rattle.store_tables.specs.Over.{HasRows};
 ghost use Rattle.store_tables.specs.Reading.{Reads};
 ghost use Rattle.club_rows.specs.Club.{ClubState, IsClub, tables};
 ghost use Rattle.club_changes.specs.Steps.{caller_step, IsDecided};

@@ -5,18 +5,16 @@ ghost use Rattle.sqlite.specs.State.{HasCleanDisk, IsLive, Opens};
 ghost use Rattle.sqlite.specs.Held.{state};
 ghost use Rattle.sqlite_trees.specs.View.{doubt};
 ghost use Rattle.sqlite.specs.declared.types.Value.TheVariants.{Int};
+ghost use Rattle.store_tables.specs.Placed.{HasClubTables, HasTablesOf};
 ghost use Rattle.store_tables.specs.Cells.{meta_cells};
-ghost use Rattle.store_tables.specs.Contents as of_schema;
-ghost use Rattle.store_tables.specs.Club.{IsExactly, Leaves};
-ghost use Rattle.store_tables.specs.Beside.{IsBeside};
-ghost use Rattle.store_tables.specs.Over.{IsBesideThem};
+ghost use Rattle.store_tables.specs.Club.{IsExactly};
+ghost use Rattle.store_tables.specs.Over.{IsBesideThem, IsFirstBeside, LeavesBeside, LeavesFirst};
 ghost use Rattle.store_tables.specs.Reading.{KeepsMay, OnlyReads};
 ghost use Rattle.table_shapes.specs.Shapes.{is_of_club};
-ghost use Rattle.store_tables.specs.Tables.{club_schema, first_schema};
-ghost use Rattle.store_tables.specs.declared.names.Version.TheVariants.{First};
+ghost use Rattle.store_tables.specs.declared.names.Version.TheVariants.{First, Current};
 ghost use Rattle.club_opening.specs.Blames.{Names};
 ghost use Rattle.club_opening.specs.RightTables.{NamesFirst};
-ghost use Rattle.club_opening.specs.Versions.{HasClubTables, HoldsRows, IsExactlyClub, IsOpenedAt};
+ghost use Rattle.club_opening.specs.Versions.{HoldsRows, IsOpenedAt};
 ghost use Rattle.club_rows.specs.Club.{ClubState, IsClub, tables};
 ghost use Rattle.club_rows.specs.FirstSchema.{IsClubOf, IsFirstClub, first_tables, tables_at};
 ghost use Rattle.store.specs.Histories.{IsHistory, IsReachable, upgraded};
@@ -51,9 +49,10 @@ pub fn upgrade<S: Alter>(
     ensures given_back { IfErr result (λ u. u.conn.in_transaction ≡ false) }
     ensures clean { IfOk result (λ done. doubt (state S.Store conn).is_clean ≤ doubt (state S.Store done.0).is_clean) }
     ensures known { IfErr result (λ u. doubt (state S.Store conn).is_clean ≤ doubt (state S.Store u.conn).is_clean) }
-    ensures done { IfOk result (λ done. HasCleanDisk (state S.Store done.0) → (s : ClubState) → IsFirstClub s →
-        IsExactlyClub First s (state S.Store conn) →
-        (done.1 ≡ Upgrade.Done) × IsExactly (tables s) (state S.Store done.0)) }
+    // Wherever the tables stand; the rows of other programs stay.
+    ensures done { IfOk result (λ done. HasCleanDisk (state S.Store done.0) → (them : _) (s : ClubState) →
+        IsFirstClub s → IsFirstBeside them (first_tables s) (state S.Store conn) →
+        (done.1 ≡ Upgrade.Done) × IsBesideThem them (tables s) (state S.Store done.0)) }
     ensures already { IfOk result (λ done. HasCleanDisk (state S.Store done.0) → (them : _) (s : ClubState) →
         IsClub s → IsBesideThem them (tables s) (state S.Store conn) →
         (done.1 ≡ Upgrade.Already) × IsBesideThem them (tables s) (state S.Store done.0)) }
@@ -61,13 +60,14 @@ pub fn upgrade<S: Alter>(
         KeepsMay (state S.Store conn) (state S.Store done.0)) }
     ensures found { IfOk result (λ done. HasCleanDisk (state S.Store done.0) → (version : _) → IsOpenedAt version
         (state S.Store conn) → (s : _) × IsClubOf version s × IsExactly (tables s) (state S.Store done.0)) }
-    ensures fault { IfErr result (λ u. HasCleanDisk (state S.Store u.conn) → (s : ClubState) → IsFirstClub s →
-        IsExactlyClub First s (state S.Store conn) → (db : _) → (state S.Store u.conn).may_leave db →
-        of_schema.Leaves first_schema (first_tables s) db ⊎ Leaves (tables s) db) }
+    ensures fault { IfErr result (λ u. HasCleanDisk (state S.Store u.conn) → (them : _) (s : ClubState) →
+        IsFirstClub s → IsFirstBeside them (first_tables s) (state S.Store conn) →
+        (db : _) → (state S.Store u.conn).may_leave db →
+        LeavesFirst them (first_tables s) db ⊎ LeavesBeside them (tables s) db) }
     ensures kept { IfErr result (λ u. u.fault ≢ OpenFault.Store →
         OnlyReads (state S.Store conn) (state S.Store u.conn)) }
     ensures stays { IfErr result (λ u. HasCleanDisk (state S.Store u.conn) →
-        IsBeside club_schema (state S.Store conn).now.schema →
+        HasTablesOf Current (state S.Store conn).now.schema →
         OnlyReads (state S.Store conn) (state S.Store u.conn)) }
     ensures good { IfErr result (λ u. HasCleanDisk (state S.Store u.conn) → (version : _) (s : ClubState) →
         IsClubOf version s → HoldsRows version (tables_at version s) (state S.Store conn).now →

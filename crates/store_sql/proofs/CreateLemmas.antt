@@ -1,76 +1,99 @@
 -- CREATE TABLE in its turn, and the first row of `meta`: a fault is one of the store's.
 use Rattle.std.proofs.Common.{◌≡◌, ◌∷◌, [], ℕ, zero, suc, ◌+◌, Bool, true, false, IsTrue, List, None, Some, Ok, Err}
-use Rattle.std.proofs.Common.{Result, refl, sym, ap, ◌∙◌, subst, slice_get, arith}
-use Rattle.std.specs.Prelude.{IfErr, IsErrAnd}
+use Rattle.std.proofs.Common.{Result, refl, sym, ap, ◌∙◌, subst, slice_get, arith, take, ◌++◌, length, true≢false}
+use Rattle.std.specs.Prelude.{IfErr, IsErrAnd, is_ok}
 use Rattle.sqlite_schema.specs.declared.command.Command.TheVariants.{CreateTable}
 use Rattle.sqlite_schema.specs.declared.command.Conflict.TheVariants.{Abort}
 use Rattle.sqlite_resolve.specs.declared.error.CompileError.{CompileError}
 use Rattle.sqlite_tied.specs.Compute.{everything}
 use Rattle.sqlite.specs.Compile.{table_defined_by}
 use Rattle.sqlite.specs.Does.{Does, sequence_text}
-use Rattle.store_tables.specs.Sql.{understood, Row, State, Table}
-use Rattle.sqlite.specs.State.{ExecutesInside}
+use Rattle.sqlite.specs.State.{ExecutesIn, ExecutesInside}
 use Rattle.sqlite.specs.declared.error.Error.{Error}
 use Rattle.sqlite.proofs.Callers.{statement_of}
-use Rattle.store_tables.specs.Beside.{IsBeside}
-use Rattle.store_tables.specs.Contents.{Makes, Ran}
-use Rattle.store_tables.specs.Names.{in_order, place_of}
+use Rattle.sqlite_catalog.specs.Change.{created, is_used}
+use Rattle.store_tables.specs.Sql.{understood, Row, Schema, State, Table}
+use Rattle.store_tables.specs.Contents.{Holds, Ran}
+use Rattle.store_tables.specs.Names.{in_order, table_name}
+use Rattle.store_tables.specs.Over.{Neighbours}
+use Rattle.store_tables.specs.Placed.{HasTables, Stands, TakesClub}
 use Rattle.store_tables.specs.Put.{on_key}
 use Rattle.store_tables.specs.Reading.{IsNoInput}
-use Rattle.store_tables.specs.Tables.{schema_after, club_schema, first_schema, made_as, standing}
+use Rattle.store_tables.specs.Room.{AreUnused, HasRoom, Makes, made_in}
+use Rattle.store_tables.specs.Tables.{made_as, standing}
 use Rattle.store_tables.specs.Texts.{create_of, put_text}
 use Rattle.store_tables.specs.declared.names.Table as of_club
 use Rattle.store_tables.specs.declared.names.Table.TheVariants.{Meta}
-use Rattle.store_tables.proofs.Proved.{creates, makes, makes_then, meta_put_means, never_made, source_of, updates_of}
+use Rattle.store_tables.specs.declared.names.Version.TheVariants.{First, Current}
+use Rattle.store_tables.proofs.Proved.{MakesHere, creates_here, defined, is_found, makes_all, makes_next, makes_no_more}
+use Rattle.store_tables.proofs.Proved.{put_command, put_plain, puts_meant, source_of, stands_already, updates_of}
 use Rattle.store_sql.proofs.RefusedLemmas.{IsQuiet, quiet_create, quiet_upsert, refused_known}
 
 -- ---- the tables that were made so far
 
 -- So many tables were made in turn; where tables of a club stand, not even the first was.
 pub record Progress (k : ℕ) (old now : State) : Type 0 where
-  pub makes : Makes 0 k old now
-  pub stands : IsBeside first_schema old.now.schema → (k ≡ 0) × IsBeside first_schema now.now.schema
+  pub makes : MakesHere (take k in_order) old now
+  pub stands : HasTables First old.now.schema → (k ≡ 0) × Stands now.now.schema Meta
 
 pub begun : (s : State) → IsTrue s.in_transaction → Progress 0 s s
-begun s inside = record {
-  makes = record { made = λ k. k; committed = refl; inside = inside };
-  stands = λ beside. (refl, beside);
-}
-
--- each table stands in its place
-abbrev ArePlaced : ℕ → List of_club.Table → Type 0
-ArePlaced k [] = Unit {0}
-ArePlaced k (table ∷ tables) = (place_of table ≡ k) × ArePlaced (suc k) tables
-
-placed_from : (from : ℕ) (tables : List of_club.Table) → ArePlaced from tables → (k : ℕ) (table : of_club.Table)
-    → slice_get tables k ≡ Some table → place_of table ≡ from + k
-placed_from from [] are k table at = cc
-placed_from from (t ∷ tables) are zero table at =
-    let same : t ≡ table = cc in
-    subst (λ t. place_of t ≡ from + 0) same (are.0 ∙ omega arith)
-placed_from from (t ∷ tables) are (suc k) table at = placed_from (suc from) tables are.1 k table at ∙ omega arith
-
-pub placed : (k : ℕ) (table : of_club.Table) → slice_get in_order k ≡ Some table → place_of table ≡ k
-placed k table at =
-    placed_from 0 in_order (refl, (refl, (refl, (refl, (refl, (refl, (refl, (refl, (refl, tt))))))))) k table at
-    ∙ omega arith
+begun s inside = record { makes = makes_no_more s inside; stands = λ has. (refl, has.0) }
 
 first_of : (k : ℕ) (table : of_club.Table) → slice_get in_order k ≡ Some table → k ≡ 0 → table ≡ Meta
 first_of zero table at is = let same : Meta ≡ table = cc in sym same
 first_of (suc k) table at is = cc
 
+-- where a table stands it is not made again
+never_made : (sql : List ℕ) (old new : State) → sql ≡ create_of Meta → Stands old.now.schema Meta
+    → ¬ Ran sql old new
+unfolding ExecutesIn
+never_made sql old new text stands h =
+    let ran : Ran (create_of Meta) old new = subst (λ s. Ran s old new) text h in
+    let some = ap is_ok ran.runs.0.1.is in
+    true≢false (sym some ∙ stands_already Meta old.now.schema stands)
+
+take_next : (tables : List of_club.Table) (k : ℕ) (table : of_club.Table) → slice_get tables k ≡ Some table
+    → take (suc k) tables ≡ take k tables ++ table ∷ []
+take_next [] k table at = cc
+take_next (t ∷ tables) zero table at = let same : t ≡ table = cc in ap (λ u. u ∷ []) same
+take_next (t ∷ tables) (suc k) table at = ap (λ l. t ∷ l) (take_next tables k table at)
+
 -- one more table was made
 pub progressed : (k : ℕ) (table : of_club.Table) → slice_get in_order k ≡ Some table → (sql : List ℕ)
     → sql ≡ create_of table → (a b c : State) → Progress k a b → Ran sql b c → Progress (k + 1) a c
 progressed k table at sql text a b c so_far ran =
-    let one : Makes k (k + 1) b c = subst (λ n. Makes n (n + 1) b c) (placed k table at) (makes table b c sql text ran)
-    in
+    let next : suc k ≡ k + 1 = omega arith in
+    let made = makes_next (take k in_order) table a b c so_far.makes (subst (λ s. Ran s b c) text ran) in
     record {
-      makes = makes_then 0 k (k + 1) a b c so_far.makes one;
-      stands = λ beside.
-          let (first, there) = so_far.stands beside in
+      makes = subst (λ l. MakesHere l a c) (sym (take_next in_order k table at) ∙ ap (λ n. take n in_order) next) made;
+      stands = λ has.
+          let (first, there) = so_far.stands has in
           absurd (never_made sql b c (text ∙ ap create_of (first_of k table at first)) there ran);
     }
+
+pub all_made : (k : ℕ) (a b : State) → take k in_order ≡ in_order → Progress k a b → Makes a b
+all_made k a b whole so_far = makes_all a b (subst (λ l. MakesHere l a b) whole so_far.makes)
+
+-- ---- the names that are free
+
+unused_take : (tables : List of_club.Table) (k : ℕ) (schema : Schema) → AreUnused schema tables
+    → AreUnused schema (take k tables)
+unused_take [] zero schema unused = tt
+unused_take [] (suc k) schema unused = tt
+unused_take (t ∷ tables) zero schema unused = tt
+unused_take (t ∷ tables) (suc k) schema (free, stored, counted, rest) =
+    (free, stored, counted, unused_take tables k (created schema (made_as t 0)) rest)
+
+-- the name of the next table is free
+free_next : (tables : List of_club.Table) (k : ℕ) (schema : Schema) (table : of_club.Table)
+    → slice_get tables k ≡ Some table → AreUnused schema tables
+    → is_used (made_in schema (take k tables)) (table_name table) ≡ false
+free_next [] k schema table at unused = cc
+free_next (t ∷ tables) zero schema table at unused =
+    let same : t ≡ table = cc in
+    subst (λ u. is_used schema (table_name u) ≡ false) same unused.0
+free_next (t ∷ tables) (suc k) schema table at (free, stored, counted, rest) =
+    free_next tables k (created schema (made_as t 0)) table at rest
 
 -- ---- a fault of theirs
 
@@ -88,28 +111,40 @@ unfolding understood everything
 sequence_defined = refl
 
 pub create_known : (k : ℕ) (table : of_club.Table) → slice_get in_order k ≡ Some table → (sql : List ℕ)
-    → sql ≡ create_of table → (old new : State) → old.now.schema ≡ schema_after k → (e : Error)
-    → ExecutesInside 0 sql [] old new (Err e) → IsNoInput e
-create_known k table at sql text old new has e h =
-    let is = creates table in
-    let before : old.now.schema ≡ schema_after (place_of table) = has ∙ ap schema_after (sym (placed k table at)) in
+    → sql ≡ create_of table → (old mid new : State) → Progress k old mid → (schema : Schema) (them : Neighbours)
+    → HasRoom schema them → Holds schema old.now them.rows → (e : Error) → ExecutesInside 0 sql [] mid new (Err e)
+    → IsNoInput e
+create_known k table at sql text old mid new so_far schema them room holds e h =
+    let before : Schema = made_in schema (take k in_order) in
+    let has = (so_far.makes.made schema (unused_take in_order k schema room.unused) them.rows holds room.bare).schema in
+    let is = creates_here table before (free_next in_order k schema table at room.unused) in
     let counters = defines (table_defined_by sequence_text) sequence_defined in
-    refused_known (create_of table) [] old new (schema_after (place_of table)) before CreateTable is.command is.plain
+    refused_known (create_of table) [] mid new before has CreateTable is.command is.plain
     (λ limit mode given.
-    subst (λ s. IsQuiet (Does limit mode given old.now s None CreateTable)) (sym is.text)
-    (quiet_create limit mode given old.now (create_of table) (made_as table 0) counters.0 is.defined counters.1)) e
-    (subst (λ s. ExecutesInside 0 s [] old new (Err e)) text h)
+    subst (λ s. IsQuiet (Does limit mode given mid.now s None CreateTable)) (sym is.text)
+    (quiet_create limit mode given mid.now (create_of table) (made_as table 0) counters.0 (defined table) counters.1)) e
+    (subst (λ s. ExecutesInside 0 s [] mid new (Err e)) text h)
+
+-- the text that puts the row of `meta` is the same wherever the table stands
+meta_text : (tree : ℕ) → put_text (standing Meta) ≡ put_text (made_as Meta tree)
+meta_text tree = refl
 
 pub put_known : (sql : List ℕ) (params : Row) (old new : State) → sql ≡ put_text (standing Meta)
-    → old.now.schema ≡ club_schema → (e : Error) → ExecutesInside 0 sql params old new (Err e) → IsNoInput e
-put_known sql params old new text has e h =
-    let there = standing Meta in
+    → TakesClub Current old.now.schema → (e : Error) → ExecutesInside 0 sql params old new (Err e) → IsNoInput e
+put_known sql params old new text takes e h =
+    let schema = old.now.schema in
+    let stands = takes.club.0 in
+    let there : Table = made_as Meta stands.tree in
+    let found = is_found schema Meta stands in
+    let meant = puts_meant Meta stands.tree in
     let means = put_text there in
-    refused_known means params old new club_schema has _ meta_put_means.0 meta_put_means.1
+    refused_known means params old new schema refl _
+    (put_command there meant schema stands.place found takes.clear.0.keyed)
+    (put_plain there meant schema stands.place found takes.clear.0.keyed)
     (λ limit mode given.
-    quiet_upsert limit mode given old.now (statement_of means (understood club_schema means)) 0 Abort (source_of there)
-    (on_key there.primary there.tree 3 (updates_of there))) e
-    (subst (λ s. ExecutesInside 0 s params old new (Err e)) text h)
+    quiet_upsert limit mode given old.now (statement_of means (understood schema means)) stands.place Abort
+    (source_of there) (on_key there.primary there.tree (length there.columns) (updates_of there))) e
+    (subst (λ s. ExecutesInside 0 s params old new (Err e)) (text ∙ meta_text stands.tree) h)
 
 -- the fault that is handed on is that of the call
 pub handed_on : {T : Type 0} (r : Result T Error) (e : Error) → IsErrAnd r (λ given. given ≡ e) → IsNoInput e

@@ -3,16 +3,14 @@ use Rattle.std.proofs.Common.{◌≡◌, ℕ, ℤ, Bool, true, false, List, [], 
 use Rattle.std.proofs.Common.{refl, ap, sym, subst, subst₂, ◌∙◌, inl, inr, ◌⊎◌, All}
 use Rattle.std.specs.Prelude.{if◌then◌else◌}
 use Rattle.std.specs.List.{list_all}
-use Rattle.std.specs.List.Sorted.{IsPermutation}
+use Rattle.std.specs.List.Sorted.{IsPermutation, IsSorted}
 use Rattle.std.proofs.lemmas.List.Sorted.{IsPermutation-map, IsPermutation-sym, length_permutation}
 use Rattle.sqlite_value.specs.declared.value.Value.TheVariants.{Null}
 use Rattle.sqlite_value.specs.declared.keys.Key.{Key}
-use Rattle.store_tables.specs.Sql.{Row, Table, Trees, Schema, Database, State, Shown, Has}
+use Rattle.store_tables.specs.Sql.{Row, Table, Trees, Schema, Database, State, Shown, Has, IsUnchanged}
 use Rattle.sqlite.specs.Effect.{Reads}
 use Rattle.sqlite.specs.Command.TheVariants.{Select}
 use Rattle.sqlite.specs.declared.types.Value.TheVariants.{Int}
-use Rattle.sqlite.specs.declared.error.Error.{Error}
-use Rattle.sqlite.specs.State.{FailsToQuery}
 use Rattle.sqlite.proofs.Callers.{reads_as}
 use Rattle.sqlite_trees.proofs.ListLemmas.{map-map}
 use Rattle.sqlite_sql.specs.Term.{Term, eval_all, holds}
@@ -20,10 +18,10 @@ use Rattle.sqlite_sql.specs.Query.{IsAnswer, Output, output}
 use Rattle.sqlite_sql.specs.Program.{overlay}
 use Rattle.store_tables.specs.Content.{cells, same_key, Keeps}
 use Rattle.store_tables.specs.Put.{selects}
+use Rattle.store_tables.specs.Placed.{club_trees}
 use Rattle.store_tables.specs.Queries.{AreShownBy, Finds, by_others}
-use Rattle.store_tables.specs.Reading.{IsNoInput}
 use Rattle.store_tables.specs.Texts.{ids_text, by_first_text}
-use Rattle.store_tables.proofs.Proved.{each_shown, select_unchanged, no_input, same_length, sorted_rows, has_index}
+use Rattle.store_tables.proofs.Proved.{each_shown, select_unchanged, same_length, sorted_rows, has_index}
 use Rattle.store_tables.proofs.Proved.{has_mapped, has_turned}
 use Rattle.sqlite_rules.proofs.ListLemmas.{all_has, has_filtered}
 use Rattle.store_sql.specs.declared.fault.ReadFault.{ReadFault}
@@ -82,11 +80,11 @@ shown_passing f g p q shows picks (x ∷ xs) =
     go false rest = rest
 
 -- of the rowids that are shown there are as many as rows
-pub ids_number : (schema : Schema) (table : Table) (width : ℕ) → AreShownBy schema table width → (sql : List ℕ)
+pub number_of : (schema : Schema) (table : Table) (width : ℕ) → AreShownBy schema table width → (sql : List ℕ)
     (params : Row) (old new : State) → sql ≡ ids_text table → params ≡ [] → (rows : List Row) → Shown sql params old
     new rows → old.now.schema ≡ schema
     → length rows ≡ length (old.now.trees table.tree)
-ids_number schema table width is sql params old new text none rows shown has =
+number_of schema table width is sql params old new text none rows shown has =
     let by = is.numbers in
     let here = subst₂ (λ s p. Shown s p old new rows) text none shown in
     let reads = reads_as (ids_text table) [] old new schema has _ by.command by.plain by.unlisted rows here in
@@ -96,41 +94,38 @@ ids_number schema table width is sql params old new text none rows shown has =
 module _ (schema : Schema) (table : Table) (width : ℕ) (is : AreShownBy schema table width) (sql : List ℕ)
     (params : Row) (old new : State) where
   -- the rows that begin with a number, each of them once
-  pub group_told : sql ≡ by_first_text table → (n : ℤ) → params ≡ Int n ∷ [] → (rows : List Row)
-      → Shown sql params old new rows
-      → old.now.schema ≡ schema → AreReadOf table width n rows old new
-  group_told text n given rows shown has =
+  pub group_of : sql ≡ by_first_text table → (n : ℤ) → params ≡ Int n ∷ [] → (rows : List Row)
+      → Shown sql params old new rows → old.now.schema ≡ schema
+      → IsPermutation (beginning_with n (map (cells table) (old.now.trees table.tree))) rows
+      × IsSorted (by_others width) rows × IsUnchanged old new
+  group_of text n given rows shown has =
       let wanted : Row = Int n ∷ [] in
       let by : Finds schema table is.place (0 ∷ []) wanted wanted (by_first_text table)
       (by_others width) = is.some n in
       let here = subst₂ (λ s p. Shown s p old new rows) text given shown in
       let reads = reads_as (by_first_text table) wanted old new schema has _ by.command by.plain by.unlisted rows here
       in
-      let once = each_passing old.now wanted table.tree by.filter by.project by.order by.names rows by.overlaid reads in
-      record {
-        once = subst (λ l. IsPermutation l rows)
+      let once = each_passing old.now wanted table.tree by.filter by.project by.order by.names rows by.overlaid reads in (
+        subst (λ l. IsPermutation l rows)
             (shown_passing (λ r. eval_all by.project (wanted ∷ r ∷ [])) (cells table)
             (λ r. list_all (holds (wanted ∷ r ∷ [])) by.filter) (λ x. same_key (0 ∷ []) x wanted) by.shows by.picks
-            (old.now.trees table.tree)) once;
-        sorted = sorted_rows old.now wanted table.tree by.filter by.project by.order by.names rows (by_others width)
-            by.overlaid by.by reads;
-        same = select_unchanged (by_first_text table) is.group_is wanted old new rows here;
-      }
+            (old.now.trees table.tree)) once,
+        sorted_rows old.now wanted table.tree by.filter by.project by.order by.names rows (by_others width)
+            by.overlaid by.by reads,
+        select_unchanged (by_first_text table) is.group_is wanted old new rows here,
+      )
 
-  pub group_known : sql ≡ by_first_text table → (n : ℤ) → params ≡ Int n ∷ [] → (e : Error)
-      → FailsToQuery sql params old new e
-      → old.now.schema ≡ schema → IsNoInput e
-  group_known text n given e failed has = no_input schema (by_first_text table) (Int n ∷ []) old new e (is.some
-      n).plain has
-      (subst₂ (λ s p. FailsToQuery s p old new e) text given failed)
+pub maps_alike : (f g : Row → Row) → ((r : Row) → f r ≡ g r) → (rows : List Row) → map f rows ≡ map g rows
+maps_alike f g same [] = refl
+maps_alike f g same (r ∷ rows) = λ i. same r i ∷ maps_alike f g same rows i
 
 -- each row that is shown is one of the table
 shown_of : (table : Table) (width : ℕ) (n : ℤ) (rows shown : List Row) (old new : State)
-    → AreReadOf table width n shown old new → Keeps table old.now.trees rows → (x : Row) → Has shown x → Has rows x
+    → AreReadOf table width n shown old new → Keeps table (club_trees old.now) rows → (x : Row) → Has shown x → Has rows x
 shown_of table width n rows shown old new read keeps x there =
-    let mapped = map (cells table) (old.now.trees table.tree) in
+    let mapped = map (cells table) (club_trees old.now table.tree) in
     let chosen = has_turned shown (beginning_with n mapped) x (IsPermutation-sym _ _ read.once) there in
-    let (r, stored, is) = has_mapped (cells table) (old.now.trees table.tree) x
+    let (r, stored, is) = has_mapped (cells table) (club_trees old.now table.tree) x
     (has_filtered (λ z. same_key (0 ∷ []) z (Int n ∷ [])) mapped x chosen).0 in
     subst (Has rows) (sym is) (keeps.only r stored)
 

@@ -37,6 +37,7 @@ use Rattle.sqlite_trees.specs.declared.error.StoreError.TheVariants.{OutOfMemory
 use Rattle.sqlite_schema.specs.declared.command.Command.{Command}
 use Rattle.sqlite_resolve.specs.declared.compiled.Compiled.{Compiled}
 use Rattle.sqlite.specs.Clock.{timed}
+use Rattle.sqlite.specs.Steps.{FailsToCommit}
 use Rattle.sqlite.specs.State.{ExecutesIn, ExecutesInside, Fails, IsMisplaced, IsNotRun, RunsCommand, mode_of}
 use Rattle.sqlite.specs.State.{shows_rows, store_error}
 use Rattle.sqlite.proofs.Callers.{IsPlain, command_of, statement_of}
@@ -298,6 +299,11 @@ store_known Unstorable = failed code.TooBig
 
 fails_known : (old new : State) (big : Type 0) (e : Error) → Fails old new big e → IsNoInput e
 fails_known old new big e h = subst IsNoInput (sym h.1) (store_known h.0)
+
+-- a commit fails only for the store, or where no transaction is open
+pub commit_known : (old new : State) (e : Error) → FailsToCommit old new e → IsNoInput e
+commit_known old new e (inl h) = fails_known old new ⊥ e h
+commit_known old new e (inr h) = failed_so code.TransactionState e h.0
 
 misplaced_known : (s : State) (command : Command) (e : Error) → IsMisplaced s command e → IsNoInput e
 misplaced_known s command e (inl h) = failed_so code.TransactionState e h.0

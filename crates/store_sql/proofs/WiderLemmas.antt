@@ -1,30 +1,23 @@
 -- Whether the table of the rules of events stands, by an answer to a SELECT from it.
-use Rattle.std.proofs.Common.{◌≡◌, ℕ, Bool, true, false, true≢false, List, Ok, Err, Result, refl, sym, ap, ◌∙◌, inl}
-use Rattle.std.proofs.Common.{inr, subst}
+use Rattle.std.proofs.Common.{◌≡◌, ℕ, ◌||◌, false, true≢false, List, Ok, Option, Some, None, refl, sym, ap, ◌∙◌, inl, inr}
+use Rattle.std.proofs.Common.{subst}
+use Rattle.std.specs.Prelude.{is_ok, is_some}
 use Rattle.sqlite.specs.Clock.{timed}
 use Rattle.store_tables.specs.Sql.{Row, understood, State, Shown, IsUnchanged}
-use Rattle.sqlite.specs.Listing.{listing_schema}
 use Rattle.sqlite.specs.State.{FailsToQuery, FailsToShow, IsNotRun, store_error}
 use Rattle.sqlite.specs.declared.error.Error.{Error}
+use Rattle.sqlite_catalog.specs.Change.{is_used}
+use Rattle.sqlite_schema.specs.Names.{table_named}
 use Rattle.sqlite_trees.specs.declared.error.StoreError.{StoreError}
 use Rattle.sqlite_trees.specs.declared.error.StoreError.TheVariants as failure
-use Rattle.sqlite_tied.specs.Compute.{everything}
 use Rattle.sqlite_resolve.specs.declared.compiled.Compiled.{Compiled}
-use Rattle.sqlite_resolve.specs.declared.error.CompileError.{CompileError}
+use Rattle.store_tables.specs.Names.{table_name}
 use Rattle.store_tables.specs.Queries.{IsSelect}
 use Rattle.store_tables.specs.Reading.{IsNoInput}
-use Rattle.store_tables.specs.Tables.{first_schema, standing}
+use Rattle.store_tables.specs.Tables.{standing}
 use Rattle.store_tables.specs.Texts.{by_first_text}
 use Rattle.store_tables.specs.declared.names.Table.TheVariants.{EventRules}
-use Rattle.store_tables.proofs.Proved.{select_plain}
-
-abbrev is_understood : Result Compiled CompileError → Bool
-is_understood (Ok c) = true
-is_understood (Err e) = false
-
-lacks_rules : is_understood (understood first_schema (by_first_text (standing EventRules))) ≡ false
-unfolding understood listing_schema everything
-lacks_rules = refl
+use Rattle.store_tables.proofs.Proved.{rules_missing, select_plain}
 
 no_store : (cause : StoreError) → IsNoInput (store_error cause)
 no_store failure.OutOfMemory why e = cc
@@ -34,15 +27,22 @@ no_store failure.Full why e = cc
 no_store failure.Broken why e = cc
 no_store failure.Unstorable why e = cc
 
-module _ (sql : List ℕ) (params : Row) (old new : State) (text : sql ≡ (by_first_text (standing EventRules)))
-    (has : old.now.schema ≡ first_schema) where
+module _ (sql : List ℕ) (params : Row) (old new : State) (text : sql ≡ by_first_text (standing EventRules))
+    (unused : is_used old.now.schema (table_name EventRules) ≡ false) where
+  none_used : (a b c : Option ℕ) → (is_some a || is_some b || is_some c) ≡ false → (a ≡ None) × (c ≡ None)
+  none_used (Some n) b c is = absurd (true≢false is)
+  none_used None (Some n) c is = absurd (true≢false is)
+  none_used None None (Some n) is = absurd (true≢false is)
+  none_used None None None is = (refl, refl)
+
   not_understood : (c : Compiled) → understood old.now.schema sql ≡ Ok c → ⊥
   not_understood c is =
-      let none : is_understood (understood old.now.schema sql) ≡ false =
-      (λ i. is_understood (understood (has i) (text i))) ∙ lacks_rules in
-      true≢false (sym (ap is_understood is) ∙ none)
+      let free = none_used (table_named old.now.schema (table_name EventRules)) _ _ unused in
+      let none : is_ok (understood old.now.schema sql) ≡ false =
+      ap (λ t. is_ok (understood old.now.schema t)) text ∙ rules_missing old.now.schema free.0 free.1 in
+      true≢false (sym (ap is_ok is) ∙ none)
 
-  -- in schema 1 the text shows nothing
+  -- where no table has its name, the text shows nothing
   pub never_shown : (rows : List Row) → ¬ Shown sql params old new rows
   unfolding Shown
   never_shown rows h = not_understood h.0 h.1.is

@@ -8,6 +8,7 @@ use Rattle.sqlite.specs.Table.{Table}
 use Rattle.sqlite.specs.State.{State, IsUnchanged}
 use Rattle.sqlite.specs.declared.types.Value.TheVariants.{Int}
 use Rattle.store_tables.specs.Content.{Keeps, AreApart, cells, same_key}
+use Rattle.store_tables.specs.Placed.{club_trees}
 use Rattle.store_tables.specs.Queries.{by_others}
 use Rattle.store_tables.specs.Reading.{by_columns}
 use Rattle.store_sql.specs.declared.fault.ReadFault.{ReadFault}
@@ -15,16 +16,16 @@ use Rattle.store_sql.specs.declared.fault.ReadFault.TheVariants.{Mistyped, Store
 
 -- The table has these rows, each of them once, in the order of its key, and the connection is as it was.
 pub record IsReadAs (table : Table) (width : ℕ) (rows : List Row) (old new : State) : Type 0 where
-  pub keeps : Keeps table old.now.trees rows
-  pub once : IsPermutation (map (cells table) (old.now.trees table.tree)) rows
-  pub apart : AreApart (old.now.trees table.tree)
+  pub keeps : Keeps table (club_trees old.now) rows
+  pub once : IsPermutation (map (cells table) (club_trees old.now table.tree)) rows
+  pub apart : AreApart (club_trees old.now table.tree)
   pub sorted : IsSorted (by_columns width) rows
   pub same : IsUnchanged old new
 
 -- The table has rowids of its own for this many rows, and the connection is as it was.
 pub record AreCounted (tree count : ℕ) (old new : State) : Type 0 where
-  pub apart : AreApart (old.now.trees tree)
-  pub number : count ≡ length (old.now.trees tree)
+  pub apart : AreApart (club_trees old.now tree)
+  pub number : count ≡ length (club_trees old.now tree)
   pub same : IsUnchanged old new
 
 -- those of the rows that begin with this number
@@ -34,7 +35,7 @@ beginning_with n rows = filter (λ x. same_key (0 ∷ []) x (Int n ∷ [])) rows
 -- These are the rows of the table that begin with this number, each of them once, in the order of the rest of its key,
 -- and the connection is as it was.
 pub record AreReadOf (table : Table) (width : ℕ) (n : ℤ) (rows : List Row) (old new : State) : Type 0 where
-  pub once : IsPermutation (beginning_with n (map (cells table) (old.now.trees table.tree))) rows
+  pub once : IsPermutation (beginning_with n (map (cells table) (club_trees old.now table.tree))) rows
   pub sorted : IsSorted (by_others width) rows
   pub same : IsUnchanged old new
 
@@ -42,7 +43,7 @@ pub record AreReadOf (table : Table) (width : ℕ) (n : ℤ) (rows : List Row) (
 abbrev pub Blames : Table → (Row → Type 0) → State → ReadFault → Type 0
 Blames table IsTyped old fault =
     (fault ≡ Store) ⊎ ((fault ≡ Memory) ⊎ ((fault ≡ Mistyped)
-    × ((rows : List Row) → Keeps table old.now.trees rows → AreApart (old.now.trees table.tree)
+    × ((rows : List Row) → Keeps table (club_trees old.now) rows → AreApart (club_trees old.now table.tree)
     → ¬ AllByRecursion IsTyped rows)))
 
 -- the rows begin with their places

@@ -2,11 +2,9 @@
 use Rattle.std.specs.Prelude.{◌≡◌, true, List, []}
 use Rattle.sqlite.specs.State.{State}
 use Rattle.store_tables.specs.Changed.{widened}
-use Rattle.store_tables.specs.Contents as of_schema
 use Rattle.store_tables.specs.Contents.{Content}
-use Rattle.store_tables.specs.Club.{Holds}
 use Rattle.store_tables.specs.Names.{tree_of}
-use Rattle.store_tables.specs.Tables.{first_schema}
+use Rattle.store_tables.specs.Over.{HoldsBeside, HoldsFirst, Neighbours}
 use Rattle.store_tables.specs.declared.names.Table.TheVariants.{EventRules}
 use Rattle.store_tables.specs.declared.rows.EventRuleRow.{EventRuleRow}
 use Rattle.store_tables.specs.declared.rows.MetaRow.{MetaRow}
@@ -14,7 +12,7 @@ use Rattle.store_tables.specs.declared.rows.MetaRow.{MetaRow}
 -- Inside a transaction the rows of schema 1 became those of schema 2, with these rules of events and this row of
 -- `meta`, and nothing was committed.
 pub record WidensTo (rules : List EventRuleRow) (meta : MetaRow) (old new : State) : Type 0 where
-  pub holds : (content : Content) → content (tree_of EventRules) ≡ []
-      → of_schema.Holds first_schema old.now content → Holds new.now (widened rules meta content)
+  pub holds : (them : Neighbours) (content : Content) → content (tree_of EventRules) ≡ []
+      → HoldsFirst them content old.now → HoldsBeside them (widened rules meta content) new.now
   pub committed : new.committed ≡ old.committed
   pub inside : new.in_transaction ≡ true

@@ -4,8 +4,9 @@ ghost use Rattle.std.specs.Prelude.{◌≡◌, ◌≤◌, ◌⊎◌, false, [], 
 ghost use Rattle.sqlite.specs.State.{HasCleanDisk, Survives};
 ghost use Rattle.sqlite.specs.Held.{state};
 ghost use Rattle.sqlite_trees.specs.View.{doubt};
-ghost use Rattle.store_tables.specs.Beside.{StepsBeside, TakesRows};
-ghost use Rattle.store_tables.specs.Contents as of_schema;
+ghost use Rattle.store_tables.specs.Over.{HoldsBeside, IsBesideThem, LeavesBeside, StepsBeside};
+ghost use Rattle.store_tables.specs.Placed.{TakesClub};
+ghost use Rattle.store_tables.specs.declared.names.Version.TheVariants.{Current};
 ghost use Rattle.store_tables.specs.Changed.{people_put, play_put, counts_put, meta_put, changed};
 
 use crate::upsert::{Put, put_all};
@@ -89,16 +90,15 @@ pub(crate) fn put_changes<S: Alter>(
 pub fn commit_changes<S: Alter>(conn: &mut Connection<S>, changes: &Changes) -> Result<(), Error>
     requires { conn.old.in_transaction ≡ false }
     ensures idle { conn.new.in_transaction ≡ false }
-    ensures stored { HasCleanDisk (state S.Store conn.new) → OnOk result ((schema : _) → TakesRows schema →
-        (content : _) → of_schema.IsExactly schema content (state S.Store conn.old) →
-        of_schema.IsExactly schema (changed changes.now content) (state S.Store conn.new)) }
-    ensures fault { HasCleanDisk (state S.Store conn.new) → OnErr result ((schema : _) → TakesRows schema →
-        (content : _) → of_schema.IsExactly schema content (state S.Store conn.old) → (db : _) →
-        (state S.Store conn.new).may_leave db →
-        of_schema.Leaves schema content db ⊎ of_schema.Leaves schema (changed changes.now content) db) }
-    ensures survives { Survives (state S.Store conn.old) (state S.Store conn.new) (λ db. (schema : _) →
-        TakesRows schema → (content : _) → of_schema.Holds schema (state S.Store conn.old).now content →
-        of_schema.Leaves schema (changed changes.now content) db) }
+    ensures stored { HasCleanDisk (state S.Store conn.new) → OnOk result ((them : _) (content : _) →
+        IsBesideThem them content (state S.Store conn.old) →
+        IsBesideThem them (changed changes.now content) (state S.Store conn.new)) }
+    ensures fault { HasCleanDisk (state S.Store conn.new) → OnErr result ((them : _) (content : _) →
+        IsBesideThem them content (state S.Store conn.old) → (db : _) → (state S.Store conn.new).may_leave db →
+        LeavesBeside them content db ⊎ LeavesBeside them (changed changes.now content) db) }
+    ensures survives { Survives (state S.Store conn.old) (state S.Store conn.new) (λ db. (them : _) →
+        TakesClub Current them.schema → (content : _) → HoldsBeside them content (state S.Store conn.old).now →
+        LeavesBeside them (changed changes.now content) db) }
 {
     let mut tx = conn.transaction();
     put_changes(&mut tx, changes)?;

@@ -8,8 +8,8 @@ ghost use Rattle.store_tables.specs.Changed.{changed};
 ghost use Rattle.store_tables.specs.Club.{IsExactly, Leaves};
 ghost use Rattle.store_tables.specs.Contents.{IsExactlyEmpty, IsEmpty, opening};
 ghost use Rattle.store_tables.specs.Reading.{KeepsMay};
-ghost use Rattle.store_tables.specs.Beside.{IsBeside};
-ghost use Rattle.store_tables.specs.Tables.{first_schema};
+ghost use Rattle.store_tables.specs.Placed.{HasTables};
+ghost use Rattle.store_tables.specs.declared.names.Version.TheVariants.{First};
 ghost use Rattle.store_sql.specs.Filled.{FillsWith};
 
 use crate::commit::put_changes;
@@ -25,7 +25,7 @@ fn fill_inside<S: Alter>(tx: &mut Transaction<'_, S>, changes: &Changes) -> Resu
         (state S.Store tx.old.conn.now) (state S.Store tx.new.conn.now)) }
     ensures refuses { HasCleanDisk (state S.Store tx.new.conn.now) → IsTrue
         (state S.Store tx.old.conn.now).in_transaction →
-        IsBeside first_schema (state S.Store tx.old.conn.now).now.schema →
+        HasTables First (state S.Store tx.old.conn.now).now.schema →
         IfOk result (λ _. ⊥) }
     ensures survives { Survives (state S.Store tx.old.conn.now) (state S.Store tx.new.conn.now) (λ _. ⊥) }
 {
@@ -45,11 +45,11 @@ pub fn create_filled<S: Alter>(conn: &mut Connection<S>, changes: &Changes) -> R
         IsExactly (changed changes.now opening) (state S.Store conn.new)) }
     ensures fault { HasCleanDisk (state S.Store conn.new) → OnErr result (IsExactlyEmpty (state S.Store conn.old) →
         (db : _) → (state S.Store conn.new).may_leave db → IsEmpty db ⊎ Leaves (changed changes.now opening) db) }
-    ensures stands { HasCleanDisk (state S.Store conn.new) → IsBeside first_schema (state S.Store conn.old).now.schema →
+    ensures stands { HasCleanDisk (state S.Store conn.new) → HasTables First (state S.Store conn.old).now.schema →
         IfOk result (λ _. ⊥) × KeepsMay (state S.Store conn.old) (state S.Store conn.new) }
     ensures survives { Survives (state S.Store conn.old) (state S.Store conn.new) (λ db. (IsExactlyEmpty
         (state S.Store conn.old) → Leaves (changed changes.now opening) db) ×
-        (IsBeside first_schema (state S.Store conn.old).now.schema → ⊥)) }
+        (HasTables First (state S.Store conn.old).now.schema → ⊥)) }
 {
     let mut tx = conn.transaction();
     fill_inside(&mut tx, changes)?;

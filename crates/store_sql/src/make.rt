@@ -5,10 +5,12 @@ ghost use Rattle.sqlite.specs.State.{ExecutesInside, HasCleanDisk, Survives};
 ghost use Rattle.sqlite.specs.Held.{state};
 ghost use Rattle.sqlite_trees.specs.View.{doubt};
 ghost use Rattle.store_tables.specs.Reading.{IsNoInput, KeepsMay};
-ghost use Rattle.store_tables.specs.Beside.{IsBeside};
-ghost use Rattle.store_tables.specs.Tables.{first_schema, schema_after};
-ghost use Rattle.store_tables.specs.Contents.{AreMade, Ran, Makes, Fills, IsExactlyEmpty, IsEmpty, opening};
+ghost use Rattle.store_tables.specs.Contents.{Holds, Ran, IsExactlyEmpty, IsEmpty, opening};
 ghost use Rattle.store_tables.specs.Club.{IsExactly, Leaves};
+ghost use Rattle.store_tables.specs.Over.{IsBesideThem, LeavesBeside};
+ghost use Rattle.store_tables.specs.Placed.{HasTables};
+ghost use Rattle.store_tables.specs.Room.{Fills, HasRoom, IsWithoutClub, LeavesNoClub, Makes};
+ghost use Rattle.store_tables.specs.declared.names.Version.TheVariants.{First};
 
 use crate::upsert::put_meta;
 use sqlite::{Alter, Connection, Error, Transaction};
@@ -35,16 +37,16 @@ pub(crate) fn make<S: Alter>(tx: &mut Transaction<'_, S>, sql: &str) -> Result<(
 fn make_tables<S: Alter>(tx: &mut Transaction<'_, S>) -> Result<(), Error>
     ensures same_reference { tx.new.conn.ghost_name ≡ tx.old.conn.ghost_name }
     ensures made { HasCleanDisk (state S.Store tx.new.conn.now) → IsTrue
-        (state S.Store tx.old.conn.now).in_transaction → OnOk result (Makes 0 9 (state S.Store tx.old.conn.now)
+        (state S.Store tx.old.conn.now).in_transaction → OnOk result (Makes (state S.Store tx.old.conn.now)
         (state S.Store tx.new.conn.now)) }
     ensures refuses { HasCleanDisk (state S.Store tx.new.conn.now) → IsTrue
         (state S.Store tx.old.conn.now).in_transaction →
-        IsBeside first_schema (state S.Store tx.old.conn.now).now.schema →
+        HasTables First (state S.Store tx.old.conn.now).now.schema →
         IfOk result (λ _. ⊥) }
-    // In an empty database.
+    // Where a club can be made.
     ensures known { HasCleanDisk (state S.Store tx.new.conn.now) → IsTrue
-        (state S.Store tx.old.conn.now).in_transaction → AreMade (schema_after 0) (state S.Store tx.old.conn.now).now →
-        IfErr result IsNoInput }
+        (state S.Store tx.old.conn.now).in_transaction → (schema : _) (them : _) → HasRoom schema them →
+        Holds schema (state S.Store tx.old.conn.now).now them.rows → IfErr result IsNoInput }
     ensures survives { Survives (state S.Store tx.old.conn.now) (state S.Store tx.new.conn.now) (λ _. ⊥) }
 {
     'tables: for table in Table::ALL {
@@ -61,12 +63,12 @@ pub(crate) fn create_inside<S: Alter>(tx: &mut Transaction<'_, S>) -> Result<(),
         (state S.Store tx.new.conn.now)) }
     ensures refuses { HasCleanDisk (state S.Store tx.new.conn.now) → IsTrue
         (state S.Store tx.old.conn.now).in_transaction →
-        IsBeside first_schema (state S.Store tx.old.conn.now).now.schema →
+        HasTables First (state S.Store tx.old.conn.now).now.schema →
         IfOk result (λ _. ⊥) }
-    // In an empty database.
+    // Where a club can be made.
     ensures known { HasCleanDisk (state S.Store tx.new.conn.now) → IsTrue
-        (state S.Store tx.old.conn.now).in_transaction → AreMade (schema_after 0) (state S.Store tx.old.conn.now).now →
-        IfErr result IsNoInput }
+        (state S.Store tx.old.conn.now).in_transaction → (schema : _) (them : _) → HasRoom schema them →
+        Holds schema (state S.Store tx.old.conn.now).now them.rows → IfErr result IsNoInput }
     ensures survives { Survives (state S.Store tx.old.conn.now) (state S.Store tx.new.conn.now) (λ _. ⊥) }
 {
     make_tables(tx)?;
@@ -79,7 +81,7 @@ pub(crate) fn create_inside<S: Alter>(tx: &mut Transaction<'_, S>) -> Result<(),
     Ok(())
 }
 
-/// Makes the tables in an empty database, in one transaction with one commit.
+/// Makes the tables in an empty database, or behind those of other programs, in one transaction with one commit.
 pub fn create_tables<S: Alter>(conn: &mut Connection<S>) -> Result<(), Error>
     requires { conn.old.in_transaction ≡ false }
     ensures idle { conn.new.in_transaction ≡ false }
@@ -88,16 +90,26 @@ pub fn create_tables<S: Alter>(conn: &mut Connection<S>) -> Result<(), Error>
         IsExactly opening (state S.Store conn.new)) }
     ensures fault { HasCleanDisk (state S.Store conn.new) → OnErr result (IsExactlyEmpty (state S.Store conn.old) →
         (db : _) → (state S.Store conn.new).may_leave db → IsEmpty db ⊎ Leaves opening db) }
-    ensures stands { HasCleanDisk (state S.Store conn.new) → IsBeside first_schema (state S.Store conn.old).now.schema →
+    // Behind the tables of other programs, whose rows stay.
+    ensures behind { HasCleanDisk (state S.Store conn.new) → OnOk result ((them : _) →
+        IsWithoutClub them (state S.Store conn.old) → IsBesideThem them opening (state S.Store conn.new)) }
+    ensures behind_fault { HasCleanDisk (state S.Store conn.new) → OnErr result ((them : _) →
+        IsWithoutClub them (state S.Store conn.old) → (db : _) → (state S.Store conn.new).may_leave db →
+        LeavesNoClub them db ⊎ LeavesBeside them opening db) }
+    // Where tables of a club stand nothing is made.
+    ensures stands { HasCleanDisk (state S.Store conn.new) → HasTables First (state S.Store conn.old).now.schema →
         IfOk result (λ _. ⊥) × KeepsMay (state S.Store conn.old) (state S.Store conn.new) }
     ensures refused { HasCleanDisk (state S.Store conn.new) → IfErr result (λ e. IsNoInput e ⊎ KeepsMay
         (state S.Store conn.old) (state S.Store conn.new)) }
-    // In an empty database a fault is one of the store's.
+    // In an empty database a fault is one of the store's, and so it is where a club can be made behind others.
     ensures known { HasCleanDisk (state S.Store conn.new) → IsExactlyEmpty (state S.Store conn.old) →
         IfErr result IsNoInput }
-    ensures survives { Survives (state S.Store conn.old) (state S.Store conn.new) (λ db. (IsExactlyEmpty
-        (state S.Store conn.old) → Leaves opening db) × (IsBeside first_schema (state S.Store conn.old).now.schema →
-        ⊥)) }
+    ensures known_behind { HasCleanDisk (state S.Store conn.new) → (them : _) →
+        IsWithoutClub them (state S.Store conn.old) → IfErr result IsNoInput }
+    ensures survives { Survives (state S.Store conn.old) (state S.Store conn.new) (λ db.
+        (IsExactlyEmpty (state S.Store conn.old) → Leaves opening db)
+        × (HasTables First (state S.Store conn.old).now.schema → ⊥)
+        × ((them : _) → IsWithoutClub them (state S.Store conn.old) → LeavesBeside them opening db)) }
 {
     let mut tx = conn.transaction();
     create_inside(&mut tx)?;

@@ -8,7 +8,8 @@ ghost use Rattle.sqlite.specs.declared.types.Value.TheVariants.{Int};
 ghost use Rattle.store_tables.specs.Changes.{HaveSame};
 ghost use Rattle.store_tables.specs.Content.{AreApart};
 ghost use Rattle.store_tables.specs.Contents.{AreThose};
-ghost use Rattle.store_tables.specs.Beside.{HasRows, IsBeside};
+ghost use Rattle.store_tables.specs.Over.{HasRows};
+ghost use Rattle.store_tables.specs.Placed.{Stands, club_trees};
 ghost use Rattle.store_tables.specs.Queries.{by_others};
 ghost use Rattle.store_tables.specs.Reading.{AreIds, by_columns, IsNoInput, Reads, Tells, TellsIds};
 ghost use Rattle.store_sql.specs.Read.{AreCounted, AreReadOf, IsReadAs, Blames, BeginWithPlaces, was_read};
@@ -23,10 +24,11 @@ use store_tables::{TableRow, Unread, check_ids, parse_all};
 pub fn show_all<T: Select, S: Alter>(conn: &mut Connection<S>) -> Result<Vec<Row>, Error>
     ensures reads { Reads (is_ok result) (state S.Store conn.old) (state S.Store conn.new) }
     ensures rows { HasCleanDisk (state S.Store conn.new) → IfOk result (λ rows.
-        IsBeside T.club (state S.Store conn.old).now.schema →
-        Tells T.table T.width rows.items (state S.Store conn.old) (state S.Store conn.new)) }
+        Stands (state S.Store conn.old).now.schema T.which →
+        Tells T.table T.width rows.items (club_trees (state S.Store conn.old).now) (state S.Store conn.old)
+        (state S.Store conn.new)) }
     ensures known { HasCleanDisk (state S.Store conn.new) → IfErr result (λ e.
-        IsBeside T.club (state S.Store conn.old).now.schema → IsNoInput e) }
+        Stands (state S.Store conn.old).now.schema T.which → IsNoInput e) }
 {
     conn.query_all(T::kept_in().all(), &[])
 }
@@ -35,13 +37,14 @@ pub fn show_all<T: Select, S: Alter>(conn: &mut Connection<S>) -> Result<Vec<Row
 fn show_ids<T: Select, S: Alter>(conn: &mut Connection<S>) -> Result<Vec<Row>, Error>
     ensures reads { Reads (is_ok result) (state S.Store conn.old) (state S.Store conn.new) }
     ensures ids { HasCleanDisk (state S.Store conn.new) → IfOk result (λ rows.
-        IsBeside T.club (state S.Store conn.old).now.schema →
-        TellsIds T.table.tree rows.items (state S.Store conn.old) (state S.Store conn.new)) }
+        Stands (state S.Store conn.old).now.schema T.which →
+        TellsIds (club_trees (state S.Store conn.old).now T.table.tree) rows.items (state S.Store conn.old)
+        (state S.Store conn.new)) }
     ensures known { HasCleanDisk (state S.Store conn.new) → IfErr result (λ e.
-        IsBeside T.club (state S.Store conn.old).now.schema → IsNoInput e) }
+        Stands (state S.Store conn.old).now.schema T.which → IsNoInput e) }
     ensures number { HasCleanDisk (state S.Store conn.new) → IfOk result (λ rows.
-        IsBeside T.club (state S.Store conn.old).now.schema →
-        length rows.items ≡ length ((state S.Store conn.old).now.trees T.table.tree)) }
+        Stands (state S.Store conn.old).now.schema T.which →
+        length rows.items ≡ length (club_trees (state S.Store conn.old).now T.table.tree)) }
     ensures count { HasCleanDisk (state S.Store conn.new) → IfOk result (λ rows. IsTrue T.has_id → (content : _) →
         HasRows content (state S.Store conn.old) →
         BeginWithPlaces (content T.table.tree) → length rows.items ≡ length (content T.table.tree)) }
@@ -60,10 +63,10 @@ fn show_by_first<T: Select, S: Alter>(
         AreThose (0 ∷ []) (Int first.now ∷ []) (content T.table.tree) rows.items ×
         IsSorted (by_others T.width) rows.items) }
     ensures told { HasCleanDisk (state S.Store conn.new) → IfOk result (λ rows.
-        IsBeside T.club (state S.Store conn.old).now.schema →
+        Stands (state S.Store conn.old).now.schema T.which →
         AreReadOf T.table T.width first.now rows.items (state S.Store conn.old) (state S.Store conn.new)) }
     ensures known { HasCleanDisk (state S.Store conn.new) → IfErr result (λ e.
-        IsBeside T.club (state S.Store conn.old).now.schema → IsNoInput e) }
+        Stands (state S.Store conn.old).now.schema T.which → IsNoInput e) }
 {
     conn.query_all(T::kept_in().by_first(), params![first])
 }
@@ -132,14 +135,14 @@ pub fn check_rowids<T: Select, S: Alter>(
 ) -> Result<usize, ReadFault>
     ensures reads { Reads (was_read result) (state S.Store conn.old) (state S.Store conn.new) }
     ensures counted { HasCleanDisk (state S.Store conn.new) → IfOk result (λ count.
-        IsBeside T.club (state S.Store conn.old).now.schema →
+        Stands (state S.Store conn.old).now.schema T.which →
         AreCounted T.table.tree count (state S.Store conn.old) (state S.Store conn.new)) }
     ensures blames { HasCleanDisk (state S.Store conn.new) → IfErr result (λ e.
-        IsBeside T.club (state S.Store conn.old).now.schema →
+        Stands (state S.Store conn.old).now.schema T.which →
         Blames T.table T.IsTyped (state S.Store conn.old) e) }
     ensures apart { HasCleanDisk (state S.Store conn.new) → IfErr result (λ e. e ≡ ReadFault.Mistyped →
-        IsBeside T.club (state S.Store conn.old).now.schema →
-        ¬ AreApart ((state S.Store conn.old).now.trees T.table.tree)) }
+        Stands (state S.Store conn.old).now.schema T.which →
+        ¬ AreApart (club_trees (state S.Store conn.old).now T.table.tree)) }
 {
     let ids = match show_ids::<T, S>(conn) {
         Ok(ids) => ids,
@@ -156,10 +159,10 @@ pub fn check_rowids<T: Select, S: Alter>(
 pub fn check_columns<T: Select, S: Alter>(conn: &mut Connection<S>) -> Result<(), ReadFault>
     ensures reads { Reads (is_ok result) (state S.Store conn.old) (state S.Store conn.new) }
     ensures same { HasCleanDisk (state S.Store conn.new) → OnOk result (
-        IsBeside T.club (state S.Store conn.old).now.schema →
+        Stands (state S.Store conn.old).now.schema T.which →
         IsUnchanged (state S.Store conn.old) (state S.Store conn.new)) }
     ensures blames { HasCleanDisk (state S.Store conn.new) → IfErr result (λ e.
-        IsBeside T.club (state S.Store conn.old).now.schema → e ≡ ReadFault.Store) }
+        Stands (state S.Store conn.old).now.schema T.which → e ≡ ReadFault.Store) }
 {
     match show_by_first::<T, S>(conn, &0) {
         Ok(_) => Ok(()),
@@ -175,10 +178,10 @@ pub fn read_all<T: Select, S: Alter>(
 ) -> Result<Vec<T>, ReadFault>
     ensures reads { Reads (was_read result) (state S.Store conn.old) (state S.Store conn.new) }
     ensures rows { HasCleanDisk (state S.Store conn.new) → IfOk result (λ found.
-        IsBeside T.club (state S.Store conn.old).now.schema →
+        Stands (state S.Store conn.old).now.schema T.which →
         IsReadAs T.table T.width (map T.cells found.items) (state S.Store conn.old) (state S.Store conn.new)) }
     ensures blames { HasCleanDisk (state S.Store conn.new) → IfErr result (λ e.
-        IsBeside T.club (state S.Store conn.old).now.schema →
+        Stands (state S.Store conn.old).now.schema T.which →
         Blames T.table T.IsTyped (state S.Store conn.old) e) }
 {
     match check_rowids::<T, S>(alloc, conn) {
@@ -201,14 +204,14 @@ pub fn read_by_first<T: Select, S: Alter>(
 ) -> Result<Vec<T>, ReadFault>
     ensures reads { Reads (was_read result) (state S.Store conn.old) (state S.Store conn.new) }
     ensures rows { HasCleanDisk (state S.Store conn.new) → IfOk result (λ found.
-        IsBeside T.club (state S.Store conn.old).now.schema →
+        Stands (state S.Store conn.old).now.schema T.which →
         AreReadOf T.table T.width first.now (map T.cells found.items) (state S.Store conn.old)
         (state S.Store conn.new)) }
     ensures blames { HasCleanDisk (state S.Store conn.new) → IfErr result (λ e.
-        IsBeside T.club (state S.Store conn.old).now.schema →
+        Stands (state S.Store conn.old).now.schema T.which →
         Blames T.table T.IsTyped (state S.Store conn.old) e) }
     ensures same { HasCleanDisk (state S.Store conn.new) → IfErr result (λ e. e ≡ ReadFault.Mistyped →
-        IsBeside T.club (state S.Store conn.old).now.schema →
+        Stands (state S.Store conn.old).now.schema T.which →
         IsUnchanged (state S.Store conn.old) (state S.Store conn.new)) }
 {
     let shown = match show_by_first::<T, S>(conn, first) {

@@ -6,12 +6,13 @@ ghost use Rattle.sqlite.specs.Order.{Row, column};
 ghost use Rattle.sqlite.specs.Schema.{Schema};
 ghost use Rattle.sqlite.specs.Table.{Table};
 ghost use Rattle.sqlite_trees.specs.Tree.{rowid};
-ghost use Rattle.store_tables.specs.Beside.{beside, IsBeside, Others};
 ghost use Rattle.store_tables.specs.Content.{cells as shown};
 ghost use Rattle.store_tables.specs.Queries.{AreShownBy};
-ghost use Rattle.store_tables.specs.Tables.{club_schema, first_schema, standing};
-ghost use Rattle.store_tables.specs.declared.names.Table.TheVariants as of_club;
-ghost use Rattle.store_tables.proofs.Proved.{first_within, is_shown};
+ghost use Rattle.store_tables.specs.Placed.{Stands};
+ghost use Rattle.store_tables.specs.Tables.{made_as, standing};
+ghost use Rattle.store_tables.specs.declared.names.Table as of_club;
+ghost use Rattle.store_tables.specs.declared.names.Table.TheVariants as variant;
+ghost use Rattle.store_tables.proofs.Proved.{placed_shown};
 
 use store_tables::{
     ChallengeRow, EventRow, EventRuleRow, GameRecord, MemberRow, MetaRow, MoveRow, ScoreRow,
@@ -20,33 +21,37 @@ use store_tables::{
 
 /// A row whose table has texts that show its rows.
 pub trait Select: TableRow {
-    // its table, how many columns its key has, and whether the one column of its key is the rowid, as in most tables
+    // which table it is, as it stands in a club alone, how many columns its key has, and whether the one column of its
+    // key is the rowid, as in most tables
+    ghost which: { of_club.Table };
+
     ghost table: { Table };
 
     ghost width: { ℕ } = { 1 };
 
     ghost has_id: { Bool } = { true };
 
-    // the first of the schemas of a club that has the table
-    ghost club: { Schema } = { first_schema };
-
     /// The table that has such rows.
     fn kept_in() -> Table
         ensures { standing result ≡ table };
 
-    ghost current: { (schema : Schema) → IsBeside club_schema schema → IsBeside club schema };
+    ghost is_table: { table ≡ standing which };
 
-    ghost read: { (others : Others) → AreShownBy (beside club others) table width };
+    // its texts show its rows wherever it stands
+    ghost read: { (schema : Schema) (stands : Stands schema which) → AreShownBy schema (made_as which stands.tree)
+        width };
 
     ghost numbered: { IsTrue has_id → (width ≡ 1) × ((r : Row) → column (shown table r) 0 ≡ rowid r) };
 }
 
 impl Select for MetaRow {
-    ghost table = { standing of_club.Meta };
+    ghost which = { variant.Meta };
 
-    ghost current = { first_within };
+    ghost table = { standing variant.Meta };
 
-    ghost read = { is_shown of_club.Meta };
+    ghost is_table = { refl };
+
+    ghost read = { λ schema stands. placed_shown schema variant.Meta stands };
 
     ghost numbered = { λ it. (refl, λ r. refl) };
 
@@ -56,11 +61,13 @@ impl Select for MetaRow {
 }
 
 impl Select for MemberRow {
-    ghost table = { standing of_club.Members };
+    ghost which = { variant.Members };
 
-    ghost current = { first_within };
+    ghost table = { standing variant.Members };
 
-    ghost read = { is_shown of_club.Members };
+    ghost is_table = { refl };
+
+    ghost read = { λ schema stands. placed_shown schema variant.Members stands };
 
     ghost numbered = { λ it. (refl, λ r. refl) };
 
@@ -70,11 +77,13 @@ impl Select for MemberRow {
 }
 
 impl Select for EventRow {
-    ghost table = { standing of_club.Events };
+    ghost which = { variant.Events };
 
-    ghost current = { first_within };
+    ghost table = { standing variant.Events };
 
-    ghost read = { is_shown of_club.Events };
+    ghost is_table = { refl };
+
+    ghost read = { λ schema stands. placed_shown schema variant.Events stands };
 
     ghost numbered = { λ it. (refl, λ r. refl) };
 
@@ -84,13 +93,13 @@ impl Select for EventRow {
 }
 
 impl Select for EventRuleRow {
-    ghost table = { standing of_club.EventRules };
+    ghost which = { variant.EventRules };
 
-    ghost club = { club_schema };
+    ghost table = { standing variant.EventRules };
 
-    ghost current = { λ schema is. is };
+    ghost is_table = { refl };
 
-    ghost read = { is_shown of_club.EventRules };
+    ghost read = { λ schema stands. placed_shown schema variant.EventRules stands };
 
     ghost numbered = { λ it. (refl, λ r. refl) };
 
@@ -100,15 +109,17 @@ impl Select for EventRuleRow {
 }
 
 impl Select for ChallengeRow {
-    ghost table = { standing of_club.Challenges };
+    ghost which = { variant.Challenges };
+
+    ghost table = { standing variant.Challenges };
 
     ghost width = { 2 };
 
     ghost has_id = { false };
 
-    ghost current = { first_within };
+    ghost is_table = { refl };
 
-    ghost read = { is_shown of_club.Challenges };
+    ghost read = { λ schema stands. placed_shown schema variant.Challenges stands };
 
     ghost numbered = { λ it. absurd (true≢false (sym it)) };
 
@@ -118,15 +129,17 @@ impl Select for ChallengeRow {
 }
 
 impl Select for MoveRow {
-    ghost table = { standing of_club.Moves };
+    ghost which = { variant.Moves };
+
+    ghost table = { standing variant.Moves };
 
     ghost width = { 2 };
 
     ghost has_id = { false };
 
-    ghost current = { first_within };
+    ghost is_table = { refl };
 
-    ghost read = { is_shown of_club.Moves };
+    ghost read = { λ schema stands. placed_shown schema variant.Moves stands };
 
     ghost numbered = { λ it. absurd (true≢false (sym it)) };
 
@@ -136,11 +149,13 @@ impl Select for MoveRow {
 }
 
 impl Select for GameRecord {
-    ghost table = { standing of_club.Games };
+    ghost which = { variant.Games };
 
-    ghost current = { first_within };
+    ghost table = { standing variant.Games };
 
-    ghost read = { is_shown of_club.Games };
+    ghost is_table = { refl };
+
+    ghost read = { λ schema stands. placed_shown schema variant.Games stands };
 
     ghost numbered = { λ it. (refl, λ r. refl) };
 
@@ -150,15 +165,17 @@ impl Select for GameRecord {
 }
 
 impl Select for SeenRow {
-    ghost table = { standing of_club.Seen };
+    ghost which = { variant.Seen };
+
+    ghost table = { standing variant.Seen };
 
     ghost width = { 2 };
 
     ghost has_id = { false };
 
-    ghost current = { first_within };
+    ghost is_table = { refl };
 
-    ghost read = { is_shown of_club.Seen };
+    ghost read = { λ schema stands. placed_shown schema variant.Seen stands };
 
     ghost numbered = { λ it. absurd (true≢false (sym it)) };
 
@@ -168,15 +185,17 @@ impl Select for SeenRow {
 }
 
 impl Select for ScoreRow {
-    ghost table = { standing of_club.Scores };
+    ghost which = { variant.Scores };
+
+    ghost table = { standing variant.Scores };
 
     ghost width = { 3 };
 
     ghost has_id = { false };
 
-    ghost current = { first_within };
+    ghost is_table = { refl };
 
-    ghost read = { is_shown of_club.Scores };
+    ghost read = { λ schema stands. placed_shown schema variant.Scores stands };
 
     ghost numbered = { λ it. absurd (true≢false (sym it)) };
 

@@ -5,11 +5,12 @@ ghost use Rattle.sqlite.specs.State.{HasCleanDisk, Survives};
 ghost use Rattle.sqlite.specs.Held.{state};
 ghost use Rattle.store_tables.specs.Contents.{put_in, put_each};
 ghost use Rattle.store_tables.specs.Cells.{meta_cells};
-ghost use Rattle.store_tables.specs.Beside.{StepsBeside};
+ghost use Rattle.store_tables.specs.Over.{StepsBeside};
 ghost use Rattle.store_tables.specs.Reading.{IsNoInput};
 ghost use Rattle.store_tables.specs.Names.{tree_of};
-ghost use Rattle.store_tables.specs.Tables.{club_schema};
+ghost use Rattle.store_tables.specs.Placed.{TakesClub};
 ghost use Rattle.store_tables.specs.declared.names.Table.TheVariants as of_club;
+ghost use Rattle.store_tables.specs.declared.names.Version.TheVariants.{Current};
 
 use sqlite::{Alter, Error, Transaction, params};
 use store_tables::{
@@ -42,7 +43,7 @@ pub(crate) fn put_meta<S: Alter>(row: &MetaRow, tx: &mut Transaction<'_, S>) -> 
         OnOk result (StepsBeside (put_in (tree_of of_club.Meta) (0 ∷ []) (meta_cells row.now))
         (state S.Store tx.old.conn.now) (state S.Store tx.new.conn.now)) }
     ensures known { HasCleanDisk (state S.Store tx.new.conn.now) → IsTrue
-        (state S.Store tx.old.conn.now).in_transaction → (state S.Store tx.old.conn.now).now.schema ≡ club_schema →
+        (state S.Store tx.old.conn.now).in_transaction → TakesClub Current (state S.Store tx.old.conn.now).now.schema →
         IfErr result IsNoInput }
     ensures survives { Survives (state S.Store tx.old.conn.now) (state S.Store tx.new.conn.now) (λ _. ⊥) }
 {

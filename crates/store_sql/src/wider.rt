@@ -3,14 +3,13 @@
 ghost use Rattle.std.specs.Prelude.{◌≡◌, ◌≤◌, ◌⊎◌, true, false, [], IsTrue, IfOk, IfErr, OnOk, OnErr, is_ok};
 ghost use Rattle.sqlite.specs.State.{HasCleanDisk, IsUnchanged, Survives};
 ghost use Rattle.sqlite.specs.Held.{state};
+ghost use Rattle.sqlite_catalog.specs.Change.{is_used};
 ghost use Rattle.sqlite_trees.specs.View.{doubt};
-ghost use Rattle.store_tables.specs.Beside.{IsBeside};
 ghost use Rattle.store_tables.specs.Changed.{widened};
-ghost use Rattle.store_tables.specs.Contents as of_schema;
-ghost use Rattle.store_tables.specs.Club.{IsExactly, Leaves};
-ghost use Rattle.store_tables.specs.Names.{tree_of};
+ghost use Rattle.store_tables.specs.Names.{table_name, tree_of};
+ghost use Rattle.store_tables.specs.Over.{HoldsFirst, IsBesideThem, IsFirstBeside, LeavesBeside, LeavesFirst};
+ghost use Rattle.store_tables.specs.Placed.{Stands};
 ghost use Rattle.store_tables.specs.Reading.{Reads};
-ghost use Rattle.store_tables.specs.Tables.{club_schema, first_schema};
 ghost use Rattle.store_tables.specs.declared.names.Table.TheVariants.{EventRules};
 ghost use Rattle.store_sql.specs.Widened.{WidensTo};
 
@@ -39,7 +38,7 @@ fn widen_inside<S: Alter>(
 }
 
 /// Makes of the tables of schema 1 those of schema 2, with these rules of events and this row of `meta`, in one
-/// transaction with one commit.
+/// transaction with one commit, wherever they stand; the rows of other programs stay.
 pub fn widen<S: Alter>(
     conn: &mut Connection<S>,
     rules: &[EventRuleRow],
@@ -48,18 +47,16 @@ pub fn widen<S: Alter>(
     requires { conn.old.in_transaction ≡ false }
     ensures idle { conn.new.in_transaction ≡ false }
     ensures clean { doubt (state S.Store conn.old).is_clean ≤ doubt (state S.Store conn.new).is_clean }
-    ensures stored { HasCleanDisk (state S.Store conn.new) → OnOk result ((content : _) →
-        content (tree_of EventRules) ≡ [] →
-        of_schema.IsExactly first_schema content (state S.Store conn.old) →
-        IsExactly (widened rules.now meta.now content) (state S.Store conn.new)) }
-    ensures fault { HasCleanDisk (state S.Store conn.new) → OnErr result ((content : _) →
-        content (tree_of EventRules) ≡ [] →
-        of_schema.IsExactly first_schema content (state S.Store conn.old) → (db : _) →
+    ensures stored { HasCleanDisk (state S.Store conn.new) → OnOk result ((them : _) (content : _) →
+        content (tree_of EventRules) ≡ [] → IsFirstBeside them content (state S.Store conn.old) →
+        IsBesideThem them (widened rules.now meta.now content) (state S.Store conn.new)) }
+    ensures fault { HasCleanDisk (state S.Store conn.new) → OnErr result ((them : _) (content : _) →
+        content (tree_of EventRules) ≡ [] → IsFirstBeside them content (state S.Store conn.old) → (db : _) →
         (state S.Store conn.new).may_leave db →
-        of_schema.Leaves first_schema content db ⊎ Leaves (widened rules.now meta.now content) db) }
-    ensures survives { Survives (state S.Store conn.old) (state S.Store conn.new) (λ db. (content : _) →
-        content (tree_of EventRules) ≡ [] → of_schema.Holds first_schema (state S.Store conn.old).now content →
-        Leaves (widened rules.now meta.now content) db) }
+        LeavesFirst them content db ⊎ LeavesBeside them (widened rules.now meta.now content) db) }
+    ensures survives { Survives (state S.Store conn.old) (state S.Store conn.new) (λ db. (them : _)
+        (content : _) → content (tree_of EventRules) ≡ [] → HoldsFirst them content (state S.Store conn.old).now →
+        LeavesBeside them (widened rules.now meta.now content) db) }
 {
     let mut tx = conn.transaction();
     widen_inside(&mut tx, rules, meta)?;
@@ -74,9 +71,9 @@ pub fn has_event_rules<S: Alter>(conn: &mut Connection<S>) -> Result<bool, ReadF
     ensures same { HasCleanDisk (state S.Store conn.new) → OnOk result (IsUnchanged (state S.Store conn.old)
         (state S.Store conn.new)) }
     ensures stands { HasCleanDisk (state S.Store conn.new) → IfOk result (λ there.
-        IsBeside club_schema (state S.Store conn.old).now.schema → there ≡ true) }
+        Stands (state S.Store conn.old).now.schema EventRules → there ≡ true) }
     ensures missing { HasCleanDisk (state S.Store conn.new) → IfOk result (λ there.
-        (state S.Store conn.old).now.schema ≡ first_schema → there ≡ false) }
+        is_used (state S.Store conn.old).now.schema (table_name EventRules) ≡ false → there ≡ false) }
     ensures store { IfErr result (λ e. e ≡ ReadFault.Store) }
 {
     let error = match conn.query_all(Table::EventRules.by_first(), params![0_i64]) {

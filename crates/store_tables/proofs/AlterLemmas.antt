@@ -1,19 +1,28 @@
 -- Rows put in turn make the new table of the old.
 use Rattle.std.proofs.Common.{◌≡◌, ℕ, Bool, true, false, not, List, [], ◌∷◌, refl, ap, sym, subst, ◌∙◌, inl, inr, ◌⊎◌}
 use Rattle.std.proofs.Common.{true≢false, Option, Some, None}
+use Rattle.std.specs.List.{AllByRecursion}
 use Rattle.std.specs.Prelude.{if◌then◌else◌, ◌==◌}
 use Rattle.std.proofs.lemmas.Bool.{cases_Bool, not-true}
-use Rattle.store_tables.specs.Sql.{Row, Has}
+use Rattle.store_tables.specs.Sql.{Has, Row, Table}
 use Rattle.sqlite_rules.proofs.ListLemmas.{has_filtered, has_kept}
 use Rattle.store_tables.specs.Content.{same_key, put}
 use Rattle.store_tables.specs.Contents.{Content, put_in, put_each}
 use Rattle.store_tables.specs.Changes.{HaveSame, AreSame, Alters, put_rows}
 use Rattle.store_tables.specs.Changed.{put_maybe, changed, maybe_row, AltersTables}
-use Rattle.store_tables.specs.Tables.{club_schema}
+use Rattle.store_tables.specs.Tables.{club_schema, standing}
+use Rattle.store_tables.specs.declared.names.Table.TheVariants.{Members, Events, EventRules, Challenges, Moves, Games}
+use Rattle.store_tables.specs.declared.names.Table.TheVariants.{Seen, Scores, Meta}
 use Rattle.store_tables.specs.Cells.{meta_cells}
-use Rattle.store_tables.proofs.SchemaLemmas.{each_of_club}
 use Rattle.store_tables.specs.declared.rows.MetaRow.{MetaRow}
 use Rattle.store_tables.specs.declared.rows.Changes.{Changes}
+
+-- what holds of each table of a club
+module _ (P : Table → Type 0) where
+  pub each_of_club : P (standing Meta) → P (standing Members) → P (standing Events) → P (standing Challenges)
+      → P (standing Moves) → P (standing Games) → P (standing Seen) → P (standing Scores) → P (standing EventRules)
+      → AllByRecursion P club_schema.tables
+  each_of_club a b c d e f g h i = (a, (b, (c, (d, (e, (f, (g, (h, (i, tt)))))))))
 
 pub same_itself : (rows : List Row) → HaveSame rows rows
 same_itself rows = record { there = λ z h. h; back = λ z h. h }

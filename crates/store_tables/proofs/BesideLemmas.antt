@@ -1,26 +1,16 @@
 -- What other programs made has no part in putting a row of the club.
-use Rattle.std.proofs.Common.{◌≡◌, ℕ, ◌==◌, ◌&&◌, ◌||◌, Bool, true, false, List, [], ◌∷◌, Option, Some, None, refl, sym}
-use Rattle.std.proofs.Common.{subst, ◌∙◌, flat_map, filter_map, IfSome}
+use Rattle.std.proofs.Common.{◌≡◌, ℕ, ◌==◌, ◌&&◌, Bool, false, List, [], ◌∷◌, Option, Some, None, refl, sym}
+use Rattle.std.proofs.Common.{subst, flat_map, filter_map, IfSome}
 use Rattle.std.specs.List.{AllByRecursion, list_any}
 use Rattle.std.specs.Prelude.{if◌then◌else◌}
 use Rattle.store_tables.specs.Sql.{Row, Has, Schema, Table}
 use Rattle.sqlite_rules.specs.Action.{Work, loses, pairs, work_by, work_for}
-use Rattle.sqlite_rules.specs.Keys.{aims, shares}
 use Rattle.sqlite_rules.specs.declared.action.Deed.{Deed}
 use Rattle.sqlite_rules.proofs.ListLemmas.{all_has}
-use Rattle.sqlite_schema.specs.Rules.{ParentKey, agree, guards, parent_key}
-use Rattle.sqlite_schema.specs.declared.schema.Index.{Index}
+use Rattle.sqlite_schema.specs.Rules.{ParentKey, parent_key}
 use Rattle.sqlite_schema.specs.declared.schema.Keys.{Keys}
 use Rattle.sqlite_schema.specs.declared.schema.Reference.{Reference}
-use Rattle.store_tables.specs.Beside.{no_others, IsNoKey, IsOfOthers, StandsClear, TakesRows}
-use Rattle.store_tables.specs.Tables.{club_schema}
-use Rattle.store_tables.proofs.ContentLemmas.{club_apart}
-
-pub clear_alone : StandsClear club_schema no_others
-clear_alone = record { trees = club_apart; keys = tt; parents = tt }
-
-pub takes_itself : TakesRows club_schema
-takes_itself = (no_others, refl, clear_alone)
+use Rattle.store_tables.specs.Placed.{IsOfOthers}
 
 -- ---- no FOREIGN KEY of theirs acts
 
@@ -58,20 +48,3 @@ module _ (club : Schema) (tables : List Table) (table : Table) (listed : Has clu
         ≡ []
     no_works [] others = refl
     no_works (t ∷ ts) others = rw (none_for t t.references others.0) (no_works ts others.1)
-
--- ---- no index of theirs is the one of a key
-
-module _ (club : Schema) (table : Table) (listed : Has club.tables table) (new row : Row) where
-  pub unshared : (is : List Index) → AllByRecursion (IsNoKey club) is
-      → list_any (shares (Some table.primary) table new row) is ≡ false
-  unshared [] clear = refl
-  unshared (index ∷ is) clear =
-      let none = all_has (λ t. (guards index t && aims (Some t.primary) index.columns) ≡ false) club.tables table
-      clear.0
-      listed in
-      (λ i. (none i && agree index.order index.columns row index.columns new)
-      || list_any (shares (Some table.primary) table new row) is) ∙ unshared is clear.1
-
-pub or_none : (a b : Bool) → b ≡ false → (a || b) ≡ a
-or_none true b none = refl
-or_none false b none = none

@@ -1,9 +1,9 @@
 -- A SELECT changes nothing, whatever the schema.
-use Rattle.std.proofs.Common.{◌≡◌, ℕ, Bool, true, false, true≢false, List, [], ◌∷◌, Ok, Err, Result, Option, None, refl}
+use Rattle.std.proofs.Common.{◌≡◌, ℕ, Bool, true, false, true≢false, List, Ok, Err, Result, Option, None, refl}
 use Rattle.std.proofs.Common.{sym, ap, subst, ◌∙◌, inl, inr, ◌⊎◌, IsTrue, arith}
-use Rattle.std.specs.Prelude.{if◌then◌else◌, IfOk, IfErr, IsSome, slice_get, Some}
+use Rattle.std.specs.Prelude.{if◌then◌else◌, IfOk, IfErr, IsSome}
 use Rattle.std.proofs.lemmas.Bool.{cases_Bool}
-use Rattle.store_tables.specs.Sql.{Row, Schema, understood, State, Shown, IsUnchanged, Survives, HasCleanDisk, Table}
+use Rattle.store_tables.specs.Sql.{Row, Schema, understood, State, Shown, IsUnchanged, Survives, HasCleanDisk}
 use Rattle.sqlite.specs.Command.{Command}
 use Rattle.sqlite.specs.Clock.{timed}
 use Rattle.sqlite.specs.Listing.{reads_listing, is_select as is_query, if_select, listing_schema}
@@ -18,12 +18,9 @@ use Rattle.sqlite_resolve.specs.declared.error.CompileError.{CompileError}
 use Rattle.sqlite_resolve.specs.Lowering.{Checked, and_then}
 use Rattle.sqlite_resolve.specs.Compile.{first, compiled, planned, meaning, returning, command}
 use Rattle.store_tables.specs.Queries.{is_select, is_read_as_select, IsSelect}
-use Rattle.std.specs.List.{AllByRecursion}
-use Rattle.sqlite_rules.proofs.ListLemmas.{all_has, has_got}
-use Rattle.store_tables.specs.Beside.{no_others, HasRows}
-use Rattle.store_tables.specs.Contents.{Content, IsExactly}
+use Rattle.store_tables.specs.Over.{HasRows}
+use Rattle.store_tables.specs.Contents.{Content}
 use Rattle.store_tables.specs.Reading.{KeepsContent, KeepsMay, OnlyReads, Reads}
-use Rattle.store_tables.specs.Tables.{club_schema}
 use Rattle.store_tables.proofs.UpsertLemmas.{same_value}
 
 nothing_shown : (schema : Schema) (base : ℕ) (s : Statement) → is_select s ≡ true → returning schema base s ≡ Ok None
@@ -194,23 +191,8 @@ read_then answered a b c one two =
 pub read_failed : (answered : Bool) (a b : State) → Reads answered a b → Reads false a b
 read_failed answered a b reads = reads_by false a b (only_reading answered a b reads) (λ t. absurd (true≢false (sym t)))
 
--- ---- a club beside what other programs made
-
-each_same : (content : Content) (ts : List Table) → AllByRecursion (λ t. content t.tree ≡ content t.tree) ts
-each_same content [] = tt
-each_same content (t ∷ ts) = (refl, each_same content ts)
-
-pub has_rows : (content : Content) (s : State) → IsExactly club_schema content s → HasRows content s
-has_rows content s k = (club_schema, content, (no_others, refl), each_same content club_schema.tables, k)
-
 -- what a call that answered leaves
 pub still_rows : (old new : State) → KeepsContent old new → (content : Content) → HasRows content old
     → HasRows content new
-still_rows old new kept content k = (k.0, k.1, k.2, k.3, kept k.0 k.1 k.4)
-
--- the rows of a table of the club
-pub rows_of : (content : Content) (s : State) (k : HasRows content s) (place : ℕ) (table : Table)
-    → slice_get club_schema.tables place ≡ Some table → k.1 table.tree ≡ content table.tree
-rows_of content s k place table at =
-    all_has (λ t. k.1 t.tree ≡ content t.tree) club_schema.tables table k.3
-    (has_got club_schema.tables place table at)
+still_rows old new kept content (schema, whole, club, are, exactly) =
+    (schema, whole, club, are, kept schema whole exactly)

@@ -137,15 +137,6 @@ unchanged_exactly schema content old new k same may = record {
   may_leave = may;
 }
 
--- the parameters of a call, as they are known
-pub survives_given : (sql : List ℕ) (params wanted : Row) (old new : State) → params ≡ wanted
-    → Survives old new (CommitsShowing sql params old) → Survives old new (CommitsShowing sql wanted old)
-survives_given sql params wanted old new same = subst (λ p. Survives old new (CommitsShowing sql p old)) same
-
-pub shown_given : (sql : List ℕ) (params wanted : Row) (old new : State) (rows : List Row) → params ≡ wanted
-    → Shown sql params old new rows → Shown sql wanted old new rows
-shown_given sql params wanted old new rows same = subst (λ p. Shown sql p old new rows) same
-
 -- What a SELECT of every column shows is the content, of whatever database.
 pub found_rows : (table : Table) (project : List Term) (order : List (Term × Key)) (names : List (List ℕ))
     → ((d : Trees) → overlay d [] table.tree ≡ d table.tree)

@@ -1,9 +1,10 @@
 -- Contents whose tables have the same rows are held alike.
 use Rattle.std.proofs.Common.{List, [], ◌∷◌}
 use Rattle.std.specs.List.{AllByRecursion}
-use Rattle.store_tables.specs.Sql.{Row, Table, Trees, State}
+use Rattle.store_tables.specs.Sql.{Row, Schema, Table, Trees, State}
 use Rattle.store_tables.specs.Changes.{HaveSame, AreSame}
 use Rattle.store_tables.specs.Content.{Keeps}
+use Rattle.store_tables.specs.Contents as of_schema
 use Rattle.store_tables.specs.Contents.{Content, Stores, AreStored}
 use Rattle.store_tables.specs.Club.{Leaves, IsExactly}
 use Rattle.store_tables.specs.Tables.{club_schema}
@@ -20,30 +21,36 @@ both_all : {A : Type 0} (P Q R : A → Type 0) (xs : List A) → ((x : A) → P 
 both_all P Q R [] f p q = tt
 both_all P Q R (x ∷ xs) f p q = (f x p.0 q.0, both_all P Q R xs f p.1 q.1)
 
-stored_same : (db : Trees) (one other : Content) → AreSame club_schema one other → AreStored club_schema db one
-    → AreStored club_schema db other
-stored_same db one other =
-    both_all (λ t. HaveSame (one t.tree) (other t.tree)) (λ t. Stores t db one) (λ t. Stores t db other)
-    club_schema.tables (λ t same stores. record {
-      rows = keeps_same t db (one t.tree) (other t.tree) same stores.rows;
-      apart = stores.apart;
-    })
+module _ (schema : Schema) (one other : Content) where
+  stored_on : (db : Trees) → AreSame schema one other → AreStored schema db one → AreStored schema db other
+  stored_on db =
+      both_all (λ t. HaveSame (one t.tree) (other t.tree)) (λ t. Stores t db one) (λ t. Stores t db other)
+      schema.tables (λ t same stores. record {
+        rows = keeps_same t db (one t.tree) (other t.tree) same stores.rows;
+        apart = stores.apart;
+      })
+
+  pub leaves_on : (db : Trees) → AreSame schema one other → of_schema.Leaves schema one db
+      → of_schema.Leaves schema other db
+  leaves_on db same left = record { sound = left.sound; tables = stored_on db same left.tables }
+
+  pub exactly_on : (s : State) → AreSame schema one other → of_schema.IsExactly schema one s
+      → of_schema.IsExactly schema other s
+  exactly_on s same k = record {
+    is_open = k.is_open;
+    idle = k.idle;
+    now = record {
+      schema = k.now.schema;
+      sound = k.now.sound;
+      tables = stored_on s.now.trees same k.now.tables;
+    };
+    committed = k.committed;
+    may_leave = λ db h. leaves_on db same (k.may_leave db h);
+  }
 
 pub leaves_same : (one other : Content) (db : Trees) → AreSame club_schema one other → Leaves one db → Leaves other db
-leaves_same one other db same left = record { sound = left.sound; tables = stored_same db one other same left.tables }
+leaves_same = leaves_on club_schema
 
 pub exactly_same : (one other : Content) (s : State) → AreSame club_schema one other → IsExactly one s
     → IsExactly other s
-exactly_same one other s same k = record {
-  is_open = k.is_open;
-  idle = k.idle;
-  now =
-      record {
-        schema = k.now.schema;
-        sound = k.now.sound;
-        tables =
-            stored_same s.now.trees one other same k.now.tables;
-      };
-  committed = k.committed;
-  may_leave = λ db h. leaves_same one other db same (k.may_leave db h);
-}
+exactly_same = exactly_on club_schema

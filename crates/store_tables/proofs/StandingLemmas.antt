@@ -1,6 +1,6 @@
 -- A table that stands is not made again, whatever else stands in the schema.
 use Rattle.std.proofs.Common.{◌≡◌, ℕ, Bool, true, false, List, [], Ok, Err, Option, Some, None, refl, sym, ap, subst}
-use Rattle.std.proofs.Common.{codes, inl, inr}
+use Rattle.std.proofs.Common.{inl, inr}
 use Rattle.std.specs.Prelude.{is_ok, is_some, if◌then◌else◌}
 use Rattle.std.specs.Option.{option_or}
 use Rattle.std.proofs.lemmas.Bool.{cases_Bool}
@@ -13,22 +13,16 @@ use Rattle.sqlite_resolve.specs.declared.error.CompileError.TheVariants.{Exists,
 use Rattle.sqlite_resolve.specs.Compile.{command, compiled, create_table, creates, first, is_attached, is_reserved}
 use Rattle.sqlite_resolve.specs.Compile.{meaning, planned, returning}
 use Rattle.sqlite_resolve.specs.Lowering.{Checked, and_then}
-use Rattle.sqlite_tied.specs.Compute.{everything}
-use Rattle.store_tables.specs.Sql.{understood, Schema}
-use Rattle.sqlite.specs.Listing.{if_select, listing_schema, reads_listing}
-use Rattle.store_tables.specs.Beside.{Others, beside}
-use Rattle.store_tables.specs.Tables.{first_schema}
-use Rattle.store_tables.specs.Texts.{create_of}
-use Rattle.store_tables.specs.declared.names.Table.TheVariants.{Meta}
+use Rattle.store_tables.specs.Sql.{Schema}
 
 -- ---- what fails in a part fails
 
 module _ {A B : Type 0} where
-  fails_first : (r : Checked A) (f : A → Checked B) → is_ok r ≡ false → is_ok (and_then r f) ≡ false
+  pub fails_first : (r : Checked A) (f : A → Checked B) → is_ok r ≡ false → is_ok (and_then r f) ≡ false
   fails_first (Ok a) f fails = absurd (let x = fails in cc)
   fails_first (Err e) f fails = refl
 
-  fails_then : (r : Checked A) (f : A → Checked B) → ((a : A) → is_ok (f a) ≡ false) → is_ok (and_then r f) ≡ false
+  pub fails_then : (r : Checked A) (f : A → Checked B) → ((a : A) → is_ok (f a) ≡ false) → is_ok (and_then r f) ≡ false
   fails_then (Ok a) f fails = fails a
   fails_then (Err e) f fails = refl
 
@@ -49,7 +43,7 @@ not_freed false false (Some table) view None strict stands = refl
 not_freed false false None view None strict stands = absurd (let x = stands in cc)
 not_freed false true table view None strict stands = absurd (let x = strict in cc)
 
-not_made : (schema : Schema) (formats : List (List ℕ)) (def : CreateTable) → def.if_missing ≡ false
+pub not_made : (schema : Schema) (formats : List (List ℕ)) (def : CreateTable) → def.if_missing ≡ false
     → is_some (table_named schema def.name) ≡ true → is_ok (create_table schema formats def) ≡ false
 unfolding create_table creates
 not_made schema formats def strict stands = elim (cases_Bool (is_attached schema def.name)) [
@@ -61,7 +55,7 @@ not_made schema formats def strict stands = elim (cases_Bool (is_attached schema
 
 -- ---- a text that makes a table of this name
 
-abbrev made_by : Statement → Option (List ℕ × Bool)
+abbrev pub made_by : Statement → Option (List ℕ × Bool)
 made_by (written.CreateTable def) = Some (def.name, def.if_missing)
 made_by _ = None
 
@@ -79,7 +73,7 @@ abbrev missing_in : Option (List ℕ × Bool) → Bool
 missing_in None = false
 missing_in (Some made) = made.1
 
-makes_of : (statement : Statement) (name : List ℕ) → made_by statement ≡ Some (name, false) → Makes statement name
+pub makes_of : (statement : Statement) (name : List ℕ) → made_by statement ≡ Some (name, false) → Makes statement name
 makes_of (written.CreateTable def) name is =
     record { def = def; is = refl; named = ap name_in is; strict = ap missing_in is }
 makes_of _ name is = absurd (let x = is in cc)
@@ -99,40 +93,14 @@ module _ (schema : Schema) (name : List ℕ) (stands : is_some (table_named sche
       fails_first _ _ (fails_then (returning schema _ p.statement) _ (λ shown.
       fails_first _ _ (no_command p.formats _ p.statement makes)))
 
-  no_text : (read : Checked Parsed) (sql : List ℕ) → first sql ≡ read
+  pub no_text : (read : Checked Parsed) (sql : List ℕ) → first sql ≡ read
       → ((p : Parsed) → read ≡ Ok p → Makes p.statement name) → is_ok (compiled schema sql) ≡ false
   unfolding compiled
   no_text (Ok p) sql is makes = rw is (fails_first _ _ (no_plan p (makes p refl)))
   no_text (Err e) sql is makes = rw is refl
 
--- ---- the table `meta`
+-- ---- the statement of a text
 
-abbrev made_in : Checked Parsed → Option (List ℕ × Bool)
+abbrev pub made_in : Checked Parsed → Option (List ℕ × Bool)
 made_in (Ok p) = made_by p.statement
 made_in (Err e) = None
-
-meta_is_made : made_in (first (create_of Meta)) ≡ Some (codes "meta", false)
-unfolding first everything
-meta_is_made = refl
-
-meta_is_there : (others : Others) → is_some (table_named (beside first_schema others) (codes "meta")) ≡ true
-unfolding everything
-meta_is_there others = refl
-
-no_listing : is_ok (if_select (compiled listing_schema (create_of Meta))) ≡ false
-unfolding everything listing_schema
-no_listing = refl
-
-pub meta_stands : (others : Others) → is_ok (understood (beside first_schema others) (create_of Meta)) ≡ false
-unfolding understood
-meta_stands others =
-    let schema : Schema = beside first_schema others in
-    let plain : is_ok (compiled schema (create_of Meta)) ≡ false =
-    no_text schema (codes "meta") (meta_is_there others) (first (create_of Meta)) (create_of Meta) refl
-    (λ p read. makes_of p.statement (codes "meta")
-    (subst (λ r. made_in r ≡ Some (codes "meta", false)) read meta_is_made))
-    in
-    elim (cases_Bool (reads_listing schema (create_of Meta))) [
-      | inl lists ↦ rw lists no_listing
-      | inr plainly ↦ rw plainly plain
-    ]

@@ -16,7 +16,7 @@ use Rattle.sqlite.specs.Clock.{timed}
 use Rattle.sqlite.specs.Effect.{Reads, RefusesToRead}
 use Rattle.sqlite.specs.State.{FailsToQuery, FailsToShow, IsNotRun, IsNoStatement, store_error, CommitsShowing}
 use Rattle.sqlite.specs.declared.error.Error.{Error}
-use Rattle.sqlite.proofs.Callers.{IsPlain, reads_as, never_commits}
+use Rattle.sqlite.proofs.Callers.{IsPlain, reads_as}
 use Rattle.sqlite_trees.specs.View.{is_int}
 use Rattle.sqlite_trees.specs.declared.error.StoreError.{StoreError}
 use Rattle.sqlite_trees.specs.declared.error.StoreError.TheVariants as failure
@@ -29,7 +29,7 @@ use Rattle.sqlite_rules.proofs.ListLemmas.{all_has, has_got}
 use Rattle.store_tables.specs.Content.{cells, same_key, Keeps, AreApart}
 use Rattle.store_tables.specs.Contents.{Content, Stores, AreStored, IsExactly, AreThose}
 use Rattle.store_tables.specs.Put.{selects}
-use Rattle.store_tables.specs.Reading.{AreIds, by_columns, Tells, TellsIds, IsNoInput, KeepsMay}
+use Rattle.store_tables.specs.Reading.{AreIds, by_columns, Tells, TellsIds, IsNoInput}
 use Rattle.store_tables.specs.Queries.{Selects, Finds}
 use Rattle.store_tables.proofs.ApartLemmas.{pairs_turned, each_shown}
 use Rattle.store_tables.proofs.OrderLemmas.{sorted_rows, has_index}
@@ -69,7 +69,7 @@ maps-same f g same (x ∷ xs) = λ i. same x i ∷ maps-same f g same xs i
 pub tells : (schema : Schema) (table : Table) (count : ℕ) (sql : List ℕ) (project : List Term)
     → Selects schema table.tree count sql project → ((r : Row) → eval_all project ([] ∷ r ∷ []) ≡ cells table r)
     → (old new : State) (rows : List Row) → old.now.schema ≡ schema → Shown sql [] old new rows
-    → Tells table count rows old new
+    → Tells table count rows old.now.trees old new
 tells schema table count sql project is shows old new rows has h = record {
   keeps = found_rows table project is.order is.names is.overlaid shows old.now rows
       (read_by schema table.tree count sql project is old new rows has h);
@@ -85,7 +85,7 @@ tells schema table count sql project is shows old new rows has h = record {
 pub tells_ids : (schema : Schema) (tree : ℕ) (sql : List ℕ) (project : List Term) → Selects schema tree 1 sql project
     → ((r : Row) → column (eval_all project ([] ∷ r ∷ [])) 0 ≡ rowid r)
     → (old new : State) (rows : List Row) → old.now.schema ≡ schema → Shown sql [] old new rows
-    → TellsIds tree rows old new
+    → TellsIds (old.now.trees tree) rows old new
 tells_ids schema tree sql project is first old new rows has h =
     let stored = old.now.trees tree in
     let one = each_shown old.now [] tree project is.order is.names rows is.overlaid
@@ -170,13 +170,6 @@ finds schema table place key wanted params sql cmp is old new rows s clean h con
           (shown_unchanged sql params old new rows (subst (λ d. IsPlain (understood d sql)) (sym k.now.schema) is.plain)
           h) (may_as_before schema sql params old new is.plain s clean content k),
     )
-
-pub keeps_may : (schema : Schema) (sql : List ℕ) (params : Row) (old new : State) → IsPlain (understood schema sql)
-    → old.now.schema ≡ schema → Survives old new (CommitsShowing sql params old) → HasCleanDisk new → KeepsMay old new
-keeps_may schema sql params old new plain has s clean db left = elim (s.crash clean db left) [
-  | inl was ↦ was
-  | inr made ↦ absurd (never_commits sql params old db (subst (λ x. IsPlain (understood x sql)) (sym has) plain) made)
-]
 
 -- ---- which error
 

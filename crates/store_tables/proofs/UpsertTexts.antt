@@ -1,6 +1,6 @@
 -- A text that puts a row, in a schema with further tables.
 use Rattle.std.proofs.Common.{◌≡◌, ℕ, zero, suc, ◌+◌, ◌==◌, false, not, ◌&&◌, List, [], ◌∷◌, Option, Some, None, Ok}
-use Rattle.std.proofs.Common.{Err, sym, ap, subst, ◌∙◌, length, map}
+use Rattle.std.proofs.Common.{Err, ap, ◌∙◌, length, map}
 use Rattle.std.specs.Prelude.{if◌then◌else◌}
 use Rattle.sqlite_ast.specs.declared.Conflict.TheVariants as conflict
 use Rattle.sqlite_ast.specs.declared.Expr.{Expr}
@@ -23,16 +23,13 @@ use Rattle.sqlite_resolve.specs.declared.error.CompileError.TheVariants.{Misuse}
 use Rattle.sqlite_resolve.specs.Body.{table_at}
 use Rattle.sqlite_resolve.specs.Compile.{compiled, planned, meaning, command, insert_or, insert_or_abort, new_rows}
 use Rattle.sqlite_resolve.specs.Compile.{returning, shows, target, first, small, timed, with_command}
-use Rattle.sqlite_schema.specs.Names.{same_name}
-use Rattle.sqlite_resolve.specs.Given.{do_update, given, key_meant, update, upsert, upserts}
+use Rattle.sqlite_resolve.specs.Given.{do_update, key_meant, update, upsert, upserts}
 use Rattle.sqlite_resolve.specs.Lowering.{Checked, and_then}
 use Rattle.sqlite_resolve.specs.Program.{program}
 use Rattle.sqlite_resolve.specs.Scope.{Name}
 use Rattle.sqlite.specs.Listing.{listing_schema, misses_table, if_select}
-use Rattle.sqlite.proofs.Callers.{IsPlain, command_of}
-use Rattle.store_tables.specs.Tables.{club_schema}
 use Rattle.store_tables.specs.Texts.{names_of, key_names, parameters_of, put_text}
-use Rattle.store_tables.proofs.ExcludedLemmas.{AreOfNew, new_of, new_row, update_same}
+use Rattle.store_tables.proofs.ExcludedLemmas.{new_of}
 
 -- ---- the parts of a text that puts a row
 
@@ -83,7 +80,7 @@ module _ (s : Schema) (p : Put) (at : ℕ) (table : Table) where
   abbrev pub base : ℕ
   base = small p.names + small []
 
-  abbrev upserts_by : Checked Draft → Checked (List Upsert)
+  abbrev pub upserts_by : Checked Draft → Checked (List Upsert)
   upserts_by d =
       and_then (and_then (key_meant s table p.clause.target) (λ key.
       and_then (and_then d (λ x. and_then (program s [] x) (λ q. Ok (Some q))))
@@ -143,7 +140,7 @@ module _ (s : Schema) (p : Put) (at : ℕ) (table : Table) where
         (λ found. Ok (is.timeless i, found)))
         ∙ (λ i. and_then (and_then (insert_is i) (λ c. Ok (c, None))) (λ found. Ok ([], found)))
 
-    compiled_is : compiled s sql ≡ compiled_by (do_update s at table base p.clause)
+    pub compiled_is : compiled s sql ≡ compiled_by (do_update s at table base p.clause)
     unfolding compiled
     compiled_is =
         (λ i. and_then (is.parsed i) (λ q. and_then (planned s q) (λ plan. Ok (with_command q plan))))
@@ -157,29 +154,3 @@ module _ (s : Schema) (p : Put) (at : ℕ) (table : Table) where
     understood_is d reads =
         let is_by = compiled_is ∙ ap compiled_by reads in
         λ i. if misses_table (is_by i) then if_select (compiled listing_schema sql) else is_by i
-
-  -- what the text means where the club stands alone
-  abbrev pub means : List ℕ → Checked Compiled
-  means sql =
-      let alone = compiled_by (do_update club_schema at table base p.clause) in
-      if misses_table alone then if_select (compiled listing_schema sql) else alone
-
-  -- The text is this command. Each field is found by computing.
-  pub record IsUpsert (sql : List ℕ) (does : Command) : Type 0 where
-    pub placed : IsPlaced sql
-    pub bare : p.clause.filter ≡ None
-    pub all : AreOfNew (given table base) p.clause.sets
-    pub other : same_name table.name new_row ≡ false
-    pub is : command_of (means sql) ≡ does
-    pub plain : IsPlain (means sql)
-
-  module _ (sql : List ℕ) (does : Command) (it : IsUpsert sql does) where
-    understood_so : understood s sql ≡ means sql
-    understood_so = understood_is sql it.placed (do_update club_schema at table base p.clause)
-        (update_same s club_schema at base table p.clause it.bare it.all it.other)
-
-    pub upsert_is : command_of (understood s sql) ≡ does
-    upsert_is = ap command_of understood_so ∙ it.is
-
-    pub upsert_plain : IsPlain (understood s sql)
-    upsert_plain = subst IsPlain (sym understood_so) it.plain

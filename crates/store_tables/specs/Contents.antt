@@ -12,8 +12,8 @@ use Rattle.sqlite_catalog.specs.Listing.{IsSound}
 use Rattle.sqlite_rules.specs.Lists.{Has}
 use Rattle.store_tables.specs.Content.{same_key, AreApart, Keeps, put}
 use Rattle.store_tables.specs.Names.{tree_of}
-use Rattle.store_tables.specs.declared.names.Table.TheVariants.{EventRules, Meta}
-use Rattle.store_tables.specs.Tables.{club_schema, first_schema, schema_after}
+use Rattle.store_tables.specs.declared.names.Table.TheVariants.{Meta}
+use Rattle.store_tables.specs.Tables.{schema_after}
 
 -- the rows of each table, by the number of its tree
 abbrev pub Content : Type 0
@@ -92,25 +92,6 @@ pub record AreMade (schema : Schema) (db : Database) : Type 0 where
 pub record Ran (sql : List ℕ) (old new : State) : Type 0 where
   pub count : ℕ
   pub runs : ExecutesInside 0 sql [] old new (Ok count)
-
--- Inside a transaction the tables from one on were made, and nothing was committed.
-pub record Makes (from to : ℕ) (old new : State) : Type 0 where
-  pub made : AreMade (schema_after from) old.now → AreMade (schema_after to) new.now
-  pub committed : new.committed ≡ old.committed
-  pub inside : new.in_transaction ≡ true
-
--- Inside a transaction, an empty database came to hold the opening content.
-pub record Fills (old new : State) : Type 0 where
-  pub holds : AreMade (schema_after 0) old.now → Holds club_schema new.now opening
-  pub committed : new.committed ≡ old.committed
-  pub inside : new.in_transaction ≡ true
-
--- Inside a transaction the table of rules of events was made beside the rows of schema 1, and nothing was committed.
-pub record Widens (old new : State) : Type 0 where
-  pub holds : (content : Content) → content (tree_of EventRules) ≡ [] → Holds first_schema old.now content
-      → Holds club_schema new.now content
-  pub committed : new.committed ≡ old.committed
-  pub inside : new.in_transaction ≡ true
 
 -- a sound database with no table
 pub record IsEmpty (trees : Trees) : Type 0 where

@@ -1,4 +1,3 @@
-pub mod Beside
 pub mod Cells
 pub mod Changed
 pub mod Changes
@@ -7,9 +6,11 @@ pub mod Content
 pub mod Contents
 pub mod Names
 pub mod Over
+pub mod Placed
 pub mod Put
 pub mod Queries
 pub mod Reading
+pub mod Room
 pub mod Rows
 pub mod Sql
 pub mod Tables

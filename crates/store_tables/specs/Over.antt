@@ -1,37 +1,105 @@
--- The rows of a club beside those of the tables of other programs.
-use Rattle.std.specs.Prelude.{◌==◌, ◌||◌, ℕ, Bool, false, if◌then◌else◌, List, [], ◌∷◌}
+-- The rows of a club in a database that has tables, indexes and views of other programs, too.
+use Rattle.std.specs.Prelude.{◌≡◌, ℕ, ◌==◌, ◌^◌, nat_lt, Bool, true, false, if◌then◌else◌, List, [], ◌∷◌, Option}
+use Rattle.std.specs.Prelude.{Some, None}
+use Rattle.std.specs.List.{AllByRecursion}
+use Rattle.sqlite.specs.Does.{lacks_sequence}
+use Rattle.sqlite.specs.Effect.{Database}
+use Rattle.sqlite.specs.Schema.{Schema}
 use Rattle.sqlite.specs.State.{State}
-use Rattle.sqlite.specs.Table.{Table}
 use Rattle.sqlite.specs.Tree.{Trees}
-use Rattle.store_tables.specs.Beside.{Others, no_others, beside, StandsClear}
-use Rattle.store_tables.specs.Contents.{Content, IsExactly, Leaves, nothing}
-use Rattle.store_tables.specs.Tables.{club_schema}
+use Rattle.sqlite_catalog.specs.Change.{created, next_tree}
+use Rattle.store_tables.specs.Contents.{Content, Holds, IsExactly, Leaves, nothing}
+use Rattle.store_tables.specs.Names.{in_order, tree_of}
+use Rattle.store_tables.specs.Placed.{HasTables, HasTablesOf, TakesClub, by_club, tree_in}
+use Rattle.store_tables.specs.Tables.{club_schema, made_as}
+use Rattle.store_tables.specs.declared.names.Table as of_club
+use Rattle.store_tables.specs.declared.names.Table.TheVariants.{EventRules}
+use Rattle.store_tables.specs.declared.names.Version.TheVariants.{First, Current}
 
--- one of the tables has this tree
-abbrev pub has_tree : List Table → ℕ → Bool
-has_tree [] t = false
-has_tree (table ∷ tables) t = (t == table.tree) || has_tree tables t
+-- The tables of a club have exactly these rows wherever they stand, beside tables that have whatever rows; and so it is
+-- in all that a stop may leave.
+abbrev pub HasRows : Content → State → Type 0
+HasRows content s =
+    (schema : Schema) × (whole : Content) × HasTables Current schema
+    × AllByRecursion (λ table. by_club schema whole (tree_of table) ≡ content (tree_of table)) in_order
+    × IsExactly schema whole s
 
--- the rows of a club's tables, and those of the tables of other programs
-abbrev pub over : Content → Content → Content
-over club others t = if has_tree club_schema.tables t then club t else others t
+-- ---- the neighbours of a club
 
--- What other programs made beside a club's tables, and the rows of their tables.
+abbrev pub is_tree : ℕ → Option ℕ → Bool
+is_tree n None = false
+is_tree n (Some tree) = n == tree
+
+abbrev pub over_each : Schema → List of_club.Table → Content → Content → Content
+over_each schema [] club others n = others n
+over_each schema (table ∷ tables) club others n =
+    if is_tree n (tree_in schema table) then club (tree_of table) else over_each schema tables club others n
+
+-- the rows of a club's tables where they stand in the schema, and those of the tables of other programs
+unfoldable pub over : Schema → Content → Content → Content
+over schema = over_each schema in_order
+
+-- What stands in the database of a club.
 pub record Neighbours : Type 0 where
-  pub made : Others
+  -- its tables, indexes and views, those of the club among them
+  pub schema : Schema
+  -- the rows of the tables of other programs
   pub rows : Content
 
 -- the tables of a club stand alone
 abbrev pub alone : Neighbours
-alone = record { made = no_others; rows = nothing }
+alone = record { schema = club_schema; rows = nothing }
+
+-- the database has these rows of a club and those of its neighbours
+abbrev pub HoldsBeside : Neighbours → Content → Database → Type 0
+HoldsBeside them content db = Holds them.schema db (over them.schema content them.rows)
 
 -- The connection has exactly these rows of a club and those of its neighbours, which have no part in putting rows of
 -- the club; and so has all that a stop may leave.
 pub record IsBesideThem (them : Neighbours) (content : Content) (s : State) : Type 0 where
-  pub clear : StandsClear club_schema them.made
-  pub exactly : IsExactly (beside club_schema them.made) (over content them.rows) s
+  pub clear : TakesClub Current them.schema
+  pub exactly : IsExactly them.schema (over them.schema content them.rows) s
 
 -- a later opening finds these rows of a club and those of its neighbours
 pub record LeavesBeside (them : Neighbours) (content : Content) (trees : Trees) : Type 0 where
-  pub clear : StandsClear club_schema them.made
-  pub leaves : Leaves (beside club_schema them.made) (over content them.rows) trees
+  pub clear : TakesClub Current them.schema
+  pub leaves : Leaves them.schema (over them.schema content them.rows) trees
+
+-- Inside a transaction the rows of the club changed so, wherever its tables stand, those of its neighbours stayed, and
+-- nothing was committed.
+pub record StepsBeside (change : Content → Content) (old new : State) : Type 0 where
+  pub holds : (them : Neighbours) → TakesClub Current them.schema → (content : Content)
+      → HoldsBeside them content old.now → HoldsBeside them (change content) new.now
+  pub committed : new.committed ≡ old.committed
+  pub inside : new.in_transaction ≡ true
+
+-- ---- a club of schema 1
+
+-- The neighbours of a club of schema 1 are those that it has once it is upgraded: this is the schema before.
+pub record IsUpgraded (schema : Schema) (them : Neighbours) : Type 0 where
+  pub tables : HasTablesOf First schema
+  pub clear : TakesClub Current them.schema
+  pub is : them.schema ≡ created schema (made_as EventRules 0)
+  -- where a table counts its rows, the table for that stands
+  pub counted : lacks_sequence them.schema ≡ false
+  -- there is a tree for the table, which has no rows yet
+  pub stored : nat_lt (next_tree schema) (2 ^ 31) ≡ true
+  pub bare : them.rows (next_tree schema) ≡ []
+
+-- the database has these rows of a club of schema 1 and those of its neighbours
+pub record HoldsFirst (them : Neighbours) (content : Content) (db : Database) : Type 0 where
+  pub schema : Schema
+  pub before : IsUpgraded schema them
+  pub holds : Holds schema db (over schema content them.rows)
+
+-- the connection has exactly these, and so has all that a stop may leave
+pub record IsFirstBeside (them : Neighbours) (content : Content) (s : State) : Type 0 where
+  pub schema : Schema
+  pub before : IsUpgraded schema them
+  pub exactly : IsExactly schema (over schema content them.rows) s
+
+-- a later opening finds these
+pub record LeavesFirst (them : Neighbours) (content : Content) (trees : Trees) : Type 0 where
+  pub schema : Schema
+  pub before : IsUpgraded schema them
+  pub leaves : Leaves schema (over schema content them.rows) trees

@@ -2,7 +2,6 @@
 use Rattle.std.specs.Prelude.{◌≡◌, ℕ, ℤ, ◌-◌, Bool, true, false, List, [], ◌∷◌, Some, Ok, Err, slice_get}
 use Rattle.std.specs.List.{list_all}
 use Rattle.std.specs.declared.cmp.Ordering.{Ordering}
-use Rattle.std.specs.declared.cmp.Ordering.TheVariants.{Equal}
 use Rattle.sqlite_ast.specs.declared.Statement.{Statement}
 use Rattle.sqlite_ast.specs.declared.Statement.TheVariants as written
 use Rattle.sqlite_syntax.specs.declared.statement.Parsed.{Parsed}
@@ -24,11 +23,7 @@ use Rattle.sqlite_trees.specs.Tree.{rowid}
 use Rattle.store_tables.specs.Content.{cells, same_key}
 use Rattle.store_tables.specs.Put.{selects}
 use Rattle.store_tables.specs.Reading.{by_columns, rising}
-use Rattle.store_tables.specs.Beside.{Others, beside}
-use Rattle.store_tables.specs.Names.{place_of}
-use Rattle.store_tables.specs.Tables.{club_schema, standing}
-use Rattle.store_tables.specs.Texts.{all_text, ids_text, by_first_text, question_text}
-use Rattle.store_tables.specs.declared.names.Table as of_club
+use Rattle.store_tables.specs.Texts.{all_text, ids_text, by_first_text}
 
 -- ---- by the grammar alone
 
@@ -78,16 +73,6 @@ pub record Finds (schema : Schema) (table : Table) (place : ℕ) (key : List ℕ
       (output (selects table.tree filter project order) (params ∷ r ∷ []))
       (output (selects table.tree filter project order) (params ∷ s ∷ []))
       ≡ cmp (eval_all project (params ∷ r ∷ [])) (eval_all project (params ∷ s ∷ []))
-
--- The text of a question by these columns finds the rows of a club that have the wanted values in them, beside whatever
--- stands there.
-pub record AsksBeside (others : Others) (table : of_club.Table) (key : List ℕ) (wanted params : Row) : Type 0 where
-  pub is_select : IsSelect (question_text (standing table) key)
-  pub finds : Finds (beside club_schema others) (standing table) (place_of table) key wanted params
-      (question_text (standing table) key) (λ x y. Equal)
-
-abbrev pub Asks : of_club.Table → List ℕ → Row → Row → Type 0
-Asks table key wanted params = (others : Others) → AsksBeside others table key wanted params
 
 -- the order of a key of so many columns, among rows whose first column is the same
 abbrev pub by_others : ℕ → Row → Row → Ordering

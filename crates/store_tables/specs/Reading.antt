@@ -39,17 +39,18 @@ by_columns n = key_cmp 0 (rising n)
 abbrev pub by_ply : Row → Row → Ordering
 by_ply = key_cmp 1 (rising 1)
 
--- These are the rows of the table, each of them once, in the order of their key, and the connection is as it was.
-pub record Tells (table : Table) (keys : ℕ) (rows : List Row) (old new : State) : Type 0 where
-  pub keeps : Keeps table old.now.trees rows
-  pub once : IsPermutation (map (cells table) (old.now.trees table.tree)) rows
+-- These are the rows that the trees have of the table, each of them once, in the order of their key, and the connection
+-- is as it was.
+pub record Tells (table : Table) (keys : ℕ) (rows : List Row) (trees : Trees) (old new : State) : Type 0 where
+  pub keeps : Keeps table trees rows
+  pub once : IsPermutation (map (cells table) (trees table.tree)) rows
   pub sorted : IsSorted (by_columns keys) rows
   pub same : IsUnchanged old new
 
--- Each row is shown with an integer of its own first if and only if the rowids of the tree are apart.
-pub record TellsIds (tree : ℕ) (rows : List Row) (old new : State) : Type 0 where
-  pub apart : AreIds rows → AreApart (old.now.trees tree)
-  pub ids : AreApart (old.now.trees tree) → AreIds rows
+-- Each row is shown with an integer of its own first if and only if the rowids of these rows are apart.
+pub record TellsIds (stored rows : List Row) (old new : State) : Type 0 where
+  pub apart : AreIds rows → AreApart stored
+  pub ids : AreApart stored → AreIds rows
   pub sorted : IsSorted (by_columns 1) rows
   pub same : IsUnchanged old new
 

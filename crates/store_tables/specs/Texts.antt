@@ -45,12 +45,12 @@ name_under _ _ = codes "rowid"
 abbrev pub id_name : Table → List ℕ
 id_name table = name_under table.key (names_of table)
 
-abbrev name_at : List (List ℕ) → ℕ → List ℕ
+abbrev pub name_at : List (List ℕ) → ℕ → List ℕ
 name_at [] at = []
 name_at (name ∷ names) zero = name
 name_at (name ∷ names) (suc at) = name_at names at
 
-abbrev parameters : List (List ℕ)
+abbrev pub parameters : List (List ℕ)
 parameters =
     codes "?1" ∷ codes "?2" ∷ codes "?3" ∷ codes "?4" ∷ codes "?5" ∷ codes "?6" ∷ codes "?7" ∷ codes "?8" ∷ codes "?9"
     ∷ codes "?10" ∷ codes "?11" ∷ codes "?12" ∷ codes "?13" ∷ codes "?14" ∷ codes "?15" ∷ codes "?16" ∷ codes "?17"

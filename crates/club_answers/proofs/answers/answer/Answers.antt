@@ -1,3 +1,4 @@
+use Rattle.store_tables.proofs.Proved.{clean_before, rows_after, reads_on, ended}
 use Rattle.std.proofs.Common.{inr, subst, sym}
 use Rattle.std.proofs.lemmas.Result.{IfOk-weaker}
 use Rattle.record_writer.specs.Pieces.{AppendsSome}
@@ -5,7 +6,6 @@ use Rattle.club_rows.specs.Club.{tables}
 use Rattle.club_answers.specs.Found.{IsFound}
 use Rattle.club_answers.specs.AnswerTexts.{HasShown, HasShownSome}
 use Rattle.club_answers.proofs.AnswerTextLemmas.{records_shown, some_records_shown, text_begun}
-use Rattle.club_views.proofs.Proved.{clean_before, rows_after, reads_on, ended}
 use Rattle.club_answers.proofs.answers.answer.Goals as goal
 
 pub returns-in-Record-clause-reads : goal.returns-in-Record-clause-reads

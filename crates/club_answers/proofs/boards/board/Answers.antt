@@ -1,10 +1,10 @@
+use Rattle.store_tables.proofs.Proved.{clean_before, rows_after, reads_on, ended}
 use Rattle.std.proofs.Common.{ap, refl, subst, ◌∙◌}
 use Rattle.std.specs.Prelude.{max}
 use Rattle.club_rows.specs.Club.{tables}
 use Rattle.club_changes.specs.Stored.{IsFoundGame}
 use Rattle.club_changes.proofs.Proved.{place_at}
 use Rattle.club_lists.specs.Board.{board_text}
-use Rattle.club_views.proofs.Proved.{clean_before, rows_after, reads_on, ended}
 use Rattle.club_answers.proofs.boards.board.Goals as goal
 
 pub returns-in_err-text-in-Some-clause-reads : goal.returns-in_err-text-in-Some-clause-reads

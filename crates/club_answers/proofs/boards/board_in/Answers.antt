@@ -1,8 +1,8 @@
+use Rattle.store_tables.proofs.Proved.{clean_before, rows_after, reads_on}
 use Rattle.std.proofs.Common.{Some, subst, ◌∙◌}
 use Rattle.club_rows.specs.Club.{tables}
 use Rattle.club_views.specs.Viewed.{IsViewed}
 use Rattle.club_answers.proofs.BoardLemmas.{event_is, member_is, moves_are, view_is}
-use Rattle.club_views.proofs.Proved.{clean_before, rows_after, reads_on}
 use Rattle.club_answers.proofs.boards.board_in.Goals as goal
 
 pub returns-in-Some-clause-reads : goal.returns-in-Some-clause-reads

@@ -1,8 +1,8 @@
+use Rattle.store_tables.proofs.Proved.{ended}
 use Rattle.std.proofs.Common.{map, ap, sym, ◌∙◌}
 use Rattle.store_tables.specs.Cells.{challenge_cells}
 use Rattle.club_rows.specs.Club.{tables}
 use Rattle.club_answers.proofs.ChallengeOrder.{both_ok, challenges_are}
-use Rattle.club_views.proofs.Proved.{ended}
 use Rattle.club_answers.proofs.challenges.all_challenges.Goals as goal
 
 pub returns-clause-reads : goal.returns-clause-reads

@@ -1,9 +1,9 @@
+use Rattle.store_tables.proofs.Proved.{ended}
 use Rattle.std.proofs.Common.{map, refl, ap, ◌∙◌}
 use Rattle.std.proofs.lemmas.Result.{IfOk-weaker}
 use Rattle.store_tables.specs.Cells.{game_cells}
 use Rattle.club_rows.specs.Club.{tables}
 use Rattle.club_reads.proofs.Proved.{games_begin}
-use Rattle.club_views.proofs.Proved.{ended}
 use Rattle.club_answers.proofs.read.games_of.Goals as goal
 
 pub returns-clause-reads : goal.returns-clause-reads

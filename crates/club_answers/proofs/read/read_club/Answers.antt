@@ -1,7 +1,7 @@
+use Rattle.store_tables.proofs.Proved.{clean_before, rows_after, reads_on}
 use Rattle.std.proofs.Common.{ap, ◌∙◌}
 use Rattle.std.specs.Prelude.{max}
 use Rattle.club_rows.specs.Club.{tables}
-use Rattle.club_views.proofs.Proved.{clean_before, rows_after, reads_on}
 use Rattle.club_answers.proofs.read.read_club.Goals as goal
 
 pub returns-clause-reads : goal.returns-clause-reads

@@ -2,11 +2,10 @@ use Rattle.std.proofs.Common.{[], None, true, refl, subst}
 use Rattle.std.proofs.KnownBytes.{Appends-nil}
 use Rattle.std.proofs.lemmas.List.{take_all}
 use Rattle.sqlite.specs.Held.{state}
-use Rattle.store_tables.proofs.Proved.{read_nothing}
+use Rattle.store_tables.proofs.Proved.{read_nothing, clean_before, rows_after, reads_on}
 use Rattle.club_rows.specs.Club.{tables}
 use Rattle.club_answers.specs.Writing.{HasRecords}
 use Rattle.club_answers.proofs.RecordLemmas.{more_begun, more_written, not_first, so_far}
-use Rattle.club_views.proofs.Proved.{clean_before, rows_after, reads_on}
 use Rattle.club_answers.proofs.records.write_records.Goals as goal
 
 pub loop-id-init : goal.loop-id-init

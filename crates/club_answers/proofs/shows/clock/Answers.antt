@@ -1,3 +1,4 @@
+use Rattle.store_tables.proofs.Proved.{clean_before, rows_after, reads_on, ended}
 use Rattle.std.proofs.Common.{ap, refl, subst, ◌∙◌}
 use Rattle.std.specs.Prelude.{max}
 use Rattle.club_core.specs.Answer.{members_of}
@@ -5,7 +6,6 @@ use Rattle.club_rows.specs.Club.{tables}
 use Rattle.club_changes.specs.Stored.{IsFoundGame}
 use Rattle.club_changes.proofs.Proved.{place_at}
 use Rattle.club_lists.specs.Clock.{clock_text}
-use Rattle.club_views.proofs.Proved.{clean_before, rows_after, reads_on, ended}
 use Rattle.club_answers.proofs.shows.clock.Goals as goal
 
 pub returns-in_err-text-in-Some-clause-reads : goal.returns-in_err-text-in-Some-clause-reads

@@ -1,9 +1,9 @@
+use Rattle.store_tables.proofs.Proved.{clean_before, rows_after, reads_on}
 use Rattle.std.proofs.Common.{ap, ◌∙◌}
 use Rattle.club_core.specs.Answer.{events_of, members_of}
 use Rattle.club_rows.specs.Club.{tables}
 use Rattle.club_lists.specs.Shows.{mine_text, name_by}
 use Rattle.club_lists.specs.SummaryViews.{all_by}
-use Rattle.club_views.proofs.Proved.{clean_before, rows_after, reads_on}
 use Rattle.club_answers.proofs.shows.mine.Goals as goal
 
 pub returns-in_default-clause-reads : goal.returns-in_default-clause-reads

@@ -28,14 +28,15 @@ pub returns-in-Sound-clause-refuses : goal.returns-in-Sound-clause-refuses
 returns-in-Sound-clause-refuses g c clean = of_copy_opened _ _ c.copy_into-done.ensures.named
 
 pub returns-in-Sound-clause-older : goal.returns-in-Sound-clause-older
-returns-in-Sound-clause-older g c clean s are =
+returns-in-Sound-clause-older g c clean them s are =
     let after = was_clean _ _ c.close.ensures.clean clean in
     let mid = was_clean _ _ c.copy_into-done.ensures.reads.clean after in
     let before = was_clean _ _ c.verify-report.ensures.clean mid in
     let opened = c.in-Ok.ensures.opened before in
     let here = c.in-Ok.ensures.found before in
-    absurd (subst (λ r. OnlyUnopened r IsOlder) c.in-Sound.is (c.verify-report.ensures.older mid opened.0 opened.1 s
-    (are.legal, are.finds _ (record { holds = here.holds; reads = here.reads }))))
+    absurd (subst (λ r. OnlyUnopened r IsOlder) c.in-Sound.is
+    (c.verify-report.ensures.older mid opened.0 opened.1 them s
+    (are.finds _ (record { holds = here.holds; reads = here.reads }))))
 
 pub returns-in-Sound-clause-named : goal.returns-in-Sound-clause-named
 returns-in-Sound-clause-named g c clean s are = of_copy _ c.copy_into-done.ensures.named
@@ -96,13 +97,13 @@ returns-in_default g c = record {
       opened.0 opened.1 fault refusal)
       (c.verify-report.ensures.refuses mid);
   untaken = λ fault is. refl;
-  older = λ clean s are.
+  older = λ clean them s are.
       let mid = was_clean _ _ c.close-in_default.ensures.clean clean in
       let before = was_clean _ _ c.verify-report.ensures.clean mid in
       let opened = c.in-Ok.ensures.opened before in
       let here = c.in-Ok.ensures.found before in
-      c.verify-report.ensures.older mid opened.0 opened.1 s
-      (are.legal, are.finds _ (record { holds = here.holds; reads = here.reads }));
+      c.verify-report.ensures.older mid opened.0 opened.1 them s
+      (are.finds _ (record { holds = here.holds; reads = here.reads }));
   named = λ clean s are.
       let mid = was_clean _ _ c.close-in_default.ensures.clean clean in
       let before = was_clean _ _ c.verify-report.ensures.clean mid in

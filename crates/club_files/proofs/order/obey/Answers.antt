@@ -18,6 +18,16 @@ returns-clause-begun g c clean is void left may found finds =
     (λ now. c.act-report.ensures.begun after opened.0 opened.1 is
     (void _ (record { holds = here.holds; reads = here.reads })) found now)
 
+pub returns-clause-behind : goal.returns-clause-behind
+returns-clause-behind g c clean is them without left may found finds =
+    let after = was_clean _ _ c.close.ensures.clean clean in
+    let before = was_clean _ _ c.act-report.ensures.clean after in
+    let opened = c.in-Ok.ensures.opened before in
+    let here = c.in-Ok.ensures.found before in
+    let told = c.act-report.ensures.behind after opened.0 opened.1 is them
+    (without _ (record { holds = here.holds; reads = here.reads })) in
+    ∥∥₁_map (c.close.ensures.member clean left may found finds.holds) (λ now. told.1 found now)
+
 pub returns-clause-answer : goal.returns-clause-answer
 returns-clause-answer g c clean s are =
     let after = was_clean _ _ c.close.ensures.clean clean in
@@ -108,25 +118,26 @@ returns-clause-spares g c clean is foreign =
     (c.act-report.ensures.spares after opened.0 is foreign)
 
 pub returns-clause-older : goal.returns-clause-older
-returns-clause-older g c clean s are =
+returns-clause-older g c clean them s are =
     let after = was_clean _ _ c.close.ensures.clean clean in
     let before = was_clean _ _ c.act-report.ensures.clean after in
     let opened = c.in-Ok.ensures.opened before in
     let here = c.in-Ok.ensures.found before in
-    c.act-report.ensures.older after opened.0 opened.1 s
-    (are.legal, are.finds _ (record { holds = here.holds; reads = here.reads }))
+    c.act-report.ensures.older after opened.0 opened.1 them s
+    (are.finds _ (record { holds = here.holds; reads = here.reads }))
 
 pub returns-clause-carries : goal.returns-clause-carries
-returns-clause-carries g c clean s are =
+returns-clause-carries g c clean them s are =
     let after = was_clean _ _ c.close.ensures.clean clean in
     let before = was_clean _ _ c.act-report.ensures.clean after in
     let opened = c.in-Ok.ensures.opened before in
     let here = c.in-Ok.ensures.found before in
     if_upgrade c.args.order.now.task (λ carried.
     carried_files (image_at g.S.Start) (file_state c.in-Ok.conn) here (file_state c.act-report.result.1)
-    (store_state c.close.result).may_leave (c.close.ensures.member clean) s c.act-report.result.0 carried)
-    (c.act-report.ensures.carries after opened.0 opened.1 s
-    (are.legal, are.finds _ (record { holds = here.holds; reads = here.reads })))
+    (store_state c.close.result).may_leave (c.close.ensures.member clean) them s c.act-report.result.0
+    carried)
+    (c.act-report.ensures.carries after opened.0 opened.1 them s
+    (are.finds _ (record { holds = here.holds; reads = here.reads })))
 
 pub returns-clause-repeats : goal.returns-clause-repeats
 returns-clause-repeats g c clean s are =

@@ -1,10 +1,11 @@
+use Rattle.store_tables.proofs.Proved.{clean_before, reads_on}
 use Rattle.std.proofs.Common.{List, length, Some, ap, inl, inr, refl, sym, subst, subst₂, ◌∙◌, arith}
 use Rattle.club_audit.specs.Audit.{HasPeople}
 use Rattle.club_audit.specs.FirstWrong.{IsFirstWrong}
 use Rattle.club_audit.specs.GameAudit.{IsRightAt}
 use Rattle.club_rows.specs.Club.{ClubState}
 use Rattle.sqlite.specs.Held.{state}
-use Rattle.club_opening.proofs.StoredLemmas.{first_beside}
+use Rattle.club_opening.proofs.StoredLemmas.{moves_stand}
 use Rattle.store_tables.specs.Cells.{IsMove}
 use Rattle.store_tables.specs.Tables.{moves}
 use Rattle.store_tables.specs.declared.names.Table.TheVariants.{Moves, Seen}
@@ -12,7 +13,7 @@ use Rattle.store_tables.specs.declared.rows.MoveRow.{MoveRow}
 use Rattle.store_tables.specs.declared.rows.SeenRow.{SeenRow}
 use Rattle.club_opening.specs.Examined.{IsGameFound}
 use Rattle.club_opening.specs.RightTables.{IsUntyped}
-use Rattle.club_opening.proofs.BlameLemmas.{stays, clean_before, reads_on, names_both, still}
+use Rattle.club_opening.proofs.BlameLemmas.{stays, names_both, still}
 use Rattle.club_opening.proofs.ExaminedLemmas.{game_found}
 use Rattle.club_opening.proofs.FirstLemmas.{either_later, moves_types_wrong, some_later, wrong_later}
 use Rattle.club_opening.proofs.MovesReadLemmas.{game_games_wrong, game_moves_right, game_moves_wrong, game_seen_wrong}
@@ -23,18 +24,18 @@ use Rattle.club_opening.proofs.UndamagedLemmas.{memory_undamaged, store_undamage
 pub returns-in-Err-clause-later_fault : goal.returns-in-Err-clause-later_fault
 returns-in-Err-clause-later_fault g c clean has =
     moves_types_wrong c.args.rows.now (state g.S.Store c.args.conn.now) c.in-Err.fault
-    (c.in-Err.ensures.blames clean (first_beside _ has))
+    (c.in-Err.ensures.blames clean (moves_stand _ has))
 
 pub returns-in-Err-clause-blames : goal.returns-in-Err-clause-blames
 returns-in-Err-clause-blames g c clean has =
     inl
     (names_both Moves (moves 8) 4 IsMove (state g.S.Store c.args.conn.now) c.in-Err.fault refl refl (λ content all. all)
-    (c.in-Err.ensures.blames clean (first_beside _ has)))
+    (c.in-Err.ensures.blames clean (moves_stand _ has)))
 
 pub returns-in-Err-read_seen-clause-blames : goal.returns-in-Err-read_seen-clause-blames
 returns-in-Err-read_seen-clause-blames g c clean has =
     let early = clean_before c.read_seen.ensures.reads clean in
-    let one = c.in-Ok.ensures.rows early (first_beside _ has) in
+    let one = c.in-Ok.ensures.rows early (moves_stand _ has) in
     elim (c.in-Err-read_seen.ensures.blames clean (still one.same has)) [
       | inl store ↦ inl (inl store)
       | inr memory ↦ inl (inr (inl memory))
@@ -43,7 +44,7 @@ returns-in-Err-read_seen-clause-blames g c clean has =
 pub returns-in-Err-read_seen-clause-later_fault : goal.returns-in-Err-read_seen-clause-later_fault
 returns-in-Err-read_seen-clause-later_fault g c clean has t is =
     let early = clean_before c.read_seen.ensures.reads clean in
-    let one = c.in-Ok.ensures.rows early (first_beside _ has) in
+    let one = c.in-Ok.ensures.rows early (moves_stand _ has) in
     elim (c.in-Err-read_seen.ensures.blames clean (still one.same has)) [
       | inl store ↦ absurd (store_undamaged c.in-Err-read_seen.fault store t is)
       | inr memory ↦ absurd (memory_undamaged c.in-Err-read_seen.fault memory t is)
@@ -61,7 +62,7 @@ returns-in-Ok-found_of-clause-found g c clean has =
     let s1 = state g.S.Store c.read_of.new.conn in
     let s2 = state g.S.Store c.read_seen.new.conn in
     let early = clean_before c.read_seen.ensures.reads clean in
-    let one = c.in-Ok.ensures.rows early (first_beside _ has) in
+    let one = c.in-Ok.ensures.rows early (moves_stand _ has) in
     let two = (rw c.in-Some.is at (c.in-Ok-read_seen.ensures.rows clean)) (still one.same has) in
     let rows = c.args.rows.now in
     let game = c.args.game.now in
@@ -90,7 +91,7 @@ returns-in-Ok-found_of-2-clause-found g c clean has =
     let s0 = state g.S.Store c.args.conn.now in
     let s1 = state g.S.Store c.read_of.new.conn in
     let early = clean_before c.read_seen.ensures.reads clean in
-    let one = c.in-Ok.ensures.rows early (first_beside _ has) in
+    let one = c.in-Ok.ensures.rows early (moves_stand _ has) in
     let (same, untyped) = c.in-Ok-read_seen.ensures.untyped clean c.in-None.is (still one.same has) in
     let rows = c.args.rows.now in
     let game = c.args.game.now in

@@ -4,9 +4,9 @@ use Rattle.std.specs.Prelude.{slice_get}
 use Rattle.std.proofs.lemmas.Option.{slice_get_read}
 use Rattle.sqlite.specs.Held.{state}
 use Rattle.sqlite.proofs.StateLemmas.{unchanged}
-use Rattle.store_tables.proofs.Proved.{read_nothing, read_then}
+use Rattle.store_tables.proofs.Proved.{read_nothing, read_then, clean_before}
 use Rattle.club_opening.specs.Examined.{AreLeftAfter, IsGameFound}
-use Rattle.club_opening.proofs.BlameLemmas.{stays, clean_before, before, still}
+use Rattle.club_opening.proofs.BlameLemmas.{stays, before, still}
 use Rattle.club_opening.proofs.ExaminedLemmas.{blamed_before, both_after, left_all, left_more, left_start}
 use Rattle.store_tables.specs.declared.names.Table.TheVariants.{Moves, Seen}
 use Rattle.club_opening.proofs.FirstLemmas.{either_later, left_later}

@@ -1,9 +1,9 @@
 use Rattle.std.proofs.Common.{◌≡◌, length, IsTrue, true}
 use Rattle.sqlite.specs.State.{HasCleanDisk, IsUnchanged}
 use Rattle.sqlite.specs.Held.{state}
+use Rattle.store_tables.specs.Placed.{HasClubTables, club_trees}
 use Rattle.store_tables.specs.Reading.{Reads}
 use Rattle.store_tables.specs.declared.names.Table.{Table}
-use Rattle.club_opening.specs.Versions.{HasClubTables}
 use Rattle.club_audit.specs.Audit.{HasPeople}
 use Rattle.club_rows.specs.Club.{ClubState}
 use Rattle.club_opening.specs.RightTables.{IsLater}
@@ -20,8 +20,8 @@ invariant-loop-place g l = record {
   free : (u : Table) → IsAfter u l.wrong → IsAfter u l.fn.known;
   left : HasCleanDisk (state g.S.Store l.conn) → HasClubTables (state g.S.Store l.fn.conn).now.schema
       → IsTrue (state g.S.Store l.fn.conn).is_open
-      → l.fn.all.moves ≡ length (moves_in (state g.S.Store l.fn.conn).now.trees)
-      → l.fn.all.seen ≡ length (seen_in (state g.S.Store l.fn.conn).now.trees)
+      → l.fn.all.moves ≡ length (moves_in (club_trees (state g.S.Store l.fn.conn).now))
+      → l.fn.all.seen ≡ length (seen_in (club_trees (state g.S.Store l.fn.conn).now))
       → IsUnchanged (state g.S.Store l.fn.conn) (state g.S.Store l.conn)
       × AreLeftAfter l.rows l.fn.last l.place l.moves l.seen l.wrong (state g.S.Store l.fn.conn).now;
 }

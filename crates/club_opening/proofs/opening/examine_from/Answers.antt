@@ -1,7 +1,7 @@
 use Rattle.std.proofs.Common.{inr, refl, subst, sym}
 use Rattle.sqlite.specs.Held.{state}
-use Rattle.club_opening.proofs.BlameLemmas.{clean_before, reads_on, before, stays, have_ids, still}
-use Rattle.store_tables.proofs.Proved.{only_reading, reads_then}
+use Rattle.club_opening.proofs.BlameLemmas.{before, stays, have_ids, still}
+use Rattle.store_tables.proofs.Proved.{only_reading, reads_then, clean_before, reads_on}
 use Rattle.club_opening.specs.Places.{IsRegisterOf}
 use Rattle.club_opening.specs.Versions.{HasClub, IsExactlyClub, IsOpenedAt}
 use Rattle.club_rows.specs.Club.{ClubState}
@@ -138,7 +138,7 @@ returns-in-Err-examine_rows-clause-first g c clean has =
     (before (λ d. NamesExamined rows d e) read.same
     (c.in-Err-examine_rows.ensures.examined clean here s people (have_ids found.version rows s0 s1 read)))
 
--- ---- whatever stands beside the tables
+-- ---- whatever stands among the tables
 
 pub returns-in-Err-clause-good : goal.returns-in-Err-clause-good
 returns-in-Err-clause-good g c clean version s club holds shape taken =

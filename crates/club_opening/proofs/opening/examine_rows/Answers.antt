@@ -1,9 +1,10 @@
+use Rattle.store_tables.proofs.Proved.{clean_before, reads_on}
 use Rattle.std.proofs.Common.{None, Some, ap, arith, inl, inr, subst, sym, ◌∙◌}
 use Rattle.std.proofs.lemmas.Int.{ints}
 use Rattle.std.proofs.lemmas.Option.{IfSome_then}
 use Rattle.sqlite.specs.Held.{state}
 use Rattle.club_opening.specs.Examined.{IsPlayExamined}
-use Rattle.club_opening.proofs.BlameLemmas.{clean_before, reads_on, before, still}
+use Rattle.club_opening.proofs.BlameLemmas.{still}
 use Rattle.club_opening.proofs.ExaminedLemmas.{blamed_before, moment_told, moment_of, play_later, played_after}
 use Rattle.club_opening.proofs.ExaminedLemmas.{scores_after, some_after}
 use Rattle.store_tables.specs.declared.names.Table.TheVariants.{Games, Moves}

@@ -1,7 +1,7 @@
 use Rattle.std.proofs.Common.{inl, refl, map, sym, ◌∙◌, subst, inr}
 use Rattle.sqlite.specs.Held.{state}
 use Rattle.store_tables.specs.Cells.{score_cells, IsScore}
-use Rattle.club_opening.proofs.StoredLemmas.{first_beside}
+use Rattle.club_opening.proofs.StoredLemmas.{scores_stand}
 use Rattle.club_audit.specs.Standings.{AreGamesOf}
 use Rattle.club_rows.specs.Club.{both_games}
 use Rattle.club_rows.specs.EachOnce.{AreEachOnce}
@@ -17,7 +17,7 @@ pub returns-in-Ok-true-clause-found : goal.returns-in-Ok-true-clause-found
 returns-in-Ok-true-clause-found g c clean has =
     record {
       rows_of = map score_cells c.in-Ok.scores.items;
-      read = c.in-Ok.ensures.rows clean (first_beside _ has);
+      read = c.in-Ok.ensures.rows clean (scores_stand _ has);
       are = λ t of.
           subst (λ rows. AreEachOnce (map score_cells rows) (scores_in both_games t.games)) c.deref-2.ensures.value
           (c.in-Ok-true.ensures.sound c.in-Ok-true.field-0-test t
@@ -28,7 +28,7 @@ pub returns-in-Ok-false-clause-blames : goal.returns-in-Ok-false-clause-blames
 returns-in-Ok-false-clause-blames g c clean has =
     let s0 = state g.S.Store c.args.conn.now in
     let s1 = state g.S.Store c.read.new.conn in
-    inr (scores_blamed c.args.rows.now c.in-Ok.scores.items s0 s1 (c.in-Ok.ensures.rows clean (first_beside _ has))
+    inr (scores_blamed c.args.rows.now c.in-Ok.scores.items s0 s1 (c.in-Ok.ensures.rows clean (scores_stand _ has))
     (λ s of once.
     sym c.in-Ok-false.field-0-test
     ∙ c.in-Ok-false.ensures.complete s (subst (AreGamesOf s) (sym c.deref.ensures.value) of)
@@ -38,13 +38,13 @@ returns-in-Ok-false-clause-blames g c clean has =
 pub returns-in-Err-clause-scores : goal.returns-in-Err-clause-scores
 returns-in-Err-clause-scores g c clean has =
     score_types_wrong c.args.rows.now (state g.S.Store c.args.conn.now) c.in-Err.fault
-    (c.in-Err.ensures.blames clean (first_beside _ has))
+    (c.in-Err.ensures.blames clean (scores_stand _ has))
 
 pub returns-in-Ok-false-clause-scores : goal.returns-in-Ok-false-clause-scores
 returns-in-Ok-false-clause-scores g c clean has =
     let s0 = state g.S.Store c.args.conn.now in
     let s1 = state g.S.Store c.read.new.conn in
-    scores_wrong c.args.rows.now c.in-Ok.scores.items s0 s1 (c.in-Ok.ensures.rows clean (first_beside _ has))
+    scores_wrong c.args.rows.now c.in-Ok.scores.items s0 s1 (c.in-Ok.ensures.rows clean (scores_stand _ has))
     (λ s of once.
     sym c.in-Ok-false.field-0-test
     ∙ c.in-Ok-false.ensures.complete s (subst (AreGamesOf s) (sym c.deref.ensures.value) of)
@@ -56,4 +56,4 @@ returns-in-Err-clause-blames g c clean has =
     inl
     (names_both Scores (scores 14) 7 IsScore (state g.S.Store c.args.conn.now) c.in-Err.fault refl refl
     (λ content all. all)
-    (c.in-Err.ensures.blames clean (first_beside _ has)))
+    (c.in-Err.ensures.blames clean (scores_stand _ has)))

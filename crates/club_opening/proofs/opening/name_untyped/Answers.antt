@@ -1,12 +1,21 @@
-use Rattle.std.proofs.Common.{◌⊎◌, inr, sym, subst}
+use Rattle.std.proofs.Common.{◌⊎◌, ap, inl, inr, sym, subst, ◌∙◌}
 use Rattle.sqlite.specs.Held.{state}
 use Rattle.store_tables.specs.declared.rows.Rows.{Rows}
 use Rattle.club_audit.specs.Audit.{HasPeople}
 use Rattle.club_opening.specs.Examined.{IsPlayExamined, NamesPlay}
 use Rattle.club_opening.specs.Blames.{NamesTable}
 use Rattle.club_opening.specs.RightTables.{NamesPlayed}
+use Rattle.club_opening.specs.declared.fault.OpenFault.TheVariants.{Damaged}
 use Rattle.club_opening.proofs.NamedLemmas.{fault_failed, named_damage, named_failed, named_right}
 use Rattle.club_opening.proofs.opening.name_untyped.Goals as goal
+
+pub returns-in-Err-clause-named : goal.returns-in-Err-clause-named
+returns-in-Err-clause-named g c clean has s people ids = elim c.in-Err.ensures.fault [
+  | inl memory ↦ inr (inl memory)
+  | inr (t, is, none) ↦
+      let (named, wrong) = c.in-Err.ensures.challenged s people t is in
+      inr (inr (inl (is ∙ ap Damaged named, wrong)))
+]
 
 pub returns-in-Ok-examine_play-clause-named : goal.returns-in-Ok-examine_play-clause-named
 returns-in-Ok-examine_play-clause-named g c clean has s people ids =

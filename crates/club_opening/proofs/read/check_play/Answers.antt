@@ -1,4 +1,4 @@
-use Rattle.club_opening.proofs.BlameLemmas.{reads_on}
+use Rattle.store_tables.proofs.Proved.{reads_on}
 use Rattle.club_opening.proofs.read.check_play.Goals as goal
 
 pub returns-in-Ok-check_table-2-clause-reads : goal.returns-in-Ok-check_table-2-clause-reads

@@ -1,11 +1,12 @@
+use Rattle.store_tables.proofs.Proved.{clean_before, reads_on}
 use Rattle.std.proofs.Common.{ap, inl, inr, subst, sym}
 use Rattle.sqlite.specs.Effect.{Database}
 use Rattle.sqlite.specs.Held.{state}
-use Rattle.club_opening.proofs.BlameLemmas.{clean_before, reads_on, stays, foreign_named, meta_before, refused_named}
+use Rattle.store_tables.specs.Placed.{HasTablesOf}
+use Rattle.club_opening.proofs.BlameLemmas.{stays, foreign_named, meta_before, refused_named}
 use Rattle.club_opening.proofs.BlameLemmas.{still, still_of, told_blamed}
-use Rattle.club_opening.proofs.StoredLemmas.{first_beside}
+use Rattle.club_opening.proofs.StoredLemmas.{first_stand}
 use Rattle.club_opening.specs.Blames.{IsMetaRead, NamesForeign, NamesSchema}
-use Rattle.club_opening.specs.Versions.{HasTablesOf}
 use Rattle.club_opening.proofs.read.read_head.Goals as goal
 use Rattle.club_opening.proofs.UndamagedLemmas.{foreign_undamaged, schema_undamaged, store_undamaged, told_undamaged}
 
@@ -51,7 +52,7 @@ returns-in-Err-check_tables-clause-blames g c clean has =
     let clean1 = clean_before c.check_rules.ensures.reads clean2 in
     let same1 = c.in-Ok.ensures.same clean1 has in
     let same2 = stays same1 (c.in-Ok-check_rules.ensures.same clean2 (still same1 has)) in
-    inl (inl (c.in-Err-check_tables.ensures.blames clean (first_beside _ (still same2 has))))
+    inl (inl (c.in-Err-check_tables.ensures.blames clean (first_stand _ (still same2 has))))
 
 pub returns-in-Ok-check_tables-clause-found : goal.returns-in-Ok-check_tables-clause-found
 returns-in-Ok-check_tables-clause-found g c clean has =
@@ -64,7 +65,7 @@ returns-in-Ok-check_tables-clause-found g c clean has =
     let rules_same = c.in-Ok-check_rules.ensures.same clean2 has1 in
     let version = c.in-Ok-check_rules.ensures.version clean2 has1 in
     let same2 = stays same1 rules_same in
-    let tables_same = c.in-Ok-check_tables.ensures.same clean (first_beside _ (still same2 has)) in (
+    let tables_same = c.in-Ok-check_tables.ensures.same clean (first_stand _ (still same2 has)) in (
       subst (HasTablesOf told.version) (ap (λ (d : Database). d.schema) same1.0.now_is) version,
       meta_before told.version told.meta found (stays rules_same tables_same),
     )
@@ -75,7 +76,7 @@ returns-in-Ok-check_tables-clause-same g c clean has =
     let clean1 = clean_before c.check_rules.ensures.reads clean2 in
     let same1 = c.in-Ok.ensures.same clean1 has in
     let same2 = stays same1 (c.in-Ok-check_rules.ensures.same clean2 (still same1 has)) in
-    stays same2 (c.in-Ok-check_tables.ensures.same clean (first_beside _ (still same2 has)))
+    stays same2 (c.in-Ok-check_tables.ensures.same clean (first_stand _ (still same2 has)))
 
 pub returns-in-Ok-check_tables-clause-taken : goal.returns-in-Ok-check_tables-clause-taken
 returns-in-Ok-check_tables-clause-taken g c is = c.refused.ensures.none c.in-None.is is
@@ -100,7 +101,7 @@ returns-in-Err-check_tables-clause-undamaged g c clean has =
     let clean1 = clean_before c.check_rules.ensures.reads clean2 in
     let same1 = c.in-Ok.ensures.same clean1 has in
     let same2 = stays same1 (c.in-Ok-check_rules.ensures.same clean2 (still same1 has)) in
-    store_undamaged c.in-Err-check_tables.fault (c.in-Err-check_tables.ensures.blames clean (first_beside _
+    store_undamaged c.in-Err-check_tables.fault (c.in-Err-check_tables.ensures.blames clean (first_stand _
     (still same2 has)))
 
 pub returns-in-Ok-check_tables-clause-reads : goal.returns-in-Ok-check_tables-clause-reads

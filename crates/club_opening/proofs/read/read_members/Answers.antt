@@ -1,6 +1,6 @@
 use Rattle.std.proofs.Common.{inl, refl, subst, sym, inr}
 use Rattle.sqlite.specs.Held.{state}
-use Rattle.club_opening.proofs.StoredLemmas.{first_beside}
+use Rattle.club_opening.proofs.StoredLemmas.{members_stand}
 use Rattle.club_audit.specs.Audit.{AreMembers}
 use Rattle.club_opening.proofs.ClubLemmas.{members_blamed}
 use Rattle.club_opening.proofs.FirstLemmas.{member_types_wrong, members_wrong}
@@ -14,7 +14,7 @@ pub returns-then-not-are_members-clause-blames : goal.returns-then-not-are_membe
 returns-then-not-are_members-clause-blames g c clean has =
     inr
     (members_blamed c.in-Ok.members.items (state g.S.Store c.args.conn.now) (state g.S.Store c.read.new.conn)
-    (c.in-Ok.ensures.rows clean (first_beside _ has))
+    (c.in-Ok.ensures.rows clean (members_stand _ has))
     (λ ms are.
     let yes = c.are_members.ensures.complete ms (subst (AreMembers ms) (sym c.deref.ensures.value) are) in
     let no = c.if-not-are_members.true in
@@ -28,12 +28,12 @@ returns-clause-are g c =
 pub returns-in-Err-clause-wrong : goal.returns-in-Err-clause-wrong
 returns-in-Err-clause-wrong g c clean has =
     member_types_wrong (state g.S.Store c.args.conn.now) c.in-Err.fault (c.in-Err.ensures.blames clean
-    (first_beside _ has))
+    (members_stand _ has))
 
 pub returns-then-not-are_members-clause-wrong : goal.returns-then-not-are_members-clause-wrong
 returns-then-not-are_members-clause-wrong g c clean has =
     members_wrong c.in-Ok.members.items (state g.S.Store c.args.conn.now) (state g.S.Store c.read.new.conn)
-    (c.in-Ok.ensures.rows clean (first_beside _ has))
+    (c.in-Ok.ensures.rows clean (members_stand _ has))
     (λ ms are.
     let yes = c.are_members.ensures.complete ms (subst (AreMembers ms) (sym c.deref.ensures.value) are) in
     let no = c.if-not-are_members.true in
@@ -41,11 +41,11 @@ returns-then-not-are_members-clause-wrong g c clean has =
 
 pub returns-clause-rows : goal.returns-clause-rows
 returns-clause-rows g c clean has =
-    c.in-Ok.ensures.rows clean (first_beside _ has)
+    c.in-Ok.ensures.rows clean (members_stand _ has)
 
 pub returns-in-Err-clause-blames : goal.returns-in-Err-clause-blames
 returns-in-Err-clause-blames g c clean has =
     inl
     (names_both Members (members 1) 1 IsMember (state g.S.Store c.args.conn.now) c.in-Err.fault refl refl
     (λ content all. all)
-    (c.in-Err.ensures.blames clean (first_beside _ has)))
+    (c.in-Err.ensures.blames clean (members_stand _ has)))

@@ -3,7 +3,7 @@ use Rattle.std.proofs.lemmas.Result.{IfOk-weaker}
 use Rattle.std.proofs.lemmas.Option.{IfSome_then}
 use Rattle.store_tables.specs.Cells.{meta_cells}
 use Rattle.sqlite.specs.Held.{state}
-use Rattle.club_opening.proofs.StoredLemmas.{first_beside, of_version}
+use Rattle.club_opening.proofs.StoredLemmas.{meta_stands, of_version}
 use Rattle.store_tables.proofs.Proved.{read_nothing, read_then}
 use Rattle.club_opening.proofs.BlameLemmas.{shown_one, read_one}
 use Rattle.std.specs.Prelude.{OnOk, is_ok}
@@ -16,7 +16,7 @@ returns-clause-none g c clean =
     IfOk-weaker c.one_meta.result _ _ (λ o wrong none version content k one.
     wrong none
     (shown_one old.now version content _ c.in-Ok.shown.items old new (search rules) refl
-    (c.in-Ok.ensures.rows clean (first_beside _
+    (c.in-Ok.ensures.rows clean (meta_stands _
     (of_version version old.now.schema k.schema))) k one)) c.one_meta.ensures.none
 
 pub returns-clause-some : goal.returns-clause-some
@@ -25,7 +25,7 @@ returns-clause-some g c clean =
     let new = state g.S.Store c.show_all.new.conn in
     IfOk-weaker c.one_meta.result _ _ (λ o some. IfSome_then o some (λ found it has. (
       read_one _ c.in-Ok.shown.items (meta_cells found) found.id old new (search rules) it.0 refl
-          (c.in-Ok.ensures.rows clean (first_beside _ has)),
+          (c.in-Ok.ensures.rows clean (meta_stands _ has)),
       it.1,
     ))) c.one_meta.ensures.some
 
@@ -40,8 +40,8 @@ returns-clause-reads g c =
 
 pub returns-clause-same : goal.returns-clause-same
 returns-clause-same g c clean =
-    on_ok c.one_meta.result _ (λ has. (c.in-Ok.ensures.rows clean (first_beside _ has)).same)
+    on_ok c.one_meta.result _ (λ has. (c.in-Ok.ensures.rows clean (meta_stands _ has)).same)
 
 pub returns-in-Err-clause-blames : goal.returns-in-Err-clause-blames
 returns-in-Err-clause-blames g c clean has =
-    inl (c.fault_of.ensures.store (c.in-Err.ensures.known clean (first_beside _ has)))
+    inl (c.fault_of.ensures.store (c.in-Err.ensures.known clean (meta_stands _ has)))

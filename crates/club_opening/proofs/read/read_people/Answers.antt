@@ -1,7 +1,8 @@
+use Rattle.store_tables.proofs.Proved.{clean_before, reads_on}
 use Rattle.std.proofs.Common.{sym}
 use Rattle.sqlite.specs.Held.{state}
 use Rattle.club_opening.specs.RightTables.{NamesWrong}
-use Rattle.club_opening.proofs.BlameLemmas.{before, clean_before, meta_before, read_after, read_before, reads_on}
+use Rattle.club_opening.proofs.BlameLemmas.{before, meta_before, read_after, read_before}
 use Rattle.club_opening.proofs.BlameLemmas.{rows_blamed_before, rules_after, rules_unchanged, stays, still, still_of}
 use Rattle.club_opening.proofs.ClubLemmas.{has_events}
 use Rattle.club_opening.proofs.FirstLemmas.{events_right, first_before, first_events, first_members, first_none}

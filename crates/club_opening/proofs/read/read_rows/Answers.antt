@@ -1,7 +1,8 @@
 use Rattle.std.proofs.Common.{inl, map, refl}
 use Rattle.club_audit.specs.Audit.{HasPeople}
 use Rattle.sqlite.specs.Held.{state}
-use Rattle.store_tables.proofs.Proved.{ids_of}
+use Rattle.store_tables.specs.Placed.{club_trees}
+use Rattle.store_tables.proofs.Proved.{ids_of, clean_before, reads_on}
 use Rattle.store_tables.specs.Cells.{IsChallenge, event_cells, member_cells}
 use Rattle.store_tables.specs.Changes.{HaveSame}
 use Rattle.store_tables.specs.Contents.{Content}
@@ -13,14 +14,14 @@ use Rattle.store_tables.specs.declared.rows.Rows.{Rows}
 use Rattle.club_opening.specs.KnownGames.{NamesUntyped}
 use Rattle.club_opening.specs.RightTables.{NamesWrong}
 use Rattle.club_opening.specs.Versions.{HoldsRows}
-use Rattle.club_opening.proofs.BlameLemmas.{before, clean_before, meta_before, names_both, read_after, read_before}
-use Rattle.club_opening.proofs.BlameLemmas.{reads_on, rows_blamed_before, rules_before, stays, still}
+use Rattle.club_opening.proofs.BlameLemmas.{before, meta_before, names_both, read_after, read_before}
+use Rattle.club_opening.proofs.BlameLemmas.{rows_blamed_before, rules_before, stays, still}
 use Rattle.club_opening.proofs.FirstLemmas.{held_same, challenge_types_wrong, first_before, first_challenges}
 use Rattle.club_opening.proofs.FirstLemmas.{has_people, people_read}
 use Rattle.club_opening.proofs.JudgedLemmas.{judged_ids, judged_in}
 use Rattle.club_opening.proofs.KnownLemmas.{first_untyped, have_known, known_before, pass_known, untyped_blamed}
 use Rattle.club_opening.proofs.MovesToldLemmas.{judged_back, judged_told}
-use Rattle.club_opening.proofs.StoredLemmas.{first_beside}
+use Rattle.club_opening.proofs.StoredLemmas.{challenges_stand}
 use Rattle.club_opening.proofs.read.read_rows.Goals as goal
 
 pub returns-then-are_typed-clause-reads : goal.returns-then-are_typed-clause-reads
@@ -32,7 +33,7 @@ returns-then-are_typed-clause-rows g c clean has =
     let version = c.in-Ok.people.version in
     let clean2 = clean_before c.read_games.ensures.reads clean in
     let people = c.in-Ok.ensures.rows (clean_before c.read.ensures.reads clean2) has in
-    let are_challenges = c.in-Ok-read.ensures.rows clean2 (first_beside _ (still people.same has)) in
+    let are_challenges = c.in-Ok-read.ensures.rows clean2 (challenges_stand _ (still people.same has)) in
     let same2 = stays people.same are_challenges.same in
     let are_games = c.in-Ok-read_games.ensures.rows clean c.if-are_typed.true (still same2 has) in
     let after1 = stays are_challenges.same are_games.same in (
@@ -57,13 +58,13 @@ returns-in-Err-read-clause-blames g c clean has =
     (inl
     (names_both Challenges (challenges 6) 3 IsChallenge (state g.S.Store c.read_people.new.conn) c.in-Err-read.fault
     refl refl (λ content all. all)
-    (c.in-Err-read.ensures.blames clean (first_beside _ (still same1 has)))))
+    (c.in-Err-read.ensures.blames clean (challenges_stand _ (still same1 has)))))
 
 pub returns-in-Err-read_games-clause-blames : goal.returns-in-Err-read_games-clause-blames
 returns-in-Err-read_games-clause-blames g c clean has =
     let clean2 = clean_before c.read_games.ensures.reads clean in
     let same1 = (c.in-Ok.ensures.rows (clean_before c.read.ensures.reads clean2) has).same in
-    let same2 = stays same1 (c.in-Ok-read.ensures.rows clean2 (first_beside _ (still same1 has))).same in
+    let same2 = stays same1 (c.in-Ok-read.ensures.rows clean2 (challenges_stand _ (still same1 has))).same in
     rows_blamed_before c.args.oldest c.in-Err-read_games.fault same2
     (inl (c.in-Err-read_games.ensures.blames clean (still same2 has)))
 
@@ -74,7 +75,7 @@ returns-in-Err-read-clause-first g c clean has =
     let (es, are_es) = c.in-Ok.ensures.events in
     let e = c.in-Err-read.fault in
     let wrong = challenge_types_wrong (state g.S.Store c.read_people.new.conn) e
-    (c.in-Err-read.ensures.blames clean (first_beside _ (still people.same has))) in
+    (c.in-Err-read.ensures.blames clean (challenges_stand _ (still people.same has))) in
     first_challenges _ e (before (λ d. NamesWrong Challenges d e) people.same wrong)
     (people_read c.in-Ok.people.version _ _ _ _ _ people.schema people.members people.events people.rules ms are_ms es
     are_es c.in-Ok.ensures.rules)
@@ -83,7 +84,7 @@ pub returns-in-Err-read_games-clause-first : goal.returns-in-Err-read_games-clau
 returns-in-Err-read_games-clause-first g c clean has =
     let clean2 = clean_before c.read_games.ensures.reads clean in
     let same1 = (c.in-Ok.ensures.rows (clean_before c.read.ensures.reads clean2) has).same in
-    let same2 = stays same1 (c.in-Ok-read.ensures.rows clean2 (first_beside _ (still same1 has))).same in
+    let same2 = stays same1 (c.in-Ok-read.ensures.rows clean2 (challenges_stand _ (still same1 has))).same in
     first_before c.in-Err-read_games.fault same2 (λ t is version content holds.
     absurd (c.in-Err-read_games.ensures.torn clean t is (still same2 has) version content holds tt))
 
@@ -99,7 +100,7 @@ returns-else-are_typed-clause-blames g c clean has =
     let clean3 = clean_before c.name_untyped.ensures.reads clean in
     let clean2 = clean_before c.read_games.ensures.reads clean3 in
     let same1 = (c.in-Ok.ensures.rows (clean_before c.read.ensures.reads clean2) has).same in
-    let same2 = stays same1 (c.in-Ok-read.ensures.rows clean2 (first_beside _ (still same1 has))).same in
+    let same2 = stays same1 (c.in-Ok-read.ensures.rows clean2 (challenges_stand _ (still same1 has))).same in
     let known = known_before same2 (c.in-Ok-read_games.ensures.known clean3 c.if-are_typed.false (still same2 has)) in
     untyped_blamed c.args.oldest _ c.name_untyped.result known.untyped
     (c.name_untyped.ensures.faults clean (still known.same has))
@@ -112,7 +113,7 @@ returns-else-are_typed-clause-first g c clean has =
     let clean3 = clean_before c.name_untyped.ensures.reads clean in
     let clean2 = clean_before c.read_games.ensures.reads clean3 in
     let people = c.in-Ok.ensures.rows (clean_before c.read.ensures.reads clean2) has in
-    let are_challenges = c.in-Ok-read.ensures.rows clean2 (first_beside _ (still people.same has)) in
+    let are_challenges = c.in-Ok-read.ensures.rows clean2 (challenges_stand _ (still people.same has)) in
     let same2 = stays people.same are_challenges.same in
     let known = known_before same2 (c.in-Ok-read_games.ensures.known clean3 c.if-are_typed.false (still same2 has)) in
     let version = c.in-Ok.people.version in
@@ -136,9 +137,10 @@ returns-else-are_typed-clause-first g c clean has =
     → HaveSame (content 10) known.shown = λ v content holds.
     held_same (games 10) 5 refl refl holds known.keeps in
     let ids : HaveIds judged = record {
-      members = ids_of (members 1) (s0.now.trees 1) (map member_cells rows.members.items) (λ r. refl)
+      members = ids_of (members 1) (club_trees s0.now 1) (map member_cells rows.members.items) (λ r. refl)
           people.members.once people.members.apart;
-      events = ids_of (events 4) (s0.now.trees 4) (map event_cells rows.events.items) (λ r. refl) people.events.once
+      events = ids_of (events 4) (club_trees s0.now 4) (map event_cells rows.events.items)
+          (λ r. refl) people.events.once
           people.events.apart;
       games = judged_ids known.shown judged.games.items known.ids known.judged;
     } in

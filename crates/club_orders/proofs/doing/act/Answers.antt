@@ -20,3 +20,24 @@ returns-in-Upgrade-clause-repeats g c = rw c.in-Upgrade.is c.carry.ensures.repea
 
 pub returns-in-Batch-clause-given : goal.returns-in-Batch-clause-given
 returns-in-Batch-clause-given g c = rw c.in-Batch.is c.do_in_club-in-Batch.ensures.answer
+
+pub returns-in-Init-clause-behind : goal.returns-in-Init-clause-behind
+returns-in-Init-clause-behind g c clean opens live is = c.init.ensures.behind clean opens live
+
+pub returns-in-Request-clause-older : goal.returns-in-Request-clause-older
+returns-in-Request-clause-older g c = rw c.in-Request.is c.do_in_club.ensures.older
+
+pub returns-in-Ask-clause-older : goal.returns-in-Ask-clause-older
+returns-in-Ask-clause-older g c = rw c.in-Ask.is c.do_in_club-in-Ask.ensures.older
+
+pub returns-in-Verify-clause-older : goal.returns-in-Verify-clause-older
+returns-in-Verify-clause-older g c = rw c.in-Verify.is c.verify.ensures.older
+
+pub returns-in-Backup-clause-older : goal.returns-in-Backup-clause-older
+returns-in-Backup-clause-older g c = rw c.in-Backup.is c.verify-in-Backup.ensures.older
+
+pub returns-in-Batch-clause-older : goal.returns-in-Batch-clause-older
+returns-in-Batch-clause-older g c = rw c.in-Batch.is c.do_in_club-in-Batch.ensures.older
+
+pub returns-in-Upgrade-clause-carries : goal.returns-in-Upgrade-clause-carries
+returns-in-Upgrade-clause-carries g c = rw c.in-Upgrade.is c.carry.ensures.carries

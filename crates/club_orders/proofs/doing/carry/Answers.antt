@@ -2,16 +2,19 @@ use Rattle.std.proofs.Common.{sym, subst}
 use Rattle.sqlite.specs.Held.{state}
 use Rattle.club_orders.specs.Report.{IsCarriedOver, IsRepeated}
 use Rattle.club_orders.proofs.RefusalLemmas.{taken_over}
-use Rattle.club_orders.proofs.TakenLemmas.{is_taken, is_taken_first, stand_beside, stands_beside}
+use Rattle.club_orders.proofs.TakenLemmas.{first_beside, is_taken, is_taken_first, stand_beside, stands_beside}
 use Rattle.store_tables.specs.declared.names.Version.TheVariants.{First, Current}
+use Rattle.store_tables.proofs.Proved.{leaves_beside}
+use Rattle.club_rows.specs.Club.{tables}
 use Rattle.club_orders.proofs.doing.carry.Goals as goal
 
 pub returns-in-Ok-clause-carries : goal.returns-in-Ok-clause-carries
-returns-in-Ok-clause-carries g c clean opens live s (club, left) =
-    let (done, exactly) = c.in-Ok.ensures.done clean s club (c.holds_exactly.ensures opens live _ _ left) in
+returns-in-Ok-clause-carries g c clean opens live them s has =
+    let at = first_beside them s _ (c.holds_exactly.ensures opens live) has in
+    let (done, exactly) = c.in-Ok.ensures.done clean them s has.legal at in
     let is = c.carried.ensures.done done in
-    subst (λ r. IsCarriedOver s r (state g.S.Store c.in-Ok.conn)) (sym is)
-    (record { answer = tt; leaves = λ db may. exactly.may_leave db may })
+    subst (λ r. IsCarriedOver them s r (state g.S.Store c.in-Ok.conn)) (sym is)
+    (record { answer = tt; leaves = leaves_beside them (tables s) _ exactly })
 
 pub returns-in-Ok-clause-repeats : goal.returns-in-Ok-clause-repeats
 returns-in-Ok-clause-repeats g c clean opens live s club left =
@@ -31,11 +34,11 @@ returns-in-Ok-clause-led g c clean opens live them chapters led db left =
     rw c.carried.ensures.either (c.leaves_what_sessions_left-in-Ok.ensures Current them _ at db left)
 
 pub returns-in-Err-clause-carries : goal.returns-in-Err-clause-carries
-returns-in-Err-clause-carries g c clean opens live s (club, left) =
-    let exactly = c.holds_exactly.ensures opens live _ _ left in
+returns-in-Err-clause-carries g c clean opens live them s has =
+    let exact = c.holds_exactly.ensures opens live in
     record {
-      answer = is_taken_first s _ _ exactly (c.in-Err.ensures.good clean First s club);
-      leaves = λ db may. c.in-Err.ensures.fault clean s club exactly db may;
+      answer = is_taken_first them s _ exact has _ (c.in-Err.ensures.good clean First s has.legal);
+      leaves = c.in-Err.ensures.fault clean them s has.legal (first_beside them s _ exact has);
     }
 
 pub returns-in-Err-clause-repeats : goal.returns-in-Err-clause-repeats

@@ -6,6 +6,7 @@ use Rattle.club_opening.specs.declared.fault.OpenFault.TheVariants.{Foreign}
 use Rattle.store_tables.specs.declared.names.Version.TheVariants.{Current}
 use Rattle.store_tables.specs.Over.{alone}
 use Rattle.club_orders.proofs.SessionLemmas.{stand_first}
+use Rattle.club_orders.proofs.TakenLemmas.{without_club}
 use Rattle.club_orders.proofs.doing.init.Goals as goal
 
 pub returns-in-Ok-clause-begun : goal.returns-in-Ok-clause-begun
@@ -22,6 +23,20 @@ returns-in-Ok-clause-led g c clean opens live them sessions led db left =
     let (version, at) = c.holds_what_sessions_left.ensures opens live them sessions led in
     absurd (c.in-Ok.ensures.fresh (subst (λ h. HasCleanDisk (state g.S.Store h)) same clean)
     (stand_first version them sessions _ at))
+
+pub returns-in-Ok-clause-behind : goal.returns-in-Ok-clause-behind
+returns-in-Ok-clause-behind g c clean opens live them left =
+    let same = c.into_connection-conn.ensures.same in
+    let made = c.in-Ok.ensures.behind (subst (λ h. HasCleanDisk (state g.S.Store h)) same clean) them
+    (without_club them _ (c.holds_exactly.ensures opens live) left) in (
+      tt,
+      c.leaves_what_sessions_left-in-Ok.ensures Current them [] (subst (λ h. IsHistory them [] (state g.S.Store h))
+          (sym same) made),
+    )
+
+pub returns-in-Err-clause-behind : goal.returns-in-Err-clause-behind
+returns-in-Err-clause-behind g c clean opens live them left =
+    c.in-Err.ensures.behind_fault clean them (without_club them _ (c.holds_exactly.ensures opens live) left)
 
 pub returns-in-Err-clause-begun : goal.returns-in-Err-clause-begun
 returns-in-Err-clause-begun g c clean opens live empty db left =

@@ -19,8 +19,8 @@ returns-in-Ok-clause-legal g c clean opens live has is =
     (c.in-Ok.ensures.taken (rw c.into_connection.ensures.same at clean) opens live).legal has
 
 pub returns-in-Ok-clause-older : goal.returns-in-Ok-clause-older
-returns-in-Ok-clause-older g c clean opens live s first =
-    absurd ((c.in-Ok.ensures.taken (rw c.into_connection.ensures.same at clean) opens live).newer s first)
+returns-in-Ok-clause-older g c clean opens live them s first =
+    absurd ((c.in-Ok.ensures.taken (rw c.into_connection.ensures.same at clean) opens live).newer them s first)
 
 pub returns-in-Ok-clause-keeps : goal.returns-in-Ok-clause-keeps
 returns-in-Ok-clause-keeps g c clean opens db left =

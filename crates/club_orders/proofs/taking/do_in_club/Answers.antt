@@ -23,9 +23,9 @@ returns-clause-answer g c clean opens live s is_club has =
     ((c.in-Ok.ensures.taken (omega (arith, c.do_in-report.ensures.clean, after)) opens live).stands s has)
 
 pub returns-clause-older : goal.returns-clause-older
-returns-clause-older g c clean opens live s first =
+returns-clause-older g c clean opens live them s first =
     let after = rw c.into_connection.ensures.same at clean in
-    absurd ((c.in-Ok.ensures.taken (omega (arith, c.do_in-report.ensures.clean, after)) opens live).newer s first)
+    absurd ((c.in-Ok.ensures.taken (omega (arith, c.do_in-report.ensures.clean, after)) opens live).newer them s first)
 
 pub returns-clause-led : goal.returns-clause-led
 returns-clause-led g c clean opens live them sessions led db left =

@@ -6,7 +6,8 @@ use Rattle.club_rows.specs.Club.{tables}
 use Rattle.store.proofs.Proved.{still_stands}
 use Rattle.club_orders.proofs.RefusalLemmas.{stood}
 use Rattle.club_orders.proofs.SessionLemmas.{newer_history}
-use Rattle.club_orders.proofs.TakenLemmas.{both_err, both_ok, is_taken, stands_beside, still_there}
+use Rattle.club_orders.proofs.TakenLemmas.{both_err, both_ok, first_beside, first_shape, is_taken, stands_beside}
+use Rattle.club_orders.proofs.TakenLemmas.{still_there}
 use Rattle.club_orders.proofs.taking.take_over.Goals as goal
 
 pub returns-clause-taken : goal.returns-clause-taken
@@ -20,7 +21,7 @@ returns-clause-taken g c =
     let old = state g.S.Store c.args.conn in
     let new = state g.S.Store club.connection in
     record {
-      newer = λ s first. older clean s first.0 (exact _ _ first.1);
+      newer = λ them s first. older clean them s first.legal (first_beside them s old exact first);
       legal = λ has.
           let (stands, unchanged, may) = told.1.1.0 clean has in
           let (s, is_club, holds) = told.1.1.1 clean has (live opens.is_open).0 in
@@ -31,7 +32,7 @@ returns-clause-taken g c =
       history = λ them sessions led.
           let (version, at) = found them sessions led in
           still_stands them sessions old new (reads.kept refl clean)
-          (newer_history version them sessions old (older clean) at);
+          (newer_history version them sessions old (older clean them) at);
       leads = λ them sessions led db left.
           let (version, at) = found them sessions led in
           c.leaves_what_sessions_left.ensures version them sessions at db (reads.may clean db left);
@@ -61,8 +62,10 @@ returns-clause-refuses g c =
 pub returns-clause-older : goal.returns-clause-older
 returns-clause-older g c =
     IfErr-weaker c.adopt.result _ _
-    (λ u older clean opens live s first.
-    older clean s first.0 (c.holds_exactly.ensures opens live _ _ first.1)) c.adopt.ensures.first
+    (λ u older clean opens live them s first.
+    let exact = c.holds_exactly.ensures opens live in
+    older clean them s first.legal (first_beside them s _ exact first) (first_shape them s _ exact first))
+    c.adopt.ensures.first
 
 pub returns-clause-led : goal.returns-clause-led
 returns-clause-led g c =

@@ -1,3 +1,4 @@
+use Rattle.store_tables.proofs.Proved.{clean_before, rows_after, reads_on, ended}
 use Rattle.std.proofs.Common.{◌∷◌, ap, subst, ◌∙◌}
 use Rattle.std.proofs.lemmas.Result.{IfOk-weaker}
 use Rattle.club_core.specs.Answer.{members_of}
@@ -5,7 +6,6 @@ use Rattle.club_rows.specs.Club.{tables}
 use Rattle.cross_tables.specs.Lines.{header_text}
 use Rattle.cross_tables.specs.Totals.{AreTotals}
 use Rattle.club_views.specs.CrossTable.{lines_from}
-use Rattle.club_views.proofs.ReadLemmas.{clean_before, rows_after, reads_on, ended}
 use Rattle.club_views.proofs.cross_table.event_table.Goals as goal
 
 pub returns-clause-reads : goal.returns-clause-reads

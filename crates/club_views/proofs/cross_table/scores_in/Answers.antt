@@ -1,3 +1,4 @@
+use Rattle.store_tables.proofs.Proved.{ended}
 use Rattle.std.proofs.Common.{[], ◌∷◌, map, SFits, w64, to_z-of_z, sym, ap, subst, ◌∙◌, arith}
 use Rattle.std.proofs.lemmas.Int.{ints}
 use Rattle.sqlite.specs.declared.types.Value.TheVariants.{Int}
@@ -5,7 +6,6 @@ use Rattle.store_tables.specs.Contents.{AreThose}
 use Rattle.store_tables.specs.Cells.{score_cells}
 use Rattle.club_rows.specs.Club.{tables}
 use Rattle.club_views.proofs.CrossTableLemmas.{scores_are, both_ok}
-use Rattle.club_views.proofs.ReadLemmas.{ended}
 use Rattle.club_views.proofs.cross_table.scores_in.Goals as goal
 
 pub returns-clause-reads : goal.returns-clause-reads

@@ -1,6 +1,6 @@
+use Rattle.store_tables.proofs.Proved.{clean_before, rows_after, reads_on}
 use Rattle.std.proofs.Common.{sym, ◌∙◌}
 use Rattle.club_rows.specs.Club.{tables}
-use Rattle.club_views.proofs.ReadLemmas.{clean_before, rows_after, reads_on}
 use Rattle.club_views.proofs.cross_table.table_of.Goals as goal
 
 pub returns-in_ok-lines-in-Some-clause-reads : goal.returns-in_ok-lines-in-Some-clause-reads

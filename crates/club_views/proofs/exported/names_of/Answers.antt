@@ -1,3 +1,4 @@
+use Rattle.store_tables.proofs.Proved.{clean_before, rows_after, reads_on}
 use Rattle.std.proofs.Common.{Some, ap, sym, ◌∙◌}
 use Rattle.std.specs.Option.{option_map}
 use Rattle.club_core.specs.Events.{Event}
@@ -5,7 +6,6 @@ use Rattle.club_core.specs.Members.{Member}
 use Rattle.club_core.specs.State.{place}
 use Rattle.club_rows.specs.Club.{tables}
 use Rattle.club_changes.proofs.Proved.{event_stands, players_stand, pairing_same}
-use Rattle.club_views.proofs.ReadLemmas.{clean_before, rows_after, reads_on}
 use Rattle.club_views.proofs.exported.names_of.Goals as goal
 
 pub returns-clause-reads : goal.returns-clause-reads

@@ -4,9 +4,8 @@ use Rattle.sqlite.specs.Held.{state}
 use Rattle.club_exports.specs.Exported.{IsWritten}
 use Rattle.club_rows.specs.RowView.{row_at}
 use Rattle.store_tables.specs.Cells.{move_cells}
-use Rattle.store_tables.proofs.Proved.{read_nothing}
+use Rattle.store_tables.proofs.Proved.{read_nothing, clean_before, rows_after, reads_on, ended}
 use Rattle.club_views.proofs.EntryRows.{so-far, take-none, take-whole}
-use Rattle.club_views.proofs.ReadLemmas.{clean_before, rows_after, reads_on, ended}
 use Rattle.club_views.proofs.exported.write_plies.Goals as goal
 
 pub loop-ply-init : goal.loop-ply-init

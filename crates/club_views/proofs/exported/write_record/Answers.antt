@@ -1,8 +1,8 @@
+use Rattle.store_tables.proofs.Proved.{clean_before, rows_after, reads_on, ended}
 use Rattle.std.proofs.Common.{inl, inr, refl}
 use Rattle.club_rows.specs.Replay.{terms_given}
 use Rattle.club_exports.specs.Title.{timed}
 use Rattle.club_views.proofs.EntryRows.{titled, title-fits, begins-from, adds-from}
-use Rattle.club_views.proofs.ReadLemmas.{clean_before, rows_after, reads_on, ended}
 use Rattle.club_views.proofs.exported.write_record.Goals as goal
 
 pub returns-in_err-view-clause-begun : goal.returns-in_err-view-clause-begun

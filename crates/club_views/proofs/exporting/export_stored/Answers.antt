@@ -1,7 +1,7 @@
+use Rattle.store_tables.proofs.Proved.{clean_before, rows_after, reads_on}
 use Rattle.std.proofs.Common.{inl, inr, refl}
 use Rattle.std.proofs.lemmas.Result.{on_ok_weaker}
 use Rattle.club_rows.specs.Club.{tables}
-use Rattle.club_views.proofs.ReadLemmas.{clean_before, rows_after, reads_on}
 use Rattle.club_views.proofs.exporting.export_stored.Goals as goal
 
 pub returns-clause-reads : goal.returns-clause-reads

@@ -1,7 +1,7 @@
+use Rattle.store_tables.proofs.Proved.{clean_before, rows_after, reads_on}
 use Rattle.std.proofs.Common.{subst}
 use Rattle.club_rows.specs.Club.{tables}
 use Rattle.club_changes.specs.Stored.{IsFoundGame}
-use Rattle.club_views.proofs.ReadLemmas.{clean_before, rows_after, reads_on}
 use Rattle.club_views.proofs.reading.legal_of.Goals as goal
 
 pub returns-in_ok-texts-in-Some-clause-reads : goal.returns-in_ok-texts-in-Some-clause-reads

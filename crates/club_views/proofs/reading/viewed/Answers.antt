@@ -1,5 +1,5 @@
+use Rattle.store_tables.proofs.Proved.{clean_before, rows_after, reads_on}
 use Rattle.club_rows.specs.Club.{tables}
-use Rattle.club_views.proofs.ReadLemmas.{clean_before, rows_after, reads_on}
 use Rattle.club_views.proofs.reading.viewed.Goals as goal
 
 pub returns-clause-reads : goal.returns-clause-reads

@@ -1,9 +1,9 @@
+use Rattle.store_tables.proofs.Proved.{clean_before, rows_after, reads_on}
 use Rattle.std.proofs.Common.{map, sym, subst}
 use Rattle.club_rows.specs.Replay.{terms_given}
 use Rattle.club_rows.specs.Tables.{move_rows}
 use Rattle.store_tables.specs.Cells.{move_cells}
 use Rattle.club_changes.specs.Steps.{HaveSame}
-use Rattle.club_views.proofs.ReadLemmas.{clean_before, rows_after, reads_on}
 use Rattle.club_views.proofs.viewed.make_played.Goals as goal
 
 pub returns-clause-reads : goal.returns-clause-reads

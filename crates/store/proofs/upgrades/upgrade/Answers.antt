@@ -1,25 +1,25 @@
-use Rattle.std.proofs.Common.{ap, arith, inl, inr, refl, subst, sym, ◌∙◌}
+use Rattle.std.proofs.Common.{arith, inl, inr, refl, subst, sym, ◌∙◌}
 use Rattle.sqlite.specs.Held.{state}
 use Rattle.sqlite.specs.State.{HasCleanDisk}
-use Rattle.store_tables.specs.Tables.{first_schema, schema_of}
+use Rattle.store_tables.specs.Over.{IsFirstBeside, alone}
+use Rattle.store_tables.specs.Placed.{HasTablesOf}
 use Rattle.store_tables.specs.declared.names.Version.TheVariants.{First, Current}
-use Rattle.store_tables.proofs.Proved.{exactly_same, leaves_same, still_beside}
+use Rattle.store_tables.proofs.Proved.{alone_exactly, beside_same, first_alone, leaves_first, left_same, still_beside}
+use Rattle.store_tables.proofs.Proved.{still_first}
 use Rattle.club_rows.specs.Club.{tables}
-use Rattle.club_rows.specs.FirstSchema.{first_tables}
-use Rattle.club_opening.specs.Versions.{HasTablesOf, IsExactlyClub}
-use Rattle.club_opening.proofs.Proved.{schema_known, schemas_differ}
-use Rattle.store.proofs.HistoryLemmas.{current_taken, left_at, opens_led}
-use Rattle.store.proofs.UpgradeLemmas.{first_history, made_alone, made_left, not_newer, register_widened, upgraded_cut}
-use Rattle.store.proofs.UpgradeLemmas.{upgraded_stands}
+use Rattle.club_rows.specs.FirstSchema.{IsClubOf, first_tables}
+use Rattle.club_opening.specs.Versions.{IsExactlyClub}
+use Rattle.store.proofs.HistoryLemmas.{current_taken, holds_beside, holds_first, left_at, opens_led}
+use Rattle.store.proofs.UpgradeLemmas.{first_history, found_widened, not_newer, upgraded_cut, upgraded_stands}
 use Rattle.store.proofs.upgrades.upgrade.Goals as goal
 
 -- ---- schema 2
 
 pub returns-in-Current-clause-done : goal.returns-in-Current-clause-done
-returns-in-Current-clause-done g c clean s first exactly =
+returns-in-Current-clause-done g c clean them s first exactly =
     let s0 = state g.S.Store c.args.conn in
-    let (schema, same) = c.in-Ok.ensures.same clean (schema_known First s0.now.schema exactly.now.schema) in
-    absurd (schemas_differ (sym exactly.now.schema ∙ schema ∙ ap schema_of c.in-Current.is))
+    absurd (not_newer c.in-Ok.found.version
+    (c.in-Ok.ensures.standing clean First s first (holds_first them (first_tables s) s0 exactly)) c.in-Current.is)
 
 pub returns-in-Current-clause-already : goal.returns-in-Current-clause-already
 returns-in-Current-clause-already g c clean them s club exactly =
@@ -51,24 +51,24 @@ returns-in-Current-clause-led g c clean opens live them chapters led =
 -- ---- schema 1
 
 pub returns-in-Ok-widen-clause-done : goal.returns-in-Ok-widen-clause-done
-returns-in-Ok-widen-clause-done g c clean s first exactly =
+returns-in-Ok-widen-clause-done g c clean them s first exactly =
     let s0 = state g.S.Store c.args.conn in
     let s1 = state g.S.Store c.examine_from.new.conn in
     let s2 = state g.S.Store c.widen.new.conn in
     let clean1 : HasCleanDisk s1 = omega (arith, c.widen.ensures.clean, clean) in
-    let register = c.in-Ok.ensures.rows clean1 First s first exactly.now in
-    let here = c.in-Ok.ensures.reads.kept refl clean1 first_schema (first_tables s) exactly in
-    let made = c.in-Ok-widen.ensures.stored clean (first_tables s) refl here in (
-      refl,
-      exactly_same _ (tables s) s2
-          (register_widened s c.in-Ok.found.rows _ _ register c.deref.ensures.value c.of_current-meta.ensures) made,
-    )
+    let was = holds_first them (first_tables s) s0 exactly in
+    let here = still_first s0 s1 (c.in-Ok.ensures.reads.kept refl clean1) them (first_tables s) exactly in
+    let same = found_widened c.in-Ok.found.version c.in-First.is c.in-Ok.found.rows s1.now
+    (c.in-Ok.ensures.held clean1 (inl was.schema) was.sound) s first (holds_first them (first_tables s) s1 here) _ _
+    c.deref.ensures.value c.of_current-meta.ensures in
+    (refl, beside_same _ (tables s) same them s2 (c.in-Ok-widen.ensures.stored clean them (first_tables s) refl here))
 
 pub returns-in-Ok-widen-clause-already : goal.returns-in-Ok-widen-clause-already
 returns-in-Ok-widen-clause-already g c clean them s club exactly =
+    let s0 = state g.S.Store c.args.conn in
     let clean1 : HasCleanDisk (state g.S.Store c.examine_from.new.conn) = omega (arith, c.widen.ensures.clean, clean) in
     absurd (not_newer c.in-Ok.found.version c.in-First.is
-    (c.in-Ok.ensures.newer clean1 (them.made, exactly.exactly.now.schema)))
+    (c.in-Ok.ensures.newer clean1 (holds_beside them (tables s) s0 exactly).schema))
 
 pub returns-in-Ok-widen-clause-found : goal.returns-in-Ok-widen-clause-found
 returns-in-Ok-widen-clause-found g c clean version opened =
@@ -77,12 +77,16 @@ returns-in-Ok-widen-clause-found g c clean version opened =
     let clean1 : HasCleanDisk s1 = omega (arith, c.widen.ensures.clean, clean) in
     let (is, (s, club, register, exactly)) = c.in-Ok.ensures.found clean1 version opened in
     let first = sym is ∙ c.in-First.is in
-    let made = c.in-Ok-widen.ensures.stored clean (first_tables s) refl
-    (subst (λ v. IsExactlyClub v s s1) first exactly) in (
+    let legal = subst (λ v. IsClubOf v s) first club in
+    let here : IsFirstBeside alone (first_tables s) s1 =
+    first_alone (first_tables s) s1 (subst (λ v. IsExactlyClub v s s1) first exactly) in
+    let holds = holds_first alone (first_tables s) s1 here in
+    let same = found_widened First refl c.in-Ok.found.rows s1.now (s, legal, register, holds) s legal holds _ _
+    c.deref.ensures.value c.of_current-meta.ensures in (
       s,
       club,
-      exactly_same _ (tables s) s2 (register_widened s c.in-Ok.found.rows _ _ register c.deref.ensures.value
-          c.of_current-meta.ensures) made,
+      alone_exactly (tables s) s2 (beside_same _ (tables s) same alone s2
+          (c.in-Ok-widen.ensures.stored clean alone (first_tables s) refl here)),
     )
 
 pub returns-in-Ok-widen-clause-led : goal.returns-in-Ok-widen-clause-led
@@ -94,20 +98,15 @@ returns-in-Ok-widen-clause-led g c clean opens live them chapters led =
     let first = first_history them chapters s0 c.in-Ok.found.version c.in-First.is (c.in-Ok.ensures.newer clean1)
     (opens_led s0 opens live (λ d shown stays. g.met.S.Store.settled c.args.conn.store d shown stays) them chapters led)
     in
-    let s = first.after in
-    let exactly = first.exactly.1 in
-    let register = c.in-Ok.ensures.rows clean1 First s first.legal exactly.now in
-    let here = c.in-Ok.ensures.reads.kept refl clean1 first_schema (first_tables s) exactly in
-    let made = c.in-Ok-widen.ensures.stored clean (first_tables s) refl here in
     upgraded_stands First them chapters s0 s2 first
-    (made_alone them first.exactly.0 s s2 (exactly_same _ (tables s) s2
-    (register_widened s c.in-Ok.found.rows _ _ register c.deref.ensures.value c.of_current-meta.ensures) made))
+    (returns-in-Ok-widen-clause-done g c clean them first.after first.legal first.exactly).1
 
 -- ---- faults
 
 pub returns-in-Err-clause-fault : goal.returns-in-Err-clause-fault
-returns-in-Err-clause-fault g c clean s first exactly db may =
-    inl (exactly.may_leave db (c.in-Err.ensures.reads.may clean db may))
+returns-in-Err-clause-fault g c clean them s first exactly db may =
+    let s0 = state g.S.Store c.args.conn in
+    inl (leaves_first them (first_tables s) s0 exactly db (c.in-Err.ensures.reads.may clean db may))
 
 pub returns-in-Err-clause-good : goal.returns-in-Err-clause-good
 returns-in-Err-clause-good g c clean version s club holds shape =
@@ -128,17 +127,17 @@ returns-in-Err-clause-cut_off g c clean opens live them chapters led db may =
     (inl (left_at version them at.after s0 at.exactly db (c.in-Err.ensures.reads.may clean db may)))
 
 pub returns-clause-fault : goal.returns-clause-fault
-returns-clause-fault g c clean s first exactly db may =
+returns-clause-fault g c clean them s first exactly db may =
+    let s0 = state g.S.Store c.args.conn in
     let s1 = state g.S.Store c.examine_from.new.conn in
     let clean1 : HasCleanDisk s1 = omega (arith, c.widen.ensures.clean, clean) in
-    let register = c.in-Ok.ensures.rows clean1 First s first exactly.now in
-    let here = c.in-Ok.ensures.reads.kept refl clean1 first_schema (first_tables s) exactly in
-    elim (c.in-Err-widen.ensures.fault clean (first_tables s) refl here db may) [
-      | inl before ↦ inl before
-      | inr after ↦ inr
-          (leaves_same _ (tables s) db (register_widened s c.in-Ok.found.rows _ _ register c.deref.ensures.value
-          c.of_current-meta.ensures) after)
-    ]
+    let was = holds_first them (first_tables s) s0 exactly in
+    let here = still_first s0 s1 (c.in-Ok.ensures.reads.kept refl clean1) them (first_tables s) exactly in
+    let same = found_widened c.in-Ok.found.version c.in-First.is c.in-Ok.found.rows s1.now
+    (c.in-Ok.ensures.held clean1 (inl was.schema) was.sound) s first (holds_first them (first_tables s) s1 here) _ _
+    c.deref.ensures.value c.of_current-meta.ensures in
+    elim (c.in-Err-widen.ensures.fault clean them (first_tables s) refl here db may)
+    [ inl before ↦ inl before | inr after ↦ inr (left_same _ (tables s) same them db after) ]
 
 pub returns-clause-named : goal.returns-clause-named
 returns-clause-named g c clean known t is = absurd (let x = is in cc)
@@ -156,15 +155,5 @@ returns-clause-cut_off g c clean opens live them chapters led db may =
     let first = first_history them chapters s0 c.in-Ok.found.version c.in-First.is (c.in-Ok.ensures.newer clean1)
     (opens_led s0 opens live (λ d shown stays. g.met.S.Store.settled c.args.conn.store d shown stays) them chapters led)
     in
-    let s = first.after in
-    let exactly = first.exactly.1 in
-    let register = c.in-Ok.ensures.rows clean1 First s first.legal exactly.now in
-    let here = c.in-Ok.ensures.reads.kept refl clean1 first_schema (first_tables s) exactly in
     upgraded_cut First them chapters s0 first db
-    (elim (c.in-Err-widen.ensures.fault clean (first_tables s) refl here db may) [
-      | inl before ↦ inl (first.exactly.0, before)
-      | inr after ↦
-          inr
-          (made_left them first.exactly.0 s db (leaves_same _ (tables s) db
-          (register_widened s c.in-Ok.found.rows _ _ register c.deref.ensures.value c.of_current-meta.ensures) after))
-    ])
+    (returns-clause-fault g c clean them first.after first.legal first.exactly db may)

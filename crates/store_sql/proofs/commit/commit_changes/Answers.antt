@@ -1,16 +1,15 @@
 use Rattle.std.proofs.Common.{◌≡◌, arith, inl, inr, rules, subst}
 use Rattle.sqlite.specs.Held.{state}
 use Rattle.store_tables.specs.Sql.{HasCleanDisk}
-use Rattle.store_tables.specs.Contents as of_schema
-use Rattle.store_tables.specs.Contents.{Content}
+use Rattle.store_tables.specs.Over.{IsBesideThem}
 use Rattle.store_tables.specs.Changed.{changed}
-use Rattle.store_tables.proofs.Proved.{commits, leaves_of}
-use Rattle.store_sql.proofs.CommitLemmas.{commit_survives}
+use Rattle.store_tables.proofs.Proved.{leaves_beside}
+use Rattle.store_sql.proofs.CommitLemmas.{commit_survives, commits_beside, left_beside}
 use Rattle.store_sql.proofs.SelectLemmas.{always_err}
 use Rattle.store_sql.proofs.commit.commit_changes.Goals as goal
 
 pub returns-clause-stored : goal.returns-clause-stored
-returns-clause-stored g c clean schema takes content k =
+returns-clause-stored g c clean them content k =
     let end = c.commit.new.self.0 in
     let same : end ≡ c.conn-2-1.given.0 = search rules in
     let late : HasCleanDisk (state g.S.Store end) = search rules in
@@ -18,26 +17,26 @@ returns-clause-stored g c clean schema takes content k =
     let last = c.put_changes.new.tx.conn.now in
     let steps = c.in_ok-put_changes.ensures.put (omega (arith, c.commit.ensures.survives.clean)) (rw begun) in
     let after = changed c.args.changes.now content in
-    let holds = (rw begun at steps.holds) schema takes content k.now in
-    subst (λ h. of_schema.IsExactly schema after (state g.S.Store h)) same
-    (commits schema after (state g.S.Store last) (state g.S.Store end) holds (c.in_ok-commit.ensures.ok late).1
-    (λ db shown left. g.met.S.Store.settled end.store db shown left))
+    let holds = (rw begun at steps.holds) them k.clear content k.exactly.now in
+    subst (λ h. IsBesideThem them after (state g.S.Store h)) same
+    (commits_beside them after (state g.S.Store last) (state g.S.Store end) k.clear holds
+    (c.in_ok-commit.ensures.ok late).1 (λ db shown left. g.met.S.Store.settled end.store db shown left))
 
 pub returns-in_err-commit-clause-survives : goal.returns-in_err-commit-clause-survives
 returns-in_err-commit-clause-survives g c =
     let begun = c.transaction-tx.ensures.begun in
     let last = c.put_changes.new.tx.conn.now in
     commit_survives g.S.Store c.args.conn.now last c.commit.new.self.0 c.conn-2-1.given.0 _ (search rules)
-    (rw begun at c.put_changes.ensures.survives) c.commit.ensures.survives (λ clean schema takes content k.
-    leaves_of schema (state g.S.Store last).now (changed c.args.changes.now content)
-    ((rw begun at (c.in_ok-put_changes.ensures.put clean (rw begun)).holds) schema takes content k))
+    (rw begun at c.put_changes.ensures.survives) c.commit.ensures.survives (λ clean them takes content k.
+    left_beside them (changed c.args.changes.now content) (state g.S.Store last).now takes
+    ((rw begun at (c.in_ok-put_changes.ensures.put clean (rw begun)).holds) them takes content k))
 
 pub returns-in_err-commit-clause-fault : goal.returns-in_err-commit-clause-fault
 returns-in_err-commit-clause-fault g c clean =
     always_err c.from_residual-in_err-commit.result _
-    (λ schema takes content k db left. elim ((returns-in_err-commit-clause-survives g c).crash clean db left) [
-      | inl was ↦ inl (k.may_leave db was)
-      | inr made ↦ inr (made schema takes content k.now)
+    (λ them content k db left. elim ((returns-in_err-commit-clause-survives g c).crash clean db left) [
+      | inl was ↦ inl (leaves_beside them content (state g.S.Store c.args.conn.now) k db was)
+      | inr made ↦ inr (made them k.clear content k.exactly.now)
     ])
 
 pub returns-clause-survives : goal.returns-clause-survives
@@ -45,6 +44,6 @@ returns-clause-survives g c =
     let begun = c.transaction-tx.ensures.begun in
     let last = c.put_changes.new.tx.conn.now in
     commit_survives g.S.Store c.args.conn.now last c.commit.new.self.0 c.conn-2-1.given.0 _ (search rules)
-    (rw begun at c.put_changes.ensures.survives) c.commit.ensures.survives (λ clean schema takes content k.
-    leaves_of schema (state g.S.Store last).now (changed c.args.changes.now content)
-    ((rw begun at (c.in_ok-put_changes.ensures.put clean (rw begun)).holds) schema takes content k))
+    (rw begun at c.put_changes.ensures.survives) c.commit.ensures.survives (λ clean them takes content k.
+    left_beside them (changed c.args.changes.now content) (state g.S.Store last).now takes
+    ((rw begun at (c.in_ok-put_changes.ensures.put clean (rw begun)).holds) them takes content k))

@@ -1,7 +1,7 @@
 use Rattle.std.proofs.Common.{sym, subst}
 use Rattle.std.specs.Prelude.{OnOk}
 use Rattle.sqlite.specs.Held.{state}
-use Rattle.store_tables.specs.Beside.{StepsBeside}
+use Rattle.store_tables.specs.Over.{StepsBeside}
 use Rattle.store_tables.specs.Changed.{put_maybe}
 use Rattle.store_sql.proofs.commit.put_meta.Goals as goal
 

@@ -2,7 +2,7 @@ use Rattle.std.proofs.Common.{◌≡◌, arith, rules, [], ◌∷◌, map, subst
 use Rattle.sqlite.specs.Held.{state}
 use Rattle.store_tables.specs.Cells.{game_cells, move_cells}
 use Rattle.store_tables.specs.Contents.{put_each}
-use Rattle.store_tables.specs.Beside.{StepsBeside}
+use Rattle.store_tables.specs.Over.{StepsBeside}
 use Rattle.store_tables.proofs.Proved.{steps_then}
 use Rattle.store_sql.proofs.commit.put_play.Goals as goal
 

@@ -1,9 +1,10 @@
-use Rattle.std.proofs.Common.{arith, ◌∙◌}
+use Rattle.std.proofs.Common.{◌≡◌, arith, take, ◌∙◌}
+use Rattle.std.proofs.lemmas.List.{take_all}
 use Rattle.std.proofs.lemmas.Option.{slice_get-get_or}
 use Rattle.sqlite.specs.Held.{state}
 use Rattle.sqlite.proofs.StateLemmas.{survives_then}
 use Rattle.store_tables.specs.Names.{in_order}
-use Rattle.store_sql.proofs.CreateLemmas.{create_known, handed_on, progressed}
+use Rattle.store_sql.proofs.CreateLemmas.{all_made, create_known, handed_on, progressed}
 use Rattle.store_sql.proofs.make.make_tables.Goals as goal
 
 pub tables-preserved : goal.tables-preserved
@@ -21,9 +22,16 @@ tables-preserved g c =
     )
 
 pub returns-in_err-make-clause-known : goal.returns-in_err-make-clause-known
-returns-in_err-make-clause-known g c clean inside empty =
+returns-in_err-make-clause-known g c clean inside schema them room holds =
     let so_far = c.tables.invariant.2 (omega (arith, c.make.ensures.survives.clean)) inside in
     handed_on c.from_residual.result c.in_err-make.field-0.0 c.from_residual.ensures.1
     (create_known c.tables.table-index _ (slice_get-get_or in_order c.tables.table-index _ c.tables-test.true) _
-    c.create.ensures (state g.S.Store c.tables.tx.conn.now) (state g.S.Store c.make.new.tx.conn.now)
-    (so_far.makes.made empty).schema_is _ (c.in_err-make.ensures.fails clean so_far.makes.inside))
+    c.create.ensures (state g.S.Store c.args.tx.now.conn.now) (state g.S.Store c.tables.tx.conn.now)
+    (state g.S.Store c.make.new.tx.conn.now) so_far schema them room holds _
+    (c.in_err-make.ensures.fails clean so_far.makes.inside))
+
+pub returns-clause-made : goal.returns-clause-made
+returns-clause-made g c clean inside =
+    let whole : take c.tables.table-index in_order ≡ in_order = take_all c.tables.table-index in_order (omega arith) in
+    all_made c.tables.table-index (state g.S.Store c.args.tx.now.conn.now) (state g.S.Store c.tables.tx.conn.now) whole
+    (c.tables.invariant.2 clean inside)

@@ -2,7 +2,7 @@ use Rattle.std.proofs.Common.{◌≡◌, rules, arith, ap, sym, subst}
 use Rattle.std.proofs.lemmas.Result.{IfErr-weaker}
 use Rattle.store_tables.specs.Sql.{Database, HasCleanDisk}
 use Rattle.sqlite.specs.Held.{state}
-use Rattle.store_tables.specs.Beside.{IsBeside}
+use Rattle.store_tables.specs.Placed.{Stands}
 use Rattle.store_tables.proofs.Proved.{read_nothing, read_then}
 use Rattle.store_sql.proofs.SelectLemmas.{blame_types, failed_read}
 use Rattle.store_sql.proofs.read.read_all.Goals as goal
@@ -29,7 +29,7 @@ returns-clause-blames g c clean =
     let early : HasCleanDisk mid = omega (arith, c.show_all.ensures.reads.clean) in
     IfErr-weaker c.typed.result _ _ (λ e faults has.
     let same : mid.now ≡ old.now = (c.in-Ok.ensures.counted early has).same.0.now_is in
-    let still : IsBeside g.T.Select.club mid.now.schema =
-    subst (IsBeside g.T.Select.club) (sym (ap (λ (d : Database). d.schema) same)) has in
+    let still : Stands mid.now.schema g.T.Select.which =
+    subst (λ s. Stands s g.T.Select.which) (sym (ap (λ (d : Database). d.schema) same)) has in
     blame_types g.T.Select.table g.T.TableRow.IsTyped old mid _ c.in-Ok-show_all.shown.items e (search rules) same
     (c.in-Ok-show_all.ensures.rows clean still).keeps faults) c.typed.ensures.blames

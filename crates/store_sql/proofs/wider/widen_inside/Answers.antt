@@ -1,7 +1,6 @@
 use Rattle.std.proofs.Common.{arith, ◌∙◌}
 use Rattle.sqlite.specs.Held.{state}
-use Rattle.store_tables.specs.Tables.{club_schema}
-use Rattle.store_tables.proofs.Proved.{takes_itself, widens}
+use Rattle.store_tables.proofs.Proved.{widens}
 use Rattle.store_sql.proofs.wider.widen_inside.Goals as goal
 
 pub returns-clause-widened : goal.returns-clause-widened
@@ -15,8 +14,9 @@ returns-clause-widened g c clean inside =
     let two = c.in_ok-put_all.ensures.put (omega (arith, c.put.ensures.survives.clean)) one.inside in
     let three = c.in_ok-put.ensures.put clean two.inside in
     record {
-      holds = λ content free k. three.holds club_schema takes_itself _
-          (two.holds club_schema takes_itself content (one.holds content free k));
+      holds = λ them content free k.
+          let takes = k.before.clear in
+          three.holds them takes _ (two.holds them takes content (one.holds them content free k));
       committed = three.committed ∙ two.committed ∙ one.committed;
       inside = three.inside;
     }

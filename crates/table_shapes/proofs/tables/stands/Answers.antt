@@ -2,11 +2,11 @@ use Rattle.std.proofs.Common.{ap, ◌∙◌}
 use Rattle.std.proofs.lemmas.Result.{IfOk-weaker}
 use Rattle.sqlite.specs.Compile.{table_defined_by}
 use Rattle.store_tables.specs.Tables.{made_as}
-use Rattle.store_tables.proofs.Proved.{creates}
+use Rattle.store_tables.proofs.Proved.{defined}
 use Rattle.table_shapes.proofs.tables.stands.Goals as goal
 
 pub returns : goal.returns
 returns c =
     let ours = made_as c.args.table 0 in
     IfOk-weaker c.made_stands.result _ _ (λ stands told.
-    told ours (ap table_defined_by c.create.ensures ∙ (creates c.args.table).defined)) c.made_stands.ensures
+    told ours (ap table_defined_by c.create.ensures ∙ defined c.args.table)) c.made_stands.ensures

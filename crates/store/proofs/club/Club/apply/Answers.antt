@@ -1,14 +1,12 @@
-use Rattle.std.proofs.Common.{refl, subst, rules, arith, inl, inr}
+use Rattle.std.proofs.Common.{refl, subst, sym, rules, arith, inl, inr}
 use Rattle.sqlite.specs.Held.{state}
 use Rattle.sqlite.specs.State.{HasCleanDisk}
-use Rattle.store_tables.specs.Beside.{beside}
 use Rattle.store_tables.specs.Contents.{IsExactly}
-use Rattle.store_tables.specs.Over.{IsBesideThem, over}
-use Rattle.store_tables.specs.Tables.{club_schema}
+use Rattle.store_tables.specs.Over.{HasRows, IsBesideThem}
 use Rattle.club_rows.specs.Club.{tables}
 use Rattle.club_changes.specs.Steps.{request, club_next, changed_if, AreSame}
-use Rattle.store_tables.proofs.Proved.{leaves_beside, rows_beside, still_beside}
-use Rattle.store.proofs.BesideLemmas.{changed_beside, changed_left, same_beside, takes_beside}
+use Rattle.store_tables.proofs.Proved.{beside_same, leaves_beside, left_same, rows_beside, still_beside}
+use Rattle.store.specs.Clubs.{Kept}
 use Rattle.store.proofs.LegalLemmas.{club_stays}
 use Rattle.store.proofs.HistoryLemmas.{one_stands, one_cut}
 use Rattle.store.proofs.club.Club.apply.Goals as goal
@@ -18,6 +16,18 @@ returns-in-Err-clause-fault g c clean usable them s is_club k db left =
     let inside : IsBesideThem them (tables s) (state g.S.Store c.self.inside.connection) = search rules in
     inl (leaves_beside them (tables s) _ inside db (c.decide_request.ensures.reads.may clean db left))
 
+pub returns-in-Ok-apply_changes-clause-answer : goal.returns-in-Ok-apply_changes-clause-answer
+returns-in-Ok-apply_changes-clause-answer g c clean s is_club k =
+    let decided : HasCleanDisk (state g.S.Store c.decide_request.new.conn) =
+    omega (arith, c.apply_changes.ensures.clean) in
+    let inside = subst (λ (v : Kept _). HasRows (tables s) (state g.S.Store v.connection)) (sym c.self.view_is) k in
+    (c.in-Ok.ensures.step decided s is_club inside).answer
+
+pub returns-in-None-clause-answer : goal.returns-in-None-clause-answer
+returns-in-None-clause-answer g c clean s is_club k =
+    let inside = subst (λ (v : Kept _). HasRows (tables s) (state g.S.Store v.connection)) (sym c.self.view_is) k in
+    (c.in-Ok.ensures.step clean s is_club inside).answer
+
 pub returns-in-Ok-apply_changes-clause-step : goal.returns-in-Ok-apply_changes-clause-step
 returns-in-Ok-apply_changes-clause-step g c clean them s is_club k =
     let inside : IsBesideThem them (tables s) (state g.S.Store c.self.inside.connection) = search rules in
@@ -26,11 +36,9 @@ returns-in-Ok-apply_changes-clause-step g c clean them s is_club k =
     let next = club_next s (request c.args.who.now c.args.command.now c.args.moment) in
     let same = subst (λ cs. AreSame (changed_if cs (tables s)) (tables next)) c.in-Some.is
     (c.in-Ok.ensures.step decided s is_club (rows_beside them _ _ inside)).rows in
-    let schema = beside club_schema them.made in
-    let content = over (tables s) them.rows in
-    changed_beside them inside.clear c.in-Some.changes (tables s) (tables next) same _
-    (c.in-Ok-apply_changes.ensures.stored clean schema (takes_beside them inside.clear) content
-    (c.in-Ok.ensures.reads.kept refl decided schema content inside.exactly))
+    beside_same _ (tables next) same them _
+    (c.in-Ok-apply_changes.ensures.stored clean them (tables s)
+    (still_beside _ _ (c.in-Ok.ensures.reads.kept refl decided) them (tables s) inside))
 
 pub returns-in-Err-apply_changes-clause-fault : goal.returns-in-Err-apply_changes-clause-fault
 returns-in-Err-apply_changes-clause-fault g c clean usable them s is_club k db left =
@@ -40,14 +48,9 @@ returns-in-Err-apply_changes-clause-fault g c clean usable them s is_club k db l
     let next = club_next s (request c.args.who.now c.args.command.now c.args.moment) in
     let same = subst (λ cs. AreSame (changed_if cs (tables s)) (tables next)) c.in-Some.is
     (c.in-Ok.ensures.step decided s is_club (rows_beside them _ _ inside)).rows in
-    let schema = beside club_schema them.made in
-    let content = over (tables s) them.rows in
-    elim (c.in-Err-apply_changes.ensures.fault clean (search rules) schema (takes_beside them inside.clear) content
-    (c.in-Ok.ensures.reads.kept refl decided schema content inside.exactly) db left) [
-      | inl before ↦ inl (record { clear = inside.clear; leaves = before })
-      | inr after ↦
-          inr (changed_left them inside.clear c.in-Some.changes (tables s) (tables next) same db after)
-    ]
+    elim (c.in-Err-apply_changes.ensures.fault clean (search rules) them (tables s)
+    (still_beside _ _ (c.in-Ok.ensures.reads.kept refl decided) them (tables s) inside) db left)
+    [ inl before ↦ inl before | inr after ↦ inr (left_same _ (tables next) same them db after) ]
 
 pub returns-in-None-clause-step : goal.returns-in-None-clause-step
 returns-in-None-clause-step g c clean them s is_club k =
@@ -55,7 +58,7 @@ returns-in-None-clause-step g c clean them s is_club k =
     let next = club_next s (request c.args.who.now c.args.command.now c.args.moment) in
     let same = subst (λ cs. AreSame (changed_if cs (tables s)) (tables next)) c.in-None.is
     (c.in-Ok.ensures.step clean s is_club (rows_beside them _ _ inside)).rows in
-    same_beside them (tables s) (tables next) same _
+    beside_same (tables s) (tables next) same them _
     (still_beside _ _ (c.in-Ok.ensures.reads.kept refl clean) them (tables s) inside)
 
 pub returns-in-None-clause-unchanged : goal.returns-in-None-clause-unchanged

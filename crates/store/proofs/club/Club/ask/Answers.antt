@@ -1,6 +1,9 @@
-use Rattle.std.proofs.Common.{true, rules, subst}
+use Rattle.std.proofs.Common.{true, rules, subst, sym}
 use Rattle.sqlite.specs.Held.{state}
+use Rattle.store_tables.specs.Over.{HasRows}
 use Rattle.store_tables.specs.Reading.{Reads}
+use Rattle.club_rows.specs.Club.{tables}
+use Rattle.store.specs.Clubs.{Kept}
 use Rattle.club_views.specs.Exported.{is_output}
 use Rattle.store.proofs.club.Club.ask.Goals as goal
 
@@ -11,3 +14,23 @@ returns-in-Err-Output-clause-reads g c =
     (λ why. Reads (is_output why) (state g.S.Store c.self.inside.connection) (state g.S.Store c.answer.new.conn))
     c.in-Err-Output.field-0-is c.in-Err-Output.ensures.reads in
     search rules
+
+pub returns-in-Ok-clause-shown : goal.returns-in-Ok-clause-shown
+returns-in-Ok-clause-shown g c clean s is_club k =
+    c.in-Ok.ensures.shown clean s is_club
+    (subst (λ (v : Kept _). HasRows (tables s) (state g.S.Store v.connection)) (sym c.self.view_is) k)
+
+pub returns-in-Ok-clause-begun : goal.returns-in-Ok-clause-begun
+returns-in-Ok-clause-begun g c clean s is_club k =
+    c.in-Ok.ensures.begun clean s is_club
+    (subst (λ (v : Kept _). HasRows (tables s) (state g.S.Store v.connection)) (sym c.self.view_is) k)
+
+pub returns-in-Err-Output-clause-begun : goal.returns-in-Err-Output-clause-begun
+returns-in-Err-Output-clause-begun g c clean s is_club k =
+    c.in-Err-Output.ensures.begun clean s is_club
+    (subst (λ (v : Kept _). HasRows (tables s) (state g.S.Store v.connection)) (sym c.self.view_is) k)
+
+pub returns-in-Err-Call-clause-begun : goal.returns-in-Err-Call-clause-begun
+returns-in-Err-Call-clause-begun g c clean s is_club k =
+    c.in-Err-Call.ensures.begun clean s is_club
+    (subst (λ (v : Kept _). HasRows (tables s) (state g.S.Store v.connection)) (sym c.self.view_is) k)

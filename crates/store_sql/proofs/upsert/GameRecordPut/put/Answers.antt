@@ -1,14 +1,14 @@
 use Rattle.std.proofs.Common.{rules, refl, string_bytes}
 use Rattle.sqlite.specs.Held.{state}
 use Rattle.store_tables.specs.declared.names.Table.TheVariants.{Games}
-use Rattle.store_tables.proofs.Proved.{put_row, game_puts}
+use Rattle.store_tables.proofs.Proved.{put_row, game_placed}
 use Rattle.store_sql.proofs.BoundLemmas.{cons_is, maybe_int, maybe_text}
 use Rattle.store_sql.proofs.upsert.GameRecordPut.put.Goals as goal
 
 pub returns-clause-put : goal.returns-clause-put
 returns-clause-put g c clean inside =
     let row = c.args.self.now in
-    put_row Games _ (game_puts row) _ _ (state g.S.Store c.args.tx.now.conn.now) (state g.S.Store
+    put_row Games _ (game_placed row) _ _ (state g.S.Store c.args.tx.now.conn.now) (state g.S.Store
     c.execute.new.self.conn.now)
     c.in_ok-execute.field-0 c.put.ensures
     (cons_is (search rules)

@@ -1,10 +1,10 @@
 -- What calls that only read leave, one after another.
 use Rattle.std.proofs.Common.{Bool, true, false, refl, arith}
 use Rattle.sqlite.specs.State.{State, HasCleanDisk}
-use Rattle.store_tables.specs.Beside.{HasRows}
+use Rattle.store_tables.specs.Over.{HasRows}
 use Rattle.store_tables.specs.Contents.{Content}
 use Rattle.store_tables.specs.Reading.{Reads}
-use Rattle.store_tables.proofs.Proved.{read_failed, read_then, still_rows}
+use Rattle.store_tables.proofs.QueryLemmas.{read_failed, read_then, still_rows}
 
 -- where the disk is in no doubt after a call, it was in none before it
 pub clean_before : {answered : Bool} {old new : State} → Reads answered old new → HasCleanDisk new → HasCleanDisk old

@@ -1,0 +1,143 @@
+-- What the texts that make the tables of a club do, behind the tables of other programs.
+use Rattle.std.proofs.Common.{◌≡◌, true, false, List, [], ◌∷◌, ◌++◌, Ok, None, refl, sym, ap, subst, ◌∙◌, inl, inr, arith}
+use Rattle.std.proofs.Math.Nat.{le_refl}
+use Rattle.sqlite.proofs.Callers.{runs_as}
+use Rattle.sqlite.specs.Change.{created, next_tree}
+use Rattle.sqlite.specs.Command.TheVariants.{CreateTable}
+use Rattle.sqlite.specs.Does.{Tally, lacks_sequence}
+use Rattle.sqlite.specs.Effect.{Database}
+use Rattle.sqlite.specs.Schema.{Schema}
+use Rattle.sqlite.specs.State.{State, Writes}
+use Rattle.sqlite.specs.Table.{Table}
+use Rattle.sqlite_catalog.proofs.StepLemmas.{table_below}
+use Rattle.sqlite_catalog.specs.Change.{KeepsRows, is_used}
+use Rattle.sqlite_rules.proofs.ListLemmas.{all_from, all_has, has_either, has_right}
+use Rattle.store_tables.specs.Contents.{Content, Holds, Ran, Stores}
+use Rattle.store_tables.specs.Names.{table_name}
+use Rattle.store_tables.specs.Room.{AreUnused, made_in}
+use Rattle.store_tables.proofs.PlacedStanding.{IsEmptyFrom}
+use Rattle.store_tables.specs.Tables.{made_as}
+use Rattle.store_tables.specs.Texts.{create_of}
+use Rattle.store_tables.specs.declared.names.Table as of_club
+use Rattle.store_tables.proofs.MakeLemmas.{stores_by, stores_none}
+use Rattle.store_tables.proofs.Meanings.{defined}
+use Rattle.store_tables.proofs.PlacedCreated.{AreFree}
+use Rattle.store_tables.proofs.PlacedCreates.{creates_here, is_free}
+use Rattle.store_tables.proofs.UpsertLemmas.{same_value, went}
+
+module _ (table : of_club.Table) (schema : Schema) (unused : is_used schema (table_name table) ≡ false)
+    (uncounted : lacks_sequence (created schema (made_as table 0)) ≡ false) (old new : State)
+    (h : Ran (create_of table) old new) where
+  abbrev made : Table
+  made = made_as table 0
+
+  abbrev after : Schema
+  after = created schema made
+
+  -- Beside rows that stay, the text makes the table, with no row.
+  pub makes_one : (content : Content) → Holds schema old.now content → content (next_tree schema) ≡ []
+      → Holds after new.now content
+  makes_one content k free =
+      let is_create = creates_here table schema unused in
+      let w = subst (λ t. Writes old new None CreateTable t [] h.count) is_create.text
+      (runs_as (create_of table) [] old new schema k.schema CreateTable is_create.command is_create.plain h.count
+      h.runs.0) in
+      let all = went w.changed in
+      let first = went all.1 in
+      let it = first.1 in
+      let both : Ok it.table ≡ Ok made = sym it.defined ∙ defined table in
+      let is : first.0.schema ≡ after = it.is ∙ ap (λ s. created s it.table) k.schema
+      ∙ ap (created schema) (same_value both) in
+      let none : lacks_sequence first.0.schema ≡ false = ap lacks_sequence is ∙ uncounted in
+      let now : new.now ≡ first.0 = ap (λ (p : Tally × Database). p.1) (same_value all.2)
+      ∙ same_value (rw none at first.2) in
+      let empty : first.0.trees (next_tree schema) ≡ [] =
+      subst (λ s. first.0.trees (next_tree s) ≡ []) k.schema it.empty in
+      let kept : KeepsRows schema.tables old.now.trees first.0.trees =
+      subst (λ s. KeepsRows s.tables old.now.trees first.0.trees) k.schema it.others in
+      record {
+        schema = ap (λ (d : Database). d.schema) now ∙ is;
+        sound = w.sound;
+        tables = all_from (λ t. Stores t new.now.trees content) after.tables
+            (λ t known. elim (has_either schema.tables _ t known) [
+              | inl was ↦ stores_by t old.now.trees new.now.trees content
+                  (ap (λ (d : Database). d.trees t.tree) now
+                  ∙ all_has (λ t. first.0.trees t.tree ≡ old.now.trees t.tree) schema.tables t kept was)
+                  (all_has (λ t. Stores t old.now.trees content) schema.tables t k.tables was)
+              | inr new_one ↦
+                  elim new_one [
+                    | inl e ↦ stores_none t new.now.trees content
+                        (ap (λ (d : Database). d.trees t.tree) now
+                        ∙ ap (λ (u : Table). first.0.trees u.tree) e ∙ empty)
+                        (ap (λ (u : Table). content u.tree) e ∙ free)
+                    | inr nothing ↦ absurd nothing
+                  ]
+            ]);
+      }
+
+pub free_of : (tables : List of_club.Table) (schema : Schema) → AreUnused schema tables → AreFree schema tables
+free_of [] schema unused = tt
+free_of (table ∷ tables) schema (unused, stored, uncounted, rest) = (
+  (is_free schema (table_name table) unused).table,
+  stored,
+  free_of tables (created schema (made_as table 0)) rest,
+)
+
+-- Inside a transaction these tables of a club were made behind those of other programs, whose rows stay, and nothing
+-- was committed.
+pub record MakesHere (tables : List of_club.Table) (old new : State) : Type 0 where
+  pub made : (schema : Schema) → AreUnused schema tables → (content : Content) → Holds schema old.now content
+      → IsEmptyFrom (next_tree schema) content → Holds (made_in schema tables) new.now content
+  pub committed : new.committed ≡ old.committed
+  pub inside : new.in_transaction ≡ true
+
+later : (schema : Schema) (table : Table) (content : Content) → IsEmptyFrom (next_tree schema) content
+    → IsEmptyFrom (next_tree (created schema table)) content
+later schema table content empty n from =
+    let new : Table = record table { tree = next_tree schema } in
+    let below = table_below (created schema table) new (has_right schema.tables (new ∷ []) new (inl refl)) in
+    empty n (omega (arith, below, from))
+
+-- ---- one table after those that were made
+
+made_push : (schema : Schema) (tables : List of_club.Table) (table : of_club.Table)
+    → made_in schema (tables ++ table ∷ []) ≡ created (made_in schema tables) (made_as table 0)
+made_push schema [] table = refl
+made_push schema (t ∷ tables) table = made_push (created schema (made_as t 0)) tables table
+
+unused_first : (schema : Schema) (tables more : List of_club.Table) → AreUnused schema (tables ++ more)
+    → AreUnused schema tables
+unused_first schema [] more unused = tt
+unused_first schema (t ∷ tables) more (free, stored, counted, rest) =
+    (free, stored, counted, unused_first (created schema (made_as t 0)) tables more rest)
+
+unused_last : (schema : Schema) (tables more : List of_club.Table) → AreUnused schema (tables ++ more)
+    → AreUnused (made_in schema tables) more
+unused_last schema [] more unused = unused
+unused_last schema (t ∷ tables) more (free, stored, counted, rest) =
+    unused_last (created schema (made_as t 0)) tables more rest
+
+later_all : (schema : Schema) (tables : List of_club.Table) (content : Content)
+    → IsEmptyFrom (next_tree schema) content → IsEmptyFrom (next_tree (made_in schema tables)) content
+later_all schema [] content empty = empty
+later_all schema (t ∷ tables) content empty =
+    later_all (created schema (made_as t 0)) tables content (later schema (made_as t 0) content empty)
+
+-- one table more
+pub makes_next : (tables : List of_club.Table) (table : of_club.Table) (a b c : State) → MakesHere tables a b
+    → Ran (create_of table) b c → MakesHere (tables ++ table ∷ []) a c
+makes_next tables table a b c one two = record {
+  made = λ schema unused content k empty.
+      let (free, stored, counted, rest) = unused_last schema tables (table ∷ []) unused in
+      let late = later_all schema tables content empty in
+      let before = made_in schema tables in
+      subst (λ s. Holds s c.now content) (sym (made_push schema tables table))
+      (makes_one table before free counted b c two content
+      (one.made schema (unused_first schema tables (table ∷ []) unused) content k empty)
+      (late (next_tree before) (le_refl (next_tree before))));
+  committed = two.runs.1.committed_is ∙ one.committed;
+  inside = two.runs.1.mode;
+}
+
+pub makes_no_more : (s : State) → s.in_transaction ≡ true → MakesHere [] s s
+makes_no_more s inside = record { made = λ schema unused content k empty. k; committed = refl; inside = inside }

@@ -1,0 +1,255 @@
+-- What the text of a SELECT of one table means, wherever the table stands in a schema.
+use Rattle.std.proofs.Common.{◌≡◌, ℕ, ◌==◌, ◌&&◌, Bool, true, false, List, [], Option, Some, None, refl, sym, ap, subst}
+use Rattle.std.proofs.Common.{◌∙◌, map, length, Ok, Err, negsuc, arith}
+use Rattle.std.proofs.lemmas.Grind.{common_steps}
+use Rattle.std.specs.Prelude.{if◌then◌else◌, find as first_that, nat_lt, nat_le, ◌^◌}
+use Rattle.sqlite.proofs.Callers.{IsPlain, command_of}
+use Rattle.sqlite.specs.Command.TheVariants.{Select}
+use Rattle.sqlite.specs.Listing.{understood, reads_listing, listing_schema, misses_table, if_select}
+use Rattle.sqlite_value.specs.declared.keys.Collation.{Collation}
+use Rattle.sqlite_value.specs.declared.keys.Key.{Key}
+use Rattle.sqlite_value.specs.declared.value.Value.TheVariants.{Int}
+use Rattle.sqlite_sql.specs.Query.{inner, end}
+use Rattle.sqlite_sql.specs.Term.{Term, lit}
+use Rattle.sqlite_ast.specs.declared.Core.{out-Core}
+use Rattle.sqlite_ast.specs.declared.Select as select_of
+use Rattle.sqlite_schema.specs.declared.command.Command.{Command}
+use Rattle.sqlite_schema.specs.declared.command.Returning.{Returning}
+use Rattle.sqlite_schema.specs.declared.program.Table.{Table as Let}
+use Rattle.sqlite_schema.specs.declared.schema.Schema.{Schema}
+use Rattle.sqlite_schema.specs.declared.schema.Table.{Table}
+use Rattle.sqlite_schema.specs.Names.{table_named, view_named}
+use Rattle.sqlite_draft.specs.declared.query.Draft.{Draft}
+use Rattle.sqlite_resolve.proofs.ProgramLemmas.{single_named}
+use Rattle.sqlite_resolve.specs.declared.compiled.Compiled.{Compiled}
+use Rattle.sqlite_resolve.specs.declared.error.CompileError.TheVariants.{Mismatch, NoSuchTable}
+use Rattle.sqlite_resolve.specs.Compile.{command, compiled, first, meaning, planned, read, returning, small, timed}
+use Rattle.sqlite_resolve.specs.Compile.{with_command}
+use Rattle.sqlite_resolve.specs.Lowering.{Checked, and_then}
+use Rattle.sqlite_resolve.specs.Program.{Building, Shown, alone, are_named, compound, is_named, lift, level, or_view}
+use Rattle.sqlite_resolve.specs.Program.{program, query, query_to, viewing, whole, with}
+use Rattle.sqlite_resolve.specs.Scope.{Name}
+use Rattle.sqlite_resolve.specs.Select.{constant_or, named, paging}
+use Rattle.sqlite_resolve.specs.Terms.{number}
+use Rattle.store_tables.specs.Put.{selects}
+use Rattle.store_tables.proofs.PlacedColumns.{StandsAt}
+use Rattle.store_tables.proofs.PlacedQueries.{AreKnown, Asked, core_in, core_out, named_by, named_is, named_none, parsed_in}
+use Rattle.store_tables.proofs.PlacedQueries.{select_in, alone as alone_in, select_out, source_out}
+use Rattle.sqlite_schema.specs.declared.program.Program.{Program}
+use Rattle.store_tables.proofs.PlacedTerms.{sort_written}
+
+-- neither LIMIT nor OFFSET
+abbrev pub whole_page : Term × Term
+whole_page = (lit (Int (negsuc 0)), number 0)
+
+abbrev pub draft_of : ℕ → List Term → List Term → List (Term × Key) → Draft
+draft_of tree filter project order = record {
+  from = inner tree end;
+  filter = filter;
+  group = None;
+  project = project;
+  distinct = false;
+  collations = [];
+  order = order;
+  limit = lit (Int (negsuc 0));
+  offset = number 0;
+}
+
+-- ---- from one SELECT to the query
+
+module _ (s : Schema) (a : Asked) (x : Shown)
+    (is : named s (core_in a) (map sort_written a.sorted) whole_page ≡ Ok x) where
+  abbrev deeper : Schema → select_of.Select → Building Shown
+  deeper = query_to 15
+
+  are_tables : are_named (out-Core (core_in a)).from ≡ true
+  are_tables = (λ i. are_named (core_out a i).from) ∙ (λ i. is_named (source_out a i).origin && true)
+
+  alone_is : alone deeper s (core_in a) (map sort_written a.sorted) whole_page [] ≡ Ok (x, [])
+  unfolding alone
+  alone_is =
+      (λ i.
+      and_then (single_named deeper s (core_in a) (map sort_written a.sorted) whole_page [] are_tables i) shown_alone)
+      ∙ (λ i.
+      and_then (or_view deeper (viewing deeper s (core_in a) (map sort_written a.sorted) whole_page 63) s s (is i) [])
+      shown_alone)
+    where
+      shown_alone : (Shown × Schema) × List Let → Checked (Shown × List Let)
+      shown_alone r = Ok (r.0.0, r.1)
+
+  whole_is : whole deeper s (select_in a) [] ≡ Ok (x, [])
+  unfolding whole paging constant_or
+  whole_is =
+      (λ i.
+      and_then (lift (and_then (constant_or s (lit (Int (negsuc 0))) (select_out a i).limit) (λ limit.
+      and_then (constant_or s (number 0) (select_out a i).offset) (pages limit))) []) (λ page.
+      (if length (select_out a i).others == 0
+      then alone deeper s (select_out a i).first (select_out a i).order page.0
+      else compound deeper s (select_in a) page.0) page.1))
+      ∙ alone_is
+    where
+      pages : Term → Term → Checked (Term × Term)
+      pages limit offset = Ok (limit, offset)
+
+  query_is : query s (select_in a) ≡ Ok (x, [])
+  unfolding query query_to level with
+  query_is =
+      (λ i. and_then (with deeper s (select_out a i).with []) (λ longer. whole deeper longer.0 (select_in a) longer.1))
+      ∙ whole_is
+
+-- ---- the types of the query
+
+abbrev pub program_of : ℕ → List Term → List Term → List (Term × Key) → Program
+program_of tree filter project order = record { lets = []; body = selects tree filter project order }
+
+if_accepted : (accepted : Bool) (one other : Program)
+    → (if accepted then Ok other else Err Mismatch)
+    ≡ and_then (if accepted then Ok one else Err Mismatch) (λ p. Ok other)
+if_accepted true one other = refl
+if_accepted false one other = refl
+
+module _ (s : Schema) (table : Table) (small : nat_le (2 ^ 31) table.tree ≡ false)
+    (by_tree : first_that (λ (t : Table). t.tree == table.tree) s.tables ≡ Some table) (filter project : List Term)
+    (order : List (Term × Key)) where
+  pub program_is : program s [] (draft_of table.tree filter project order)
+      ≡ and_then (program (alone_in table) [] (draft_of 0 filter project order))
+      (λ p. Ok (program_of table.tree filter project order))
+  unfolding program
+  program_is = rw (small, by_tree) (if_accepted _ _ _)
+
+-- ---- the text
+
+-- What is found by computing of the text, with no schema.
+pub record IsMeant (table : Table) (a : Asked) (sql : List ℕ) (filter project : List Term) (order : List (Term × Key))
+    (names : List Name) : Type 0 where
+  pub how : List (Option Collation)
+  pub parsed : first sql ≡ Ok (parsed_in a)
+  pub known : AreKnown table a
+  pub drafted : (place tree : ℕ)
+      → named_by table a place tree whole_page ≡ Ok (draft_of tree filter project order, names, how)
+  pub typed : program (alone_in table) [] (draft_of 0 filter project order) ≡ Ok (program_of 0 filter project order)
+
+-- The table stands at this place, and its name and its tree find it.
+pub record IsFound (s : Schema) (place : ℕ) (table : Table) (called : Name) : Type 0 where
+  pub stands : StandsAt s place table
+  pub named : table_named s called ≡ Some place
+  pub by_tree : first_that (λ (t : Table). t.tree == table.tree) s.tables ≡ Some table
+
+pub stored : (tree : ℕ) → nat_lt tree (2 ^ 31) ≡ true → nat_le (2 ^ 31) tree ≡ false
+stored tree small = grind (arith, common_steps, small)
+
+module _ (table : Table) (a : Asked) (sql : List ℕ) (filter project : List Term) (order : List (Term × Key))
+    (names : List Name) (meant : IsMeant table a sql filter project order names) (s : Schema) (place : ℕ)
+    (found : IsFound s place table a.table) where
+  abbrev does : Command
+  does = Select (program_of table.tree filter project order) names
+
+  abbrev compiles : Compiled
+  compiles = with_command (parsed_in a) ([], (does, None))
+
+  read_is : read s (select_in a) ≡ Ok does
+  unfolding read
+  read_is =
+      (λ i. and_then (query_is s a (draft_of table.tree filter project order, names, meant.how) drafted i) programmed)
+      ∙ (λ i. and_then (typed i) selecting)
+    where
+      drafted : named s (core_in a) (map sort_written a.sorted) whole_page
+          ≡ Ok (draft_of table.tree filter project order, names, meant.how)
+      drafted =
+          named_is table a meant.known s place found.stands found.named whole_page ∙ meant.drafted place table.tree
+
+      selecting : Program → Checked Command
+      selecting p = Ok (Select p names)
+
+      programmed : Shown × List Let → Checked Command
+      programmed q = and_then (program s q.1 q.0.0) (λ p. Ok (Select p q.0.1))
+
+      typed : program s [] (draft_of table.tree filter project order) ≡ Ok (program_of table.tree filter project order)
+      typed =
+          program_is s table (stored table.tree found.stands.small) found.by_tree filter project order
+          ∙ (λ i. and_then (meant.typed i) (λ p. Ok (program_of table.tree filter project order)))
+
+  planned_is : planned s (parsed_in a) ≡ Ok ([], (does, None))
+  unfolding planned meaning returning command timed
+  planned_is i = and_then (and_then (read_is i) commanded) formatted
+    where
+      commanded : Command → Checked (Command × Option Returning)
+      commanded c = Ok (c, None)
+
+      formatted : Command × Option Returning → Checked (List Name × (Command × Option Returning))
+      formatted c = Ok ([], c)
+
+  compiled_is : compiled s sql ≡ Ok compiles
+  unfolding compiled
+  compiled_is =
+      (λ i. and_then (meant.parsed i) (λ p. and_then (planned s p) (λ plan. Ok (with_command p plan))))
+      ∙ (λ i. and_then (planned_is i) (λ plan. Ok (with_command (parsed_in a) plan)))
+
+  understood_is : understood s sql ≡ Ok compiles
+  unfolding understood
+  understood_is i = if misses_table (compiled_is i) then if_select (compiled listing_schema sql) else compiled_is i
+
+  pub command_is : command_of (understood s sql) ≡ Select (program_of table.tree filter project order) names
+  command_is = ap command_of understood_is
+
+  pub plain_is : IsPlain (understood s sql)
+  plain_is = subst IsPlain (sym understood_is) (refl, refl)
+
+  pub unlisted_is : reads_listing s sql ≡ false
+  unlisted_is = ap misses_table compiled_is
+
+-- ---- a table that is not there
+
+module _ (s : Schema) (a : Asked) (no_table : table_named s a.table ≡ None) (no_view : view_named s a.table ≡ None)
+  where
+    abbrev below : Schema → select_of.Select → Building Shown
+    below = query_to 15
+
+    is_table : are_named (out-Core (core_in a)).from ≡ true
+    is_table = (λ i. are_named (core_out a i).from) ∙ (λ i. is_named (source_out a i).origin && true)
+
+    abbrev shown_alone : (Shown × Schema) × List Let → Checked (Shown × List Let)
+    shown_alone r = Ok (r.0.0, r.1)
+
+    alone_none : alone below s (core_in a) (map sort_written a.sorted) whole_page [] ≡ Err NoSuchTable
+    unfolding alone
+    alone_none =
+        (λ i. and_then (single_named below s (core_in a) (map sort_written a.sorted) whole_page [] is_table i) shown_alone)
+        ∙ (λ i.
+        and_then (or_view below (viewing below s (core_in a) (map sort_written a.sorted) whole_page 63) s s (named_none s a no_table no_view whole_page i) [])
+        shown_alone)
+
+    whole_none : whole below s (select_in a) [] ≡ Err NoSuchTable
+    unfolding whole paging constant_or
+    whole_none =
+        (λ i.
+        and_then (lift (and_then (constant_or s (lit (Int (negsuc 0))) (select_out a i).limit) (λ limit.
+        and_then (constant_or s (number 0) (select_out a i).offset) (pages limit))) []) (λ page.
+        (if length (select_out a i).others == 0
+        then alone below s (select_out a i).first (select_out a i).order page.0
+        else compound below s (select_in a) page.0) page.1))
+        ∙ alone_none
+      where
+        pages : Term → Term → Checked (Term × Term)
+        pages limit offset = Ok (limit, offset)
+
+    query_none : query s (select_in a) ≡ Err NoSuchTable
+    unfolding query query_to level with
+    query_none =
+        (λ i. and_then (with below s (select_out a i).with []) (λ longer. whole below longer.0 (select_in a) longer.1))
+        ∙ whole_none
+
+    read_none : read s (select_in a) ≡ Err NoSuchTable
+    unfolding read
+    read_none i = and_then (query_none i) (λ q. and_then (program s q.1 q.0.0) (λ p. Ok (Select p q.0.1)))
+
+    planned_none : planned s (parsed_in a) ≡ Err NoSuchTable
+    unfolding planned meaning returning command timed
+    planned_none i =
+        and_then (and_then (read_none i) (λ c. Ok (c, None))) (λ c. Ok ([], c))
+
+    pub compiled_none : (sql : List ℕ) → first sql ≡ Ok (parsed_in a) → compiled s sql ≡ Err NoSuchTable
+    unfolding compiled
+    compiled_none sql parsed =
+        (λ i. and_then (parsed i) (λ p. and_then (planned s p) (λ plan. Ok (with_command p plan))))
+        ∙ (λ i. and_then (planned_none i) (λ plan. Ok (with_command (parsed_in a) plan)))

@@ -1,0 +1,153 @@
+-- The rows of a club by its own numbers, and where they stand.
+use Rattle.std.proofs.Common.{◌≡◌, ℕ, ◌==◌, Bool, false, List, [], ◌∷◌, Some, None, refl, sym, ap}
+use Rattle.std.proofs.Common.{◌∙◌, inl, inr, ◌⊎◌, true≢false}
+use Rattle.std.proofs.lemmas.Bool.{cases_Bool, eq-eqb, eqb-true}
+use Rattle.std.specs.List.{AllByRecursion}
+use Rattle.std.specs.Prelude.{if◌then◌else◌}
+use Rattle.sqlite.specs.Schema.{Schema}
+use Rattle.sqlite_rules.specs.Lists.{Has}
+use Rattle.sqlite_schema.specs.Names.{table_named}
+use Rattle.store_tables.specs.Contents.{Content}
+use Rattle.store_tables.specs.Names.{in_order, table_name, tree_of}
+use Rattle.store_tables.specs.Over.{is_tree, over, over_each}
+use Rattle.store_tables.specs.Placed.{Stands, by_club, rows_at, tree_at, tree_in, tree_of_found}
+use Rattle.store_tables.specs.declared.names.Table as of_club
+use Rattle.store_tables.specs.declared.names.Table.TheVariants.{Members, Events, EventRules, Challenges, Moves, Games}
+use Rattle.store_tables.specs.declared.names.Table.TheVariants.{Seen, Scores, Meta}
+use Rattle.store_tables.proofs.PlacedSelects.{tree_is}
+use Rattle.store_tables.proofs.PlacedSteps.{two_tables}
+
+-- ---- the tree of a table that stands, or does not
+
+pub tree_found : (schema : Schema) (table : of_club.Table) (stands : Stands schema table)
+    → tree_in schema table ≡ Some stands.tree
+unfolding tree_in
+tree_found schema table stands =
+    ap (tree_at schema) stands.named ∙ ap tree_of_found stands.at ∙ ap Some (tree_is table stands.tree)
+
+pub tree_missing : (schema : Schema) (table : of_club.Table) → table_named schema (table_name table) ≡ None
+    → tree_in schema table ≡ None
+unfolding tree_in
+tree_missing schema table missing = ap (tree_at schema) missing
+
+at_table : (schema : Schema) (content : Content) (table : of_club.Table)
+    → by_club schema content (tree_of table) ≡ rows_at content (tree_in schema table)
+unfolding by_club
+at_table schema content Meta = refl
+at_table schema content Members = refl
+at_table schema content Events = refl
+at_table schema content Challenges = refl
+at_table schema content Moves = refl
+at_table schema content Games = refl
+at_table schema content Seen = refl
+at_table schema content Scores = refl
+at_table schema content EventRules = refl
+
+pub by_club_at : (schema : Schema) (content : Content) (table : of_club.Table) (stands : Stands schema table)
+    → by_club schema content (tree_of table) ≡ content stands.tree
+by_club_at schema content table stands =
+    at_table schema content table ∙ ap (rows_at content) (tree_found schema table stands)
+
+-- ---- the rows of all tables
+
+-- A table of a club stands in the schema, or there is none of its name.
+abbrev pub StandsOrNot : Schema → of_club.Table → Type 0
+StandsOrNot schema table = Stands schema table ⊎ (table_named schema (table_name table) ≡ None)
+
+abbrev is_at : Schema → ℕ → of_club.Table → Bool
+is_at schema n table = is_tree n (tree_in schema table)
+
+standing_at : (schema : Schema) (n : ℕ) (table : of_club.Table) (stands : Stands schema table)
+    → is_at schema n table ≡ (n == stands.tree)
+standing_at schema n table stands = ap (is_tree n) (tree_found schema table stands)
+
+missing_at : (schema : Schema) (n : ℕ) (table : of_club.Table) → table_named schema (table_name table) ≡ None
+    → is_at schema n table ≡ false
+missing_at schema n table missing = ap (is_tree n) (tree_missing schema table missing)
+
+module _ (schema : Schema) (club others : Content) where
+  -- A table that stands has its rows of the club.
+  over_in : (tables : List of_club.Table) → AllByRecursion (StandsOrNot schema) tables → (table : of_club.Table)
+      (stands : Stands schema table) → Has tables table
+      → over_each schema tables club others stands.tree ≡ club (tree_of table)
+  over_in [] all table stands has = absurd has
+  over_in (t ∷ tables) all table stands has = elim (cases_Bool (is_at schema stands.tree t)) [
+    | inl here ↦
+        elim all.0 [
+          | inl other ↦ (
+              let trees : stands.tree ≡ other.tree =
+              eqb-true stands.tree other.tree (sym (standing_at schema stands.tree t other) ∙ here) in
+              (λ i. if here i then club (tree_of t) else over_each schema tables club others stands.tree)
+              ∙ ap (λ u. club (tree_of u)) (sym (two_tables schema table t stands other trees))
+              )
+          | inr missing ↦ absurd (true≢false (sym here ∙ missing_at schema stands.tree t missing))
+        ]
+    | inr past ↦
+        (λ i. if past i then club (tree_of t) else over_each schema tables club others stands.tree)
+        ∙ elim has [
+          | inl same ↦ absurd (true≢false
+              (sym (ap (λ u. is_at schema stands.tree u) (sym same)
+              ∙ standing_at schema stands.tree table stands
+              ∙ eq-eqb stands.tree stands.tree refl) ∙ past))
+          | inr rest ↦ over_in tables all.1 table stands rest
+        ]
+  ]
+
+  -- A tree that is none of the club's has its own rows.
+  past_each : (tables : List of_club.Table) (n : ℕ)
+      → AllByRecursion (λ table. is_at schema n table ≡ false) tables
+      → over_each schema tables club others n ≡ others n
+  past_each [] n past = refl
+  past_each (t ∷ tables) n past =
+      (λ i. if past.0 i then club (tree_of t) else over_each schema tables club others n)
+      ∙ past_each tables n past.1
+
+-- each table of a club is one of them
+pub in_all : (table : of_club.Table) → Has in_order table
+in_all Meta = inl refl
+in_all Members = inr (inl refl)
+in_all Events = inr (inr (inl refl))
+in_all Challenges = inr (inr (inr (inl refl)))
+in_all Moves = inr (inr (inr (inr (inl refl))))
+in_all Games = inr (inr (inr (inr (inr (inl refl)))))
+in_all Seen = inr (inr (inr (inr (inr (inr (inl refl))))))
+in_all Scores = inr (inr (inr (inr (inr (inr (inr (inl refl)))))))
+in_all EventRules = inr (inr (inr (inr (inr (inr (inr (inr (inl refl))))))))
+
+module _ (schema : Schema) (all : AllByRecursion (StandsOrNot schema) in_order) (club others : Content) where
+  pub over_at : (table : of_club.Table) (stands : Stands schema table)
+      → over schema club others stands.tree ≡ club (tree_of table)
+  unfolding over
+  over_at table stands = over_in schema club others in_order all table stands (in_all table)
+
+  -- The rows of a club that are over others are the club's.
+  pub over_club : (table : of_club.Table) → Stands schema table
+      → by_club schema (over schema club others) (tree_of table) ≡ club (tree_of table)
+  over_club table stands = by_club_at schema (over schema club others) table stands ∙ over_at table stands
+
+pub over_past : (schema : Schema) (club others : Content) (n : ℕ)
+    → AllByRecursion (λ table. is_tree n (tree_in schema table) ≡ false) in_order
+    → over schema club others n ≡ others n
+unfolding over
+over_past schema club others n past = past_each schema club others in_order n past
+
+-- ---- a tree is one of the club's, or it is not
+
+pub one_or_none : (schema : Schema) (n : ℕ) (tables : List of_club.Table)
+    → AllByRecursion (StandsOrNot schema) tables
+    → ((table : of_club.Table) × (stands : Stands schema table) × (n ≡ stands.tree) × Has tables table)
+    ⊎ AllByRecursion (λ table. is_tree n (tree_in schema table) ≡ false) tables
+one_or_none schema n [] all = inr tt
+one_or_none schema n (t ∷ tables) all = elim (cases_Bool (is_tree n (tree_in schema t))) [
+  | inl here ↦
+      elim all.0 [
+        | inl stands ↦
+            inl (t, stands, eqb-true n stands.tree (sym (standing_at schema n t stands) ∙ here), inl refl)
+        | inr missing ↦ absurd (true≢false (sym here ∙ missing_at schema n t missing))
+      ]
+  | inr past ↦
+      elim (one_or_none schema n tables all.1) [
+        | inl found ↦ inl (found.0, found.1, found.2, inr found.3)
+        | inr none ↦ inr (past, none)
+      ]
+]

@@ -1,0 +1,75 @@
+-- A database of other programs, in which a club can be made behind their tables.
+use Rattle.std.specs.Prelude.{◌≡◌, ◌≤◌, ℕ, ◌^◌, nat_lt, true, false, List, [], ◌∷◌}
+use Rattle.std.specs.List.{AllByRecursion}
+use Rattle.sqlite.specs.Does.{lacks_sequence}
+use Rattle.sqlite.specs.Schema.{Schema}
+use Rattle.sqlite.specs.State.{State}
+use Rattle.sqlite.specs.Table.{Table}
+use Rattle.sqlite.specs.Tree.{Trees}
+use Rattle.sqlite_catalog.specs.Change.{created, is_used, next_tree}
+use Rattle.sqlite_schema.specs.Names.{same_name}
+use Rattle.sqlite_schema.specs.declared.schema.Reference.{Reference}
+use Rattle.sqlite_trees.specs.Tree.{IsAscending}
+use Rattle.store_tables.specs.Contents.{Holds, IsExactly, Leaves, nothing, opening}
+use Rattle.store_tables.specs.Names.{in_order, table_name}
+use Rattle.store_tables.specs.Over.{HoldsBeside, Neighbours}
+use Rattle.store_tables.specs.Tables.{made_as}
+use Rattle.store_tables.specs.declared.names.Table as of_club
+
+-- no table of a club has this name
+abbrev pub IsNoName : List ℕ → Type 0
+IsNoName name = AllByRecursion (λ table. same_name (table_name table) name ≡ false) in_order
+
+-- no FOREIGN KEY of the table names a table of a club
+abbrev pub IsUnrelated : Table → Type 0
+IsUnrelated table = AllByRecursion (λ (ref : Reference). IsNoName ref.parent) table.references
+
+-- the schema in which these tables of a club were made behind what stands
+abbrev pub made_in : Schema → List of_club.Table → Schema
+made_in schema [] = schema
+made_in schema (table ∷ tables) = made_in (created schema (made_as table 0)) tables
+
+-- When each of the tables is made, its name is free, there is a tree for it, and where a table counts its rows the
+-- table for that stands.
+abbrev pub AreUnused : Schema → List of_club.Table → Type 0
+AreUnused schema [] = Unit {0}
+AreUnused schema (table ∷ tables) =
+    (is_used schema (table_name table) ≡ false) × (nat_lt (next_tree schema) (2 ^ 31) ≡ true)
+    × (lacks_sequence (created schema (made_as table 0)) ≡ false) × AreUnused (created schema (made_as table 0)) tables
+
+-- A club can be made in the schema, and has these neighbours then.
+pub record HasRoom (schema : Schema) (them : Neighbours) : Type 0 where
+  -- no two tables have one tree
+  pub trees : IsAscending (λ (a b : Table). a.tree ≡ b.tree → ⊥) schema.tables
+  pub unrelated : AllByRecursion IsUnrelated schema.tables
+  pub unused : AreUnused schema in_order
+  pub is : them.schema ≡ made_in schema in_order
+  -- where there is no table there are no rows
+  pub bare : (tree : ℕ) → next_tree schema ≤ tree → them.rows tree ≡ []
+
+-- The connection has exactly the rows of these neighbours and no club yet; and so has all that a stop may leave.
+pub record IsWithoutClub (them : Neighbours) (s : State) : Type 0 where
+  pub schema : Schema
+  pub before : HasRoom schema them
+  pub exactly : IsExactly schema them.rows s
+
+-- a later opening finds the rows of these neighbours and no club
+pub record LeavesNoClub (them : Neighbours) (trees : Trees) : Type 0 where
+  pub schema : Schema
+  pub before : HasRoom schema them
+  pub leaves : Leaves schema them.rows trees
+
+-- Inside a transaction the tables of a club were made behind those of other programs, whose rows stay; and nothing was
+-- committed.
+pub record Makes (old new : State) : Type 0 where
+  pub made : (schema : Schema) (them : Neighbours) → HasRoom schema them → Holds schema old.now them.rows
+      → HoldsBeside them nothing new.now
+  pub committed : new.committed ≡ old.committed
+  pub inside : new.in_transaction ≡ true
+
+-- The same, with the rows of a club with nothing in it.
+pub record Fills (old new : State) : Type 0 where
+  pub holds : (schema : Schema) (them : Neighbours) → HasRoom schema them → Holds schema old.now them.rows
+      → HoldsBeside them opening new.now
+  pub committed : new.committed ≡ old.committed
+  pub inside : new.in_transaction ≡ true
