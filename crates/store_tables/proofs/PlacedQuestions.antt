@@ -16,7 +16,7 @@ use Rattle.store_tables.specs.declared.names.Table.TheVariants.{Members, Events,
 use Rattle.store_tables.proofs.PlacedMeanings.{hows}
 use Rattle.store_tables.proofs.PlacedQueries.{Asked}
 use Rattle.store_tables.proofs.PlacedSelects.{is_bare, is_found}
-use Rattle.store_tables.proofs.PlacedTexts.{IsMeant, command_is, plain_is, unlisted_is}
+use Rattle.store_tables.proofs.PlacedTexts.{meant_so, IsMeant, command_is, plain_is, unlisted_is}
 use Rattle.store_tables.proofs.SelectMeanings.{Picks, all_shown, as_given, columns_of}
 
 abbrev question_asked : Table → List ℕ → Asked
@@ -71,13 +71,7 @@ unfolding everything first_key
 members_by_name_placed a =
     asks Members (1 ∷ []) (Null ∷ Text a ∷ []) (Text a ∷ [])
     (λ tree. record {
-      meant = record {
-        how = hows (made_as Members tree);
-        parsed = refl;
-        known = record { shown = refl; tested = refl; sorted = refl };
-        drafted = λ place tree. refl;
-        typed = refl;
-      };
+      meant = meant_so (made_as Members tree) _ _ _ _ _ _ (hows (made_as Members tree)) refl refl refl refl (λ place tree. refl) refl;
       picks = λ r. refl;
     })
 
@@ -87,13 +81,7 @@ unfolding everything first_key
 members_by_key_placed a =
     asks Members (2 ∷ []) (Null ∷ Null ∷ Text a ∷ []) (Text a ∷ [])
     (λ tree. record {
-      meant = record {
-        how = hows (made_as Members tree);
-        parsed = refl;
-        known = record { shown = refl; tested = refl; sorted = refl };
-        drafted = λ place tree. refl;
-        typed = refl;
-      };
+      meant = meant_so (made_as Members tree) _ _ _ _ _ _ (hows (made_as Members tree)) refl refl refl refl (λ place tree. refl) refl;
       picks = λ r. refl;
     })
 
@@ -103,13 +91,7 @@ unfolding everything first_key
 events_by_name_placed a =
     asks Events (1 ∷ []) (Null ∷ Text a ∷ []) (Text a ∷ [])
     (λ tree. record {
-      meant = record {
-        how = hows (made_as Events tree);
-        parsed = refl;
-        known = record { shown = refl; tested = refl; sorted = refl };
-        drafted = λ place tree. refl;
-        typed = refl;
-      };
+      meant = meant_so (made_as Events tree) _ _ _ _ _ _ (hows (made_as Events tree)) refl refl refl refl (λ place tree. refl) refl;
       picks = λ r. refl;
     })
 
@@ -119,13 +101,7 @@ unfolding everything first_key
 games_by_key_placed a =
     asks Games (1 ∷ []) (Null ∷ Text a ∷ []) (Text a ∷ [])
     (λ tree. record {
-      meant = record {
-        how = hows (made_as Games tree);
-        parsed = refl;
-        known = record { shown = refl; tested = refl; sorted = refl };
-        drafted = λ place tree. refl;
-        typed = refl;
-      };
+      meant = meant_so (made_as Games tree) _ _ _ _ _ _ (hows (made_as Games tree)) refl refl refl refl (λ place tree. refl) refl;
       picks = λ r. refl;
     })
 
@@ -135,13 +111,7 @@ unfolding everything first_key
 challenges_by_number_placed a b =
     asks Challenges (0 ∷ 1 ∷ []) (Int a ∷ Int b ∷ []) (Int a ∷ Int b ∷ [])
     (λ tree. record {
-      meant = record {
-        how = hows (made_as Challenges tree);
-        parsed = refl;
-        known = record { shown = refl; tested = refl; sorted = refl };
-        drafted = λ place tree. refl;
-        typed = refl;
-      };
+      meant = meant_so (made_as Challenges tree) _ _ _ _ _ _ (hows (made_as Challenges tree)) refl refl refl refl (λ place tree. refl) refl;
       picks = λ r. refl;
     })
 
@@ -151,13 +121,7 @@ unfolding everything first_key
 moves_by_ply_placed a b =
     asks Moves (0 ∷ 1 ∷ []) (Int a ∷ Int b ∷ []) (Int a ∷ Int b ∷ [])
     (λ tree. record {
-      meant = record {
-        how = hows (made_as Moves tree);
-        parsed = refl;
-        known = record { shown = refl; tested = refl; sorted = refl };
-        drafted = λ place tree. refl;
-        typed = refl;
-      };
+      meant = meant_so (made_as Moves tree) _ _ _ _ _ _ (hows (made_as Moves tree)) refl refl refl refl (λ place tree. refl) refl;
       picks = λ r. refl;
     })
 
@@ -167,13 +131,7 @@ unfolding everything first_key
 seen_by_position_placed a b =
     asks Seen (0 ∷ 1 ∷ []) (Int a ∷ Text b ∷ []) (Int a ∷ Text b ∷ [])
     (λ tree. record {
-      meant = record {
-        how = hows (made_as Seen tree);
-        parsed = refl;
-        known = record { shown = refl; tested = refl; sorted = refl };
-        drafted = λ place tree. refl;
-        typed = refl;
-      };
+      meant = meant_so (made_as Seen tree) _ _ _ _ _ _ (hows (made_as Seen tree)) refl refl refl refl (λ place tree. refl) refl;
       picks = λ r. refl;
     })
 
@@ -183,12 +141,6 @@ unfolding everything first_key
 scores_by_pair_placed a b c =
     asks Scores (0 ∷ 1 ∷ 2 ∷ []) (Int a ∷ Int b ∷ Int c ∷ []) (Int a ∷ Int b ∷ Int c ∷ [])
     (λ tree. record {
-      meant = record {
-        how = hows (made_as Scores tree);
-        parsed = refl;
-        known = record { shown = refl; tested = refl; sorted = refl };
-        drafted = λ place tree. refl;
-        typed = refl;
-      };
+      meant = meant_so (made_as Scores tree) _ _ _ _ _ _ (hows (made_as Scores tree)) refl refl refl refl (λ place tree. refl) refl;
       picks = λ r. refl;
     })

@@ -2,6 +2,7 @@
 use Rattle.std.proofs.Common.{◌≡◌, ℕ, ◌==◌, ◌&&◌, Bool, true, false, List, [], Option, Some, None, refl, sym, ap, subst}
 use Rattle.std.proofs.Common.{◌∙◌, map, length, Ok, Err, negsuc, arith}
 use Rattle.std.proofs.lemmas.Grind.{common_steps}
+use Rattle.std.specs.List.{list_all}
 use Rattle.std.specs.Prelude.{if◌then◌else◌, find as first_that, nat_lt, nat_le, ◌^◌}
 use Rattle.sqlite.proofs.Callers.{IsPlain, command_of}
 use Rattle.sqlite.specs.Command.TheVariants.{Select}
@@ -32,7 +33,7 @@ use Rattle.sqlite_resolve.specs.Scope.{Name}
 use Rattle.sqlite_resolve.specs.Select.{constant_or, named, paging}
 use Rattle.sqlite_resolve.specs.Terms.{number}
 use Rattle.store_tables.specs.Put.{selects}
-use Rattle.store_tables.proofs.PlacedColumns.{StandsAt}
+use Rattle.store_tables.proofs.PlacedColumns.{StandsAt, is_known}
 use Rattle.store_tables.proofs.PlacedQueries.{AreKnown, Asked, core_in, core_out, named_by, named_is, named_none, parsed_in}
 use Rattle.store_tables.proofs.PlacedQueries.{select_in, alone as alone_in, select_out, source_out}
 use Rattle.sqlite_schema.specs.declared.program.Program.{Program}
@@ -128,6 +129,23 @@ pub record IsMeant (table : Table) (a : Asked) (sql : List ℕ) (filter project 
   pub drafted : (place tree : ℕ)
       → named_by table a place tree whole_page ≡ Ok (draft_of tree filter project order, names, how)
   pub typed : program (alone_in table) [] (draft_of 0 filter project order) ≡ Ok (program_of 0 filter project order)
+
+-- It is found so, each part by computing.
+pub meant_so : (table : Table) (a : Asked) (sql : List ℕ) (filter project : List Term) (order : List (Term × Key))
+    (names : List Name) (how : List (Option Collation)) → first sql ≡ Ok (parsed_in a)
+    → list_all (is_known table) a.shown ≡ true → list_all (is_known table) a.tested ≡ true
+    → list_all (is_known table) a.sorted ≡ true
+    → ((place tree : ℕ)
+    → named_by table a place tree whole_page ≡ Ok (draft_of tree filter project order, names, how))
+    → program (alone_in table) [] (draft_of 0 filter project order) ≡ Ok (program_of 0 filter project order)
+    → IsMeant table a sql filter project order names
+meant_so table a sql filter project order names how parsed shown tested sorted drafted typed = record {
+  how = how;
+  parsed = parsed;
+  known = record { shown = shown; tested = tested; sorted = sorted };
+  drafted = drafted;
+  typed = typed;
+}
 
 -- The table stands at this place, and its name and its tree find it.
 pub record IsFound (s : Schema) (place : ℕ) (table : Table) (called : Name) : Type 0 where

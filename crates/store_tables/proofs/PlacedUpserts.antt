@@ -176,122 +176,59 @@ new_columns : (table : of_club.Table) (tree : ℕ)
 new_columns table tree =
     of_new (given (made_as table tree) (length (made_as table tree).columns)) (names_of (made_as table tree))
 
+abbrev put_meant : (table : Table)
+    → first (put_text table) ≡ Ok (parsed_in (parts_of table))
+    → table.stamps.formats ≡ []
+    → ((length (key_names table) == 0) ≡ false)
+    → ((length (map new_of (names_of table)) == 0) ≡ false)
+    → AreOfNew (given table (length table.columns)) (map new_of (names_of table))
+    → same_name table.name new_row ≡ false
+    → ((s : Schema) (at : ℕ) → base s (parts_of table) at table ≡ length table.columns)
+    → ((at : ℕ) → do_update (alone table) at table (length table.columns) (parts_of table).clause ≡ Ok (draft_of table.tree (by_rowid table) (updates_of table) []))
+    → program (alone table) [] (draft_of 0 (by_rowid table) (updates_of table) []) ≡ Ok (program_of 0 (by_rowid table) (updates_of table) [])
+    → ((s : Schema) → new_rows s table (length table.columns) (names_of table) (parts_of table).rows ≡ Ok (source_of table))
+    → places table (key_names table) ≡ Ok table.primary
+    → IsPutMeant table
+put_meant table parsed timeless targeted sets all other based drafted typed sourced keys = record {
+  parsed = parsed;
+  timeless = timeless;
+  targeted = targeted;
+  sets = sets;
+  all = all;
+  other = other;
+  based = based;
+  drafted = drafted;
+  typed = typed;
+  sourced = sourced;
+  keys = keys;
+}
+
 pub puts_meant : (table : of_club.Table) (tree : ℕ) → IsPutMeant (made_as table tree)
 unfolding everything
-puts_meant Meta tree = record {
-  parsed = refl;
-  timeless = refl;
-  targeted = refl;
-  sets = refl;
-  all = new_columns Meta tree refl;
-  other = refl;
-  based = λ s at. refl;
-  drafted = λ at. refl;
-  typed = refl;
-  sourced = λ s. refl;
-  keys = refl;
-}
-puts_meant Members tree = record {
-  parsed = refl;
-  timeless = refl;
-  targeted = refl;
-  sets = refl;
-  all = new_columns Members tree refl;
-  other = refl;
-  based = λ s at. refl;
-  drafted = λ at. refl;
-  typed = refl;
-  sourced = λ s. refl;
-  keys = refl;
-}
-puts_meant Events tree = record {
-  parsed = refl;
-  timeless = refl;
-  targeted = refl;
-  sets = refl;
-  all = new_columns Events tree refl;
-  other = refl;
-  based = λ s at. refl;
-  drafted = λ at. refl;
-  typed = refl;
-  sourced = λ s. refl;
-  keys = refl;
-}
-puts_meant Challenges tree = record {
-  parsed = refl;
-  timeless = refl;
-  targeted = refl;
-  sets = refl;
-  all = new_columns Challenges tree refl;
-  other = refl;
-  based = λ s at. refl;
-  drafted = λ at. refl;
-  typed = refl;
-  sourced = λ s. refl;
-  keys = refl;
-}
-puts_meant Moves tree = record {
-  parsed = refl;
-  timeless = refl;
-  targeted = refl;
-  sets = refl;
-  all = new_columns Moves tree refl;
-  other = refl;
-  based = λ s at. refl;
-  drafted = λ at. refl;
-  typed = refl;
-  sourced = λ s. refl;
-  keys = refl;
-}
-puts_meant Games tree = record {
-  parsed = refl;
-  timeless = refl;
-  targeted = refl;
-  sets = refl;
-  all = new_columns Games tree refl;
-  other = refl;
-  based = λ s at. refl;
-  drafted = λ at. refl;
-  typed = refl;
-  sourced = λ s. refl;
-  keys = refl;
-}
-puts_meant Seen tree = record {
-  parsed = refl;
-  timeless = refl;
-  targeted = refl;
-  sets = refl;
-  all = new_columns Seen tree refl;
-  other = refl;
-  based = λ s at. refl;
-  drafted = λ at. refl;
-  typed = refl;
-  sourced = λ s. refl;
-  keys = refl;
-}
-puts_meant Scores tree = record {
-  parsed = refl;
-  timeless = refl;
-  targeted = refl;
-  sets = refl;
-  all = new_columns Scores tree refl;
-  other = refl;
-  based = λ s at. refl;
-  drafted = λ at. refl;
-  typed = refl;
-  sourced = λ s. refl;
-  keys = refl;
-}
-puts_meant EventRules tree = record {
-  parsed = refl;
-  timeless = refl;
-  targeted = refl;
-  sets = refl;
-  all = new_columns EventRules tree refl;
-  other = refl;
-  based = λ s at. refl;
-  drafted = λ at. refl;
-  typed = refl;
-  sourced = λ s. refl;
-  keys = refl;
-}
+puts_meant Meta tree =
+    put_meant (made_as Meta tree) refl refl refl refl (new_columns Meta tree refl) refl (λ s at. refl) (λ at. refl) refl
+    (λ s. refl) refl
+puts_meant Members tree =
+    put_meant (made_as Members tree) refl refl refl refl (new_columns Members tree refl) refl (λ s at. refl) (λ at. refl) refl
+    (λ s. refl) refl
+puts_meant Events tree =
+    put_meant (made_as Events tree) refl refl refl refl (new_columns Events tree refl) refl (λ s at. refl) (λ at. refl) refl
+    (λ s. refl) refl
+puts_meant Challenges tree =
+    put_meant (made_as Challenges tree) refl refl refl refl (new_columns Challenges tree refl) refl (λ s at. refl) (λ at. refl) refl
+    (λ s. refl) refl
+puts_meant Moves tree =
+    put_meant (made_as Moves tree) refl refl refl refl (new_columns Moves tree refl) refl (λ s at. refl) (λ at. refl) refl
+    (λ s. refl) refl
+puts_meant Games tree =
+    put_meant (made_as Games tree) refl refl refl refl (new_columns Games tree refl) refl (λ s at. refl) (λ at. refl) refl
+    (λ s. refl) refl
+puts_meant Seen tree =
+    put_meant (made_as Seen tree) refl refl refl refl (new_columns Seen tree refl) refl (λ s at. refl) (λ at. refl) refl
+    (λ s. refl) refl
+puts_meant Scores tree =
+    put_meant (made_as Scores tree) refl refl refl refl (new_columns Scores tree refl) refl (λ s at. refl) (λ at. refl) refl
+    (λ s. refl) refl
+puts_meant EventRules tree =
+    put_meant (made_as EventRules tree) refl refl refl refl (new_columns EventRules tree refl) refl (λ s at. refl) (λ at. refl) refl
+    (λ s. refl) refl
