@@ -7,5 +7,4 @@ pub mod GameBodies
 pub mod Games
 pub mod Overdue
 pub mod Records
-pub mod Rows
 pub mod Writing

@@ -141,7 +141,7 @@ pub(crate) fn board<S: Alter>(
     let stored = stored_game(alloc, conn, game)?;
     match stored {
         Some(stored) => {
-            let told = told_in(&stored.row)?;
+            let told = told_in(alloc, &stored.row)?;
             let shown = board_in(alloc, conn, &stored, letters)?;
             let text = board_text(alloc, &told, &shown, moment.later(last))?;
             Ok(Found::Text(text))

@@ -66,7 +66,7 @@ pub(crate) fn clock<S: Alter>(
     let stored = stored_game(alloc, conn, game)?;
     match stored {
         Some(stored) => {
-            let told = told_in(&stored.row)?;
+            let told = told_in(alloc, &stored.row)?;
             let text = clock_text(alloc, &members, &told, moment.later(last))?;
             Ok(Found::Text(text))
         }

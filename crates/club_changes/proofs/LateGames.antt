@@ -1,51 +1,40 @@
 -- Games whose side to move has lost by time, and their rows.
-use Rattle.std.proofs.Common.{◌≡◌, ◌≢◌, ℕ, suc, ◌-◌, List, [], ◌∷◌, ◌++◌, length, map, pos, Option, Some, None, Bool}
+use Rattle.std.proofs.Common.{◌≡◌, ◌≢◌, ℕ, suc, ◌-◌, List, [], ◌∷◌, ◌++◌, map, pos, Some, None, Bool}
 use Rattle.std.proofs.Common.{true, false, not, ◌&&◌, refl, ap, sym, subst, ◌∙◌}
-use Rattle.std.specs.Prelude.{ℤ, slice_set, is_some, nat_lt, if◌then◌else◌, string_bytes}
-use Rattle.std.specs.declared.alloc.Global.{Global}
-use Rattle.std.specs.declared.string.String.{String}
+use Rattle.std.specs.Prelude.{slice_set, is_some, nat_lt, if◌then◌else◌}
 use Rattle.std.proofs.lemmas.Bool.{and_parts, not-true}
-use Rattle.sqlite_value.specs.declared.value.Value.{Value}
-use Rattle.sqlite_value.specs.declared.value.Value.TheVariants.{Int, Text}
+use Rattle.sqlite_value.specs.declared.value.Value.TheVariants.{Text}
 use Rattle.sqlite.specs.Values.{or_null}
-use Rattle.sqlite.specs.Order.{Row, column}
+use Rattle.sqlite.specs.Order.{Row}
+use Rattle.squares.specs.declared.sides.Score.{Score}
 use Rattle.squares.specs.declared.sides.Side.{Side}
 use Rattle.squares.specs.Sides.{loses, score_text}
 use Rattle.club_rules.specs.GameRules.{GameRules}
-use Rattle.club_rules.specs.Line.{IsLegalLine}
 use Rattle.club_core.specs.declared.rows.GameEnd.TheVariants.{Outside}
 use Rattle.club_requests.specs.declared.outside_end.OutsideEnd.TheVariants.{Time}
 use Rattle.club_core.specs.Events.{Event, Terms}
-use Rattle.club_core.specs.Game.{Entry, Game, Clocks, left_of, side_after, moves_of, clocks_of, turn_of, rule_end}
-use Rattle.club_core.specs.Game.{end_of, end_with, result_of, score_with}
-use Rattle.club_core.specs.LegalState.{IsLegalIn}
-use Rattle.club_core.specs.declared.seats.Pairing.{Pairing}
-use Rattle.club_core.specs.State.{draughts, shogi, place, terms_at, pairing_of, is_late_any, swept_any}
+use Rattle.club_core.specs.Game.{Entry, Game, left_of, clocks_of, turn_of, rule_end, end_of, end_with, result_of}
+use Rattle.club_core.specs.Game.{score_with}
+use Rattle.club_core.specs.State.{draughts, shogi, place, terms_at, is_late_any, swept_any}
 use Rattle.club_core.specs.Step.{is_late, ended, swept}
 use Rattle.club_core.proofs.Proved.{AreRules, not-some, no-rule-end, turn-of-game, score-none}
-use Rattle.club_rows.specs.Club.{ClubGame, ClubState, both_games}
+use Rattle.club_games.specs.DraughtsLaws.{draughts-numbers_are_few}
+use Rattle.club_games.specs.ShogiLaws.{shogi-numbers_are_few}
+use Rattle.club_rows.specs.Club.{ClubGame, ClubState, IsClub, both_games}
+use Rattle.club_rows.specs.Columns.{Columns, IsReadAs, columns_of, stored_cells}
+use Rattle.club_rows.specs.LegalRows.{IsRecordOf}
 use Rattle.club_rows.specs.Scores.{Meeting, meetings, meetings_of, meetings_in}
 use Rattle.club_rows.specs.Seen.{seen_rows}
 use Rattle.club_rows.specs.Tables.{end_name_text, at_start, with_entry, entry_row, entry_rows, move_rows, game_row}
 use Rattle.club_rows.specs.Tables.{row_of_game, rows_of_moves, rows_of_seen, gathered_from}
-use Rattle.club_rows.proofs.Proved.{draughts_laws, shogi_laws, met_running, met_ended}
+use Rattle.club_rows.proofs.Proved.{columns-are, draughts_laws, in_draughts, in_shogi, met_ended, met_running}
+use Rattle.club_rows.proofs.Proved.{none-read, shogi_laws}
 use Rattle.store_tables.specs.Cells.{game_cells}
 use Rattle.store_tables.specs.declared.rows.GameRecord.{GameRecord}
 use Rattle.club_changes.specs.Ended.{cells_lost}
-use Rattle.club_changes.specs.Late.{HasClocks, late_side}
-use Rattle.club_changes.specs.Standing.{HasPlayers}
+use Rattle.club_changes.specs.Late.{late_side}
 use Rattle.club_changes.specs.Swept.{LeavesOthers}
-
-int_same : (a b : ℤ) → ◌≡◌ {A = Value} (Int a) (Int b) → a ≡ b
-int_same a b is = cc
-
--- texts that may be none stand or are none together
-both_some : {A B : Type 0} (f : A → List ℕ) (g : B → List ℕ) (a : Option A) (b : Option B)
-    → or_null (λ x. Text (f x)) a ≡ or_null (λ y. Text (g y)) b → is_some a ≡ is_some b
-both_some f g None None is = refl
-both_some f g (Some a) (Some b) is = refl
-both_some f g None (Some b) is = cc
-both_some f g (Some a) None is = cc
+use Rattle.club_changes.proofs.GameRows.{is_record}
 
 then_some : {A : Type 0} (b : Bool) (x y : A) → (if b then Some x else None) ≡ Some y → (b ≡ true) × (y ≡ x)
 then_some true x y is = (refl, cc)
@@ -57,33 +46,26 @@ then_none false x is = refl
 
 -- ---- what a game's row tells of a sweep
 
--- a game of these players that has not ended is late, and the side has lost; what it meets, and its row, where it has
--- ended so
-pub record IsLost (late : Bool) (players : Pairing) (met met_after : List Meeting) (row_after : Row) (row : GameRecord)
-    (side : Side) : Type 0 where
+-- a game with these columns that has not ended is late and ends so; what it meets, and its row, where it has ended
+pub record IsLost (late : Bool) (c : Columns) (met met_after : List Meeting) (row_after : Row) (row : GameRecord)
+    (score : Score) : Type 0 where
   pub late_is : late ≡ true
-  pub cells : cells_lost row (loses side) ≡ row_after
-  pub has : HasPlayers row players.event players.first players.second
+  pub cells : cells_lost row score ≡ row_after
+  pub apart : c.first ≢ c.second
   pub running : met ≡ []
-  pub meets : met_after ≡ meetings (pos players.event) (pos players.first) (pos players.second) (loses side)
+  pub meets : met_after ≡ meetings (pos c.event) (pos c.first) (pos c.second) score
 
--- the side that was found late, or none, by whatever clocks the row has
-abbrev pub IsFoundLate : GameRecord → ℕ → Option Side → Type 0
-IsFoundLate row moment found = (plies : ℕ) (clocks : Clocks) → HasClocks row plies clocks
-    → found ≡ late_side (is_some row.result) plies clocks moment
-
--- what was found tells whether the game is late
-pub record TellsLate (found : Option Side) (late : Bool) (players : Pairing) (met met_after : List Meeting)
-    (row_after : Row) (row : GameRecord) : Type 0 where
-  pub in_time : found ≡ None → late ≡ false
-  pub lost : (side : Side) → found ≡ Some side → IsLost late players met met_after row_after row side
+-- the side that the columns show as late, or none, tells whether the game is late
+pub record TellsLate (moment : ℕ) (late : Bool) (c : Columns) (met met_after : List Meeting) (row_after : Row)
+    (row : GameRecord) : Type 0 where
+  pub in_time : late_side c moment ≡ None → late ≡ false
+  pub lost : (side : Side) (score : Score) → late_side c moment ≡ Some side → score ≡ loses side
+      → IsLost late c met met_after row_after row score
 
 -- ---- one game
 
 module _ {P M E T : Type 0} (laws : GameRules P M E T) (are : AreRules laws) (events : List Event) (id moment : ℕ)
-    (game : Game M) (row : GameRecord)
-    (line : IsLegalLine laws laws.start (moves_of game))
-    (cells : game_cells row ≡ game_row laws (terms_at (place events game.event)) id game) where
+    (game : Game M) (row : GameRecord) (is : IsRecordOf laws (terms_at (place events game.event)) id row game) where
   abbrev its_terms : Terms
   its_terms = terms_at (place events game.event)
 
@@ -96,21 +78,23 @@ module _ {P M E T : Type 0} (laws : GameRules P M E T) (are : AreRules laws) (ev
   abbrev turn : Side
   turn = turn_of laws game
 
-  abbrev players : Pairing
-  players = record { event = game.event; first = game.first; second = game.second }
+  abbrev its_columns : Columns
+  its_columns = columns_of laws its_terms id game
 
   abbrev row_of : Game M → Row
   row_of g = game_row laws (terms_at (place events g.event)) id g
 
-  side_is : late_side (is_some row.result) (length game.entries) (clocks_of game its_terms) moment
-      ≡ (if late then Some turn else None)
+  abbrev Lost : Score → Type 0
+  Lost = IsLost late its_columns (meetings_of laws game) (meetings_of laws game_after) (row_of game_after) row
+
+  abbrev Tells : Columns → Type 0
+  Tells c = TellsLate moment late c (meetings_of laws game) (meetings_of laws game_after) (row_of game_after) row
+
+  side_is : late_side its_columns moment ≡ (if late then Some turn else None)
   side_is =
-      let over = both_some (λ (s : String Global). string_bytes s) score_text row.result (result_of laws game)
-      (ap (λ w. column w 13) cells) in
-      let side : side_after (length game.entries) ≡ turn =
-      sym (turn-of-game laws are.turn_passes are.first_starts game line) in
-      λ i. if not (over i) && nat_lt (left_of (side i) (clocks_of game its_terms))
-      (moment - (clocks_of game its_terms).since) then Some (side i) else None
+      let clocks = clocks_of game its_terms in
+      ap (λ side. if not (is_some (result_of laws game)) && nat_lt (left_of side clocks) (moment - clocks.since)
+      then Some side else None) (sym (turn-of-game laws are.turn_passes are.first_starts game is.legal.line.legal))
 
   end_is : result_of laws game ≡ None → end_of laws (ended game Time) ≡ Some (Outside Time)
   end_is running = ap (λ e. end_with e (Some Time))
@@ -124,10 +108,9 @@ module _ {P M E T : Type 0} (laws : GameRules P M E T) (are : AreRules laws) (ev
   lost_cells running =
       let end = ap (or_null (λ e. Text (end_name_text laws e))) (sym (end_is running)) in
       let result = ap (or_null (λ score. Text (score_text score))) (sym (result_is running)) in
-      λ i. slice_set (slice_set (cells i) 12 (end i)) 13 (result i)
+      λ i. slice_set (slice_set (is.row i) 12 (end i)) 13 (result i)
 
-  is_lost : late ≡ true → IsLost late players (meetings_of laws game) (meetings_of laws game_after) (row_of game_after)
-      row turn
+  is_lost : late ≡ true → Lost (loses turn)
   is_lost late_is =
       let running : result_of laws game ≡ None =
       not-some (result_of laws game) (not-true _ (and_parts _ _ late_is).0) in
@@ -135,60 +118,45 @@ module _ {P M E T : Type 0} (laws : GameRules P M E T) (are : AreRules laws) (ev
       record {
         late_is = late_is;
         cells = lost_cells running ∙ ap row_of (sym now);
-        has = record {
-          event_is = int_same _ _ (ap (λ w. column w 2) cells);
-          first_is = int_same _ _ (ap (λ w. column w 3) cells);
-          second_is = int_same _ _ (ap (λ w. column w 4) cells);
-        };
+        apart = is.legal.players;
         running = met_running laws game running;
         meets = ap (meetings_of laws) now ∙ met_ended laws (ended game Time) (loses turn) (result_is running);
       }
 
-  tells : (found : Option Side) → IsFoundLate row moment found
-      → TellsLate found late players (meetings_of laws game) (meetings_of laws game_after) (row_of game_after) row
-  tells found told =
-      let has : HasClocks row (length game.entries) (clocks_of game its_terms) = record {
-        plies_are = int_same _ _ (ap (λ w. column w 7) cells);
-        first_has = int_same _ _ (ap (λ w. column w 8) cells);
-        second_has = int_same _ _ (ap (λ w. column w 9) cells);
-        since_is = int_same _ _ (ap (λ w. column w 6) cells);
-      } in
-      let is = sym (told (length game.entries) (clocks_of game its_terms) has ∙ side_is) in
-      record {
-        in_time = λ none. then_none late turn (is ∙ none);
-        lost = λ side some.
-            let (late_is, by) = then_some late turn side (is ∙ some) in
-            subst (IsLost late players (meetings_of laws game) (meetings_of laws game_after) (row_of game_after) row)
-            (sym by) (is_lost late_is);
-      }
+  tells : (c : Columns) → game_cells row ≡ stored_cells c → Tells c
+  tells c read = subst Tells (sym (columns-are laws its_terms id game row is c read)) (record {
+    in_time = λ none. then_none late turn (sym side_is ∙ none);
+    lost = λ side score some loss.
+        let (late_is, by) = then_some late turn side (sym side_is ∙ some) in
+        subst Lost (sym (loss ∙ ap loses by)) (is_lost late_is);
+  })
 
 -- ---- a game of the club
 
-module _ (s : ClubState) (moment id : ℕ) where
-  abbrev pub IsLostIn : ClubGame → GameRecord → Side → Type 0
-  IsLostIn g row side =
+module _ (s : ClubState) (is_club : IsClub s) (id : ℕ) where
+  -- of its row something is read
+  pub was_read : (g : ClubGame) (row : GameRecord) → place s.games id ≡ Some g
+      → game_cells row ≡ row_of_game both_games s.events id g → IsReadAs (game_cells row) None → ⊥
+  was_read (draughts game) row at cells = none-read both_games.draughts (terms_at (place s.events game.event)) id game
+      row (is_record s is_club in_draughts id game row at cells) draughts-numbers_are_few
+  was_read (shogi game) row at cells = none-read both_games.shogi (terms_at (place s.events game.event)) id game row
+      (is_record s is_club in_shogi id game row at cells) shogi-numbers_are_few
+
+  abbrev pub TellsLateIn : ℕ → ClubGame → GameRecord → Columns → Type 0
+  TellsLateIn moment g row c =
       let after = swept_any both_games s moment g in
-      IsLost (is_late_any both_games s moment g) (pairing_of g) (meetings_in both_games g)
-      (meetings_in both_games after) (row_of_game both_games s.events id after) row side
+      TellsLate moment (is_late_any both_games s moment g) c (meetings_in both_games g) (meetings_in both_games after)
+      (row_of_game both_games s.events id after) row
 
-  abbrev pub TellsLateIn : ClubGame → GameRecord → Option Side → Type 0
-  TellsLateIn g row found =
-      let after = swept_any both_games s moment g in
-      TellsLate found (is_late_any both_games s moment g) (pairing_of g) (meetings_in both_games g)
-      (meetings_in both_games after) (row_of_game both_games s.events id after) row
+  pub tells_late : (moment : ℕ) (g : ClubGame) (row : GameRecord) (c : Columns) → place s.games id ≡ Some g
+      → game_cells row ≡ row_of_game both_games s.events id g → game_cells row ≡ stored_cells c
+      → TellsLateIn moment g row c
+  tells_late moment (draughts game) row c at cells = tells both_games.draughts draughts_laws s.events id moment game row
+      (is_record s is_club in_draughts id game row at cells) c
+  tells_late moment (shogi game) row c at cells = tells both_games.shogi shogi_laws s.events id moment game row
+      (is_record s is_club in_shogi id game row at cells) c
 
-  pub tells_late : (g : ClubGame) (row : GameRecord) (found : Option Side) → IsLegalIn both_games s g
-      → game_cells row ≡ row_of_game both_games s.events id g → IsFoundLate row moment found → TellsLateIn g row found
-  tells_late (draughts game) row found legal cells =
-      tells both_games.draughts draughts_laws s.events id moment game row legal.legal.line.legal cells found
-  tells_late (shogi game) row found legal cells =
-      tells both_games.shogi shogi_laws s.events id moment game row legal.legal.line.legal cells found
-
-  -- First and Second differ
-  pub apart : (g : ClubGame) → IsLegalIn both_games s g → (pairing_of g).first ≢ (pairing_of g).second
-  apart (draughts game) legal = legal.legal.players
-  apart (shogi game) legal = legal.legal.players
-
+module _ (s : ClubState) (moment : ℕ) where
   -- a game that is not late stays
   pub in_time_stays : (g : ClubGame) → is_late_any both_games s moment g ≡ false → swept_any both_games s moment g ≡ g
   in_time_stays (draughts game) late = ap (λ b. draughts (if b then ended game Time else game)) late

@@ -1,5 +1,5 @@
 -- The sums of pairs of players as rows of scores are put.
-use Rattle.std.proofs.Common.{◌≡◌, ◌≢◌, ℕ, ◌+◌, length, append_assoc, List, [], ◌∷◌, ◌++◌, map, take, pos, Option, Some}
+use Rattle.std.proofs.Common.{◌≡◌, ℕ, ◌+◌, length, append_assoc, List, [], ◌∷◌, ◌++◌, map, take, pos, Option, Some}
 use Rattle.std.proofs.Common.{None, true, false, cond, refl, ap, sym, subst, subst₂, ◌∙◌, inl, inr, ◌⊎◌, true≢false}
 use Rattle.std.specs.Prelude.{slice_get}
 use Rattle.std.specs.Option.{option_map}
@@ -14,7 +14,6 @@ use Rattle.squares.specs.declared.sides.Score.{Score}
 use Rattle.store_tables.specs.Cells.{score_cells}
 use Rattle.store_tables.specs.Changes.{Alters, HaveSame, put_rows}
 use Rattle.store_tables.specs.Content.{same_key, put}
-use Rattle.store_tables.specs.declared.rows.GameRecord.{GameRecord}
 use Rattle.store_tables.specs.declared.rows.ScoreRow.{ScoreRow}
 use Rattle.store_tables.proofs.Proved.{put_had, put_kept, altered}
 use Rattle.club_rows.specs.NextScores.{AreNext, IsFound, pair_of, pair_cells, row_with, sums_found}
@@ -23,12 +22,9 @@ use Rattle.club_rows.specs.declared.scores.Pair.{Pair}
 use Rattle.club_rows.specs.declared.scores.ScorePair.{ScorePair}
 use Rattle.club_rows.specs.declared.scores.Sums.{Sums}
 use Rattle.club_rows.proofs.Proved.{pair_key, pair_same, pair_itself, keys_same, keys_agree, rows_alter}
-use Rattle.club_changes.specs.Standing.{AreStanding, HasPlayers, PutsRows}
-use Rattle.club_rows.specs.Pairs.{firsts_pair, pair_in, seconds_pair}
+use Rattle.club_changes.specs.Standing.{AreStanding, PutsRows}
+use Rattle.club_rows.specs.Pairs.{pair_in}
 use Rattle.club_changes.proofs.PlacedIds.{take_next}
-
-pos_same : (m n : ℕ) → pos m ≡ pos n → m ≡ n
-pos_same m n is = cc
 
 -- ---- keys
 
@@ -149,38 +145,6 @@ stand_all rows k sums all end stand same =
     (subst (λ l. AreStanding sums (map score_cells l)) (ap (λ n. take n rows) end ∙ take-length rows) stand)
 
 -- ---- the rows of two players
-
-pub firsts_are : (game : GameRecord) (event first second : ℕ) → HasPlayers game event first second
-    → firsts_pair game ≡ pair_of event first second
-firsts_are game event first second has =
-    let e = has.event_is in
-    let m = has.first_is in
-    let o = has.second_is in
-    λ i. record { event = e i; member = m i; opponent = o i }
-
-pub seconds_are : (game : GameRecord) (event first second : ℕ) → HasPlayers game event first second
-    → seconds_pair game ≡ pair_of event second first
-seconds_are game event first second has =
-    let e = has.event_is in
-    let m = has.second_is in
-    let o = has.first_is in
-    λ i. record { event = e i; member = m i; opponent = o i }
-
--- the game's ids are those that were read
-module _ (score : Score) (firsts seconds : Option ScoreRow) (pair : ScorePair) where
-  moved : (e x f y g z : ℕ) → e ≡ x → f ≡ y → g ≡ z → (f ≢ g → AreNext e f g score firsts seconds pair) → y ≢ z
-      → AreNext x y z score firsts seconds pair
-  moved e x f y g z event first second next =
-      subst (λ k. y ≢ z → AreNext k y z score firsts seconds pair) event
-      (subst (λ k. k ≢ z → AreNext e k z score firsts seconds pair) first
-      (subst (λ k. f ≢ k → AreNext e f k score firsts seconds pair) second next))
-
-  pub next_read : (game : GameRecord) (event first second e f g : ℕ) → HasPlayers game event first second
-      → HasPlayers game e f g → (f ≢ g → AreNext e f g score firsts seconds pair) → first ≢ second
-      → AreNext event first second score firsts seconds pair
-  next_read game event first second e f g has read =
-      moved e event f first g second (pos_same e event (sym read.event_is ∙ has.event_is))
-      (pos_same f first (sym read.first_is ∙ has.first_is)) (pos_same g second (sym read.second_is ∙ has.second_is))
 
 module _ (before after : List Meeting) (event first second : ℕ) (score : Score) (pair : ScorePair)
     (old mid new : Pair → Option Sums) where

@@ -1,6 +1,6 @@
 -- A sweep, game by game: the rows so far, and the scores of the club in which these games have ended.
-use Rattle.std.proofs.Common.{◌≡◌, ◌≢◌, ℕ, ◌+◌, ◌≤◌, ◌^◌, List, [], ◌∷◌, ◌++◌, length, map, take, drop, pos, Option}
-use Rattle.std.proofs.Common.{Some, None, Bool, false, refl, ap, sym, subst, ◌∙◌, arith, inl, inr, append_assoc}
+use Rattle.std.proofs.Common.{◌≡◌, ◌≢◌, ℕ, suc, ◌+◌, ◌≤◌, ◌^◌, List, [], ◌∷◌, ◌++◌, length, map, take, drop, pos}
+use Rattle.std.proofs.Common.{Option, Some, None, Bool, false, refl, ap, sym, subst, ◌∙◌, arith, inl, inr, append_assoc}
 use Rattle.std.proofs.Common.{length-append}
 use Rattle.std.specs.Prelude.{slice_get, count_by}
 use Rattle.std.specs.List.{flat_map}
@@ -18,18 +18,20 @@ use Rattle.store_tables.specs.Content.{put}
 use Rattle.store_tables.specs.declared.rows.GameRecord.{GameRecord}
 use Rattle.store_tables.specs.declared.rows.ScoreRow.{ScoreRow}
 use Rattle.store_tables.proofs.Proved.{same_then, put_had, put_kept, altered}
-use Rattle.club_core.specs.State.{draughts, shogi, pairing_of, is_late_any, swept_any, with_swept}
+use Rattle.club_core.specs.State.{draughts, shogi, place, is_late_any, swept_any, with_swept}
 use Rattle.club_rows.specs.Club.{ClubGame, ClubState, IsClub, both_games, tables}
+use Rattle.club_rows.specs.Columns.{Columns, IsReadAs, stored_cells}
 use Rattle.club_rows.specs.Scores.{Meeting, meetings, meetings_in, score_rows, scores_in}
 use Rattle.club_rows.specs.Tables.{number, gathered_from, row_of_game}
 use Rattle.club_rows.specs.declared.scores.Pair.{Pair}
 use Rattle.club_rows.specs.declared.scores.Sums.{Sums}
 use Rattle.club_changes.specs.Ended.{cells_lost}
-use Rattle.club_changes.specs.Standing.{AreShort, AreStanding, HasPlayers, PutsRows}
+use Rattle.club_changes.specs.Late.{late_side}
+use Rattle.club_changes.specs.Standing.{AreStanding, PutsRows}
 use Rattle.club_changes.specs.Swept.{IsSwept}
 use Rattle.club_changes.specs.declared.swept.rows.SweptRows.{SweptRows}
-use Rattle.club_changes.proofs.FewLemmas.{meets_few, parts_length, players_short}
-use Rattle.club_changes.proofs.LateGames.{IsFoundLate, IsLostIn, TellsLateIn, tells_late, apart, in_time_stays}
+use Rattle.club_changes.proofs.FewLemmas.{meets_few, parts_length}
+use Rattle.club_changes.proofs.LateGames.{TellsLateIn, in_time_stays, tells_late, was_read}
 use Rattle.club_changes.proofs.PlacedIds.{numbered_at, numbered_length, take_next, drop_next, drop_all, taken_length}
 use Rattle.club_changes.proofs.PlacedIds.{gathered_last, row_if, row_if_passes, row_if_fails, passing_count}
 use Rattle.club_changes.proofs.PlacedIds.{passing_alter}
@@ -90,20 +92,14 @@ module _ (s : ClubState) (moment : ℕ) where
   abbrev met : ℕ → List Meeting
   met n = meets (map after (take n s.games)) ++ meets (drop n s.games)
 
--- where the game ends so, the rows of its players' scores are put
-abbrev pub Puts : GameRecord → Score → (sums sums_now : Pair → Option Sums) → (changed changed_now : List ScoreRow)
+-- where the game of these columns ends so, the rows of its players' scores are put
+abbrev pub Puts : Columns → Score → (sums sums_now : Pair → Option Sums) → (changed changed_now : List ScoreRow)
     → Type 0
-Puts game score sums sums_now changed changed_now =
-    (event first second : ℕ) (left right : List Meeting) → HasPlayers game event first second → first ≢ second
-    → AreStanding sums (score_rows (left ++ right))
+Puts c score sums sums_now changed changed_now =
+    (left right : List Meeting) → c.first ≢ c.second → AreStanding sums (score_rows (left ++ right))
     → PutsRows (score_rows (left ++ right))
-    (score_rows (left ++ (meetings (pos event) (pos first) (pos second) score ++ right))) sums_now changed
+    (score_rows (left ++ (meetings (pos c.event) (pos c.first) (pos c.second) score ++ right))) sums_now changed
     changed_now
-
--- where they are not, the sums are those of very many games
-abbrev pub AreMany : GameRecord → (Pair → Option Sums) → Type 0
-AreMany game sums = (event first second : ℕ) (ms : List Meeting) → HasPlayers game event first second
-    → AreShort event first second → AreStanding sums (score_rows ms) → 2 ^ 61 ≤ length ms
 
 -- what was made of the first games, and what stands then
 pub record IsSweptTo (s : ClubState) (moment n : ℕ) (ended : List GameRecord) (changed : List ScoreRow)
@@ -138,18 +134,35 @@ module _ (s : ClubState) (moment : ℕ) where
       let parts = parts_length n s.games in
       omega (arith, games, counted, few, parts)
 
-  module _ (is_club : IsClub s) (games : List GameRecord) (rows_are : map game_cells games ≡ tables s 10) (n : ℕ)
-      (game : GameRecord) (at : slice_get games n ≡ Some game)
-      (found : Option Side) (told : IsFoundLate game moment found) where
-    abbrev Here : Type 0
-    Here = (g : ClubGame) × (slice_get s.games n ≡ Some g) × (game_cells game ≡ row s moment (1 + n) g)
+  -- the sums of two players are not those of very many games
+  pub sums_few : IsClub s → (n : ℕ) (ended : List GameRecord) (changed : List ScoreRow) (sums : Pair → Option Sums)
+      → IsSweptTo s moment n ended changed sums
+      → ((ms : List Meeting) → AreStanding sums (score_rows ms) → 2 ^ 61 ≤ length ms) → ⊥
+  sums_few is_club n ended changed sums now many =
+      let long = many (met s moment n) now.standing in
+      let short = met_short is_club n in
+      omega (arith, long, short)
 
+  module _ (is_club : IsClub s) (games : List GameRecord) (rows_are : map game_cells games ≡ tables s 10) (n : ℕ)
+      (game : GameRecord) (at : slice_get games n ≡ Some game) where
     -- the game of the row
-    game_here : Here
+    game_here : (g : ClubGame) × (slice_get s.games n ≡ Some g) × (game_cells game ≡ row s moment (1 + n) g)
     game_here = numbered_at (row s moment) game_cells 1 games s.games rows_are n game at
 
-    module _ (g : ClubGame) (stands : slice_get s.games n ≡ Some g)
-        (cells : game_cells game ≡ row s moment (1 + n) g) where
+    abbrev g : ClubGame
+    g = game_here.0
+
+    stands : slice_get s.games n ≡ Some g
+    stands = game_here.1
+
+    in_place : place s.games (1 + n) ≡ Some g
+    in_place = let next : suc n ≡ 1 + n = omega arith in subst (λ id. place s.games id ≡ Some g) next stands
+
+    -- something is read of the row
+    pub read_here : IsReadAs (game_cells game) None → ⊥
+    read_here = was_read s is_club (1 + n) g game in_place game_here.2
+
+    module _ (c : Columns) (read : game_cells game ≡ stored_cells c) where
       abbrev before : List Meeting
       before = meets s moment (map (after s moment) (take n s.games))
 
@@ -178,16 +191,17 @@ module _ (s : ClubState) (moment : ℕ) where
           (λ k. ended_rows s moment (take n s.games) ++ row_if (row s moment) (late s moment) (after s moment)
           (1 + k) g) (taken_length s.games n g stands))
 
-      tells : TellsLateIn s moment (1 + n) g game found
-      tells = tells_late s moment (1 + n) g game found (is_club.games n g stands) cells told
+      tells : TellsLateIn s is_club (1 + n) moment g game c
+      tells = tells_late s is_club (1 + n) moment g game c in_place game_here.2 read
 
       -- a game that is not late stays
-      stays_next : (ended : List GameRecord) (changed : List ScoreRow) (sums : Pair → Option Sums)
-          → late s moment g ≡ false → IsSweptTo s moment n ended changed sums
+      pub stays_next : (ended : List GameRecord) (changed : List ScoreRow) (sums : Pair → Option Sums)
+          → late_side c moment ≡ None → IsSweptTo s moment n ended changed sums
           → IsSweptTo s moment (n + 1) ended changed sums
-      stays_next ended changed sums in_time now =
+      stays_next ended changed sums none now =
+          let in_time : late s moment g ≡ false = tells.in_time none in
           let same : met s moment n ≡ met s moment (n + 1) = met_here
-          ∙ (ap (λ x. before ++ (meetings_in both_games x ++ later)) (sym (in_time_stays s moment (1 + n) g in_time))
+          ∙ (ap (λ x. before ++ (meetings_in both_games x ++ later)) (sym (in_time_stays s moment g in_time))
           ∙ sym met_then) in
           record {
             ended_are = now.ended_are
@@ -203,20 +217,19 @@ module _ (s : ClubState) (moment : ℕ) where
           }
 
       -- a game that is late ends
-      ends_next : (side : Side) (lost : GameRecord) (ended ended_now : List GameRecord)
+      pub ends_next : (score : Score) (side : Side) (lost : GameRecord) (ended ended_now : List GameRecord)
           (changed changed_now : List ScoreRow) (sums sums_now : Pair → Option Sums)
-          → IsLostIn s moment (1 + n) g game side → game_cells lost ≡ cells_lost game (loses side)
-          → ended_now ≡ ended ++ lost ∷ [] → Puts game (loses side) sums sums_now changed changed_now
+          → late_side c moment ≡ Some side → score ≡ loses side → game_cells lost ≡ cells_lost game score
+          → ended_now ≡ ended ++ lost ∷ [] → Puts c score sums sums_now changed changed_now
           → IsSweptTo s moment n ended changed sums → IsSweptTo s moment (n + 1) ended_now changed_now sums_now
-      ends_next side lost ended ended_now changed changed_now sums sums_now is_lost lost_is pushed puts now =
+      ends_next score side lost ended ended_now changed changed_now sums sums_now shown loss lost_is pushed puts now =
+          let is_lost = tells.lost side score shown loss in
           let was : met s moment n ≡ before ++ later = met_here ∙ ap (λ ms. before ++ (ms ++ later)) is_lost.running in
           let then : met s moment (n + 1) ≡ before
-          ++
-          (meetings (pos (pairing_of g).event) (pos (pairing_of g).first) (pos (pairing_of g).second) (loses side)
-          ++ later) = met_then ∙ ap (λ ms. before ++ (ms ++ later)) is_lost.meets in
+          ++ (meetings (pos c.event) (pos c.first) (pos c.second) score ++ later) = met_then
+          ∙ ap (λ ms. before ++ (ms ++ later)) is_lost.meets in
           let stood = subst (λ ms. AreStanding sums (score_rows ms)) was now.standing in
-          let put_them = puts (pairing_of g).event (pairing_of g).first (pairing_of g).second before later is_lost.has
-          (apart s moment (1 + n) g (is_club.games n g stands)) stood in
+          let put_them = puts before later is_lost.apart stood in
           let one : map game_cells ended_now ≡ map game_cells ended ++ game_cells lost ∷ [] = ap (map game_cells) pushed
           ∙ map-append game_cells ended (lost ∷ []) in
           record {
@@ -238,38 +251,6 @@ module _ (s : ClubState) (moment : ℕ) where
                 (score_rows ms)) was now.changed_are) put_them.makes);
             standing = subst (λ ms. AreStanding sums_now (score_rows ms)) (sym then) put_them.standing;
           }
-
-      -- the sums of its players fit
-      fit_here : (side : Side) (ended : List GameRecord) (changed : List ScoreRow) (sums : Pair → Option Sums)
-          → IsLostIn s moment (1 + n) g game side → AreMany game sums → IsSweptTo s moment n ended changed sums → ⊥
-      fit_here side ended changed sums is_lost many now =
-          let long = many (pairing_of g).event (pairing_of g).first (pairing_of g).second (met s moment n) is_lost.has
-          (players_short s is_club g (is_club.games n g stands)) now.standing in
-          let short = met_short is_club n in
-          omega (arith, long, short)
-
-    -- by the side that was found late, or none
-    pub stays_told : (ended : List GameRecord) (changed : List ScoreRow) (sums : Pair → Option Sums) → found ≡ None
-        → IsSweptTo s moment n ended changed sums → IsSweptTo s moment (n + 1) ended changed sums
-    stays_told ended changed sums none now = let (g, stands, cells) = game_here in
-        stays_next g stands cells ended changed sums ((tells g stands cells).in_time none) now
-
-    pub ends_told : (score : Score) (side : Side) (lost : GameRecord) (ended ended_now : List GameRecord)
-        (changed changed_now : List ScoreRow) (sums sums_now : Pair → Option Sums)
-        → found ≡ Some side → score ≡ loses side → game_cells lost ≡ cells_lost game score
-        → ended_now ≡ ended ++ lost ∷ [] → Puts game score sums sums_now changed changed_now
-        → IsSweptTo s moment n ended changed sums → IsSweptTo s moment (n + 1) ended_now changed_now sums_now
-    ends_told score side lost ended ended_now changed changed_now sums sums_now late is lost_is pushed puts now =
-        let (g, stands, cells) = game_here in
-        ends_next g stands cells side lost ended ended_now changed changed_now sums sums_now
-        ((tells g stands cells).lost side late) (lost_is ∙ ap (cells_lost game) is) pushed
-        (subst (λ sc. Puts game sc sums sums_now changed changed_now) is puts) now
-
-    pub fits_told : (side : Side) (ended : List GameRecord) (changed : List ScoreRow) (sums : Pair → Option Sums)
-        → found ≡ Some side → AreMany game sums → IsSweptTo s moment n ended changed sums → ⊥
-    fits_told side ended changed sums late many now =
-        let (g, stands, cells) = game_here in
-        fit_here g stands cells side ended changed sums ((tells g stands cells).lost side late) many now
 
   -- all games were looked at
   pub swept_all : (games : List GameRecord) (n : ℕ) (rows : SweptRows) (sums : Pair → Option Sums)
@@ -294,7 +275,7 @@ module _ (s : ClubState) (moment : ℕ) where
             subst (λ l. HaveSame (put_rows (0 ∷ []) l (tables s 10)) (tables (with_swept both_games s moment) 10))
             (sym ended)
             (altered (0 ∷ []) (ended_rows s moment s.games) _ _
-            (passing_alter (row s moment) (late s moment) (after s moment) (in_time_stays s moment 0)
+            (passing_alter (row s moment) (late s moment) (after s moment) (in_time_stays s moment)
             (first_column s) s.games));
         scores_are =
             subst

@@ -26,7 +26,8 @@ use Rattle.store_tables.proofs.Proved.{altered, unaltered}
 use Rattle.club_rows.specs.ChallengeRows.{IsChallengeFound, challenge_key}
 use Rattle.club_rows.specs.Tables.{number, first_number, standing_number, game_started, challenge_row, rows_of_seen}
 use Rattle.club_rows.specs.Tables.{tables_of}
-use Rattle.club_rows.proofs.AlikeLemmas.{heads-alike, tails-alike, numbers-alike}
+use Rattle.club_rows.proofs.AlikeLemmas.{heads-alike, tails-alike}
+use Rattle.club_rows.proofs.ColumnLemmas.{numbers-alike}
 use Rattle.club_rows.proofs.KeyPairs.{same-numbers, same-seconds, numbers-agree}
 use Rattle.club_rows.proofs.SeenClub.{seen-added}
 

@@ -15,10 +15,10 @@ use Rattle.club_core.specs.LegalState.{Each, IsGameOf, IsLegalState}
 use Rattle.club_core.specs.State.{AnyGame, draughts, shogi, State, place, terms_at, kind_at}
 use Rattle.club_rows.specs.Tables.{number, member_row, event_row, game_row, move_rows, at_start, row_of_game}
 use Rattle.club_rows.specs.Tables.{declares_number, rule_row, rows_of_moves, numbered_from, gathered_from, tables_of}
-use Rattle.club_rows.proofs.SameLemmas.{seventeen-parts, same-bytes}
+use Rattle.club_rows.proofs.ColumnLemmas.{numbers-alike, same-bytes}
 use Rattle.club_rows.proofs.WholeLemmas.{rows-count}
 use Rattle.club_rows.proofs.KindLemmas.{kinds-alike}
-use Rattle.club_rows.proofs.AlikeLemmas.{heads-alike, tails-alike, numbers-alike, games-alike}
+use Rattle.club_rows.proofs.AlikeLemmas.{heads-alike, tails-alike, games-alike}
 use Rattle.club_rows.proofs.ChallengeLemmas.{challenge-rows-alike}
 
 -- ---- lists of rows
@@ -158,14 +158,10 @@ module _ {DP DM DE DT SP SM SE ST : Type 0} (kinds : ClubRules DP DM DE DT SP SM
     plies (shogi g) = length g.entries
 
     plies-alike : (id : ℕ) (x y : AnyGame DM SM) → row id x ≡ row id y → plies x ≡ plies y
-    plies-alike id (draughts g) (draughts h) is = let p =
-        seventeen-parts _ _ _ _ _ _ _ _ _ _ _ _ _ _ _ _ _ _ _ _ _ _ _ _ _ _ _ _ _ _ _ _ _ _ is in numbers-alike _ _ p.p7
-    plies-alike id (draughts g) (shogi h) is = let p =
-        seventeen-parts _ _ _ _ _ _ _ _ _ _ _ _ _ _ _ _ _ _ _ _ _ _ _ _ _ _ _ _ _ _ _ _ _ _ is in numbers-alike _ _ p.p7
-    plies-alike id (shogi g) (draughts h) is = let p =
-        seventeen-parts _ _ _ _ _ _ _ _ _ _ _ _ _ _ _ _ _ _ _ _ _ _ _ _ _ _ _ _ _ _ _ _ _ _ is in numbers-alike _ _ p.p7
-    plies-alike id (shogi g) (shogi h) is = let p =
-        seventeen-parts _ _ _ _ _ _ _ _ _ _ _ _ _ _ _ _ _ _ _ _ _ _ _ _ _ _ _ _ _ _ _ _ _ _ is in numbers-alike _ _ p.p7
+    plies-alike id (draughts g) (draughts h) is = cc
+    plies-alike id (draughts g) (shogi h) is = cc
+    plies-alike id (shogi g) (draughts h) is = cc
+    plies-alike id (shogi g) (shogi h) is = cc
 
     rows-long : (id : ℕ) (x : AnyGame DM SM) → length (rows id x) ≡ plies x
     rows-long id (draughts g) = rows-count kinds.draughts (terms_at (place events g.event)) id (at_start g) g.entries

@@ -1,5 +1,5 @@
 -- The rows that the elements of a list have, where an element changes or is added.
-use Rattle.std.proofs.Common.{◌≡◌, ℕ, zero, suc, ◌+◌, inl, inr, List, [], ◌∷◌, ◌++◌, length, Some, true, refl, ap, sym}
+use Rattle.std.proofs.Common.{◌≡◌, ℕ, zero, suc, ◌+◌, inl, inr, List, [], ◌∷◌, ◌++◌, length, Some, true, refl, sym}
 use Rattle.std.proofs.Common.{subst, subst₂, arith}
 use Rattle.std.specs.Prelude.{slice_get, slice_set}
 use Rattle.sqlite.specs.Order.{Row, column}
@@ -35,19 +35,6 @@ module _ {A : Type 0} (rows : ℕ → A → List Row) where
       let same : id + suc n ≡ suc id + n = omega arith in
       has_right (rows id y) (gathered_from rows (suc id) ys) z
       (gathered-has (suc id) ys n x z at (subst (λ k. Has (rows k x) z) same h))
-
-  -- an element with the same rows in place of another changes nothing
-  pub gathered-kept : (id : ℕ) (xs : List A) (n : ℕ) (old new : A) → slice_get xs n ≡ Some old
-      → rows (id + n) new ≡ rows (id + n) old → gathered_from rows id (slice_set xs n new) ≡ gathered_from rows id xs
-  gathered-kept id [] n old new at same = cc
-  gathered-kept id (x ∷ xs) zero old new at same =
-      let here : id + 0 ≡ id = omega arith in
-      let is : old ≡ x = cc in
-      ap (λ l. l ++ gathered_from rows (suc id) xs) (subst₂ (λ k w. rows k new ≡ rows k w) here is same)
-  gathered-kept id (x ∷ xs) (suc n) old new at same =
-      let later : id + suc n ≡ suc id + n = omega arith in
-      ap (λ l. rows id x ++ l)
-      (gathered-kept (suc id) xs n old new at (subst (λ k. rows k new ≡ rows k old) later same))
 
   -- where the rows of each element begin with its number and no two of them have one key
   module _ (numbered : (id : ℕ) (x : A) (z : Row) → Has (rows id x) z → column z 0 ≡ number id)

@@ -20,17 +20,6 @@ unfolding first_key
 same-numbers a b m n p q same = let h = rw (p, q) at same in
     pos_same m n (equal_ints (pos m) (pos n) (and_parts _ _ h).0)
 
--- the same of a key of the number alone
-pub same-ids : (a b : Row) (m n : ℕ) → column a 0 ≡ number m → column b 0 ≡ number n → same_key (0 ∷ []) a b ≡ true
-    → m ≡ n
-unfolding first_key
-same-ids a b m n p q same = let h = rw (p, q) at same in pos_same m n (equal_ints (pos m) (pos n) (and_parts _ _ h).0)
-
-pub ids-agree : (a b : Row) (m : ℕ) → column a 0 ≡ number m → column b 0 ≡ number m → same_key (0 ∷ []) a b ≡ true
-unfolding first_key
-ids-agree a b m p q =
-    rw (p, q) (and_from _ _ (equal_from (number m) (number m) refl refl (tied_itself value_cmp_total (number m))) refl)
-
 pub same-texts : (a b : Row) (t u : List ℕ) → column a 1 ≡ Text t → column b 1 ≡ Text u
     → same_key (0 ∷ 1 ∷ []) a b ≡ true → t ≡ u
 unfolding first_key

@@ -1,13 +1,12 @@
 pub mod AlikeLemmas
 pub mod ChallengeLemmas
 pub mod ClubsAlike
+pub mod ColumnLemmas
 pub mod KindLemmas
 pub mod LineLemmas
 pub mod MadeLemmas
 pub mod NextLemmas
 pub mod ReplayLemmas
-pub mod RowLemmas
-pub mod SameLemmas
 pub mod ScoreAfter
 pub mod ScoreLemmas
 pub mod ScoreRows
@@ -17,7 +16,7 @@ pub mod PlainTexts
 pub mod DraughtsTexts
 pub mod ShogiTexts
 pub mod TextLemmas
-pub mod HeaderLemmas
+pub mod StandLemmas
 pub mod WholeLemmas
 pub mod TallyLemmas
 pub mod GatheredLemmas

@@ -24,5 +24,7 @@ pub use Rattle.club_rows.proofs.SeenTexts.{Texts, first-more, first-new, one-fir
 pub use Rattle.club_rows.proofs.SeenTexts.{times-new, times-other}
 pub use Rattle.club_rows.proofs.TallyLemmas.{positions-append}
 pub use Rattle.club_rows.proofs.TextLemmas.{events-typed, games-typed, members-typed, moves-typed, rules-typed}
-pub use Rattle.club_rows.proofs.HeaderLemmas.{IsToldBy, columns-told, is_some-none, same-pos, since-rises, spend-since}
+pub use Rattle.club_rows.proofs.ColumnLemmas.{IsToldBy, columns-are, columns-read, columns-told, none-read}
+pub use Rattle.club_rows.proofs.ColumnLemmas.{same-pos, spend-since}
+pub use Rattle.club_rows.proofs.StandLemmas.{is_some-none, since-rises}
 pub use Rattle.club_rows.proofs.WholeLemmas.{played-count, rows-alike, rows-append, rows-count, rows-from, take-got}

@@ -6,7 +6,7 @@ use Rattle.sqlite_value.specs.declared.value.Value.{Value}
 use Rattle.sqlite_value.specs.declared.value.Value.TheVariants.{Int, Text}
 use Rattle.sqlite.specs.Order.{Row, column}
 use Rattle.sqlite_rules.specs.Lists.{Has}
-use Rattle.store_tables.specs.Changes.{Alters, HaveSame}
+use Rattle.store_tables.specs.Changes.{Alters}
 use Rattle.store_tables.specs.Cells.{seen_cells}
 use Rattle.store_tables.specs.Content.{same_key}
 use Rattle.store_tables.specs.Contents.{AreThose}
@@ -18,9 +18,8 @@ use Rattle.club_core.specs.declared.seats.Pairing.{Pairing}
 use Rattle.club_core.specs.State.{AnyGame, draughts, shogi, State, place, kind_at, seated_as, with_new_game}
 use Rattle.club_rows.specs.Tables.{number, gathered_from, rows_of_seen, tables_of}
 use Rattle.club_rows.specs.Seen.{texts_of, seen_rows, IsFound}
-use Rattle.club_rows.proofs.GatheredLemmas.{gathered-had, gathered-has, gathered-apart, gathered-set, gathered-added}
-use Rattle.club_rows.proofs.GatheredLemmas.{gathered-kept}
-use Rattle.club_rows.proofs.KeyPairs.{same-numbers, same-ids, ids-agree, same-texts, pairs-agree}
+use Rattle.club_rows.proofs.GatheredLemmas.{gathered-had, gathered-has, gathered-set, gathered-added}
+use Rattle.club_rows.proofs.KeyPairs.{same-numbers, same-texts, pairs-agree}
 use Rattle.club_rows.proofs.SeenGame.{seen-id, seen-apart}
 
 number-same : (m n : ℕ) → number m ≡ number n → m ≡ n
@@ -42,11 +41,6 @@ module _ {DP DM DE DT SP SM SE ST : Type 0} (kinds : ClubRules DP DM DE DT SP SM
   apart id (draughts g) z w h k same = seen-apart kinds.draughts id g z w h k same
   apart id (shogi g) z w h k same = seen-apart kinds.shogi id g z w h k same
 
-  -- no two rows of the table have one key
-  pub seen-table-apart : (s : State DM SM) (z w : Row) → Has (tables_of kinds s 12) z → Has (tables_of kinds s 12) w
-      → same_key (0 ∷ 1 ∷ []) z w ≡ true → z ≡ w
-  seen-table-apart s z w h k same = gathered-apart (rows_of_seen kinds) numbered apart s.games z w h k same
-
   -- a game that changes alters the table as it alters the rows of the game
   pub seen-table-set : (s : State DM SM) (n : ℕ) (old new : AnyGame DM SM) (moment : ℕ) (changed : List Row)
       → slice_get s.games n ≡ Some old → Alters (0 ∷ 1 ∷ []) changed (rows_of_seen kinds (1 + n) old)
@@ -55,12 +49,6 @@ module _ {DP DM DE DT SP SM SE ST : Type 0} (kinds : ClubRules DP DM DE DT SP SM
       (tables_of kinds (record s { last = moment; games = slice_set s.games n new }) 12)
   seen-table-set s n old new moment changed at it =
       gathered-set (rows_of_seen kinds) numbered apart s.games n old new changed at it
-
-  -- a game whose rows do not change leaves the table as it is
-  pub seen-table-kept : (s : State DM SM) (n : ℕ) (old new : AnyGame DM SM) (moment : ℕ)
-      → slice_get s.games n ≡ Some old → rows_of_seen kinds (1 + n) new ≡ rows_of_seen kinds (1 + n) old
-      → tables_of kinds (record s { last = moment; games = slice_set s.games n new }) 12 ≡ tables_of kinds s 12
-  seen-table-kept s n old new moment at same = gathered-kept (rows_of_seen kinds) 1 s.games n old new at same
 
   -- a game more adds its rows
   pub seen-added : (games : List (AnyGame DM SM)) (new : AnyGame DM SM)
@@ -91,41 +79,6 @@ module _ {DP DM DE DT SP SM SE ST : Type 0} (kinds : ClubRules DP DM DE DT SP SM
       let here : slice_get s.games n ≡ Some x = subst (λ k. slice_get s.games k ≡ Some x) place there in
       let is : x ≡ g = cc in
       subst₂ (λ k e. Has (rows_of_seen kinds (1 + k) e) z) place is has
-
-  -- The rows of the table that have the number of a game are that game's.
-  pub seen-read : (s : State DM SM) (n : ℕ) (g : AnyGame DM SM) (rows : List Row) → slice_get s.games n ≡ Some g
-      → AreThose (0 ∷ []) (number (1 + n) ∷ []) (tables_of kinds s 12) rows
-      → HaveSame rows (rows_of_seen kinds (1 + n) g)
-  seen-read s n g rows at those = record {
-    there = λ z h.
-        let (in_table, alike) = those.sound z h in
-        let it = gathered-had (rows_of_seen kinds) 1 s.games z in_table in
-        let first = numbered (1 + it.0) it.1 z it.3 in
-        let id = same-ids z (number (1 + n) ∷ []) (1 + it.0) (1 + n) first refl alike in
-        game-had s n g z at in_table (first ∙ ap number id);
-    back = λ z h.
-        those.complete z (gathered-has (rows_of_seen kinds) 1 s.games n g z at h)
-        (ids-agree z (number (1 + n) ∷ []) (1 + n) (numbered (1 + n) g z h) refl);
-  }
-
-  -- A table in which each row has the number of a game, and each game its rows, is the club's.
-  pub seen-gathered : (s : State DM SM) (table : List Row)
-      → ((z : Row) → Has table z → (n : ℕ) × (g : AnyGame DM SM) × (slice_get s.games n ≡ Some g)
-      × (column z 0 ≡ number (1 + n)))
-      → ((n : ℕ) (g : AnyGame DM SM) → slice_get s.games n ≡ Some g → (rows : List Row)
-      × AreThose (0 ∷ []) (number (1 + n) ∷ []) table rows × HaveSame rows (rows_of_seen kinds (1 + n) g))
-      → HaveSame table (tables_of kinds s 12)
-  seen-gathered s table of_games games = record {
-    there = λ z h.
-        let (n, g, at, first) = of_games z h in
-        let (rows, those, same) = games n g at in
-        gathered-has (rows_of_seen kinds) 1 s.games n g z at
-        (same.there z (those.complete z h (ids-agree z (number (1 + n) ∷ []) (1 + n) first refl)));
-    back = λ z h.
-        let (n, g, at, has) = gathered-had (rows_of_seen kinds) 1 s.games z h in
-        let (rows, those, same) = games n g at in
-        (those.sound z (same.back z has)).0;
-  }
 
   -- The first of the rows of the table that have the number of a game and a text is what is found for the text in the
   -- game.

@@ -4,10 +4,10 @@ pub use Rattle.club_rows.proofs.SeenGame.{entry-alters, seen-apart, seen-row-sta
 pub use Rattle.club_rows.proofs.SeenLine.{numbers-in, stood-in-row}
 pub use Rattle.club_rows.proofs.SeenAfter.{seen-next}
 -- The table of all games.
-pub use Rattle.club_rows.proofs.SeenClub.{seen-table-apart, seen-table-set, seen-table-kept, seen-added}
-pub use Rattle.club_rows.proofs.SeenClub.{seen-table-added, seen-found, seen-read, seen-gathered, game-had}
+pub use Rattle.club_rows.proofs.SeenClub.{seen-table-set, seen-added}
+pub use Rattle.club_rows.proofs.SeenClub.{seen-table-added, seen-found, game-had}
 pub use Rattle.club_rows.proofs.SeenTypes.{seen-rows-typed, seen-typed}
 -- The rows of the elements of a list, by ids that count up, and keys of a number and a text.
 pub use Rattle.club_rows.proofs.GatheredLemmas.{gathered-had, gathered-has, gathered-apart, gathered-set}
-pub use Rattle.club_rows.proofs.GatheredLemmas.{gathered-added, gathered-kept}
-pub use Rattle.club_rows.proofs.KeyPairs.{same-numbers, same-ids, ids-agree, same-texts, pairs-agree}
+pub use Rattle.club_rows.proofs.GatheredLemmas.{gathered-added}
+pub use Rattle.club_rows.proofs.KeyPairs.{same-numbers, same-texts, pairs-agree}

@@ -7,8 +7,9 @@ use Rattle.club_core.specs.Game.{Game, moves_of}
 use Rattle.club_core.specs.Legal.{IsLegalGame}
 use Rattle.club_core.specs.LegalState.{Each}
 use Rattle.club_rows.specs.Replay.{IsPlayedAs}
-use Rattle.club_rows.specs.GameHeader.{may_declare, may_stand}
-use Rattle.club_core.specs.View.{IsRowOf, Shows, IsSound, terms_of}
+use Rattle.club_rows.specs.Columns.{Columns, HasReplayed}
+use Rattle.club_rows.specs.MayStand.{may_declare, may_stand}
+use Rattle.club_core.specs.View.{Shows, IsSound, terms_of}
 use Rattle.store_tables.specs.Cells.{game_cells, move_cells}
 use Rattle.store_tables.specs.declared.rows.GameRecord.{GameRecord}
 use Rattle.store_tables.specs.declared.rows.MoveRow.{MoveRow}
@@ -93,21 +94,31 @@ IsWrongAsTold rules terms row moves shown.WrongMoves = ¬ AreMovesOf rules terms
 IsWrongAsTold {M = M} rules terms row moves shown.WrongGame =
     AreMovesOf rules terms row moves × ((id : ℕ) (game : Game M) → ¬ AreRowsOf rules terms id row moves game)
 
+abbrev pub IsNoGame : {R P M E T : Type 0} → CheckedRows R P M E T → Type 0
+IsNoGame (shown.Game played) = ⊥
+IsNoGame shown.WrongMoves = Unit {0}
+IsNoGame shown.WrongGame = Unit {0}
+
+-- the moves are called wrong where they are, and else the row is
+abbrev pub AreMovesTold : {R P M E T : Type 0} → GameRules P M E T → Terms → GameRecord → List MoveRow
+    → CheckedRows R P M E T → Type 0
+AreMovesTold rules terms row moves (shown.Game played) = ⊥
+AreMovesTold rules terms row moves shown.WrongMoves = ¬ AreMovesOf rules terms row moves
+AreMovesTold rules terms row moves shown.WrongGame = AreMovesOf rules terms row moves
+
 -- with a row that has no id or no start the moves are called wrong, where there are some, and else the row
 abbrev pub IsUnstarted : {R P M E T : Type 0} → List MoveRow → CheckedRows R P M E T → Type 0
 IsUnstarted moves (shown.Game played) = ⊥
 IsUnstarted moves shown.WrongMoves = moves ≢ []
 IsUnstarted moves shown.WrongGame = moves ≡ []
 
--- a game is shown where its row may stand and is the one that is stored under that id
-abbrev pub StandsAs : {R P M E T : Type 0} → GameRules P M E T → GameRecord → ℕ → Played R P M E T
-    → CheckedRows R P M E T → Type 0
-StandsAs {R} {P} {M} {E} {T} rules stored id played (shown.Game p) =
+-- a game is shown where its row may stand and has the columns that are stored
+abbrev pub StandsAs : {R P M E T : Type 0} → GameRules P M E T → Columns → Played R P M E T → CheckedRows R P M E T
+    → Type 0
+StandsAs rules c played (shown.Game p) =
     (p ≡ played) × (may_stand rules.has_draw_offers (may_declare rules played.view) played.view.row ≡ true)
-    × ((terms : Terms) (game : Game M) → IsRowOf rules terms game played.view.row
-    → game_cells stored ≡ game_row rules terms id game)
-StandsAs rules stored id played shown.WrongMoves = ⊥
-StandsAs {R} {P} {M} {E} {T} rules stored id played shown.WrongGame =
-    (terms : Terms) (game : Game M) → IsRowOf rules terms game played.view.row
-    → may_stand rules.has_draw_offers (may_declare rules played.view) played.view.row ≡ true
-    → game_cells stored ≡ game_row rules terms id game → ⊥
+    × HasReplayed rules played.view.row c
+StandsAs rules c played shown.WrongMoves = ⊥
+StandsAs rules c played shown.WrongGame =
+    may_stand rules.has_draw_offers (may_declare rules played.view) played.view.row ≡ true
+    → HasReplayed rules played.view.row c → ⊥

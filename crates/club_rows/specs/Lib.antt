@@ -1,12 +1,12 @@
 pub mod ChallengeRows
 pub mod Club
+pub mod Columns
 pub mod EachOnce
 pub mod FirstSchema
 pub mod Listed
 pub mod Made
 pub mod NextScores
 pub mod Pairs
-pub mod Records
 pub mod Replay
 pub mod Scores
 pub mod Seen
@@ -14,4 +14,4 @@ pub mod RowView
 pub mod LegalRows
 pub mod Tables
 pub mod Tally
-pub mod GameHeader
+pub mod MayStand

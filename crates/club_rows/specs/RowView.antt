@@ -1,37 +1,16 @@
 -- What the row of a game and the rows of one ply show of it, without its other moves.
-use Rattle.std.specs.Prelude.{◌≡◌, ◌≤◌, ◌<◌, ◌-◌, ◌^◌, ℕ, zero, suc, pos, Option, None, slice_get}
+use Rattle.std.specs.Prelude.{◌≡◌, ◌-◌, ℕ, zero, suc, Option, None, slice_get}
 use Rattle.std.specs.Option.{option_map}
 use Rattle.sqlite.specs.Order.{Row}
 use Rattle.club_rules.specs.GameRules.{GameRules}
 use Rattle.club_core.specs.declared.rows.Asked.{Asked}
-use Rattle.club_requests.specs.Limits.{last_moment, most_plies}
 use Rattle.club_core.specs.Events.{Terms}
 use Rattle.club_core.specs.Game.{Game, moves_of, last_position}
-use Rattle.club_core.specs.View.{CanGrow}
 use Rattle.store_tables.specs.Cells.{move_cells}
-use Rattle.store_tables.specs.declared.rows.GameRecord.{GameRecord}
 use Rattle.club_rows.specs.Tables.{move_rows}
 use Rattle.club_rows.specs.Tally.{HasStood}
-use Rattle.club_rows.specs.declared.row_view.GameProgress.{GameProgress}
 use Rattle.club_rows.specs.declared.row_view.PlyRows.{PlyRows}
 use Rattle.club_rows.specs.declared.tally.Stood.{Stood}
-
--- the row has these counts
-pub record HasCounts (stored : GameRecord) (counts : GameProgress) : Type 0 where
-  pub since : stored.since ≡ pos counts.since
-  pub plies : stored.plies ≡ pos counts.plies
-  pub left_first : stored.left1 ≡ pos counts.left_first
-  pub left_second : stored.left2 ≡ pos counts.left_second
-  pub track_first : stored.track_a ≡ pos counts.track.0
-  pub track_second : stored.track_b ≡ pos counts.track.1
-
--- counts that the row of a game may have
-pub record AreCounts (counts : GameProgress) : Type 0 where
-  pub since : counts.since ≤ last_moment
-  pub plies : counts.plies ≤ most_plies
-  pub left_first : counts.left_first < 2 ^ 63
-  pub left_second : counts.left_second < 2 ^ 63
-  pub track : CanGrow counts.track
 
 -- the last position of the game stood so often, and after that ply first
 abbrev pub HasLastStood : {P M E T : Type 0} → GameRules P M E T → Game M → Stood → Type 0

@@ -2,6 +2,7 @@
 #![tactic(auto)]
 
 pub mod challenges;
+pub mod columns;
 pub mod ends;
 pub mod kinds;
 pub mod laws;
@@ -10,7 +11,6 @@ pub mod numbers;
 pub mod records;
 pub mod replay;
 pub mod row_view;
-pub mod same;
 pub mod scores;
 pub mod seen;
 pub mod tally;

@@ -39,6 +39,18 @@ pub fn id(number: i64) -> Option<u32>
     }
 }
 
+/// A number of a table that is at most so great.
+pub fn at_most(number: i64, most: u32) -> Option<u32>
+    ensures some { IfSome result (λ n. pos n ≡ number) }
+    ensures range { IfSome result (λ n. n ≤ most) }
+    ensures none { result ≡ None → (n : ℕ) → n ≤ most → number ≢ pos n }
+{
+    match id(number) {
+        Some(number) => { if number <= most { Some(number) } else { None } }
+        None => None,
+    }
+}
+
 /// A moment of a table, unless it is none.
 pub fn moment(seconds: i64) -> Option<Moment>
     ensures some { IfSome result (λ m. pos m ≡ seconds) }

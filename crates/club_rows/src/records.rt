@@ -9,12 +9,12 @@ ghost use Rattle.club_core.specs.View.{IsRowOf};
 ghost use Rattle.store_tables.specs.Cells.{game_cells, move_cells};
 ghost use Rattle.club_core.specs.Answer.{move_reply_of};
 ghost use Rattle.club_rows.specs.Made.{made_row};
-ghost use Rattle.club_rows.specs.Records.{HasNumbersOf};
 ghost use Rattle.club_rows.specs.Tables.{number, side_number, game_row, end_name_text};
 
 use crate::ends::{end_name, side_number};
 use crate::numbers::stored;
 use clocks::Moment;
+use club_core::rows::copy_key;
 use club_core::{GameRow, Offer};
 use club_requests::Moved;
 use club_rules::{Memory, Rules};
@@ -22,12 +22,12 @@ use squares::Score;
 use std::alloc::Global;
 use store_tables::{GameRecord, MoveRow};
 
-// A copy of a text that may be none.
-pub(crate) fn copied(text: &Option<String>) -> Result<Option<String>, Memory>
-    ensures { IfOk result (λ copy. option_map (λ s. string_bytes s) copy ≡ option_map (λ s. string_bytes s) text.now) }
+/// A text that may be none, of one's own.
+pub fn owned(alloc: Global, text: Option<&str>) -> Result<Option<String>, Memory>
+    ensures { IfOk result (λ copy. option_map (λ s. string_bytes s) copy ≡ option_map (λ s. s.now) text.entry) }
 {
     match text {
-        Some(text) => Ok(Some(text.clone()?)),
+        Some(text) => Ok(Some(String::from_str(alloc, text)?)),
         None => Ok(None),
     }
 }
@@ -72,44 +72,6 @@ fn offer_ply(offer: Option<Offer>) -> Option<i64>
     }
 }
 
-// The texts of a row of the table of games.
-#[derive(Drop)]
-struct Texts {
-    key: Option<String>,
-    end: Option<String>,
-    result: Option<String>,
-    position: String,
-}
-
-// The row of a game, with its texts.
-fn with_texts<E: Copy + Drop>(id: u32, row: &GameRow<E>, texts: Texts) -> GameRecord
-    ensures numbers { row.now.left_first < 2 ^ 63 → row.now.left_second < 2 ^ 63 → HasNumbersOf id row.now result }
-    ensures key { result.key ≡ texts.key }
-    ensures end { result.end ≡ texts.end }
-    ensures result { result.result ≡ texts.result }
-    ensures position { result.position ≡ texts.position }
-{
-    GameRecord {
-        id: i64::from(id),
-        key: texts.key,
-        event: i64::from(row.event),
-        first: i64::from(row.first),
-        second: i64::from(row.second),
-        start: stored(row.start.seconds()),
-        since: stored(row.since.seconds()),
-        plies: i64::from(row.plies),
-        left1: stored(row.left_first),
-        left2: stored(row.left_second),
-        offer_side: offer_side(row.offer),
-        offer_ply: offer_ply(row.offer),
-        end: texts.end,
-        result: texts.result,
-        position: texts.position,
-        track_a: i64::from(row.track.0),
-        track_b: i64::from(row.track.1),
-    }
-}
-
 /// The row of the table of games for a game of that id.
 pub fn record_of<R: Rules>(
     alloc: Global,
@@ -121,18 +83,29 @@ pub fn record_of<R: Rules>(
         (terms : Terms) (game : Game R.Move) → IsRowOf R.rules terms game row.now →
         game_cells r ≡ game_row R.rules terms id game) }
 {
-    let key = copied(&row.key)?;
+    let key = copy_key(&row.key)?;
     let end = end_text::<R>(alloc, row)?;
     let result = score_text(alloc, row.result)?;
     let position = row.position.clone()?;
-    let texts = Texts {
+    Ok(GameRecord {
+        id: i64::from(id),
         key,
+        event: i64::from(row.event),
+        first: i64::from(row.first),
+        second: i64::from(row.second),
+        start: stored(row.start.seconds()),
+        since: stored(row.since.seconds()),
+        plies: i64::from(row.plies),
+        left1: stored(row.left_first),
+        left2: stored(row.left_second),
+        offer_side: offer_side(row.offer),
+        offer_ply: offer_ply(row.offer),
         end,
         result,
         position,
-    };
-    let record = with_texts(id, row, texts);
-    Ok(record)
+        track_a: i64::from(row.track.0),
+        track_b: i64::from(row.track.1),
+    })
 }
 
 /// The row of the table of moves for a move of a game.

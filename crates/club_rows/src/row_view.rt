@@ -1,6 +1,6 @@
 //! The view of a game by its own row, and by the rows of the ply that a command asks of.
 
-ghost use Rattle.std.specs.Prelude.{◌≡◌, ◌≢◌, ◌≤◌, ◌<◌, ◌-◌, ℕ, pos, IfOk, IfSome, IsSome, None, Some, Ok};
+ghost use Rattle.std.specs.Prelude.{◌≡◌, ◌≢◌, ◌≤◌, ◌-◌, ℕ, pos, IfOk, IfSome, IsSome, None, Some, Ok};
 ghost use Rattle.std.specs.Prelude.{string_bytes};
 ghost use Rattle.club_core.specs.Events as core;
 ghost use Rattle.club_core.specs.Game.{Game, game_at, last_position};
@@ -8,130 +8,63 @@ ghost use Rattle.club_core.specs.Legal.{IsLegalGame};
 ghost use Rattle.club_core.specs.Step.{move_at};
 ghost use Rattle.club_core.specs.View.{IsAsked, IsRowOf, IsSound, Shows, ShowsPly, terms_of};
 ghost use Rattle.club_rows.specs.Replay.{terms_given};
-ghost use Rattle.club_rows.specs.RowView.{HasCounts, AreCounts, HasLastStood, AreRowsAt, IsPlayed};
+ghost use Rattle.club_rows.specs.Columns.{columns_in, columns_of};
+ghost use Rattle.club_rows.specs.RowView.{HasLastStood, AreRowsAt, IsPlayed};
 ghost use Rattle.club_rows.specs.LegalRows.{IsRecordOf};
-ghost use Rattle.club_rows.specs.GameHeader.{HasNumbers};
 
-use crate::numbers::{counted, id, moment};
-use crate::records::copied;
+use crate::columns::{StoredGame, stored_game};
+use crate::numbers::counted;
+use crate::records::owned;
 use crate::replay::{Terms, move_of};
 use crate::tally::Stood;
-use crate::view::{Numbers, end_with, numbers_in, offer_in, outside_left, score_of_end};
-use clocks::Moment;
+use crate::view::{end_in, score_of_end};
 use club_core::{Asked, GameRow, GameView};
 use club_requests::values::{MOST_PLIES, is_increment};
 use club_rules::{Memory, Rules};
 use std::alloc::Global;
 use store_tables::{GameRecord, MoveRow};
 
-/// The greatest number of a track that still grows.
-const MOST_TRACK: u32 = u32::MAX - 1;
-
-// The numbers of a row that a move changes.
-#[derive(Clone, Copy)]
-struct GameProgress {
-    since: Moment,
-    plies: u32,
-    left_first: u64,
-    left_second: u64,
-    track: (u32, u32),
-}
-
-// A number of a table that is at most so great.
-fn at_most(number: i64, most: u32) -> Option<u32>
-    ensures some { IfSome result (λ n. pos n ≡ number) }
-    ensures range { IfSome result (λ n. n ≤ most) }
-    ensures none { result ≡ None → (n : ℕ) → n ≤ most → number ≢ pos n }
-{
-    match id(number) {
-        Some(number) => { if number <= most { Some(number) } else { None } }
-        None => None,
-    }
-}
-
-// The counts of a row, if a game may have them.
-fn counts_in(row: &GameRecord) -> Option<GameProgress>
-    ensures some { IfSome result (HasCounts row.now) }
-    ensures range { IfSome result AreCounts }
-    ensures none { result ≡ None → (counts : _) → AreCounts counts → ¬ HasCounts row.now counts }
-{
-    let since = match moment(row.since) {
-        Some(since) => since,
-        None => return None,
-    };
-    let plies = match at_most(row.plies, MOST_PLIES) {
-        Some(plies) => plies,
-        None => return None,
-    };
-    let left_first = match counted(row.left1) {
-        Some(left) => left,
-        None => return None,
-    };
-    let left_second = match counted(row.left2) {
-        Some(left) => left,
-        None => return None,
-    };
-    let first = match at_most(row.track_a, MOST_TRACK) {
-        Some(first) => first,
-        None => return None,
-    };
-    let second = match at_most(row.track_b, MOST_TRACK) {
-        Some(second) => second,
-        None => return None,
-    };
-    Some(GameProgress {
-        since,
-        plies,
-        left_first,
-        left_second,
-        track: (first, second),
-    })
-}
-
 // The machine's row of a game, by its stored row and how often its last position stood.
 fn row_in<R: Rules>(
-    row: &GameRecord,
-    numbers: &Numbers,
-    counts: &GameProgress,
+    alloc: Global,
+    stored: &StoredGame<'_>,
     position: &R::Position,
     stood: Stood,
 ) -> Result<GameRow<R::End>, Memory>
-    ensures plies { IfOk result (λ new. new.plies ≡ counts.now.plies) }
-    ensures left_first { IfOk result (λ new. new.left_first ≡ counts.now.left_first) }
-    ensures left_second { IfOk result (λ new. new.left_second ≡ counts.now.left_second) }
+    ensures plies { IfOk result (λ new. new.plies ≡ stored.now.plies) }
+    ensures left_first { IfOk result (λ new. new.left_first ≡ stored.now.left_first) }
+    ensures left_second { IfOk result (λ new. new.left_second ≡ stored.now.left_second) }
     ensures shows { IfOk result (λ new. (terms : core.Terms) (id : ℕ) (game : Game R.Move) →
-        IsRecordOf R.rules terms id row.now game →
-        HasNumbers row.now numbers.now.game numbers.now.event numbers.now.first numbers.now.second numbers.now.start →
-        HasCounts row.now counts.now → position.now ≡ last_position R.rules game → HasLastStood R.rules game stood →
+        IsLegalGame R.rules terms game → columns_in stored.now ≡ columns_of R.rules terms id game →
+        position.now ≡ last_position R.rules game → HasLastStood R.rules game stood →
         IsRowOf R.rules terms game new) }
 {
-    let (first, second) = counts.track;
+    let (first, second) = stored.track;
     let track = R::track_of(first, second);
     let ruled = R::track_end(
         track,
         position,
-        counts.plies as usize,
+        stored.plies as usize,
         stood.times,
         stood.first_ply,
     );
-    let outside = outside_left(row, ruled.is_some());
-    let end = end_with(ruled, outside);
+    let end = end_in(stored, ruled);
     let result = score_of_end::<R>(&end, R::turn(position));
     Ok(GameRow {
-        key: copied(&row.key)?,
-        event: numbers.event,
-        first: numbers.first,
-        second: numbers.second,
-        start: numbers.start,
-        since: counts.since,
-        plies: counts.plies,
-        left_first: counts.left_first,
-        left_second: counts.left_second,
-        track: counts.track,
-        offer: offer_in(row),
+        key: owned(alloc, stored.key)?,
+        event: stored.event,
+        first: stored.first,
+        second: stored.second,
+        start: stored.start,
+        since: stored.since,
+        plies: stored.plies,
+        left_first: stored.left_first,
+        left_second: stored.left_second,
+        track: stored.track,
+        offer: stored.offer,
         end,
         result,
-        position: row.position.clone()?,
+        position: String::from_str(alloc, stored.position)?,
     })
 }
 
@@ -155,20 +88,16 @@ pub fn view_of_row<R: Rules>(
     if !is_increment(terms.increment) {
         return Ok(None);
     }
-    let numbers = match numbers_in(row) {
-        Some(numbers) => numbers,
+    let stored = match stored_game(row) {
+        Some(stored) => stored,
         None => return Ok(None),
     };
-    let counts = match counts_in(row) {
-        Some(counts) => counts,
-        None => return Ok(None),
-    };
-    let position = match R::read_position(alloc, row.position.as_str())? {
+    let position = match R::read_position(alloc, stored.position)? {
         Some(position) => position,
         None => return Ok(None),
     };
-    let new = row_in::<R>(row, &numbers, &counts, &position, stood)?;
-    let (first, second) = counts.track;
+    let new = row_in::<R>(alloc, &stored, &position, stood)?;
+    let (first, second) = stored.track;
     Ok(Some(GameView {
         row: new,
         budget: terms.budget,

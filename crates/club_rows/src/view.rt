@@ -1,100 +1,58 @@
 //! The view of a game that its rows give, if they are those of a legal game.
 
-ghost use Rattle.std.specs.Prelude.{◌≡◌, ◌≤◌, ◌<◌, ◌^◌, ℕ, List, pos, Option, None, Some, true, false, IfOk};
-ghost use Rattle.std.specs.Prelude.{IfSome, IsTrue, length, string_bytes, is_some};
+ghost use Rattle.std.specs.Prelude.{◌≡◌, ◌≤◌, ◌^◌, ℕ, List, Option, None, Some, true, IfOk, IsTrue, length};
+ghost use Rattle.std.specs.Prelude.{string_bytes, is_some};
 ghost use Rattle.std.specs.Option.{option_map};
-ghost use Rattle.squares.specs.declared.sides.Score.{Score};
-ghost use Rattle.squares.specs.Sides.{score_text};
 ghost use Rattle.club_rules.specs.Line.{IsPlayedLine, position_after};
-ghost use Rattle.club_core.specs.declared.rows.Offer.{Offer};
 ghost use Rattle.club_requests.specs.declared.outside_end.OutsideEnd.{OutsideEnd};
-ghost use Rattle.club_requests.specs.declared.outside_end.OutsideEnd.TheVariants.{Recorded};
-ghost use Rattle.club_core.specs.Game.{Game, Entry, end_with, score_with};
-ghost use Rattle.club_core.specs.View.{IsSound, Shows, rule_in, terms_of};
-ghost use Rattle.club_requests.specs.OutsideEnd.{outside_text};
-ghost use Rattle.club_rows.specs.Tables.{side_number};
-ghost use Rattle.club_rows.specs.Replay.{IsCounted, IsReplayed, Replays, game_from, terms_given};
 ghost use Rattle.club_requests.specs.Limits.{is_budget, is_increment};
-ghost use Rattle.club_rows.specs.LegalRows.{AreRowsOf, IsUnstarted, IsWrongAsTold, ShowsGame, IsSoundIfShown, StandsAs};
-ghost use Rattle.club_rows.specs.declared.view.GameHeader.{GameHeader};
-ghost use Rattle.club_rows.specs.GameHeader.{HasNumbers, IsHeaderOf, AreIds, game_of_header, may_have_key};
-ghost use Rattle.club_rows.specs.GameHeader.{may_have_offer};
-ghost use Rattle.club_rows.specs.GameHeader.{may_have_end, may_declare, may_stand};
+ghost use Rattle.club_core.specs.Events as core;
+ghost use Rattle.club_core.specs.Game.{Game, Entry, score_with};
+ghost use Rattle.club_core.specs.View.{IsRowOf, IsSound, Shows, rule_in, terms_of};
+ghost use Rattle.club_rows.specs.Tables.{end_name_text};
+ghost use Rattle.club_rows.specs.Columns.{HasReplayed, IsEndIn, IsNamedIn, IsOutsideIn, columns_in, game_in};
+ghost use Rattle.club_rows.specs.Replay.{IsCounted, IsReplayed, Replays, game_from, terms_given};
+ghost use Rattle.club_rows.specs.LegalRows.{AreMovesTold, AreRowsOf, IsNoGame, IsSoundIfShown, IsUnstarted};
+ghost use Rattle.club_rows.specs.LegalRows.{IsWrongAsTold, ShowsGame, StandsAs};
+ghost use Rattle.club_rows.specs.MayStand.{may_have_key, may_have_offer, may_have_end, may_declare, may_stand};
 
-use crate::ends::{outside_of, score_of, side_of};
+use crate::columns::{StoredGame, stored_game};
+use crate::ends::{end_name, outside_of};
 use crate::numbers::{id, moment};
-use crate::records::{copied, record_of};
+use crate::records::owned;
 use crate::replay::{Replayed, Terms, end_of, replay};
-use crate::same::is_same;
 use crate::tally::Tally;
-use clocks::Moment;
-use club_core::{GameEnd, GameRow, GameView, Offer};
+use club_core::{GameEnd, GameRow, GameView};
 use club_requests::{OutsideEnd, is_name};
 use club_rules::{Memory, Rules};
 use squares::{Score, Side};
 use std::alloc::Global;
 use store_tables::{GameRecord, MoveRow};
 
-// The offer that a row has: none without a side and a ply.
-pub(crate) fn offer_in(row: &GameRecord) -> Option<Offer>
-    ensures { (offer : Option Offer) → row.now.offer_side ≡ option_map (λ o. pos (side_number o.side)) offer →
-        row.now.offer_ply ≡ option_map (λ o. pos o.ply) offer → IfSome offer (λ o. o.ply < 2 ^ 32) → result ≡ offer }
+// The end other than by the rules that a row names.
+fn outside_in(stored: &StoredGame<'_>) -> Option<OutsideEnd>
+    ensures { IsNamedIn (columns_in stored.now) result }
 {
-    let side = match row.offer_side {
-        Some(side) => side_of(side),
+    match stored.end {
+        Some(name) => outside_of(name, stored.result),
         None => None,
-    };
-    let ply = match row.offer_ply {
-        Some(ply) => id(ply),
-        None => None,
-    };
-    match side {
-        Some(side) => match ply {
-            Some(ply) => Some(Offer { side, ply }),
+    }
+}
+
+// The end of a game: the rules' if they gave one, else the other that its row names.
+pub(crate) fn end_in<E: Copy + Drop>(
+    stored: &StoredGame<'_>,
+    ruled: Option<E>,
+) -> Option<GameEnd<E>>
+    ensures { IsEndIn (columns_in stored.now) ruled result }
+{
+    match ruled {
+        Some(end) => Some(GameEnd::Rule(end)),
+        None => match outside_in(stored) {
+            Some(end) => Some(GameEnd::Outside(end)),
             None => None,
         },
-        None => None,
     }
-}
-
-// The score that a row names.
-fn score_in(row: &GameRecord) -> Option<Score>
-    ensures { (score : Score) → option_map (λ s. string_bytes s) row.now.result ≡ Some (score_text score) →
-        result ≡ Some score }
-{
-    match &row.result {
-        Some(text) => score_of(text.as_str()),
-        None => None,
-    }
-}
-
-// The end other than by the rules that a row names.
-fn outside_in(row: &GameRecord) -> Option<OutsideEnd>
-    ensures { (outside : Option OutsideEnd) → option_map (λ s. string_bytes s) row.now.end
-        ≡ option_map outside_text outside →
-        ((s : Score) → outside ≡ Some (Recorded s) → option_map (λ s. string_bytes s) row.now.result
-        ≡ Some (score_text s)) → result ≡ outside }
-{
-    match &row.end {
-        Some(name) => outside_of(name.as_str(), score_in(row)),
-        None => None,
-    }
-}
-
-// The end other than by the rules that stands: none where the rules gave one.
-pub(crate) fn outside_left(row: &GameRecord, is_ended: bool) -> Option<OutsideEnd>
-    ensures alone { is_some result ≡ true → is_ended ≡ false }
-    ensures ruled { is_ended ≡ true → result ≡ None }
-    ensures told { is_ended ≡ false → (outside : Option OutsideEnd) →
-        option_map (λ s. string_bytes s) row.now.end ≡ option_map outside_text outside →
-        ((s : Score) → outside ≡ Some (Recorded s) → option_map (λ s. string_bytes s) row.now.result
-        ≡ Some (score_text s)) → result ≡ outside }
-{
-    if is_ended {
-        return None;
-    }
-    let outside = outside_in(row);
-    outside
 }
 
 // The score of an end, by the side to move.
@@ -131,154 +89,66 @@ pub enum CheckedRows<R: Rules> {
     WrongGame,
 }
 
-// The ids and the start of a row.
-#[derive(Clone, Copy)]
-pub(crate) struct Numbers {
-    pub game: u32,
-    pub event: u32,
-    pub first: u32,
-    pub second: u32,
-    pub start: Moment,
-}
-
-pub(crate) fn numbers_in(row: &GameRecord) -> Option<Numbers>
-    ensures some { IfSome result (λ n. HasNumbers row.now n.game n.event n.first n.second n.start) }
-    ensures ids { IfSome result (λ n. AreIds n.game n.event n.first n.second n.start) }
-    ensures none { result ≡ None → (game event first second start : ℕ) → AreIds game event first second start →
-        ¬ HasNumbers row.now game event first second start }
-{
-    let game = match id(row.id) {
-        Some(game) => game,
-        None => return None,
-    };
-    let event = match id(row.event) {
-        Some(event) => event,
-        None => return None,
-    };
-    let first = match id(row.first) {
-        Some(first) => first,
-        None => return None,
-    };
-    let second = match id(row.second) {
-        Some(second) => second,
-        None => return None,
-    };
-    let start = match moment(row.start) {
-        Some(start) => start,
-        None => return None,
-    };
-    Some(Numbers {
-        game,
-        event,
-        first,
-        second,
-        start,
-    })
-}
-
-// The end of a game: the rules' if there is one, else the other.
-pub(crate) fn end_with<E: Copy + Drop>(
-    ruled: Option<E>,
-    outside: Option<OutsideEnd>,
-) -> Option<GameEnd<E>>
-    ensures { result ≡ end_with ruled outside }
-{
-    match ruled {
-        Some(end) => Some(GameEnd::Rule(end)),
-        None => match outside {
-            Some(end) => Some(GameEnd::Outside(end)),
-            None => None,
-        },
-    }
-}
-
-// What a row tells of a game beside its moves.
-#[derive(Drop)]
-struct GameHeader<E: Copy + Drop> {
-    key: Option<String>,
-    numbers: Numbers,
-    offer: Option<Offer>,
-    ruled: Option<E>,
-    outside: Option<OutsideEnd>,
-}
-
-// What a row tells of a game whose moves were replayed.
-fn header_in<R: Rules>(
-    row: &GameRecord,
-    numbers: Numbers,
+// The machine's row of a game that was replayed, with what its stored row tells beside the moves.
+fn row_replayed<R: Rules>(
+    alloc: Global,
+    stored: &StoredGame<'_>,
     game: &Replayed<R>,
-) -> Result<GameHeader<R::End>, Memory>
+) -> Result<GameRow<R::End>, Memory>
+    requires plies { length game.now.line.items ≤ 600 }
     requires line { IsPlayedLine R.rules R.rules.start game.now.line.items }
     requires position { game.now.position ≡ position_after R.rules R.rules.start game.now.line.items }
     requires counted { IsCounted R.rules game.now }
-    ensures key { IfOk result (λ t. option_map (λ s. string_bytes s) t.key
-        ≡ option_map (λ s. string_bytes s) row.now.key) }
-    ensures numbers { IfOk result (λ t. t.numbers ≡ numbers) }
-    ensures ruled { IfOk result (λ t. t.ruled ≡ R.rules.judge R.rules.start game.now.line.items) }
-    ensures offer { IfOk result (λ t. (offer : Option Offer) →
-        row.now.offer_side ≡ option_map (λ o. pos (side_number o.side)) offer →
-        row.now.offer_ply ≡ option_map (λ o. pos o.ply) offer → IfSome offer (λ o. o.ply < 2 ^ 32) → t.offer ≡ offer) }
-    ensures alone { IfOk result (λ t. is_some t.outside ≡ true → t.ruled ≡ None) }
-    ensures none { IfOk result (λ t. is_some t.ruled ≡ true → t.outside ≡ None) }
-    ensures outside { IfOk result (λ t. t.ruled ≡ None → (outside : Option OutsideEnd) →
-        option_map (λ s. string_bytes s) row.now.end ≡ option_map outside_text outside →
-        ((s : Score) → outside ≡ Some (Recorded s) → option_map (λ s. string_bytes s) row.now.result
-        ≡ Some (score_text s)) → t.outside ≡ outside) }
+    ensures plies { IfOk result (λ row. row.plies ≡ length game.now.line.items) }
+    ensures left_first { IfOk result (λ row. row.left_first ≡ game.now.left_first) }
+    ensures left_second { IfOk result (λ row. row.left_second ≡ game.now.left_second) }
+    ensures shows { IfOk result (λ row. (outside : Option OutsideEnd) ×
+        IsOutsideIn (columns_in stored.now) (R.rules.judge R.rules.start game.now.line.items) outside ×
+        ((terms : core.Terms) (entries : List (Entry R.Move)) →
+        Replays R.rules terms (game_from stored.now.start entries) game.now →
+        IsRowOf R.rules terms (game_in (columns_in stored.now) outside entries) row)) }
 {
-    let ruled = end_of(game);
-    let outside = outside_left(row, ruled.is_some());
-    let offer = offer_in(row);
-    let key = copied(&row.key)?;
-    Ok(GameHeader {
-        key,
-        numbers,
-        offer,
-        ruled,
-        outside,
+    let end = end_in(stored, end_of(game));
+    let result = score_of_end::<R>(&end, R::turn(&game.position));
+    Ok(GameRow {
+        key: owned(alloc, stored.key)?,
+        event: stored.event,
+        first: stored.first,
+        second: stored.second,
+        start: stored.start,
+        since: game.since,
+        plies: game.line.len() as u32,
+        left_first: game.left_first,
+        left_second: game.left_second,
+        track: R::track_numbers(&game.track),
+        offer: stored.offer,
+        end,
+        result,
+        position: R::write_position(alloc, &game.position)?,
     })
 }
 
-// The view of a game that was replayed, with what its row tells.
-fn with_header<R: Rules>(
+// The view of a game that was replayed and has that row.
+fn viewed<R: Rules>(
     alloc: Global,
-    told: GameHeader<R::End>,
+    stored: &StoredGame<'_>,
     terms: Terms,
     game: Replayed<R>,
 ) -> Result<Played<R>, Memory>
     requires increment { terms.increment ≤ 2592000 }
     requires plies { length game.line.items ≤ 600 }
     requires game { IsReplayed R.rules terms.increment (length game.line.items) game }
-    ensures sound { IfOk result (λ played. told.ruled ≡ R.rules.judge R.rules.start game.line.items →
-        IsSound R.rules played.view) }
-    ensures first { IfOk result (λ played. played.view.row.left_first < 2 ^ 63) }
-    ensures second { IfOk result (λ played. played.view.row.left_second < 2 ^ 63) }
+    ensures sound { IfOk result (λ played. IsSound R.rules played.view) }
     ensures terms { IfOk result (λ played. terms_of played.view ≡ terms_given terms) }
     ensures line { IfOk result (λ played. played.line.items ≡ game.line.items) }
     ensures tally { IfOk result (λ played. played.tally ≡ game.tally) }
-    ensures shows { IfOk result (λ played. (entries : List (Entry R.Move)) →
-        told.ruled ≡ R.rules.judge R.rules.start game.line.items →
-        Replays R.rules (terms_given terms) (game_from told.numbers.start entries) game →
-        Shows R.rules (game_of_header told entries) played.view) }
+    ensures shows { IfOk result (λ played. (outside : Option OutsideEnd) ×
+        IsOutsideIn (columns_in stored.now) (R.rules.judge R.rules.start game.line.items) outside ×
+        ((entries : List (Entry R.Move)) →
+        Replays R.rules (terms_given terms) (game_from stored.now.start entries) game →
+        Shows R.rules (game_in (columns_in stored.now) outside entries) played.view)) }
 {
-    let position = R::write_position(alloc, &game.position)?;
-    let end = end_with(told.ruled, told.outside);
-    let result = score_of_end::<R>(&end, R::turn(&game.position));
-    let row = GameRow {
-        key: told.key,
-        event: told.numbers.event,
-        first: told.numbers.first,
-        second: told.numbers.second,
-        start: told.numbers.start,
-        since: game.since,
-        plies: game.line.len() as u32,
-        left_first: game.left_first,
-        left_second: game.left_second,
-        track: R::track_numbers(&game.track),
-        offer: told.offer,
-        end,
-        result,
-        position,
-    };
+    let row = row_replayed(alloc, stored, &game)?;
     let view = GameView {
         row,
         budget: terms.budget,
@@ -293,33 +163,6 @@ fn with_header<R: Rules>(
         line: game.line,
         tally: game.tally,
     })
-}
-
-// The view of a game that was replayed and has that row.
-fn viewed<R: Rules>(
-    alloc: Global,
-    row: &GameRecord,
-    numbers: &Numbers,
-    terms: Terms,
-    game: Replayed<R>,
-) -> Result<Played<R>, Memory>
-    requires increment { terms.increment ≤ 2592000 }
-    requires plies { length game.line.items ≤ 600 }
-    requires game { IsReplayed R.rules terms.increment (length game.line.items) game }
-    ensures sound { IfOk result (λ played. IsSound R.rules played.view) }
-    ensures first { IfOk result (λ played. played.view.row.left_first < 2 ^ 63) }
-    ensures second { IfOk result (λ played. played.view.row.left_second < 2 ^ 63) }
-    ensures terms { IfOk result (λ played. terms_of played.view ≡ terms_given terms) }
-    ensures line { IfOk result (λ played. played.line.items ≡ game.line.items) }
-    ensures tally { IfOk result (λ played. played.tally ≡ game.tally) }
-    ensures shows { IfOk result (λ played. (told : GameHeader R.End)
-        × IsHeaderOf R.rules row.now numbers.now game.line.items told × ((entries : List (Entry R.Move)) →
-        Replays R.rules (terms_given terms) (game_from numbers.now.start entries) game →
-        Shows R.rules (game_of_header told entries) played.view)) }
-{
-    let told = header_in(row, *numbers, &game)?;
-    let played = with_header(alloc, told, terms, game)?;
-    Ok(played)
 }
 
 // Whether the key of a game may stand.
@@ -391,27 +234,64 @@ fn may_stand<R: Rules>(row: &GameRow<R::End>, declares: bool) -> bool
         && may_have_end(row, declares)
 }
 
+// Whether two scores that may be none are the same.
+fn is_score(one: Option<Score>, other: Option<Score>) -> bool
+    ensures sound { result ≡ true → one ≡ other }
+    ensures complete { one ≡ other → result ≡ true }
+{
+    match one {
+        Some(one) => match other {
+            Some(other) => one == other,
+            None => false,
+        },
+        None => other.is_none(),
+    }
+}
+
+// Whether a name is that of the end.
+fn is_end<R: Rules>(end: &Option<GameEnd<R::End>>, stored: Option<&str>) -> bool
+    ensures sound { result ≡ true → option_map (λ s. s.now) stored.entry ≡ option_map (end_name_text R.rules) end.now }
+    ensures complete { option_map (λ s. s.now) stored.entry ≡ option_map (end_name_text R.rules) end.now →
+        result ≡ true }
+{
+    match end {
+        Some(end) => match stored {
+            Some(name) => name == end_name::<R>(end),
+            None => false,
+        },
+        None => stored.is_none(),
+    }
+}
+
+// Whether the stored row has what follows from the moves that were replayed.
+fn has_replayed<R: Rules>(row: &GameRow<R::End>, stored: &StoredGame<'_>) -> bool
+    ensures sound { result ≡ true → HasReplayed R.rules row.now (columns_in stored.now) }
+    ensures complete { HasReplayed R.rules row.now (columns_in stored.now) → result ≡ true }
+{
+    stored.since.seconds() == row.since.seconds()
+        && stored.plies == row.plies
+        && stored.left_first == row.left_first
+        && stored.left_second == row.left_second
+        && stored.track.0 == row.track.0
+        && stored.track.1 == row.track.1
+        && is_end::<R>(&row.end, stored.end)
+        && is_score(stored.result, row.result)
+        && stored.position == row.position.as_str()
+}
+
 // The game, where its row may stand and is the one that is stored.
-fn stands<R: Rules>(
-    alloc: Global,
-    row: &GameRecord,
-    game: u32,
-    played: Played<R>,
-) -> Result<CheckedRows<R>, Memory>
-    requires plies { played.view.row.plies ≤ 600 }
-    requires first { played.view.row.left_first < 2 ^ 63 }
-    requires second { played.view.row.left_second < 2 ^ 63 }
-    ensures { IfOk result (StandsAs R.rules row.now game played) }
+fn stands<R: Rules>(stored: &StoredGame<'_>, played: Played<R>) -> CheckedRows<R>
+    requires { played.view.row.plies ≤ 600 }
+    ensures { StandsAs R.rules (columns_in stored.now) played result }
 {
     let declares = may_declare(&played.view);
     if !may_stand::<R>(&played.view.row, declares) {
-        return Ok(CheckedRows::WrongGame);
+        return CheckedRows::WrongGame;
     }
-    let made = record_of::<R>(alloc, game, &played.view.row)?;
-    if !is_same(&made, row) {
-        return Ok(CheckedRows::WrongGame);
+    if !has_replayed::<R>(&played.view.row, stored) {
+        return CheckedRows::WrongGame;
     }
-    Ok(CheckedRows::Game(played))
+    CheckedRows::Game(played)
 }
 
 // What is shown where the id or the start of a row is none: with these moves, no game.
@@ -423,6 +303,31 @@ fn shown_without_start<R: Rules>(moves: &[MoveRow]) -> CheckedRows<R>
     } else {
         CheckedRows::WrongMoves
     }
+}
+
+// What is told of moves beside a row that is no game's: whether they are a game's that has its id and its start.
+fn without_row<R: Rules>(
+    alloc: Global,
+    row: &GameRecord,
+    terms: Terms,
+    moves: &[MoveRow],
+) -> Result<CheckedRows<R>, Memory>
+    ensures none { IfOk result IsNoGame }
+    ensures moves { IfOk result (λ shown. IsTrue (is_budget terms.budget) → IsTrue (is_increment terms.increment) →
+        AreMovesTold R.rules (terms_given terms) row.now moves.now shown) }
+{
+    let number = match id(row.id) {
+        Some(number) => number,
+        None => return Ok(shown_without_start(moves)),
+    };
+    let start = match moment(row.start) {
+        Some(start) => start,
+        None => return Ok(shown_without_start(moves)),
+    };
+    let Some(_game) = replay::<R>(alloc, terms, number, start, moves)? else {
+        return Ok(CheckedRows::WrongMoves);
+    };
+    Ok(CheckedRows::WrongGame)
 }
 
 /// The view of the game whose row and moves these are, with no ply asked of, if they are those of a legal game that is
@@ -441,23 +346,17 @@ pub fn view_of<R: Rules>(
     ensures wrong { IfOk result (λ shown. IsTrue (is_budget terms.budget) → IsTrue (is_increment terms.increment) →
         IsWrongAsTold R.rules (terms_given terms) row.now moves.now shown) }
 {
-    let number = match id(row.id) {
-        Some(number) => number,
-        None => return Ok(shown_without_start(moves)),
+    let stored = match stored_game(row) {
+        Some(stored) => stored,
+        None => {
+            let shown = without_row(alloc, row, terms, moves)?;
+            return Ok(shown);
+        }
     };
-    let start = match moment(row.start) {
-        Some(start) => start,
-        None => return Ok(shown_without_start(moves)),
-    };
-    let game = match replay::<R>(alloc, terms, number, start, moves)? {
+    let game = match replay::<R>(alloc, terms, stored.id, stored.start, moves)? {
         Some(game) => game,
         None => return Ok(CheckedRows::WrongMoves),
     };
-    let numbers = match numbers_in(row) {
-        Some(numbers) => numbers,
-        None => return Ok(CheckedRows::WrongGame),
-    };
-    let played = viewed(alloc, row, &numbers, terms, game)?;
-    let shown = stands(alloc, row, numbers.game, played)?;
-    Ok(shown)
+    let played = viewed(alloc, &stored, terms, game)?;
+    Ok(stands(&stored, played))
 }

@@ -1,31 +1,21 @@
 //! The row of a game that ends by time.
 
-ghost use Rattle.std.specs.Prelude.{◌≡◌, IfOk, string_bytes};
-ghost use Rattle.std.specs.Option.{option_map};
+ghost use Rattle.std.specs.Prelude.{◌≡◌, IfOk};
 ghost use Rattle.store_tables.specs.Cells.{game_cells};
 ghost use Rattle.club_changes.specs.Ended.{cells_lost};
 
+use club_core::rows::copy_key;
 use club_requests::OutsideEnd;
 use club_rules::Memory;
 use squares::Score;
 use std::alloc::Global;
 use store_tables::GameRecord;
 
-// A copy of a text that may be none.
-fn copied(text: &Option<String>) -> Result<Option<String>, Memory>
-    ensures { IfOk result (λ copy. option_map (λ s. string_bytes s) copy ≡ option_map (λ s. string_bytes s) text.now) }
-{
-    match text {
-        Some(text) => Ok(Some(text.clone()?)),
-        None => Ok(None),
-    }
-}
-
 /// The row of a game once it has ended by time with this score.
 pub fn lost_row(alloc: Global, row: &GameRecord, score: Score) -> Result<GameRecord, Memory>
     ensures { IfOk result (λ lost. game_cells lost ≡ cells_lost row.now score) }
 {
-    let key = copied(&row.key)?;
+    let key = copy_key(&row.key)?;
     let end = String::from_str(alloc, OutsideEnd::Time.name())?;
     let result = String::from_str(alloc, score.text())?;
     let position = row.position.clone()?;

@@ -13,6 +13,7 @@ use crate::swept::fault::SweepFault;
 use crate::swept::late::late_side;
 use crate::swept::standings::{put_scores, standings_of};
 use clocks::Moment;
+use club_rows::columns::stored_game;
 use squares::Score;
 use std::alloc::Global;
 use store_tables::{GameRecord, ScoreRow};
@@ -50,11 +51,14 @@ pub fn swept_rows(
     let mut ended = Vec::new(alloc);
     let mut changed = Vec::new(alloc);
     for game in games {
-        let Some(side) = late_side(game, moment) else {
+        let Some(stored) = stored_game(game) else {
+            return Err(SweepFault::Unfit);
+        };
+        let Some(side) = late_side(&stored, moment) else {
             continue;
         };
         let score = Score::lost_by(side);
-        put_scores(&mut standings, &mut changed, game, score)?;
+        put_scores(&mut standings, &mut changed, &stored, score)?;
         ended.push(lost_row(alloc, game, score)?)?;
     }
     let Ok(count) = u32::try_from(ended.len()) else {

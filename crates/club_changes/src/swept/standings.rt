@@ -1,46 +1,35 @@
 //! The sums of pairs of players as they stand while games end one after another.
 
-ghost use Rattle.std.specs.Prelude.{◌≡◌, ◌≢◌, ◌≤◌, ◌^◌, ◌++◌, ◌∷◌, ℕ, [], List, Some, None, pos, cond, length, map};
-ghost use Rattle.std.specs.Prelude.{IfOk, IfSome, OnOk, IsErrOf};
+ghost use Rattle.std.specs.Prelude.{◌≡◌, ◌≢◌, ◌≤◌, ◌^◌, ◌++◌, ◌∷◌, [], List, Some, pos, cond, length, map};
+ghost use Rattle.std.specs.Prelude.{IfOk, OnOk, IsErrOf};
 ghost use Rattle.std.specs.Option.{option_map};
 ghost use Rattle.sqlite.specs.Order.{Row};
 ghost use Rattle.store_tables.specs.Cells.{score_cells};
 ghost use Rattle.store_tables.specs.Changes.{HaveSame};
-ghost use Rattle.club_rows.specs.NextScores.{row_with, sums_found};
+ghost use Rattle.club_rows.specs.NextScores.{pair_of, row_with, sums_found};
 ghost use Rattle.club_rows.specs.Scores.{Meeting, meetings, same_pair, score_rows};
 ghost use Rattle.club_rows.specs.declared.scores.Pair as given_pair;
-ghost use Rattle.club_changes.specs.Standing.{AreShort, AreStanding, HasPlayers, PutsRows};
-ghost use Rattle.club_rows.specs.Pairs.{firsts_pair, pair_in, seconds_pair, sums_at};
+ghost use Rattle.club_rows.specs.Pairs.{pair_in, sums_at};
+ghost use Rattle.club_changes.specs.Standing.{AreStanding, PutsRows};
 
 use crate::swept::fault::SweepFault;
-use club_rows::numbers::id;
+use club_rows::columns::StoredGame;
 use club_rows::score_after;
-use club_rows::scores::{Pair, Sums, firsts_pair, pair_in, seconds_pair, sums_of};
+use club_rows::scores::{Pair, Sums, pair_in, sums_of};
 use club_rules::Memory;
 use squares::Score;
 use std::alloc::Global;
 use std::collections::HashMap;
-use store_tables::{GameRecord, ScoreRow};
+use store_tables::ScoreRow;
 
-/// The ids of a game's event and of its players.
-#[derive(Clone, Copy)]
-pub struct Players {
-    pub event: u32,
-    pub first: u32,
-    pub second: u32,
-}
-
-// Those of the row, if each is an id.
-fn players_of(game: &GameRecord) -> Option<Players>
-    ensures some { IfSome result (λ players. HasPlayers game.now players.event players.first players.second) }
-    ensures none { result ≡ None → (event first second : ℕ) → HasPlayers game.now event first second →
-        ¬ AreShort event first second }
+fn pair_of(event: u32, member: u32, opponent: u32) -> Pair
+    ensures { result ≡ pair_of event member opponent }
 {
-    Some(Players {
-        event: id(game.event)?,
-        first: id(game.first)?,
-        second: id(game.second)?,
-    })
+    Pair {
+        event: i64::from(event),
+        member: i64::from(member),
+        opponent: i64::from(opponent),
+    }
 }
 
 // The row of a pair, if they met.
@@ -101,29 +90,26 @@ fn put(
 pub fn put_scores(
     standings: &mut HashMap<Pair, Sums>,
     changed: &mut Vec<ScoreRow>,
-    game: &GameRecord,
+    stored: &StoredGame<'_>,
     score: Score,
 ) -> Result<(), SweepFault>
-    ensures puts { OnOk result ((event first second : ℕ) (before after : List Meeting) →
-        HasPlayers game.now event first second → first ≢ second →
+    ensures puts { OnOk result ((before after : List Meeting) → stored.now.first ≢ stored.now.second →
         AreStanding (λ pair. sums_at standings.old pair) (score_rows (before ++ after)) →
-        PutsRows (score_rows (before ++ after))
-        (score_rows (before ++ (meetings (pos event) (pos first) (pos second) score ++ after)))
+        PutsRows (score_rows (before ++ after)) (score_rows (before ++
+        (meetings (pos stored.now.event) (pos stored.now.first) (pos stored.now.second) score ++ after)))
         (λ pair. sums_at standings.new pair) changed.old.items changed.new.items) }
-    // Short ids are read, and only the sums of very many games do not fit.
-    ensures unfit { IsErrOf result SweepFault.Unfit → (event first second : ℕ) (ms : List Meeting) →
-        HasPlayers game.now event first second → AreShort event first second →
+    // Only the sums of very many games do not fit.
+    ensures unfit { IsErrOf result SweepFault.Unfit → (ms : List Meeting) →
         AreStanding (λ pair. sums_at standings.old pair) (score_rows ms) → 2 ^ 61 ≤ length ms }
 {
-    let Some(players) = players_of(game) else {
-        return Err(SweepFault::Unfit);
-    };
-    let firsts = row_of(standings, firsts_pair(game));
-    let seconds = row_of(standings, seconds_pair(game));
+    let firsts_pair = pair_of(stored.event, stored.first, stored.second);
+    let firsts = row_of(standings, firsts_pair);
+    let seconds_pair = pair_of(stored.event, stored.second, stored.first);
+    let seconds = row_of(standings, seconds_pair);
     let rows = score_after(
-        players.event,
-        players.first,
-        players.second,
+        stored.event,
+        stored.first,
+        stored.second,
         score,
         firsts.as_ref(),
         seconds.as_ref(),

@@ -1,32 +1,28 @@
-use Rattle.std.proofs.Common.{◌≡◌, length, Some, Err, refl, ap, sym, arith}
-use Rattle.std.specs.Prelude.{slice_get}
+use Rattle.std.proofs.Common.{◌≡◌, Err, refl, ap, sym, ◌∙◌, arith}
 use Rattle.std.proofs.lemmas.Option.{slice_get_read}
+use Rattle.club_rows.specs.Columns.{columns_in}
 use Rattle.club_changes.specs.declared.swept.fault.SweepFault.TheVariants.{Unfit}
-use Rattle.club_changes.proofs.SweptLemmas.{stays_told, ends_told, fits_told, ended_few, swept_all}
+use Rattle.club_changes.proofs.SweptLemmas.{read_here, stays_next, ends_next, sums_few, ended_few, swept_all}
 use Rattle.club_changes.proofs.swept.rows.swept_rows.Goals as goal
 
-pub loop-game-preserved-in_default : goal.loop-game-preserved-in_default
-loop-game-preserved-in_default c = λ s is_club rows_are same.
-    let games = c.args.games.now in
-    let k = c.loop-game.game-index in
-    let row = c.game-item.result in
-    let at : slice_get games k ≡ Some row = slice_get_read games (length games) k row refl c.loop-game-test.true
-    c.game-item.is in
-    stays_told s c.args.moment is_club games rows_are k row at c.late_side.result c.late_side.ensures _ _ _
-    c.in_default.is (c.loop-game.invariant s is_club rows_are same)
+pub returns-in_default-clause-unfit : goal.returns-in_default-clause-unfit
+returns-in_default-clause-unfit c = λ unfit s is_club rows_are same.
+    read_here s c.args.moment is_club c.args.games.now rows_are c.loop-game.game-index c.game-item.result
+    (slice_get_read _ _ _ _ refl c.loop-game-test.true c.game-item.is) c.in_default.ensures
+
+pub loop-game-preserved-in_default-late_side : goal.loop-game-preserved-in_default-late_side
+loop-game-preserved-in_default-late_side c = λ s is_club rows_are same.
+    stays_next s c.args.moment is_club c.args.games.now rows_are c.loop-game.game-index c.game-item.result
+    (slice_get_read _ _ _ _ refl c.loop-game-test.true c.game-item.is) (columns_in c.in-Some.stored) c.in-Some.ensures.0
+    _ _ _ (sym c.late_side.ensures ∙ c.in_default-late_side.is) (c.loop-game.invariant s is_club rows_are same)
 
 pub loop-game-preserved : goal.loop-game-preserved
 loop-game-preserved c = λ s is_club rows_are same.
-    let games = c.args.games.now in
-    let k = c.loop-game.game-index in
-    let row = c.game-item.result in
-    let at : slice_get games k ≡ Some row = slice_get_read games (length games) k row refl c.loop-game-test.true
-    c.game-item.is in
-    ends_told s c.args.moment is_club games rows_are k row at c.late_side.result c.late_side.ensures
-    c.lost_by-score.result c.in-Some.side _ _ _ _ _ _ _
-    c.in-Some.is c.lost_by-score.ensures c.in_ok-lost_row.ensures c.in_ok-push.ensures.items
-    c.in_ok-put_scores.ensures.puts
-    (c.loop-game.invariant s is_club rows_are same)
+    ends_next s c.args.moment is_club c.args.games.now rows_are c.loop-game.game-index c.game-item.result
+    (slice_get_read _ _ _ _ refl c.loop-game-test.true c.game-item.is) (columns_in c.in-Some.stored) c.in-Some.ensures.0
+    c.lost_by-score.result c.in-Some-late_side.side _ _ _ _ _ _ _
+    (sym c.late_side.ensures ∙ c.in-Some-late_side.is) c.lost_by-score.ensures c.in_ok-lost_row.ensures
+    c.in_ok-push.ensures.items c.in_ok-put_scores.ensures.puts (c.loop-game.invariant s is_club rows_are same)
 
 pub returns-clause-rows : goal.returns-clause-rows
 returns-clause-rows c = λ s is_club rows_are same.
@@ -37,15 +33,9 @@ returns-clause-rows c = λ s is_club rows_are same.
 
 pub returns-in_err-put_scores-clause-unfit : goal.returns-in_err-put_scores-clause-unfit
 returns-in_err-put_scores-clause-unfit c = λ unfit s is_club rows_are same.
-    let games = c.args.games.now in
-    let k = c.loop-game.game-index in
-    let row = c.game-item.result in
-    let at : slice_get games k ≡ Some row = slice_get_read games (length games) k row refl c.loop-game-test.true
-    c.game-item.is in
     let fault : c.in_err-put_scores.field-0.0 ≡ Unfit = sym (rw unfit at c.from_residual-in_err-put_scores.ensures.1) in
-    fits_told s c.args.moment is_club games rows_are k row at c.late_side.result c.late_side.ensures c.in-Some.side _ _
-    _ c.in-Some.is
-    (c.in_err-put_scores.ensures.unfit (ap Err fault)) (c.loop-game.invariant s is_club rows_are same)
+    sums_few s c.args.moment is_club _ _ _ _ (c.loop-game.invariant s is_club rows_are same)
+    (c.in_err-put_scores.ensures.unfit (ap Err fault))
 
 pub returns-in_default-try_from-clause-unfit : goal.returns-in_default-try_from-clause-unfit
 returns-in_default-try_from-clause-unfit c = λ unfit s is_club rows_are same.

@@ -1,14 +1,14 @@
--- What the columns of a game's row tell of the game, and when a game that is told so is legal.
-use Rattle.std.proofs.Common.{◌≡◌, ◌≢◌, ℕ, zero, suc, pos, ◌+◌, ◌≤◌, List, [], ◌∷◌, length, map, Option, Some, None}
+-- When the row of a game may stand: where the game is legal.
+use Rattle.std.proofs.Common.{◌≡◌, ◌≢◌, ℕ, zero, suc, ◌+◌, ◌≤◌, List, [], ◌∷◌, length, map, Option, Some, None}
 use Rattle.std.proofs.Common.{Bool, true, false, ◌&&◌, not, nat_eq, refl, ap, sym, ◌∙◌, arith}
 use Rattle.std.specs.Prelude.{string_bytes, slice_get, is_some, IsSome, IfSome, IsTrue}
 use Rattle.std.specs.Option.{option_map}
 use Rattle.std.proofs.lemmas.Bool.{eqb-true, eq-eqb}
 use Rattle.std.proofs.lemmas.Option.{slice_get-map, same_Some}
 use Rattle.squares.specs.declared.sides.Side.{Side}
-use Rattle.squares.specs.declared.sides.Side.TheVariants.{First, Second}
+use Rattle.squares.specs.declared.sides.Side.TheVariants.{First}
 use Rattle.squares.specs.declared.sides.Score.{Score}
-use Rattle.squares.specs.Sides.{other, score_text}
+use Rattle.squares.specs.Sides.{other}
 use Rattle.club_rules.specs.GameRules.{GameRules}
 use Rattle.club_core.specs.declared.rows.GameRow.{GameRow}
 use Rattle.club_core.specs.declared.rows.Offer.{Offer}
@@ -17,31 +17,16 @@ use Rattle.club_requests.specs.declared.outside_end.OutsideEnd.TheVariants.{Resi
 use Rattle.club_requests.specs.Limits.{is_name}
 use Rattle.club_core.specs.Events.{Terms}
 use Rattle.club_core.specs.Game.{Entry, Game, Clocks, spend, spend_all, clocks_of, moments_of, opening_clocks, end_with}
-use Rattle.club_core.specs.Game.{score_with, rule_end, end_of, result_of, turn_of, last_position}
+use Rattle.club_core.specs.Game.{rule_end, end_of, last_position}
 use Rattle.club_core.specs.Legal.{IsTimely, IsOffer, IsLegalGame}
 use Rattle.club_core.specs.View.{IsRowOf, rule_in}
-use Rattle.store_tables.specs.Cells.{game_cells}
 use Rattle.store_tables.specs.declared.rows.GameRecord.{GameRecord}
 use Rattle.store_tables.specs.declared.rows.MoveRow.{MoveRow}
-use Rattle.club_requests.specs.OutsideEnd.{outside_text}
-use Rattle.club_rows.specs.Tables.{game_row, move_rows, side_number, end_name_text}
+use Rattle.club_rows.specs.Tables.{move_rows}
 use Rattle.club_rows.specs.Replay.{IsPlayedAs, game_from}
 use Rattle.club_rows.specs.LegalRows.{AreRowsOf}
-use Rattle.club_rows.specs.GameHeader.{HasNumbers, may_have_key, may_have_offer, may_have_end, may_stand}
-use Rattle.club_rows.proofs.SameLemmas.{seventeen-parts, same-int, same-texts, same-ints, option_map-itself}
-
--- what the columns of the row of a game are
-pub record IsToldBy {P M E T : Type 0} (rules : GameRules P M E T) (id : ℕ) (game : Game M) (stored : GameRecord) : Type
-    0 where
-  pub numbers : HasNumbers stored id game.event game.first game.second game.start
-  pub key : option_map (λ s. string_bytes s) stored.key ≡ game.key
-  pub offer_side : stored.offer_side ≡ option_map (λ o. pos (side_number o.side)) game.offer
-  pub offer_ply : stored.offer_ply ≡ option_map (λ o. pos o.ply) game.offer
-  pub end : option_map (λ s. string_bytes s) stored.end ≡ option_map (end_name_text rules) (end_of rules game)
-  pub result : option_map (λ s. string_bytes s) stored.result ≡ option_map score_text (result_of rules game)
-
-pub same-pos : (a b : ℕ) → pos a ≡ pos b → a ≡ b
-same-pos a b is = cc
+use Rattle.club_rows.proofs.ColumnLemmas.{spend-since}
+use Rattle.club_rows.specs.MayStand.{may_have_key, may_have_offer, may_have_end, may_stand}
 
 and-both : (a b : Bool) → (a && b) ≡ true → (a ≡ true) × (b ≡ true)
 and-both true b e = (refl, e)
@@ -72,49 +57,6 @@ eqb-false a b apart = elim (nat_eq a b) as (λ v. nat_eq a b ≡ v → v ≡ fal
     [ true ↦ λ is. absurd (apart (eqb-true a b is)) | false ↦ λ is. refl ] refl
 
 module _ {P M E T : Type 0} (rules : GameRules P M E T) where
-  pub columns-told : (terms : Terms) (id : ℕ) (game : Game M) (stored : GameRecord)
-      → game_cells stored ≡ game_row rules terms id game → IsToldBy rules id game stored
-  columns-told terms id game stored is =
-      let p = seventeen-parts _ _ _ _ _ _ _ _ _ _ _ _ _ _ _ _ _ _ _ _ _ _ _ _ _ _ _ _ _ _ _ _ _ _ is in
-      record {
-        numbers =
-            record {
-              id = same-int _ _ p.p0;
-              event = same-int _ _ p.p2;
-              first = same-int _ _ p.p3;
-              second = same-int _ _ p.p4;
-              start = same-int _ _ p.p5;
-            };
-        key = same-texts (λ s. string_bytes s) (λ s. s) stored.key game.key p.p1 ∙ option_map-itself game.key;
-        offer_side = sym (option_map-itself stored.offer_side)
-            ∙ same-ints (λ z. z) (λ o. pos (side_number o.side)) stored.offer_side game.offer p.p10;
-        offer_ply = sym (option_map-itself stored.offer_ply)
-            ∙ same-ints (λ z. z) (λ o. pos o.ply) stored.offer_ply game.offer p.p11;
-        end = same-texts (λ s. string_bytes s) (end_name_text rules) stored.end (end_of rules game) p.p12;
-        result = same-texts (λ s. string_bytes s) score_text stored.result (result_of rules game) p.p13;
-      }
-
-  -- an end from outside stands in the row by its name
-  outside-named : (e : Option E) (o : Option OutsideEnd) → e ≡ None
-      → option_map (end_name_text rules) (end_with e o) ≡ option_map outside_text o
-  outside-named (Some e) o none = cc
-  outside-named None None none = refl
-  outside-named None (Some o) none = refl
-
-  pub told-outside : (id : ℕ) (game : Game M) (stored : GameRecord) → IsToldBy rules id game stored
-      → rule_end rules game ≡ None → option_map (λ s. string_bytes s) stored.end ≡ option_map outside_text game.outside
-  told-outside id game stored told none = told.end ∙ outside-named (rule_end rules game) game.outside none
-
-  recorded-named : (e : Option E) (o : Option OutsideEnd) (turn : Side) (s : Score) → e ≡ None → o ≡ Some (Recorded s)
-      → option_map score_text (score_with rules (end_with e o) turn) ≡ Some (score_text s)
-  recorded-named e o turn s none is = rw (none, is) refl
-
-  pub told-recorded : (id : ℕ) (game : Game M) (stored : GameRecord) → IsToldBy rules id game stored
-      → rule_end rules game ≡ None → (s : Score) → game.outside ≡ Some (Recorded s)
-      → option_map (λ s. string_bytes s) stored.result ≡ Some (score_text s)
-  told-recorded id game stored told none s is = told.result
-      ∙ recorded-named (rule_end rules game) game.outside (turn_of rules game) s none is
-
   pub rows-played : (terms : Terms) (id number from : ℕ) (stored : GameRecord) (moves : List MoveRow) (game : Game M)
       → AreRowsOf rules terms id stored moves game → number ≡ id → game.start ≡ from
       → IsPlayedAs rules terms number from moves game
@@ -128,10 +70,6 @@ module _ {P M E T : Type 0} (rules : GameRules P M E T) where
       }
 
 -- ---- the moments of a game that was recorded
-
-pub spend-since : (increment : ℕ) (side : Side) (m : ℕ) (c : Clocks) → (spend increment side m c).since ≡ m
-spend-since increment First m c = refl
-spend-since increment Second m c = refl
 
 pub since-rises : (increment : ℕ) (side : Side) (ms : List ℕ) (c : Clocks) → IsTimely increment side ms c
     → c.since ≤ (spend_all increment side ms c).since

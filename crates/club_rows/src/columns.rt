@@ -1,0 +1,128 @@
+//! The row of a stored game with its columns as values.
+
+ghost use Rattle.std.specs.Prelude.{◌≡◌, ◌≢◌, ◌≤◌, ◌<◌, ◌^◌, ℕ, pos, Option, None, IfSome, string_bytes};
+ghost use Rattle.std.specs.Option.{option_map};
+ghost use Rattle.squares.specs.declared.sides.Score.{Score};
+ghost use Rattle.squares.specs.Sides.{score_text};
+ghost use Rattle.club_core.specs.declared.rows.Offer.{Offer};
+ghost use Rattle.store_tables.specs.Cells.{game_cells};
+ghost use Rattle.club_rows.specs.Columns.{HasOffer, IsReadAs};
+
+use crate::ends::{score_of, side_of};
+use crate::numbers;
+use clocks::Moment;
+use club_core::Offer;
+use club_requests::values::MOST_PLIES;
+use squares::Score;
+use store_tables::GameRecord;
+
+/// The greatest number of a track that still grows.
+const MOST_TRACK: u32 = u32::MAX - 1;
+
+/// The row of a stored game.
+#[derive(Clone, Copy)]
+pub struct StoredGame<'a> {
+    pub id: u32,
+    pub key: Option<&'a str>,
+    pub event: u32,
+    pub first: u32,
+    pub second: u32,
+    pub start: Moment,
+    /// The moment of the last ply, or the start.
+    pub since: Moment,
+    pub plies: u32,
+    pub left_first: u64,
+    pub left_second: u64,
+    pub offer: Option<Offer>,
+    /// The name of the end.
+    pub end: Option<&'a str>,
+    pub result: Option<Score>,
+    pub position: &'a str,
+    /// The numbers of the line's track.
+    pub track: (u32, u32),
+}
+
+// A text that may be none, lent.
+fn lent(text: &Option<String>) -> Option<&str>
+    ensures { option_map (λ s. s.now) result ≡ option_map (λ s. string_bytes s) text.now }
+{
+    match text {
+        Some(text) => Some(text.as_str()),
+        None => None,
+    }
+}
+
+// The offer that a row has or has not, unless no game's row has one of its two columns.
+fn offer_in(row: &GameRecord) -> Option<Option<Offer>>
+    ensures some { IfSome result (HasOffer row.now) }
+    ensures range { IfSome result (λ offer. IfSome offer (λ o. o.ply < 2 ^ 32)) }
+    ensures none { result ≡ None → (offer : Option Offer) → IfSome offer (λ o. o.ply < 2 ^ 32) →
+        ¬ HasOffer row.now offer }
+{
+    match row.offer_side {
+        Some(side) => match row.offer_ply {
+            Some(ply) => {
+                let side = side_of(side)?;
+                let ply = numbers::id(ply)?;
+                Some(Some(Offer { side, ply }))
+            }
+            None => None,
+        },
+        None => match row.offer_ply {
+            Some(_) => None,
+            None => Some(None),
+        },
+    }
+}
+
+// The score that a row has or has not, unless its text is no score's.
+fn result_in(row: &GameRecord) -> Option<Option<Score>>
+    ensures some { IfSome result (λ score. option_map (λ s. string_bytes s) row.now.result
+        ≡ option_map score_text score) }
+    ensures none { result ≡ None → (score : Option Score) → option_map (λ s. string_bytes s) row.now.result
+        ≢ option_map score_text score }
+{
+    match &row.result {
+        Some(text) => {
+            let score = score_of(text.as_str())?;
+            Some(Some(score))
+        }
+        None => Some(None),
+    }
+}
+
+/// The row of a stored game, unless some column has a value that no game's row has.
+pub fn stored_game(row: &GameRecord) -> Option<StoredGame<'_>>
+    ensures { IsReadAs (game_cells row.now) result }
+{
+    let id = numbers::id(row.id)?;
+    let event = numbers::id(row.event)?;
+    let first = numbers::id(row.first)?;
+    let second = numbers::id(row.second)?;
+    let start = numbers::moment(row.start)?;
+    let since = numbers::moment(row.since)?;
+    let plies = numbers::at_most(row.plies, MOST_PLIES)?;
+    let left_first = numbers::counted(row.left1)?;
+    let left_second = numbers::counted(row.left2)?;
+    let offer = offer_in(row)?;
+    let result = result_in(row)?;
+    let track_first = numbers::at_most(row.track_a, MOST_TRACK)?;
+    let track_second = numbers::at_most(row.track_b, MOST_TRACK)?;
+    Some(StoredGame {
+        id,
+        key: lent(&row.key),
+        event,
+        first,
+        second,
+        start,
+        since,
+        plies,
+        left_first,
+        left_second,
+        offer,
+        end: lent(&row.end),
+        result,
+        position: row.position.as_str(),
+        track: (track_first, track_second),
+    })
+}
