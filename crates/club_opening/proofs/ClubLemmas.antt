@@ -36,9 +36,8 @@ use Rattle.club_rows.proofs.Proved.{seen-typed}
 use Rattle.club_changes.proofs.Proved.{challenges_typed, moved}
 use Rattle.club_opening.proofs.OnceLemmas.{challenges_are}
 use Rattle.club_opening.specs.Blames.{AreRead, AreRulesRead, HasTypes, IsNumberFrom, Names, undeclared_row}
-use Rattle.club_opening.specs.Versions.{HasClub, HasEvents, HoldsClub}
+use Rattle.club_opening.specs.Versions.{HasClub, HasEvents}
 use Rattle.table_shapes.specs.Shapes.{is_of_club}
-use Rattle.table_shapes.proofs.Proved.{club_is_of_club}
 use Rattle.store_sql.specs.Read.{IsReadAs, BeginWithPlaces}
 use Rattle.club_opening.specs.Places.{IsRegisterOf, NamesRows}
 use Rattle.club_audit.specs.Audit.{AreEvents, AreMembers, AreRules}
@@ -50,7 +49,7 @@ use Rattle.store_tables.specs.declared.rows.EventRuleRow.{EventRuleRow}
 use Rattle.store_tables.specs.declared.rows.MemberRow.{MemberRow}
 use Rattle.club_opening.specs.declared.fault.OpenFault.{OpenFault}
 use Rattle.club_opening.specs.declared.fault.OpenFault.TheVariants.{Damaged, Schema, Store, Memory}
-use Rattle.club_opening.proofs.StoredLemmas.{IsStored, club_of_version, one_of, rules_stored, rows_held, stored_of}
+use Rattle.club_opening.proofs.StoredLemmas.{IsStored, club_of_version, one_of, rules_stored, stored_of}
 
 -- ---- places
 
@@ -140,16 +139,6 @@ good_at oldest version s club db holds shape fault (inr (inr (inr (
   none,
 )))) = absurd (none version s club holds)
 
--- the tables of a club alone answer as a club's
-pub good_in : (oldest version : Version) (s : ClubState) → IsClubOf version s → (db : Database)
-    → HoldsClub version db s → (fault : OpenFault) → Names oldest db fault
-    → (fault ≡ Store)
-    ⊎ ((fault ≡ Memory) ⊎ ((fault ≡ Schema (pos (schema_number version)))
-    × (¬ IsNumberFrom oldest (pos (schema_number version)))))
-good_in oldest version s club db holds =
-    good_at oldest version s club db (rows_held version db (tables_at version s) holds)
-    (ap (is_of_club version) holds.schema ∙ club_is_of_club version)
-
 -- of a version that is taken it is blamed for nothing
 pub good_taken : (oldest version : Version) (s : ClubState) → IsClubOf version s → (db : Database)
     → HasClub version db s → is_of_club version db.schema ≡ true → (oldest ≡ Current → version ≡ Current)
@@ -167,15 +156,6 @@ good_taken oldest version s club db holds shape taken fault blamed =
     number_from First Current taken = inr refl
     number_from Current First taken = let no : First ≡ Current = taken refl in absurd cc
     number_from Current Current taken = refl
-
--- one of the last version is blamed for nothing
-pub good_fault : (s : ClubState) → IsClub s → (db : Database) → HoldsClub Current db s → (fault : OpenFault)
-    → Names Current db fault → (fault ≡ Store) ⊎ (fault ≡ Memory)
-good_fault s club db holds fault blamed = elim (good_in Current Current s club db holds fault blamed) [
-  | inl store ↦ inl store
-  | inr (inl memory) ↦ inr memory
-  | inr (inr (named, other)) ↦ absurd (other refl)
-]
 
 -- ---- what was read
 

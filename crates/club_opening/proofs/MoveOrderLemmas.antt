@@ -22,7 +22,7 @@ use Rattle.sqlite_sql.specs.Ops.{is_null}
 use Rattle.sqlite_sql.proofs.QueryLemmas.{key_cmp_total}
 use Rattle.sqlite_trees.specs.Tree.{IsAscending, rowid}
 use Rattle.sqlite_trees.specs.View.{is_int}
-use Rattle.sqlite_trees.proofs.ListLemmas.{all_weaker, ascending-append, ascending-map}
+use Rattle.sqlite_trees.proofs.ListLemmas.{all_weaker, ascending-map}
 use Rattle.sqlite_rules.specs.Lists.{Has}
 use Rattle.sqlite_rules.proofs.ListLemmas.{all_has, all_from}
 use Rattle.sqlite_rules.proofs.TableLemmas.{int_is}
@@ -119,10 +119,6 @@ value_less a b p q one two low = (λ i. value_cmp (one i) (two i)) ∙ (value_cm
 pub value_same : (a b : Value) (p : ℕ) → a ≡ Int (pos p) → b ≡ Int (pos p) → value_cmp a b ≡ Equal
 value_same a b p one two = (λ i. value_cmp (one i) (two i)) ∙ tied_itself value_cmp_total (Int (pos p))
 
-before_game : (a b : Row) (g h : ℕ) → column a 0 ≡ Int (pos g) → column b 0 ≡ Int (pos h) → g < h → Before a b
-before_game a b g h one two low = ap (λ o. ordering_then o (ordering_then (value_cmp (column a 1) (column b 1)) Equal))
-    (value_less (column a 0) (column b 0) g h one two low)
-
 before_ply : (a b : Row) (g p q : ℕ) → column a 0 ≡ Int (pos g) → column b 0 ≡ Int (pos g) → column a 1 ≡ Int (pos p)
     → column b 1 ≡ Int (pos q) → p < q → Before a b
 before_ply a b g p q one two first second low =
@@ -191,18 +187,6 @@ module _ (events : List Event) where
       (all_weaker (IsFrom n 0) (IsLater m) (λ row from. record { game = n; later = low; game_is = from.game_is })
       (rows_of n g) (game_begins n g))
       (games_begin m (suc n) gs (omega (arith, low)))
-
-  games_rise : (n : ℕ) (games : List ClubGame) → IsAscending Before (gathered_from rows_of n games)
-  games_rise n [] = tt
-  games_rise n (g ∷ gs) =
-      ascending-append Before (rows_of n g) (gathered_from rows_of (suc n) gs) (game_rise n g) (games_rise (suc n) gs)
-      (all_weaker (IsFrom n 0) (λ x. AllByRecursion (Before x) (gathered_from rows_of (suc n) gs))
-      (λ x from.
-      all_weaker (IsLater (suc n)) (Before x) (λ y later. let above = later.later in
-      before_game x y n later.game from.game_is later.game_is (omega (arith, above)))
-      (gathered_from rows_of (suc n) gs)
-      (games_begin (suc n) (suc n) gs (omega arith)))
-      (rows_of n g) (game_begins n g))
 
 -- ---- no two rows of the table have one game and ply
 

@@ -1,5 +1,5 @@
 -- What a database has of a club, in whatever version of its tables.
-use Rattle.std.proofs.Common.{arith, ◌≡◌, ◌≢◌, ℕ, ℤ, pos, false, List, [], ◌∷◌, length, refl, sym, ap, subst, ◌∙◌, inl, inr}
+use Rattle.std.proofs.Common.{arith, ◌≡◌, ℕ, ℤ, pos, false, List, [], ◌∷◌, refl, sym, subst, inl, inr}
 use Rattle.std.specs.List.{AllByRecursion}
 use Rattle.sqlite.specs.Effect.{Database}
 use Rattle.sqlite.specs.Order.{Row}
@@ -13,9 +13,8 @@ use Rattle.sqlite_value.specs.Keys.{plain}
 use Rattle.sqlite_value.specs.declared.value.Value.TheVariants.{Int}
 use Rattle.store_tables.specs.Placed.{HasClubTables, HasTables, HasTablesOf, Stands, by_club, club_trees, tree_in}
 use Rattle.store_tables.specs.Content.{AreApart, Keeps}
-use Rattle.store_tables.specs.Contents as of_schema
 use Rattle.store_tables.specs.Contents.{AreStored, Content, Stores}
-use Rattle.store_tables.proofs.Proved.{first_of_current, keeps_moved, stored_alone, tables_alone}
+use Rattle.store_tables.proofs.Proved.{first_of_current, keeps_moved, tables_alone}
 use Rattle.store_tables.proofs.Proved.{unique_here, versions_apart}
 use Rattle.store_tables.specs.Tables.{club_schema, first_schema, IsClubSchema, schema_of, meta, members, events}
 use Rattle.store_tables.specs.Tables.{event_rules, challenges, moves, games, seen, scores}
@@ -30,25 +29,8 @@ use Rattle.club_opening.specs.Versions.{HasClub, HoldsRows}
 
 -- ---- the versions
 
-known_schema : (version : Version) → IsClubSchema (schema_of version)
-known_schema First = inl refl
-known_schema Current = inr refl
-
-pub schema_known : (version : Version) (schema : Schema) → schema ≡ schema_of version → IsClubSchema schema
-schema_known version schema is = subst IsClubSchema (sym is) (known_schema version)
-
 never : ◌≡◌ {A = ℕ} 8 9 → ⊥
 never is = omega (arith, is)
-
-pub schemas_differ : first_schema ≢ club_schema
-schemas_differ is = never (ap (λ (s : Schema). length s.tables) is)
-
--- a schema is that of one version
-pub one_version : (v w : Version) (schema : Schema) → schema ≡ schema_of v → schema ≡ schema_of w → v ≡ w
-one_version First First schema a b = refl
-one_version Current Current schema a b = refl
-one_version First Current schema a b = absurd (schemas_differ (sym a ∙ b))
-one_version Current First schema a b = absurd (schemas_differ (sym b ∙ a))
 
 -- a schema has the tables of one version
 pub one_of : (v w : Version) (schema : Schema) → HasTablesOf v schema → HasTablesOf w schema → v ≡ w
@@ -64,9 +46,6 @@ alone_of version schema is = subst (HasTablesOf version) (sym is) (tables_alone 
 pub of_version : (version : Version) (schema : Schema) → HasTablesOf version schema → HasClubTables schema
 of_version First schema has = inl has
 of_version Current schema has = inr has
-
-pub tables_known : (version : Version) (schema : Schema) → schema ≡ schema_of version → HasClubTables schema
-tables_known version schema is = of_version version schema (alone_of version schema is)
 
 pub tables_of_club : (schema : Schema) → IsClubSchema schema → HasClubTables schema
 tables_of_club schema (inl first) = inl (alone_of First schema first)
@@ -112,15 +91,6 @@ scores_stand schema has = (first_stand schema has).1.1.1.1.1.1.1.0
 -- that of the rules of events
 pub rules_stand : (schema : Schema) → HasTablesOf Current schema → Stands schema EventRules
 rules_stand schema has = has.1.1.1.1.1.1.1.1.0
-
--- what a database with a club's tables alone holds, it holds
-pub rows_held : (version : Version) (db : Database) (content : Content) → of_schema.Holds (schema_of version) db content
-    → HoldsRows version content db
-rows_held version db content holds = record {
-  schema = alone_of version db.schema holds.schema;
-  sound = holds.sound;
-  tables = stored_alone version db content holds;
-}
 
 -- Where it stands alone its tables have the trees that it gives them.
 trees_first : (trees : Trees)

@@ -16,10 +16,6 @@ use Rattle.club_rows.specs.Club.{ClubState}
 use Rattle.club_rows.specs.FirstSchema.{IsClubOf, tables_at}
 use Rattle.club_rows.specs.Tables.{event_row, numbered_from}
 
--- the database has the tables of this club alone, in this version
-abbrev pub HoldsClub : Version → Database → ClubState → Type 0
-HoldsClub version db s = of_schema.Holds (schema_of version) db (tables_at version s)
-
 -- the database has these rows in the tables of this version, wherever they stand
 pub record HoldsRows (version : Version) (content : Content) (db : Database) : Type 0 where
   pub schema : HasTablesOf version db.schema

@@ -12,7 +12,7 @@ ghost use Rattle.store_tables.specs.Tables.{club_schema, IsClubSchema, schema_of
 ghost use Rattle.store_tables.specs.declared.names.Version.TheVariants.{Current};
 ghost use Rattle.table_shapes.specs.Shapes.{is_of_club};
 ghost use Rattle.club_opening.specs.Blames.{Names, NamesTable};
-ghost use Rattle.club_opening.specs.Versions.{HasClub, HoldsClub, HoldsRows};
+ghost use Rattle.club_opening.specs.Versions.{HasClub, HoldsRows};
 ghost use Rattle.club_opening.specs.Versions.{IsExactlyClub, IsOpenedAt};
 ghost use Rattle.club_opening.specs.Examined.{AreExamined, AreScoresExamined, IsAfter, IsPlayExamined, NamesPlay};
 ghost use Rattle.club_rows.specs.FirstSchema.{IsClubOf, tables_at};
@@ -242,7 +242,8 @@ pub fn examine_from<S: Alter>(
         (version : _) → IsOpenedAt version (state S.Store conn.old) → (found.version ≡ version) × ((s : _) ×
         IsClubOf version s × IsRegisterOf s found.rows × IsExactlyClub version s (state S.Store conn.new))) }
     ensures rows { HasCleanDisk (state S.Store conn.new) → IfOk result (λ found. (version : _) (s : ClubState) →
-        IsClubOf version s → HoldsClub version (state S.Store conn.old).now s → IsRegisterOf s found.rows) }
+        IsClubOf version s → HoldsRows version (tables_at version s) (state S.Store conn.old).now →
+        IsRegisterOf s found.rows) }
     ensures same { HasCleanDisk (state S.Store conn.new) → IfOk result (λ found.
         IsClubSchema (state S.Store conn.old).now.schema →
         ((state S.Store conn.old).now.schema ≡ schema_of found.version) ×

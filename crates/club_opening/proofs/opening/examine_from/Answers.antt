@@ -5,11 +5,11 @@ use Rattle.store_tables.proofs.Proved.{only_reading, reads_then, clean_before, r
 use Rattle.club_opening.specs.Places.{IsRegisterOf}
 use Rattle.club_opening.specs.Versions.{HasClub, IsExactlyClub, IsOpenedAt}
 use Rattle.club_rows.specs.Club.{ClubState}
-use Rattle.club_rows.specs.FirstSchema.{IsClubOf, tables_at}
+use Rattle.club_rows.specs.FirstSchema.{IsClubOf}
 use Rattle.club_audit.proofs.Proved.{ruled-of}
 use Rattle.club_opening.proofs.ClubLemmas.{club_read_as, good_taken}
 use Rattle.club_opening.proofs.RegisterLemmas.{club_exactly, examined_club, meta_found, play_blamed}
-use Rattle.club_opening.proofs.StoredLemmas.{alone_of, exactly_of, of_version, one_of, rows_held, tables_of_club}
+use Rattle.club_opening.proofs.StoredLemmas.{alone_of, exactly_of, of_version, one_of, tables_of_club}
 use Rattle.club_opening.proofs.FirstLemmas.{first_examined, has_people, have_challenges, pass_challenges, people_read}
 use Rattle.sqlite.specs.Effect.{Database}
 use Rattle.club_opening.specs.RightTables.{NamesExamined}
@@ -80,9 +80,8 @@ returns-in-Ok-examine_rows-clause-rows g c clean version s club holds =
     let s1 = state g.S.Store c.read_rows.new.conn in
     let clean1 = clean_before c.examine_rows.ensures.reads clean in
     let found = c.in-Ok.found in
-    let held = rows_held version s0.now (tables_at version s) holds in
-    let (schema, read) = c.in-Ok.ensures.rows clean1 (of_version version s0.now.schema held.schema) in
-    club_read_as found.version version s club found.rows s0 s1 schema held read
+    let (schema, read) = c.in-Ok.ensures.rows clean1 (of_version version s0.now.schema holds.schema) in
+    club_read_as found.version version s club found.rows s0 s1 schema holds read
     (have_ids found.version found.rows s0 s1 read)
 
 pub returns-in-Ok-examine_rows-clause-same : goal.returns-in-Ok-examine_rows-clause-same

@@ -7,7 +7,7 @@ use Rattle.store_tables.specs.declared.names.Version.TheVariants.{First, Current
 use Rattle.store_tables.proofs.Proved.{alone_exactly, beside_same, first_alone, leaves_first, left_same, still_beside}
 use Rattle.store_tables.proofs.Proved.{still_first}
 use Rattle.club_rows.specs.Club.{tables}
-use Rattle.club_rows.specs.FirstSchema.{IsClubOf, first_tables}
+use Rattle.club_rows.specs.FirstSchema.{first_tables}
 use Rattle.club_opening.specs.Versions.{IsExactlyClub}
 use Rattle.store.proofs.HistoryLemmas.{current_taken, holds_beside, holds_first, left_at, opens_led}
 use Rattle.store.proofs.UpgradeLemmas.{first_history, found_widened, not_newer, upgraded_cut, upgraded_stands}
@@ -58,8 +58,7 @@ returns-in-Ok-widen-clause-done g c clean them s first exactly =
     let clean1 : HasCleanDisk s1 = omega (arith, c.widen.ensures.clean, clean) in
     let was = holds_first them (first_tables s) s0 exactly in
     let here = still_first s0 s1 (c.in-Ok.ensures.reads.kept refl clean1) them (first_tables s) exactly in
-    let same = found_widened c.in-Ok.found.version c.in-First.is c.in-Ok.found.rows s1.now
-    (c.in-Ok.ensures.held clean1 (inl was.schema) was.sound) s first (holds_first them (first_tables s) s1 here) _ _
+    let same = found_widened s c.in-Ok.found.rows _ _ (c.in-Ok.ensures.rows clean1 First s first was)
     c.deref.ensures.value c.of_current-meta.ensures in
     (refl, beside_same _ (tables s) same them s2 (c.in-Ok-widen.ensures.stored clean them (first_tables s) refl here))
 
@@ -77,12 +76,9 @@ returns-in-Ok-widen-clause-found g c clean version opened =
     let clean1 : HasCleanDisk s1 = omega (arith, c.widen.ensures.clean, clean) in
     let (is, (s, club, register, exactly)) = c.in-Ok.ensures.found clean1 version opened in
     let first = sym is ∙ c.in-First.is in
-    let legal = subst (λ v. IsClubOf v s) first club in
     let here : IsFirstBeside alone (first_tables s) s1 =
     first_alone (first_tables s) s1 (subst (λ v. IsExactlyClub v s s1) first exactly) in
-    let holds = holds_first alone (first_tables s) s1 here in
-    let same = found_widened First refl c.in-Ok.found.rows s1.now (s, legal, register, holds) s legal holds _ _
-    c.deref.ensures.value c.of_current-meta.ensures in (
+    let same = found_widened s c.in-Ok.found.rows _ _ register c.deref.ensures.value c.of_current-meta.ensures in (
       s,
       club,
       alone_exactly (tables s) s2 (beside_same _ (tables s) same alone s2
@@ -133,8 +129,7 @@ returns-clause-fault g c clean them s first exactly db may =
     let clean1 : HasCleanDisk s1 = omega (arith, c.widen.ensures.clean, clean) in
     let was = holds_first them (first_tables s) s0 exactly in
     let here = still_first s0 s1 (c.in-Ok.ensures.reads.kept refl clean1) them (first_tables s) exactly in
-    let same = found_widened c.in-Ok.found.version c.in-First.is c.in-Ok.found.rows s1.now
-    (c.in-Ok.ensures.held clean1 (inl was.schema) was.sound) s first (holds_first them (first_tables s) s1 here) _ _
+    let same = found_widened s c.in-Ok.found.rows _ _ (c.in-Ok.ensures.rows clean1 First s first was)
     c.deref.ensures.value c.of_current-meta.ensures in
     elim (c.in-Err-widen.ensures.fault clean them (first_tables s) refl here db may)
     [ inl before ↦ inl before | inr after ↦ inr (left_same _ (tables s) same them db after) ]
