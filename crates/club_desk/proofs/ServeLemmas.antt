@@ -17,7 +17,7 @@ use Rattle.http_desk.specs.declared.faults.ClubFault.TheVariants.{Memory, Reopen
 use Rattle.http_desk.specs.Served.{IsOfCall, Serves}
 use Rattle.club_desk.specs.Faults.{told, told_all}
 use Rattle.club_desk.specs.Served.{DeskState, next_of}
-use Rattle.club_desk.specs.ServedStates.{IsServed, IsLeft, MayLeave, served_stays}
+use Rattle.club_desk.specs.ServedStates.{IsServed, IsLeft, MayLeave}
 
 true_false : (b : Bool) → b ≡ true → b ≡ false → ⊥
 true_false b is isnt = true≢false (sym is ∙ isnt)
@@ -84,19 +84,6 @@ module _ {A : Type 0} where
       Serves (IsServed new_shut new) (IsLeft new_shut new) s s IsRight IsOfCall r in
       subst P (sym is)
       (read_answers old_shut new_shut old new s IsRight found ready ends named reads right clean served)
-
-  -- an answer that is made of what was read
-  pub made_serves : (old_shut new_shut : Bool) (old new : State) (s : DeskState) (IsRight : A → Type 0)
-      (made : Result A ClubFault) → new_shut ≡ false → KeepsContent old new → IfOk made IsRight
-      → IfErr made (λ fault. fault ≡ Memory) → IsServed old_shut old s
-      → Serves (IsServed new_shut new) (IsLeft new_shut new) s s IsRight IsOfCall made
-  made_serves old_shut new_shut old new s IsRight (Ok a) ready keeps right refused served =
-      (right, read_stands old_shut new_shut old new s ready keeps served)
-  made_serves old_shut new_shut old new s IsRight (Err fault) ready keeps right refused served = (
-    inr refused,
-    served_stays new_shut new s s
-        (read_stands old_shut new_shut old new s ready keeps served),
-  )
 
   apply_answers : (old_shut new_shut : Bool) (old new : State) (s : DeskState) (request : Request)
       (IsRight : A → Type 0) (found : Result A StoreFault) → KeepsClub → request.moment ≤ last_moment

@@ -1,21 +1,11 @@
 -- The lines of a batch, one after another.
-use Rattle.std.proofs.Common.{◌≡◌, ℕ, ◌≤◌, List, [], ◌∷◌, ◌++◌, length, take, drop, Option, Some, None}
+use Rattle.std.proofs.Common.{◌≡◌, ℕ, ◌≤◌, List, [], ◌∷◌, ◌++◌, length, take, drop, Option}
 use Rattle.std.proofs.Common.{refl, sym, ap, ◌∙◌, subst, append-nil, append_assoc}
 use Rattle.std.proofs.lemmas.List.{take-append-drop, drop_all}
 use Rattle.std.proofs.KnownBytes.{Appends-trans}
 use Rattle.std.specs.Io.KnownBytes.{Appends}
 use Rattle.club_requests.specs.declared.answers.Outcome.{Outcome}
 use Rattle.club_orders.specs.Batches.{answer_line, answer_lines, IsBegunWith}
-
-pub appends_nothing : (known : Option (List ℕ)) → Appends known known []
-appends_nothing None = tt
-appends_nothing (Some bytes) = sym (append-nil bytes)
-
-pub begun_all : (a b : Option (List ℕ)) (text : List ℕ) → Appends a b text → IsBegunWith a b text
-begun_all a b text written = record { front = text; rest = []; is = sym (append-nil text); written = written }
-
-pub begun_none : (known : Option (List ℕ)) (text : List ℕ) → IsBegunWith known known text
-begun_none known text = record { front = []; rest = text; is = refl; written = appends_nothing known }
 
 pub begun_some : (a b : Option (List ℕ)) (text : List ℕ) (n : ℕ) → Appends a b (take n text) → IsBegunWith a b text
 begun_some a b text n written =
@@ -27,13 +17,7 @@ pub record IsWrittenUpTo (before now : Option (List ℕ)) (left whole : List ℕ
   pub written : Appends before now text
   pub is : text ++ left ≡ whole
 
-pub up_to_nothing : (known : Option (List ℕ)) (whole : List ℕ) → IsWrittenUpTo known known whole whole
-up_to_nothing known whole = record { text = []; written = appends_nothing known; is = refl }
-
 module _ (a b : Option (List ℕ)) (left whole : List ℕ) (so : IsWrittenUpTo a b left whole) where
-  pub up_to_here : IsBegunWith a b whole
-  up_to_here = record { front = so.text; rest = left; is = sym so.is; written = so.written }
-
   pub up_to_all : left ≡ [] → Appends a b whole
   up_to_all none =
       subst (Appends a b) (sym (append-nil so.text) ∙ (ap (λ l. so.text ++ l) (sym none) ∙ so.is)) so.written
