@@ -1,168 +1,132 @@
--- The squares on a line up to the first piece, by sets of squares.
-use Rattle.std.proofs.Common.{◌≡◌, ℕ, zero, suc, ◌≤◌, Bool, true, false, cond, not, ◌&&◌, ◌||◌, nat_eq, inl, inr}
-use Rattle.std.proofs.Common.{Option, Some, None, List, [], ◌∷◌, refl, sym, ap, ◌∙◌, subst, arith, take}
-use Rattle.std.specs.Prelude.{is_some}
-use Rattle.std.specs.Cmp.{nat_cmp_total, unsigned_tied}
-use Rattle.std.specs.List.{find, list_any, range_with_len}
+-- The squares that a piece goes to without taking, by sets of squares.
+use Rattle.std.proofs.Common.{◌≡◌, ℕ, zero, suc, ◌≤◌, Bool, true, false, cond, not, ◌&&◌, ◌||◌, nat_eq, inl, inr, Some}
+use Rattle.std.proofs.Common.{None, List, [], ◌∷◌, ◌++◌, refl, sym, ap, ◌∙◌, arith, take}
+use Rattle.std.specs.Prelude.{is_none, is_some}
 use Rattle.std.specs.Option.{option_map_or}
+use Rattle.std.specs.FinMap as map
 use Rattle.std.specs.FinSet as set
+use Rattle.std.proofs.Math.Bool.{and-false, and-true, or-false}
+use Rattle.std.proofs.lemmas.Bool.{cases_eq, cases_Bool, and_parts}
+use Rattle.std.proofs.lemmas.List.{append-nil}
 use Rattle.std.proofs.lemmas.List.Folds.{list_any-append}
 use Rattle.squares.specs.declared.draughts.direction.Direction.{Direction}
 use Rattle.squares.specs.declared.draughts.direction.Direction.TheVariants.{UpLeft, UpRight, DownLeft, DownRight}
 use Rattle.squares.specs.declared.draughts.piece.DPiece.{DPiece}
-use Rattle.squares.specs.DraughtsMarks.{nat_eq-same}
+use Rattle.squares.specs.declared.sides.Side.{Side}
+use Rattle.squares.specs.declared.sides.Side.TheVariants.{First, Second}
+use Rattle.squares.specs.DraughtsBoard.{Position}
+use Rattle.squares.specs.DraughtsMarks.{nat_eq_other}
 use Rattle.squares.specs.DraughtsSets.{Squares}
-use Rattle.squares.specs.DraughtsGeometry.{OnBoard, neighbor, step, line, ray}
+use Rattle.squares.specs.DraughtsGeometry.{OnBoard, step, line, ray, line-step, line-edge}
 use Rattle.squares.specs.DraughtsOnBoard.{ray-off, step-on_board}
-use Rattle.squares.specs.In.{In, list_any-finds}
-use Rattle.squares.proofs.Proved.{ends-next, ends_within, line-ends, ray-ends}
 use Rattle.draughts_moves.specs.Capture.{Cells}
-use Rattle.draughts_moves.specs.Search.{clear_front, steps_along, steps}
-use Rattle.draughts_moves.proofs.Prey.{In-range}
-use Rattle.draughts_moves.proofs.StepLemmas.{reach-king}
-use Rattle.draughts_moves.proofs.WalkLemmas.{is_in, take-line, turned, some-is_none, not_some-is_none}
+use Rattle.draughts_moves.specs.Legal.{is_forward}
+use Rattle.draughts_moves.specs.Search.{clear_front, steps_along, steps, next_in}
+use Rattle.draughts_moves.proofs.Basics.{option_cases, four, one_of, list_any-four}
+use Rattle.draughts_moves.proofs.LineLemmas.{is_in, distinct, ray-distinct, not_in_both, turned, first_on, line-split}
+use Rattle.draughts_moves.proofs.LineLemmas.{first-stands, front-clear}
+use Rattle.draughts_moves.proofs.MostLemmas.{not_empty}
 
--- whether a line from a square of the line from m comes back to m
-abbrev pub back : Direction → ℕ → ℕ → Bool
-back d m v = is_in m (v ∷ ray d v)
+-- what is left of a line where all from a square on it is taken out
+left_over : (before v rest : Bool) → (before ≡ true → (v || rest) ≡ false)
+    → (not v && ((before || (v || rest)) && not rest)) ≡ before
+left_over true true rest apart = let f = apart refl in cc
+left_over true false true apart = let f = apart refl in cc
+left_over true false false apart = refl
+left_over false true rest apart = refl
+left_over false false true apart = refl
+left_over false false false apart = refl
 
--- this is computed, for each line: it does not
-none_back : (d : Direction) → list_any (λ m. list_any (back d m) (ray d m)) (range_with_len 1 50) ≡ false
-unfolding step neighbor line ray
-none_back UpLeft = refl
-none_back UpRight = refl
-none_back DownLeft = refl
-none_back DownRight = refl
+module _ (b : Cells) (d : Direction) (of : Squares) (are : (n : ℕ) → set.contains of n ≡ is_some (b n)) (n m : ℕ) where
+  -- where nothing stands on it, a line is clear
+  pub clear-all : first_on b d of are m ≡ None → is_in n (ray d m) ≡ is_in n (clear_front b (ray d m))
+  clear-all none =
+      let s = line-split b d of are m in
+      let whole : ray d m ≡ s.0 ++ [] = rw none at s.2 in
+      ap (is_in n) (whole ∙ sym (ap (clear_front b) whole ∙ front-clear b d of are s.0 [] s.1))
 
-pub not_back : (d : Direction) (m v : ℕ) → OnBoard m → In v (ray d m) → back d m v ≡ false
-not_back d m v on there =
-    elim (back d m v) as (λ c. back d m v ≡ c → c ≡ false) [
-      | true ↦ λ e.
-          let here = list_any-finds (back d m) (ray d m) v there e in
-          let one = list_any-finds (λ k. list_any (back d k) (ray d k)) (range_with_len 1 50) m
-          (In-range 1 50 m on.0 (omega (arith, on.1))) here in
-          sym one ∙ none_back d
-      | false ↦ λ _. refl
-    ] refl
+  -- up to the first piece on it a line is what is left without the piece and the line behind it
+  pub clear-part : (v : ℕ) → first_on b d of are m ≡ Some v
+      → (not (nat_eq n v) && (is_in n (ray d m) && not (is_in n (ray d v)))) ≡ is_in n (clear_front b (ray d m))
+  clear-part v first =
+      let s = line-split b d of are m in
+      let whole : ray d m ≡ s.0 ++ v ∷ ray d v = rw first at s.2 in
+      let front : clear_front b (ray d m) ≡ s.0 = ap (clear_front b) whole
+      ∙ front-clear b d of are s.0 (v ∷ ray d v) s.1
+      ∙ rw (first-stands b d of are m v first) (append-nil s.0) in
+      let on : OnBoard m = elim (ray-off d m)
+      [ inl on ↦ on | inr none ↦ absurd (not_empty s.0 (ray d v) v (sym whole ∙ none)) ] in
+      let apart : distinct (s.0 ++ v ∷ ray d v) ≡ true = rw whole at
+      (and_parts (not (is_in m (ray d m))) (distinct (ray d m)) (ray-distinct d m on)).1 in
+      rw (front, whole, turned n v, list_any-append (λ k. nat_eq k n) s.0 (v ∷ ray d v))
+      (left_over (is_in n s.0) (nat_eq v n) (is_in n (ray d v)) (not_in_both n s.0 (v ∷ ray d v) apart))
 
-pub found_in : (test : ℕ → Bool) (v : ℕ) (xs : List ℕ) → find test xs ≡ Some v → In v xs
-found_in test v [] e = cc
-found_in test v (x ∷ xs) e =
-    elim (test x) as (λ c. cond c (Some x) (find test xs) ≡ Some v → In v (x ∷ xs)) [
-      | true ↦ λ f. inl (let same : x ≡ v = cc in same)
-      | false ↦ λ f. inr (found_in test v xs f)
-    ] e
+-- a line of fewer squares is the front of a longer one
+take-line : (r k : ℕ) (d : Direction) (n : ℕ) → r ≤ k → take r (line k d n) ≡ line r d n
+unfolding line
+take-line zero k d n h = refl
+take-line (suc r) zero d n h = absurd (omega arith)
+take-line (suc r) (suc k) d n h = elim (option_cases (step d n))
+    [ inl e ↦ rw e | inr w ↦ rw w.1 (ap (λ ms. w.0 ∷ ms) (take-line r k d w.0 (omega arith))) ]
 
-neither : (a : Bool) → false ≡ (not a && a)
-neither true = refl
-neither false = refl
+-- the next square in a direction, if it is empty
+module _ (b : Cells) (x : ℕ) (d : Direction) where
+  abbrev pub ahead : List ℕ
+  ahead = clear_front b (take 1 (ray d x))
 
-joined : (a x r : Bool) → (a ≡ true → x ≡ false) → (a || (not x && r)) ≡ (not x && (a || r))
-joined true true r h = let f = h refl in cc
-joined true false r h = refl
-joined false x r h = refl
-
-module _ (b : Cells) (d : Direction) (of : Squares) (are : (n : ℕ) → set.contains of n ≡ is_some (b n)) where
-  -- what is left of a line where something stands first on it
-  abbrev pub cut : ℕ → Option ℕ → Bool → Bool
-  cut n None c = c
-  cut n (Some v) c = not (is_in n (v ∷ ray d v)) && c
-
-  whole_ray : (k m : ℕ) → k ≤ 9 → ends_within k d m ≡ true → line k d m ≡ ray d m
+  pub ahead-is : ahead ≡ option_map_or (λ m. cond (is_none (b m)) (m ∷ []) []) (step d x) []
   unfolding ray
-  whole_ray k m few ends = line-ends k 9 d m few ends
+  ahead-is = elim (option_cases (step d x))
+      [ inl e ↦ rw (line-edge 9 d x e, e) | inr w ↦ rw (line-step 9 8 d x w.0 w.1 refl, w.1) ]
 
-  -- one more square that is empty
-  one_more : (n m k : ℕ) (o : Option ℕ) → OnBoard m → line k d m ≡ ray d m → find (set.contains of) (line k d m) ≡ o
-      → is_in n (clear_front b (line k d m)) ≡ cut n o (is_in n (line k d m))
-      → (nat_eq m n || is_in n (clear_front b (line k d m))) ≡ cut n o (nat_eq m n || is_in n (line k d m))
-  one_more n m k None on all first rest = ap (λ c. nat_eq m n || c) rest
-  one_more n m k (Some v) on all first rest =
-      ap (λ c. nat_eq m n || c) rest
-      ∙ joined (nat_eq m n) (is_in n (v ∷ ray d v)) (is_in n (line k d m))
-      (λ e. subst (λ j. is_in j (v ∷ ray d v) ≡ false) (nat_eq-same m n e)
-      (not_back d m v on (subst (In v) all (found_in (set.contains of) v (line k d m) first))))
-
-  along : (n k m : ℕ) → k ≤ 9 → ends_within k d m ≡ true
-      → is_in n (clear_front b (line k d m)) ≡ cut n (find (set.contains of) (line k d m)) (is_in n (line k d m))
-  unfolding line
-  along n zero m few ends = refl
-  along n (suc k) m few ends =
-      elim (step d m) as (λ o. step d m ≡ o → is_in n (clear_front b (option_map_or (λ v. v ∷ line k d v) o []))
-      ≡ cut n (find (set.contains of) (option_map_or (λ v. v ∷ line k d v) o []))
-      (is_in n (option_map_or (λ v. v ∷ line k d v) o []))) [
-        | None ↦ λ _. refl
-        | Some v ↦ λ next.
-            let near = ends-next k d m v next ends in
-            let all = whole_ray k v (omega arith) near in
-            elim (set.contains of v) as (λ c. set.contains of v ≡ c
-            → is_in n (clear_front b (v ∷ line k d v))
-            ≡ cut n (cond c (Some v) (find (set.contains of) (line k d v))) (is_in n (v ∷ line k d v))) [
-              | true ↦ λ there.
-                  ap (λ c. is_in n (cond c (v ∷ clear_front b (line k d v)) []))
-                  (some-is_none (b v) (sym (are v) ∙ there))
-                  ∙ neither (is_in n (v ∷ ray d v))
-                  ∙ ap (λ ms. not (is_in n (v ∷ ray d v)) && is_in n (v ∷ ms)) (sym all)
-              | false ↦ λ passed.
-                  ap (λ c. is_in n (cond c (v ∷ clear_front b (line k d v)) []))
-                  (not_some-is_none (b v) (sym (are v) ∙ passed))
-                  ∙ one_more n v k (find (set.contains of) (line k d v)) (step-on_board d m v next) all refl
-                  (along n k v (omega arith) near)
-            ] refl
-      ] refl
-
-  from_ray : (n m : ℕ)
-      → is_in n (clear_front b (ray d m)) ≡ cut n (find (set.contains of) (ray d m)) (is_in n (ray d m))
-  unfolding ray
-  from_ray n m = elim (ray-off d m) [
-    | inl on ↦ along n 9 m (omega arith) (ray-ends d m on)
-    | inr none ↦ ap (λ ns. is_in n (clear_front b ns)) none
-        ∙ sym (ap (λ ns. cut n (find (set.contains of) ns) (is_in n ns)) none)
-  ]
-
-  pub clear-all : (n m : ℕ) (whole : Squares) → set.contains whole n ≡ is_in n (ray d m)
-      → find (set.contains of) (ray d m) ≡ None → set.contains whole n ≡ is_in n (clear_front b (ray d m))
-  clear-all n m whole is none = is ∙ sym (from_ray n m ∙ ap (λ o. cut n o (is_in n (ray d m))) none)
-
-  swapped : (a c x : Bool) → (not a && (c && not x)) ≡ (not (a || x) && c)
-  swapped true c x = refl
-  swapped false true true = refl
-  swapped false true false = refl
-  swapped false false true = refl
-  swapped false false false = refl
-
-  pub clear-part : (n m v : ℕ) (whole past before got : Squares) → set.contains whole n ≡ is_in n (ray d m)
-      → set.contains past n ≡ is_in n (ray d v) → before ≡ set.difference whole past → got ≡ set.remove before v
-      → find (set.contains of) (ray d m) ≡ Some v → set.contains got n ≡ is_in n (clear_front b (ray d m))
-  clear-part n m v whole past before got is_whole is_past is_before is_got first =
-      ap (λ s. set.contains s n) is_got ∙ set.contains-remove nat_cmp_total before v n
-      ∙ (λ i. not (unsigned_tied n v i) && set.contains before n)
-      ∙ ap (λ s. not (nat_eq n v) && set.contains s n) is_before
-      ∙ ap (λ c. not (nat_eq n v) && c) (set.contains-difference nat_cmp_total whole past n)
-      ∙ (λ i. not (turned n v i) && (is_whole i && not (is_past i)))
-      ∙ swapped (nat_eq v n) (is_in n (ray d m)) (is_in n (ray d v))
-      ∙ sym (from_ray n m ∙ ap (λ o. cut n o (is_in n (ray d m))) first)
-
--- a king goes along the four lines
-module _ (b : Cells) (q : DPiece) (x : ℕ) (king : q.king ≡ true) where
-  king_along : (d : Direction) → clear_front b (ray d x) ≡ steps_along b q d x
-  unfolding steps_along ray
-  king_along d = sym (ap (λ r. clear_front b (take r (line 9 d x))) (reach-king q d king)
-      ∙ ap (clear_front b) (take-line 9 9 d x (omega arith)))
-
-  abbrev here : ℕ → Direction → Bool
-  here n d = is_in n (clear_front b (ray d x))
-
-  pub steps-king : (n : ℕ) → (here n UpLeft || (here n UpRight || (here n DownLeft || here n DownRight)))
-      ≡ is_in n (steps b q x)
+-- where a piece goes, by what it goes along each of the four lines
+module _ (b : Cells) (q : DPiece) (x : ℕ) where
+  pub steps-by : (f : Direction → List ℕ) → ((d : Direction) → f d ≡ steps_along b q d x) → (n : ℕ)
+      → one_of (λ d. is_in n (f d)) ≡ is_in n (steps b q x)
   unfolding steps
-  steps-king n =
-      let test : ℕ → Bool = λ m. nat_eq m n in
-      (λ i. is_in n (king_along UpLeft i) || (is_in n (king_along UpRight i) ||
-      (is_in n (king_along DownLeft i) || is_in n (king_along DownRight i))))
-      ∙ sym
-      (list_any-append test (steps_along b q UpLeft x) _
-      ∙ ap (λ c. is_in n (steps_along b q UpLeft x) || c)
-      (list_any-append test (steps_along b q UpRight x) _
-      ∙ ap (λ c. is_in n (steps_along b q UpRight x) || c)
-      (list_any-append test (steps_along b q DownLeft x) (steps_along b q DownRight x))))
+  steps-by f along n = sym (list_any-four (λ m. nat_eq m n) f) ∙ (λ i. is_in n (four (λ d. along d i)))
+
+  -- a king goes along the four lines
+  pub king_along : q.king ≡ true → (d : Direction) → clear_front b (ray d x) ≡ steps_along b q d x
+  unfolding steps_along ray
+  king_along king d = rw (king, take-line 9 9 d x (omega arith))
+
+  -- a man goes to the next square, if it is empty, in the directions that are forward
+  pub man_along : (s : Side) → q.side ≡ s → q.king ≡ false → (d : Direction)
+      → clear_front b (take (cond (is_forward s d) 1 0) (ray d x)) ≡ steps_along b q d x
+  unfolding steps_along
+  man_along s side man d = rw (man, side)
+
+  pub steps-first : q.king ≡ false → q.side ≡ First → (n : ℕ)
+      → (is_in n (ahead b x UpLeft) || is_in n (ahead b x UpRight)) ≡ is_in n (steps b q x)
+  steps-first man side n = ap (λ c. is_in n (ahead b x UpLeft) || c) (sym (or-false (is_in n (ahead b x UpRight))))
+      ∙ steps-by (λ d. clear_front b (take (cond (is_forward First d) 1 0) (ray d x))) (man_along First side man) n
+
+  pub steps-second : q.king ≡ false → q.side ≡ Second → (n : ℕ)
+      → (is_in n (ahead b x DownLeft) || is_in n (ahead b x DownRight)) ≡ is_in n (steps b q x)
+  steps-second man side n =
+      steps-by (λ d. clear_front b (take (cond (is_forward Second d) 1 0) (ray d x))) (man_along Second side man) n
+
+-- the set has the empty squares of the board
+abbrev pub AreEmpty : Position → Squares → Type 0
+AreEmpty p empty = (n : ℕ) → OnBoard n → set.contains empty n ≡ is_none (map.get p.board n)
+
+module _ (p : Position) (empty : Squares) (free : AreEmpty p empty) (d : Direction) (x : ℕ) where
+  -- what the set has of the next square
+  pub ahead-in : (n : ℕ) → (option_map_or (λ m. nat_eq m n) (step d x) false && set.contains empty n)
+      ≡ is_in n (ahead (map.get p.board) x d)
+  ahead-in n = rw (ahead-is (map.get p.board) x d) (elim (option_cases (step d x)) [
+    | inl e ↦ rw e
+    | inr w ↦ rw w.1 (elim (cases_eq w.0 n) [
+      | inl same ↦ rw (← same, free w.0 (step-on_board d x w.0 w.1)) (elim (cases_Bool (is_none (map.get p.board w.0)))
+          [ inl e ↦ rw e (and-true _ ∙ sym (or-false _)) | inr e ↦ rw e (and-false _) ])
+      | inr other ↦ rw (nat_eq_other w.0 n other) (elim (cases_Bool (is_none (map.get p.board w.0)))
+          [ inl e ↦ rw (e, nat_eq_other w.0 n other) | inr e ↦ rw e ])
+    ])
+  ])
+
+  pub ahead-none : next_in empty d x ≡ false → ahead (map.get p.board) x d ≡ []
+  ahead-none none = rw (ahead-is (map.get p.board) x d) (elim (option_cases (step d x)) [
+    | inl e ↦ rw e
+    | inr w ↦ rw (w.1, sym (free w.0 (step-on_board d x w.0 w.1)) ∙ rw w.1 at none)
+  ])

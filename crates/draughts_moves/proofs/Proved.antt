@@ -1,5 +1,6 @@
 -- What is proved of the moves of draughts, for the proofs of crates above.
 pub use Rattle.draughts_moves.proofs.CheckLemmas.{check_of-is, is_positive}
+pub use Rattle.draughts_moves.proofs.CountLemmas.{len-counted}
 pub use Rattle.draughts_moves.proofs.JumpLemmas.{jumps-complete, jumps-sound}
 pub use Rattle.draughts_moves.proofs.ListLemmas.{moves-complete, moves-sound}
 pub use Rattle.draughts_moves.proofs.MostLemmas.{Capture-len, IsMost-most, Jump-from_on, own_at-is, own_at-own}

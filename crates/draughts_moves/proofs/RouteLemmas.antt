@@ -1,11 +1,12 @@
--- The computed routes are the routes.
+-- The computed routes are the routes, and routes grow at their end.
 use Rattle.std.proofs.Common.{◌≡◌, ℕ, zero, suc, ◌+◌, ◌≤◌, ◌<◌, inl, inr, cond, List, [], ◌∷◌, length, max, fold, refl}
-use Rattle.std.proofs.Common.{sym, ap, ◌∙◌, subst, arith, add-one, ◌-◌}
+use Rattle.std.proofs.Common.{sym, ap, ◌∙◌, subst, arith, add-one, ◌-◌, ◌++◌}
 use Rattle.std.specs.FinSet as set
 use Rattle.std.specs.Cmp.{nat_cmp_total}
 use Rattle.squares.specs.declared.draughts.piece.DPiece.{DPiece}
 use Rattle.squares.specs.DraughtsSets.{Squares}
 use Rattle.draughts_moves.specs.Capture.{Cells, Route, Reaches}
+use Rattle.draughts_moves.specs.Laws.{GrownRoute}
 use Rattle.draughts_moves.specs.Search.{jumps, routes_of, longest, prey_left, greatest}
 use Rattle.squares.specs.In.{In, In-flat_map, In-from_flat_map}
 use Rattle.draughts_moves.proofs.JumpLemmas.{jumps-sound, jumps-complete}
@@ -16,12 +17,9 @@ module _ (b : Cells) (p : DPiece) where
   pub routes_of-sound : (n : ℕ) (t : Squares) (s : ℕ) (all : Squares) (to : ℕ)
       → In {A = Squares × ℕ} (all, to) (routes_of b p n t s) → (ls : List ℕ) × (length ls ≡ n) × Route b p t s ls all to
   unfolding routes_of
-  routes_of-sound zero t s all to h =
-      elim h [
-        | inl e ↦ ([], refl, (ap (λ (q : Squares × ℕ). q.0) e, ap (λ (q : Squares × ℕ). q.1) e))
-        | inr never ↦
-            absurd never
-      ]
+  routes_of-sound zero t s all to (inl e) =
+      ([], refl, (ap (λ (q : Squares × ℕ). q.0) e, ap (λ (q : Squares × ℕ). q.1) e))
+  routes_of-sound zero t s all to (inr never) = absurd never
   routes_of-sound (suc n) t s all to h =
       let w = In-from_flat_map (λ j. routes_of b p n (set.insert t j.0) j.1) (all, to) (jumps b p t s) h in
       let r = routes_of-sound n (set.insert t w.0.0) w.0.1 all to w.2 in
@@ -129,11 +127,39 @@ module _ (b : Cells) (p : DPiece) where
 
   pub Reaches-first : (n : ℕ) (t : Squares) (s : ℕ) (all : Squares) (to : ℕ) → 0 < n → Reaches b p n t s all to
       → (j : ℕ × ℕ) × In j (jumps b p t s) × Reaches b p (n - 1) (set.insert t j.0) j.1 all to
-  Reaches-first n t s all to positive r = first_of_route n t s r.0 all to positive r.1 r.2
-    where
-      first_of_route : (n : ℕ) (t : Squares) (s : ℕ) (ls : List ℕ) (all : Squares) (to : ℕ) → 0 < n → length ls ≡ n
-          → Route b p t s ls all to → (j : ℕ × ℕ) × In j (jumps b p t s)
-          × Reaches b p (n - 1) (set.insert t j.0) j.1 all to
-      first_of_route n t s [] all to positive e r = absurd (omega arith)
-      first_of_route n t s (l ∷ ls) all to positive e r =
-          ((r.0, l), jumps-complete b p t s r.0 l r.1, (ls, omega (arith, e), r.2))
+  Reaches-first n t s all to positive ([], e, r) = absurd (omega arith)
+  Reaches-first n t s all to positive (l ∷ ls, e, r) =
+      ((r.0, l), jumps-complete b p t s r.0 l r.1, (ls, omega (arith, e), r.2))
+
+-- a route of one more landing is a route that grows by one more jump at its end
+module _ (b : Cells) (p : DPiece) (last : ℕ) (all : Squares) (to : ℕ) where
+  pub Route-grown : (landings : List ℕ) (start : Squares) (from : ℕ)
+      → Route b p start from (landings ++ last ∷ []) all to → GrownRoute b p start from landings last all to
+  Route-grown [] start from r =
+      record { at = from; taken = start; over = r.0; route = (refl, refl); jump = r.1; takes = r.2.0; ends = r.2.1 }
+  Route-grown (l ∷ landings) start from r =
+      let g = Route-grown landings (set.insert start r.0) l r.2 in
+      let route : Route b p start from (l ∷ landings) g.taken g.at = (r.0, r.1, g.route) in
+      record { at = g.at; taken = g.taken; over = g.over; route = route; jump = g.jump; takes = g.takes; ends = g.ends }
+
+  pub grown-Route : (landings : List ℕ) (start : Squares) (from : ℕ) → GrownRoute b p start from landings last all to
+      → Route b p start from (landings ++ last ∷ []) all to
+  grown-Route [] start from g = (
+    g.over,
+    rw (g.route.0, g.route.1) g.jump,
+    (rw g.route.0 g.takes, g.ends),
+  )
+  grown-Route (l ∷ landings) start from g = (
+    g.route.0,
+    g.route.1,
+    grown-Route landings (set.insert start g.route.0) l
+        (record {
+          at = g.at;
+          taken = g.taken;
+          over = g.over;
+          route = g.route.2;
+          jump = g.jump;
+          takes = g.takes;
+          ends = g.ends;
+        }),
+  )

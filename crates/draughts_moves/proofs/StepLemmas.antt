@@ -1,194 +1,127 @@
 -- The computed steps are the quiet moves.
-use Rattle.std.proofs.Common.{◌≡◌, ℕ, zero, suc, ◌<◌, ◌≤◌, true, false, cond, nat_eq, Some, None, List, [], ◌∷◌, ◌++◌}
-use Rattle.std.proofs.Common.{length, take, drop, inl, inr, refl, sym, ap, ◌∙◌, subst, arith, append_assoc}
-use Rattle.std.proofs.Common.{length-append, length-take}
-use Rattle.std.specs.Option.{option_map_or}
+use Rattle.std.proofs.Common.{◌≡◌, ℕ, zero, suc, ◌<◌, ◌≤◌, true, false, nat_eq, Some, None, List, [], ◌∷◌, ◌++◌, length}
+use Rattle.std.proofs.Common.{take, drop, inl, inr, refl, sym, ap, ◌∙◌, arith, append_assoc, length-append, length-take}
 use Rattle.std.specs.List.{list_any}
 use Rattle.std.specs.FinMap as map
 use Rattle.std.specs.FinSet as set
 use Rattle.std.specs.Ordering.{nat_cmp}
+use Rattle.std.proofs.lemmas.Bool.{cases_Bool, false≢true}
 use Rattle.std.proofs.lemmas.List.{take-append-drop}
 use Rattle.squares.specs.declared.draughts.direction.Direction.{Direction}
-use Rattle.squares.specs.declared.draughts.direction.Direction.TheVariants.{UpLeft, UpRight, DownLeft, DownRight}
 use Rattle.squares.specs.declared.draughts.piece.DPiece.{DPiece}
 use Rattle.squares.specs.DraughtsBoard.{Position}
 use Rattle.squares.specs.DraughtsGeometry.{OnBoard, step, line, ray}
-use Rattle.squares.specs.DraughtsMarks.{nat_eq_same}
+use Rattle.squares.specs.DraughtsMarks.{nat_eq_same, nat_eq-same}
 use Rattle.squares.specs.DraughtsOnBoard.{ray-off}
 use Rattle.draughts_moves.specs.Capture.{Cells, AllClear}
 use Rattle.draughts_moves.specs.Legal.{is_forward, QuietMove}
 use Rattle.draughts_moves.specs.Search.{clear_front, reach, steps_along, steps, own_at, is_step}
-use Rattle.squares.specs.In.{In, In-left, In-right, In-cases, list_any-found, list_any-finds}
+use Rattle.squares.specs.In.{In, list_any-found, list_any-finds}
+use Rattle.draughts_moves.proofs.Basics.{option_cases, In-four, In-from_four}
 use Rattle.draughts_moves.proofs.JumpLemmas.{clear_front-sound}
 use Rattle.draughts_moves.proofs.MostLemmas.{own_at-own, own_at-is, not_empty}
-use Rattle.squares.specs.DraughtsMarks.{nat_eq-same}
 
 length-line : (k : ℕ) (d : Direction) (n : ℕ) → length (line k d n) ≤ k
 unfolding line
 length-line zero d n = omega arith
-length-line (suc k) d n =
-    elim (step d n) as (λ o. length (option_map_or (λ m. m ∷ line k d m) o []) ≤ suc k)
-    [ None ↦ omega arith | Some m ↦ omega (arith, length-line k d m) ]
+length-line (suc k) d n = elim (option_cases (step d n))
+    [ inl e ↦ rw e (omega arith) | inr w ↦ rw w.1 (omega (arith, length-line k d w.0)) ]
 
 length-ray : (d : Direction) (n : ℕ) → length (ray d n) ≤ 9
 unfolding ray
 length-ray d n = length-line 9 d n
 
--- one line of squares that a piece may go along
-pub record Goes (b : Cells) (q : DPiece) (d : Direction) (x y : ℕ) : Type 0 where
-  pub before : List ℕ
-  pub after : List ℕ
-  pub along : ray d x ≡ before ++ y ∷ after
-  pub clear_before : AllClear b before
-  pub lands : b y ≡ None
-  pub man : q.king ≡ false → (before ≡ []) × (is_forward q.side d ≡ true)
-
 no_squares : (xs : List ℕ) → length xs < 1 → xs ≡ []
 no_squares [] h = refl
 no_squares (x ∷ xs) h = absurd (omega arith)
 
-pub reach-king : (q : DPiece) (d : Direction) → q.king ≡ true → reach q d ≡ 9
-reach-king q d e = ap (λ c. cond c 9 (cond (is_forward q.side d) 1 0)) e
+-- what is before a square within reach: for a man nothing, and the square is ahead
+module _ (q : DPiece) (d : Direction) (x y : ℕ) (before : List ℕ) where
+  man_goes : length before < reach q d → q.king ≡ false → (before ≡ []) × (is_forward q.side d ≡ true)
+  man_goes near man = elim (cases_Bool (is_forward q.side d)) [
+    | inl e ↦ (no_squares before (rw (man, e) at near), e)
+    | inr e ↦ absurd (let never : length before < 0 = rw (man, e) at near in omega arith)
+  ]
 
-reach-man : (q : DPiece) (d : Direction) → q.king ≡ false → reach q d ≡ cond (is_forward q.side d) 1 0
-reach-man q d e = ap (λ c. cond c 9 (cond (is_forward q.side d) 1 0)) e
+  goes_near : (after : List ℕ) → ray d x ≡ before ++ y ∷ after
+      → (q.king ≡ false → (before ≡ []) × (is_forward q.side d ≡ true)) → length before < reach q d
+  goes_near after along man = elim (cases_Bool q.king) [
+    | inl e ↦ rw e (omega (arith, length-ray d x, ap length along, length-append before (y ∷ after)))
+    | inr e ↦ let w = man e in rw (e, w.1, w.0) (omega arith)
+  ]
 
-man_goes : (q : DPiece) (d : Direction) (before : List ℕ) → length before < reach q d → q.king ≡ false → (before ≡ [])
-    × (is_forward q.side d ≡ true)
-man_goes q d before near man =
-    elim (is_forward q.side d) as (λ c. is_forward q.side d ≡ c → length before < cond c 1 0 → (before ≡ [])
-    × (c ≡ true)) [
-      | true ↦ λ _ h. (no_squares before h, refl)
-      | false ↦ λ _ h. absurd (omega arith)
-    ] refl (subst (λ n. length before < n) (reach-man q d man) near)
+-- a square of the front of a list
+module _ (r y : ℕ) (xs before after : List ℕ) (along : take r xs ≡ before ++ y ∷ after) where
+  whole : xs ≡ before ++ y ∷ (after ++ drop r xs)
+  whole = sym (take-append-drop r xs) ∙ ap (λ front. front ++ drop r xs) along
+      ∙ append_assoc before (y ∷ after) (drop r xs)
 
-goes_near : (q : DPiece) (d : Direction) (x y : ℕ) (before after : List ℕ) → ray d x ≡ before ++ y ∷ after
-    → (q.king ≡ false → (before ≡ []) × (is_forward q.side d ≡ true)) → length before < reach q d
-goes_near q d x y before after along man =
-    elim q.king as (λ c. q.king ≡ c → length before < reach q d) [
-      | true ↦ λ e. omega (arith, reach-king q d e, length-ray d x, ap length along, length-append before (y ∷ after))
-      | false ↦ λ e. let w = man e in
-          subst (λ n. length before < n) (sym (reach-man q d e ∙ ap (λ c. cond c 1 0) w.1))
-          (omega (arith, ap length w.0))
-    ] refl
+  within : length before < r
+  within = omega (arith, ap length along, length-take r xs, length-append before (y ∷ after))
 
-whole : (r y : ℕ) (xs before after : List ℕ) → take r xs ≡ before ++ y ∷ after → xs ≡ before ++ y ∷ (after ++ drop r xs)
-whole r y xs before after e = sym (take-append-drop r xs) ∙ ap (λ front. front ++ drop r xs) e
-    ∙ append_assoc before (y ∷ after) (drop r xs)
-
-within : (r y : ℕ) (xs before after : List ℕ) → take r xs ≡ before ++ y ∷ after → length before < r
-within r y xs before after e = omega (arith, ap length e, length-take r xs, length-append before (y ∷ after))
-
-module _ (b : Cells) (q : DPiece) where
-  front-complete : (r y : ℕ) (before after : List ℕ) → length before < r → AllClear b before → b y ≡ None
-      → In y (clear_front b (take r (before ++ y ∷ after)))
-  front-complete zero y before after near clear lands = absurd (omega arith)
-  front-complete (suc r) y [] after near clear lands = rw lands (inl refl)
-  front-complete (suc r) y (n ∷ before) after near clear lands =
-      rw clear.0 (inr (front-complete r y before after (omega arith) clear.1 lands))
-
-  steps_along-sound : (d : Direction) (x y : ℕ) → In y (steps_along b q d x) → Goes b q d x y
-  unfolding steps_along
-  steps_along-sound d x y h =
-      let w = clear_front-sound b q (set.empty {R = nat_cmp}) y (take (reach q d) (ray d x)) h in
-      record {
-        before = w.0;
-        after = w.1 ++ drop (reach q d) (ray d x);
-        along = whole (reach q d) y (ray d x) w.0 w.1 w.2;
-        clear_before = w.3;
-        lands = w.4;
-        man = man_goes q d w.0 (within (reach q d) y (ray d x) w.0 w.1 w.2);
-      }
-
-  steps_along-complete : (d : Direction) (x y : ℕ) → Goes b q d x y → In y (steps_along b q d x)
-  unfolding steps_along
-  steps_along-complete d x y g =
-      subst (λ xs. In y (clear_front b (take (reach q d) xs))) (sym g.along)
-      (front-complete (reach q d) y g.before g.after (goes_near q d x y g.before g.after g.along g.man) g.clear_before
-      g.lands)
-
-  pub steps-sound : (x y : ℕ) → In y (steps b q x) → (d : Direction) × Goes b q d x y
-  unfolding steps
-  steps-sound x y h =
-      elim (In-cases y (steps_along b q UpLeft x) _ h) [
-        | inl a ↦ (UpLeft, steps_along-sound UpLeft x y a)
-        | inr r ↦ elim (In-cases y (steps_along b q UpRight x) _ r) [
-          | inl a ↦ (UpRight, steps_along-sound UpRight x y a)
-          | inr r ↦ elim (In-cases y (steps_along b q DownLeft x) _ r) [
-            | inl a ↦ (DownLeft, steps_along-sound DownLeft x y a)
-            | inr r ↦
-                (DownRight, steps_along-sound DownRight x y r)
-          ]
-        ]
-      ]
-
-  pub steps-complete : (d : Direction) (x y : ℕ) → Goes b q d x y → In y (steps b q x)
-  unfolding steps
-  steps-complete UpLeft x y g = In-left y (steps_along b q UpLeft x) _ (steps_along-complete UpLeft x y g)
-  steps-complete UpRight x y g = In-right y (steps_along b q UpLeft x) _
-      (In-left y (steps_along b q UpRight x) _ (steps_along-complete UpRight x y g))
-  steps-complete DownLeft x y g =
-      In-right y (steps_along b q UpLeft x) _
-      (In-right y (steps_along b q UpRight x) _
-      (In-left y (steps_along b q DownLeft x) _ (steps_along-complete DownLeft x y g)))
-  steps-complete DownRight x y g =
-      In-right y (steps_along b q UpLeft x) _
-      (In-right y (steps_along b q UpRight x) _
-      (In-right y (steps_along b q DownLeft x) _ (steps_along-complete DownRight x y g)))
+front-complete : (b : Cells) (r y : ℕ) (before after : List ℕ) → length before < r → AllClear b before → b y ≡ None
+    → In y (clear_front b (take r (before ++ y ∷ after)))
+front-complete b zero y before after near clear lands = absurd (omega arith)
+front-complete b (suc r) y [] after near clear lands = rw lands (inl refl)
+front-complete b (suc r) y (n ∷ before) after near clear lands =
+    rw clear.0 (inr (front-complete b r y before after (omega arith) clear.1 lands))
 
 module _ (p : Position) (x y : ℕ) where
   -- the squares of the steps are those of the quiet moves
   pub quiet-from_steps : (q : DPiece) → own_at p x ≡ Some q → In y (steps (map.get p.board) q x) → QuietMove p x y
+  unfolding steps steps_along
   quiet-from_steps q own h =
+      let b = map.get p.board in
       let is = own_at-is p x q own in
-      let w = steps-sound (map.get p.board) q x y h in
+      let w = In-from_four y (λ d. clear_front b (take (reach q d) (ray d x))) h in
+      let d = w.0 in
+      let f = clear_front-sound b q (set.empty {R = nat_cmp}) y (take (reach q d) (ray d x)) w.1 in
       record {
         piece = q;
         stands = is.0;
         own = is.1;
-        toward = w.0;
-        before = w.1.before;
-        after = w.1.after;
-        along = w.1.along;
-        clear_before = w.1.clear_before;
-        lands = w.1.lands;
-        man = w.1.man;
+        toward = d;
+        before = f.0;
+        after = f.1 ++ drop (reach q d) (ray d x);
+        along = whole (reach q d) y (ray d x) f.0 f.1 f.2;
+        clear_before = f.3;
+        lands = f.4;
+        man = man_goes q d x y f.0 (within (reach q d) y (ray d x) f.0 f.1 f.2);
       }
 
   pub quiet-own : (m : QuietMove p x y) → own_at p x ≡ Some m.piece
   quiet-own m = own_at-own p x m.piece m.stands m.own
 
   pub quiet-in_steps : (m : QuietMove p x y) → In y (steps (map.get p.board) m.piece x)
+  unfolding steps steps_along
   quiet-in_steps m =
-      steps-complete (map.get p.board) m.piece m.toward x y
-      (record {
-        before = m.before;
-        after = m.after;
-        along = m.along;
-        clear_before = m.clear_before;
-        lands =
-            m.lands;
-        man = m.man;
-      })
+      let q = m.piece in
+      let near = goes_near q m.toward x y m.before m.after m.along m.man in
+      In-four y (λ d. clear_front (map.get p.board) (take (reach q d) (ray d x))) m.toward
+      (rw m.along (front-complete (map.get p.board) (reach q m.toward) y m.before m.after near m.clear_before m.lands))
 
   pub quiet-from_on : QuietMove p x y → OnBoard x
   quiet-from_on m = elim (ray-off m.toward x)
       [ inl on ↦ on | inr none ↦ absurd (not_empty m.before m.after y (sym m.along ∙ none)) ]
 
-  pub is_step-sound : is_step p x y ≡ true → QuietMove p x y
+  pub is_step-own : (q : DPiece) → own_at p x ≡ Some q
+      → is_step p x y ≡ list_any (λ z. nat_eq z y) (steps (map.get p.board) q x)
   unfolding is_step
-  is_step-sound e =
-      elim (own_at p x) as (λ o. own_at p x ≡ o
-      → option_map_or (λ q. list_any (λ z. nat_eq z y) (steps (map.get p.board) q x)) o false ≡ true
-      → QuietMove p x y) [
-        | None ↦ λ _ e. cc
-        | Some q ↦ λ own e.
-            let w = list_any-found (λ z. nat_eq z y) (steps (map.get p.board) q x) e in
-            quiet-from_steps q own (subst (λ z. In z (steps (map.get p.board) q x)) (nat_eq-same w.0 y w.2) w.1)
-      ] refl e
+  is_step-own q own = rw own
+
+  pub is_step-none : own_at p x ≡ None → is_step p x y ≡ false
+  unfolding is_step
+  is_step-none none = rw none
+
+  pub is_step-sound : is_step p x y ≡ true → QuietMove p x y
+  is_step-sound e = elim (option_cases (own_at p x)) [
+    | inl none ↦ absurd (false≢true (sym (is_step-none none) ∙ e))
+    | inr w ↦
+        let f = list_any-found (λ z. nat_eq z y) (steps (map.get p.board) w.0 x) (sym (is_step-own w.0 w.1) ∙ e) in
+        quiet-from_steps w.0 w.1 (rw (nat_eq-same f.0 y f.2) at f.1)
+  ]
 
   pub is_step-complete : QuietMove p x y → is_step p x y ≡ true
-  unfolding is_step
   is_step-complete m =
-      ap (λ o. option_map_or (λ q. list_any (λ z. nat_eq z y) (steps (map.get p.board) q x)) o false) (quiet-own m)
+      is_step-own m.piece (quiet-own m)
       ∙ list_any-finds (λ z. nat_eq z y) (steps (map.get p.board) m.piece x) y (quiet-in_steps m) (nat_eq_same y y refl)

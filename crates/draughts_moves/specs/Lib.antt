@@ -1,5 +1,6 @@
 pub mod Capture
 pub mod Check
+pub mod Counting
 pub mod Found
 pub mod Laws
 pub mod Legal

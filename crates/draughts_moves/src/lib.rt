@@ -3,6 +3,7 @@
 
 mod beside;
 pub mod checking;
+pub mod counting;
 mod exposure;
 mod first_jumps;
 mod found;
@@ -20,6 +21,7 @@ mod seeking;
 mod steps;
 
 pub use checking::{Illegal, check, has_move};
+pub use counting::legal_count;
 pub use jumps::{Jumps, jumps_from};
 pub use listing::legal;
 pub use memory::Memory;

@@ -1,9 +1,10 @@
 -- Counts that add up.
 use Rattle.std.proofs.Common.{◌≡◌, ℕ, ◌+◌, refl, sym, ap, ◌∙◌, List, [], ◌∷◌, ◌++◌, append_assoc, append-nil, length}
-use Rattle.std.proofs.Common.{zero, suc, ◌-◌, ◌<◌, ◌≤◌, take, get_or, subst, arith}
+use Rattle.std.proofs.Common.{zero, suc, ◌-◌, ◌<◌, ◌≤◌, take, get_or, subst, arith, Result, Ok, Err}
 use Rattle.std.proofs.lemmas.List.{take_more, take_all}
+use Rattle.std.specs.Prelude.{IfOk}
 use Rattle.std.specs.declared.cmp.Ordering.{Ordering}
-use Rattle.perft.specs.Lines.{AddUp, AreTheMoves, HasLines, count_line, AreLines}
+use Rattle.perft.specs.Lines.{AddUp, AreTheMoves, HasLines, IsTheCount, count_line, AreLines}
 
 -- one more move with its count
 pub AddUp-more : {M : Type 0} (counted : M → ℕ → Type 0) (moves : List M) (m : M) (total count : ℕ)
@@ -26,10 +27,22 @@ abbrev pub after_first : {P M : Type 0} → (P → M → Type 0) → (M → M �
 after_first legal order play depth p m lines = HasLines legal order play depth (play p m) lines
 
 -- lines of one move are counted by the legal moves
-pub HasLines-one : {P M : Type 0} (legal : P → M → Type 0) (order : M → M → Ordering) (play : P → M → P) (p : P)
-    (moves : List M) → AreTheMoves legal order p moves → HasLines legal order play 1 p (length moves)
-HasLines-one legal order play p moves the =
-    (moves, the, AddUp-ones (after_first legal order play 0 p) moves (λ m. refl))
+HasLines-one : {P M : Type 0} (legal : P → M → Type 0) (order : M → M → Ordering) (play : P → M → P) (p : P) (count : ℕ)
+    → IsTheCount legal order p count → HasLines legal order play 1 p count
+HasLines-one legal order play p count so_many = (
+  so_many.moves,
+  so_many.are_moves,
+  subst (AddUp (after_first legal order play 0 p) so_many.moves) (sym so_many.counted)
+      (AddUp-ones (after_first legal order play 0 p) so_many.moves (λ m. refl)),
+)
+
+-- what counts the legal moves counts the lines of one move
+pub counted-lines : {P M E : Type 0} (legal : P → M → Type 0) (order : M → M → Ordering) (play : P → M → P) (p : P)
+    (depth : ℕ) (result : Result ℕ E) → depth ≡ 1 → IfOk result (λ count. IsTheCount legal order p count)
+    → IfOk result (λ count. HasLines legal order play depth p count)
+counted-lines legal order play p depth (Ok count) one so_many =
+    subst (λ (d : ℕ). HasLines legal order play d p count) (sym one) (HasLines-one legal order play p count so_many)
+counted-lines legal order play p depth (Err fault) one failed = tt
 
 suc-less : (n : ℕ) → suc n - 1 ≡ n
 suc-less n = omega arith

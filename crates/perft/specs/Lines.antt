@@ -1,6 +1,7 @@
 -- How many lines of legal moves a position has, for any game: by which moves are legal, in which order they are listed,
 -- and what a move leaves.
-use Rattle.std.specs.Prelude.{◌≡◌, ◌↔◌, ℕ, ◌+◌, ◌-◌, ◌++◌, zero, suc, List, [], ◌∷◌, Option, Contains, codes, decimal}
+use Rattle.std.specs.Prelude.{◌≡◌, ◌↔◌, ℕ, ◌+◌, ◌-◌, ◌++◌, zero, suc, List, [], ◌∷◌, Option, Contains, codes}
+use Rattle.std.specs.Prelude.{decimal, length}
 use Rattle.std.specs.Io.KnownBytes.{Appends}
 use Rattle.std.specs.List.Sorted.{IsStrictlySortedBy}
 use Rattle.std.specs.declared.cmp.Ordering.{Ordering}
@@ -10,6 +11,13 @@ pub record AreTheMoves {P M : Type 0} (legal : P → M → Type 0) (order : M �
     (moves : List M) : Type 0 where
   pub once : IsStrictlySortedBy order moves
   pub members : (m : M) → Contains moves m ↔ legal p m
+
+-- how many legal moves a position has
+pub record IsTheCount {P M : Type 0} (legal : P → M → Type 0) (order : M → M → Ordering) (p : P)
+    (count : ℕ) : Type 0 where
+  pub moves : List M
+  pub are_moves : AreTheMoves legal order p moves
+  pub counted : count ≡ length moves
 
 -- each of the moves has a count, and these add up to the total
 abbrev pub AddUp : {M : Type 0} → (M → ℕ → Type 0) → List M → ℕ → Type 0

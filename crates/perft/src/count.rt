@@ -26,10 +26,10 @@ pub fn leaves<G: Game>(alloc: Global, position: &G::Position, depth: u32) -> Res
     if depth == 0 {
         return Ok(1);
     }
-    let moves = G::legal(alloc, position)?;
     if depth == 1 {
-        return Ok(moves.as_slice().len() as u64);
+        return G::count(alloc, position);
     }
+    let moves = G::legal(alloc, position)?;
     let mut count: u64 = 0;
     for played in &moves {
         let next = G::play(position, played);

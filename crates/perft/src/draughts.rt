@@ -29,6 +29,11 @@ impl Game for Draughts {
         Ok(draughts_moves::legal(alloc, position)?)
     }
 
+    fn count(alloc: Global, position: &DPos) -> Result<u64, PerftFault> {
+        let count = draughts_moves::legal_count(alloc, position)?;
+        Ok(count as u64)
+    }
+
     fn play(position: &DPos, played: &DMove) -> DPos {
         draughts_moves::play(position, played)
     }

@@ -2,7 +2,7 @@
 
 ghost use Rattle.std.specs.Prelude.{◌≡◌, List, ℕ, IfOk, string_bytes};
 ghost use Rattle.std.specs.declared.cmp.Ordering.{Ordering};
-ghost use Rattle.perft.specs.Lines.{AreTheMoves};
+ghost use Rattle.perft.specs.Lines.{AreTheMoves, IsTheCount};
 
 use crate::fault::PerftFault;
 use std::alloc::Global;
@@ -24,6 +24,10 @@ pub trait Game {
     /// The legal moves, each once, in the order of the game.
     fn legal(alloc: Global, position: &Self::Position) -> Result<Vec<Self::Move>, PerftFault>
         ensures { IfOk result (λ moves. AreTheMoves Legal order position.now moves.items) };
+
+    /// How many legal moves there are.
+    fn count(alloc: Global, position: &Self::Position) -> Result<u64, PerftFault>
+        ensures { IfOk result (λ count. IsTheCount Legal order position.now count) };
 
     /// The position after a legal move.
     fn play(position: &Self::Position, played: &Self::Move) -> Self::Position

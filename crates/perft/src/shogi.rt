@@ -33,6 +33,11 @@ impl Game for Shogi {
         Ok(shogi_moves::legal(alloc, position)?)
     }
 
+    fn count(alloc: Global, position: &SPos) -> Result<u64, PerftFault> {
+        let moves = shogi_moves::legal(alloc, position)?;
+        Ok(moves.as_slice().len() as u64)
+    }
+
     fn play(position: &SPos, played: &SMove) -> SPos {
         shogi_moves::play(position, played)
     }

@@ -1,6 +1,6 @@
 use Rattle.std.proofs.Common.{length}
 use Rattle.squares.specs.DraughtsSets.{ascending}
-use Rattle.draughts_moves.proofs.SightLemmas.{AreAble}
+use Rattle.draughts_moves.proofs.IdleLemmas.{AreAble}
 use Rattle.draughts_moves.proofs.exposure.jumping_kings.Given as goal
 
 abbrev pub invariant-loop-square : goal.invariant-loop-square

@@ -1,31 +1,41 @@
 use Rattle.std.proofs.Common.{◌∙◌, sym}
 use Rattle.draughts_moves.specs.Capture.{without}
-use Rattle.draughts_moves.proofs.FirstJumpLemmas.{jumps-first, jumps-second, jumps-third, jumps-last}
+use Rattle.draughts_moves.proofs.LineLemmas.{any-jumps}
 use Rattle.draughts_moves.proofs.first_jumps.can_jump.Goals as goal
 
 pub returns-then-can_jump_along : goal.returns-then-can_jump_along
 returns-then-can_jump_along c =
     let m = c.args.mover.now in
-    jumps-first (without c.args.position.now.board m.origin) m.piece m.taken m.at
-    (sym c.can_jump_along.ensures ∙ c.if-can_jump_along.true)
+    rw (
+      any-jumps (without c.args.position.now.board m.origin) m.piece m.taken m.at,
+      sym c.can_jump_along.ensures ∙ c.if-can_jump_along.true,
+    )
 
 pub returns-then-can_jump_along-2 : goal.returns-then-can_jump_along-2
 returns-then-can_jump_along-2 c =
     let m = c.args.mover.now in
-    jumps-second (without c.args.position.now.board m.origin) m.piece m.taken m.at
-    (sym c.can_jump_along-2.ensures ∙ c.if-can_jump_along-2.true)
+    rw (
+      any-jumps (without c.args.position.now.board m.origin) m.piece m.taken m.at,
+      sym c.can_jump_along.ensures ∙ c.if-can_jump_along.false,
+      sym c.can_jump_along-2.ensures ∙ c.if-can_jump_along-2.true,
+    )
 
 pub returns-then-can_jump_along-3 : goal.returns-then-can_jump_along-3
 returns-then-can_jump_along-3 c =
     let m = c.args.mover.now in
-    jumps-third (without c.args.position.now.board m.origin) m.piece m.taken m.at
-    (sym c.can_jump_along-3.ensures ∙ c.if-can_jump_along-3.true)
+    rw (
+      any-jumps (without c.args.position.now.board m.origin) m.piece m.taken m.at,
+      sym c.can_jump_along.ensures ∙ c.if-can_jump_along.false,
+      sym c.can_jump_along-2.ensures ∙ c.if-can_jump_along-2.false,
+      sym c.can_jump_along-3.ensures ∙ c.if-can_jump_along-3.true,
+    )
 
 pub returns : goal.returns
 returns c =
     let m = c.args.mover.now in
-    c.can_jump_along-4.ensures
-    ∙ jumps-last (without c.args.position.now.board m.origin) m.piece m.taken m.at
-    (sym c.can_jump_along.ensures ∙ c.if-can_jump_along.false)
-    (sym c.can_jump_along-2.ensures ∙ c.if-can_jump_along-2.false)
-    (sym c.can_jump_along-3.ensures ∙ c.if-can_jump_along-3.false)
+    rw (
+      any-jumps (without c.args.position.now.board m.origin) m.piece m.taken m.at,
+      sym c.can_jump_along.ensures ∙ c.if-can_jump_along.false,
+      sym c.can_jump_along-2.ensures ∙ c.if-can_jump_along-2.false,
+      sym c.can_jump_along-3.ensures ∙ c.if-can_jump_along-3.false,
+    ) c.can_jump_along-4.ensures

@@ -1,7 +1,6 @@
-use Rattle.std.proofs.Common.{◌∙◌, sym, ap}
+use Rattle.std.proofs.Common.{◌∙◌, sym}
 use Rattle.draughts_moves.specs.Capture.{without}
-use Rattle.draughts_moves.proofs.FirstJumpLemmas.{any}
-use Rattle.draughts_moves.proofs.KingLemmas.{king-none, king-takes}
+use Rattle.draughts_moves.proofs.LineLemmas.{king_by_first, king-takes}
 use Rattle.draughts_moves.proofs.first_jumps.king_can_jump.Goals as goal
 
 pub returns-in-Some : goal.returns-in-Some
@@ -9,13 +8,14 @@ returns-in-Some c =
     let m = c.args.mover.now in
     c.takes.ensures
     ∙ sym
-    (king-takes (without c.args.position.now.board m.origin) m.piece m.taken c.args.toward c.others-pieces.result
-    c.others-pieces.ensures m.at c.in-Some.over (sym c.first_on.ensures ∙ c.in-Some.is))
+    (king-takes (without c.args.position.now.board m.origin) c.args.toward c.others-pieces.result
+    c.others-pieces.ensures m.piece m.taken m.at c.in-Some.over (sym c.first_on.ensures ∙ c.in-Some.is))
 
 pub returns-in-None : goal.returns-in-None
 returns-in-None c =
     let m = c.args.mover.now in
-    sym
-    (ap any
-    (king-none (without c.args.position.now.board m.origin) m.piece m.taken c.args.toward c.others-pieces.result
-    c.others-pieces.ensures m.at (sym c.first_on.ensures ∙ c.in-None.is)))
+    rw (
+      king_by_first (without c.args.position.now.board m.origin) c.args.toward c.others-pieces.result
+          c.others-pieces.ensures m.piece m.taken m.at,
+      sym c.first_on.ensures ∙ c.in-None.is,
+    )

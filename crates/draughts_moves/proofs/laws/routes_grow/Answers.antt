@@ -1,4 +1,4 @@
-use Rattle.draughts_moves.proofs.GrowthLemmas.{Route-grown, grown-Route}
+use Rattle.draughts_moves.proofs.RouteLemmas.{Route-grown, grown-Route}
 use Rattle.draughts_moves.proofs.laws.routes_grow.Goals as goal
 
 pub returns : goal.returns

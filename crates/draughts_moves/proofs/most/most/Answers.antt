@@ -2,7 +2,7 @@ use Rattle.std.proofs.Common.{rules, ◌≡◌, ◌≤◌, max, arith, sym, ap, 
 use Rattle.draughts_moves.specs.Capture.{IsMost}
 use Rattle.draughts_moves.specs.Search.{greatest_at, most}
 use Rattle.draughts_moves.proofs.MostLemmas.{IsMost-most}
-use Rattle.draughts_moves.proofs.OwnLemmas.{most-able, popped_most, popped_end}
+use Rattle.draughts_moves.proofs.MaxLemmas.{most-able, popped_most, popped_end}
 use Rattle.draughts_moves.proofs.most.most.Goals as goal
 
 pub loop-square-init : goal.loop-square-init

@@ -1,12 +1,11 @@
-use Rattle.std.proofs.Common.{◌≡◌, ◌-◌, ◌++◌, take, drop}
+use Rattle.std.proofs.Common.{◌≡◌, ◌-◌}
 use Rattle.draughts_moves.specs.Listing.{move_cmp}
-use Rattle.squares.specs.OrderedLists.{put}
+use Rattle.draughts_moves.proofs.PlaceLemmas.{IsLeft, move_cmp-total}
 use Rattle.draughts_moves.proofs.ordering.put_move.Given as goal
 
 abbrev pub invariant-loop-passed : goal.invariant-loop-passed
 invariant-loop-passed l =
     record {
-      rest : put move_cmp l.played (take (l.count - l.passed) l.moves.items) ++ drop (l.count - l.passed) l.moves.items
-          ≡ put move_cmp l.played l.moves.items;
+      rest : IsLeft move_cmp move_cmp-total l.played l.fn.moves.items l.count l.passed (l.count - l.passed);
       same : l.moves.items ≡ l.fn.moves.items;
     }

@@ -1,11 +1,10 @@
-use Rattle.std.proofs.Common.{◌≡◌, ◌-◌, ◌++◌, ◌∷◌, take}
-use Rattle.std.specs.Prelude.{map}
+use Rattle.std.proofs.Common.{◌≡◌, ◌-◌, take}
 use Rattle.std.specs.List.{flat_map}
-use Rattle.std.specs.FinSet as set
 use Rattle.squares.specs.OrderedLists.{put_all}
 use Rattle.draughts_moves.specs.Capture.{without}
 use Rattle.draughts_moves.specs.Search.{jumps}
-use Rattle.draughts_moves.specs.Routes.{route_cmp, lists_in, landings_of}
+use Rattle.draughts_moves.specs.Routes.{route_cmp, lists_in}
+use Rattle.draughts_moves.proofs.RoutingLemmas.{by_jump}
 use Rattle.draughts_moves.proofs.routing.+collect_routes.Given as goal
 
 abbrev pub invariant-loop-over : goal.invariant-loop-over
@@ -15,9 +14,7 @@ invariant-loop-over l =
       so_far : lists_in l.routes.items
           ≡
           put_all route_cmp
-          (flat_map
-          (λ j. map (λ ls. l.fn.path.items ++ (j.1 ∷ ls))
-          (landings_of b l.mover.piece l.played.taken l.played.to (l.left - 1) (set.insert l.mover.taken j.0) j.1))
+          (flat_map (by_jump b l.mover.piece l.played.taken l.played.to (l.left - 1) l.mover.taken l.fn.path.items)
           (take l.over-index l.over-items)) (lists_in l.fn.routes.items);
       items_are : l.over-items ≡ jumps b l.mover.piece l.mover.taken l.fn.mover.at;
       path_is : l.path.items ≡ l.fn.path.items;

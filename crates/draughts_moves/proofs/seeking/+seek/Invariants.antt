@@ -1,13 +1,12 @@
-use Rattle.std.proofs.Common.{◌≡◌, ◌+◌, max, fold, drop}
+use Rattle.std.proofs.Common.{◌≡◌, ◌+◌, max, drop}
 use Rattle.std.specs.FinSet as set
 use Rattle.std.specs.List.{flat_map}
-use Rattle.std.specs.List.Sorted.{IsStrictlySortedBy}
 use Rattle.squares.specs.OrderedLists.{put_all}
 use Rattle.draughts_moves.specs.Capture.{without}
 use Rattle.draughts_moves.specs.Search.{jumps, greatest, prey_left}
 use Rattle.draughts_moves.specs.Listing.{move_cmp}
 use Rattle.draughts_moves.specs.Found.{kept}
-use Rattle.draughts_moves.proofs.FoundLemmas.{greatest_by, ends_by}
+use Rattle.draughts_moves.proofs.FoundLemmas.{Gathers, by_jump, ends_by}
 use Rattle.draughts_moves.proofs.seeking.+seek.Given as goal
 
 abbrev pub invariant-loop-over : goal.invariant-loop-over
@@ -16,13 +15,10 @@ invariant-loop-over l =
     let b = without l.position.board m.origin in
     let most = max l.fn.found.size (set.len m.taken + greatest b m.piece m.taken m.at) in
     record {
-      most_is : fold (λ k j. max k (set.len m.taken + greatest_by b m j)) l.found.size (drop l.over-index l.over-items)
-          ≡ most;
-      listed : put_all move_cmp (flat_map (ends_by b m most) (drop l.over-index l.over-items))
-          (kept l.found.size most l.found.moves.items)
-          ≡ put_all move_cmp (flat_map (ends_by b m most) l.over-items)
-          (kept l.fn.found.size most l.fn.found.moves.items);
-      sorted : IsStrictlySortedBy move_cmp l.found.moves.items;
+      gathers : Gathers (by_jump b m) (ends_by b m most) most
+          (put_all move_cmp (flat_map (ends_by b m most) l.over-items)
+          (kept l.fn.found.size most l.fn.found.moves.items))
+          (drop l.over-index l.over-items) l.found.size l.found.moves.items;
       items_are : l.over-items ≡ jumps b m.piece m.taken m.at;
       mover_is : l.mover ≡ m;
     }

@@ -1,18 +1,14 @@
-use Rattle.std.proofs.Common.{rules, ℕ, ◌-◌, ◌+◌, List, length, take, refl, sym, subst, arith}
+use Rattle.std.proofs.Common.{rules, ℕ, ◌-◌, ◌+◌, List, take, refl, sym, subst, arith}
 use Rattle.perft.specs.Lines.{HasLines, AddUp, AreTheMoves}
-use Rattle.perft.proofs.LinesLemmas.{after_first, AddUp-next, AddUp-all, HasLines-one, HasLines-more}
+use Rattle.perft.proofs.LinesLemmas.{after_first, AddUp-next, AddUp-all, HasLines-more, counted-lines}
 use Rattle.std.proofs.lemmas.List.Elements.{Contains-get_or}
 use Rattle.perft.proofs.count.+leaves.Goals as goal
 
 pub returns-then-depth-eq1 : goal.returns-then-depth-eq1
 returns-then-depth-eq1 g t c =
     let game = g.G.Game in
-    let p = c.args.position.now in
-    let moves = c.in_ok-moves.moves.items in
-    subst (λ (xs : List _). HasLines game.Legal game.order game.after c.args.depth p (length xs))
-    (sym c.as_slice.ensures.value)
-    (subst (λ (d : ℕ). HasLines game.Legal game.order game.after d p (length moves)) (sym c.if-depth-eq1.true)
-    (HasLines-one game.Legal game.order game.after p moves c.in_ok-moves.ensures))
+    counted-lines game.Legal game.order game.after c.args.position.now c.args.depth c.count.result c.if-depth-eq1.true
+    c.count.ensures
 
 pub loop-played-init : goal.loop-played-init
 loop-played-init g t c = (
