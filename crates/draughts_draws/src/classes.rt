@@ -1,46 +1,23 @@
 //! Positions in which a lone king stands against few pieces.
 ghost use Rattle.std.specs.Prelude.{◌≡◌};
-ghost use Rattle.draughts_draws.specs.Ends.{is_piece_of, is_king_of, count_of_pieces, count_of_kings, has_lone_king};
+ghost use Rattle.draughts_draws.specs.Ends.{count_of_pieces, count_of_kings, has_lone_king};
 ghost use Rattle.draughts_draws.specs.Ends.{has_three, has_two, is_three_to_one, is_two_to_one};
 
-use squares::{DPiece, DPos, Dsq, Side};
+use squares::{DPos, Side};
 
-fn is_piece_of(side: Side, piece: Option<DPiece>) -> bool
-    ensures { result ≡ is_piece_of side piece }
-{
-    match piece {
-        Some(piece) => piece.side == side,
-        None => false,
-    }
-}
-
-fn is_king_of(side: Side, piece: Option<DPiece>) -> bool
-    ensures { result ≡ is_king_of side piece }
-{
-    match piece {
-        Some(piece) => piece.side == side && piece.king,
-        None => false,
-    }
-}
-
-#[tactic(auto, unfolding(crate::specs::Ends::count_of_pieces))]
 fn count_of_pieces(side: Side, position: &DPos) -> usize
     ensures { result ≡ count_of_pieces side position.now }
 {
-    Dsq::all()
-        .iter()
-        .filter(|square| is_piece_of(side, position.at(**square)))
-        .count()
+    position.keeps_to_its_squares();
+    position.squares_of(side).len()
 }
 
-#[tactic(auto, unfolding(crate::specs::Ends::count_of_kings))]
 fn count_of_kings(side: Side, position: &DPos) -> usize
     ensures { result ≡ count_of_kings side position.now }
 {
-    Dsq::all()
-        .iter()
-        .filter(|square| is_king_of(side, position.at(**square)))
-        .count()
+    position.keeps_to_its_squares();
+    let own = position.squares_of(side);
+    own.intersection(position.kings()).len()
 }
 
 fn has_lone_king(side: Side, position: &DPos) -> bool

@@ -1,6 +1,6 @@
 -- What is written for a legal move stands for that move.
-use Rattle.std.proofs.Common.{◌≡◌, ◌≢◌, ℕ, ◌+◌, ◌-◌, ◌<◌, ◌≤◌, inl, inr, true, false, List, [], ◌∷◌, ◌++◌, length, take}
-use Rattle.std.proofs.Common.{Ok, refl, sym, ap, ◌∙◌, subst, arith}
+use Rattle.std.proofs.Common.{◌≡◌, ◌≢◌, ℕ, ◌-◌, ◌<◌, ◌≤◌, inl, inr, true, false, List, [], ◌∷◌, ◌++◌, length, take}
+use Rattle.std.proofs.Common.{length-append, Ok, refl, sym, ap, ◌∙◌, subst, arith}
 use Rattle.std.specs.FinSet as set
 use Rattle.squares.specs.declared.draughts.moves.DMove.{DMove}
 use Rattle.squares.specs.DraughtsBoard.{Position}
@@ -17,8 +17,8 @@ use Rattle.pdn.specs.MoveText as written
 use Rattle.pdn.specs.ReadMove.{Fits, StandsFor, IsRead}
 use Rattle.pdn.specs.Choice.{same_move}
 use Rattle.pdn.proofs.ChoiceLemmas.{same_move-same, same_move-itself}
-use Rattle.pdn.proofs.PassingLemmas.{short_front, Route-last}
-use Rattle.pdn.proofs.LandingLemmas.{Route-taken, Route-on, Route-from_on, front-on}
+use Rattle.pdn.proofs.PassingLemmas.{split-route}
+use Rattle.pdn.proofs.LandingLemmas.{inside, Route-taken, Route-on, Route-from_on, front-on}
 use Rattle.pdn.proofs.TextLemmas.{read_form-quiet_text, read_form-capture_text}
 
 -- a list is found in itself, and a list of its length that is found in it is the same
@@ -43,26 +43,10 @@ takes-legal : (p : Position) (m : DMove) → Legal p m → 0 < set.len m.taken �
 takes-legal p m (inl legal) takes = legal
 takes-legal p m (inr q) takes = absurd (omega (arith, takes, ap set.len q.1.1, set.len-empty nat_cmp))
 
-one_longer : (xs : List ℕ) (y : ℕ) → length (xs ++ y ∷ []) ≡ length xs + 1
-one_longer [] y = omega arith
-one_longer (x ∷ xs) y = omega (arith, one_longer xs y)
-
--- a capture comes to its last square over others
-split-route : (p : Position) (m : DMove) (ls : List ℕ) → Capture p m.from ls m.taken m.to → 0 < length ls
-    → (before : List ℕ) × (ls ≡ before ++ m.to ∷ [])
-split-route p m ls c h =
-    let s = short_front ls h in
-    let before = take (length ls - 1) ls in
-    let c' = subst (λ xs. Capture p m.from xs m.taken m.to) s.1 c in (
-      before,
-      s.1 ∙ ap (λ l. before ++ l ∷ [])
-          (Route-last (without p.board m.from) c'.piece before set.empty m.from s.0 m.taken m.to c'.route),
-    )
-
 module _ (p : Position) (m : DMove) (before : List ℕ) (c : Capture p m.from (before ++ m.to ∷ []) m.taken m.to) where
   from-on : OnBoard m.from
   from-on = Route-from_on (without p.board m.from) c.piece (before ++ m.to ∷ []) set.empty m.from m.taken m.to
-      (omega (arith, one_longer before m.to)) c.route
+      (omega (arith, length-append before (m.to ∷ []))) c.route
 
   landings-on : AllOnBoard before × OnBoard m.to
   landings-on =
@@ -70,7 +54,8 @@ module _ (p : Position) (m : DMove) (before : List ℕ) (c : Capture p m.from (b
       (Route-on (without p.board m.from) c.piece (before ++ m.to ∷ []) set.empty m.from m.taken m.to c.route)
 
   pub takes-something : 0 < set.len m.taken
-  takes-something = omega (arith, one_longer before m.to, Capture-len p m.from m.to (before ++ m.to ∷ []) m.taken c)
+  takes-something =
+      omega (arith, length-append before (m.to ∷ []), Capture-len p m.from m.to (before ++ m.to ∷ []) m.taken c)
 
   pub reads-all : read_form (capture_text m.from (before ++ m.to ∷ [])) ≡ Ok (capture m.from before m.to)
   reads-all = let on = landings-on in read_form-capture_text m.from before m.to from-on on.0 on.1
@@ -92,7 +77,7 @@ module _ (p : Position) (m : DMove) (before : List ℕ) (c : Capture p m.from (b
     sizes : set.len m.taken ≡ set.len n.taken
     sizes =
         let size = Capture-len p n.from n.to (fits.before ++ m.to ∷ []) n.taken fits.route in
-        let n_takes : 0 < set.len n.taken = omega (arith, size, one_longer fits.before m.to) in
+        let n_takes : 0 < set.len n.taken = omega (arith, size, length-append fits.before (m.to ∷ [])) in
         let mine = takes-legal p m legal takes-something in
         let other = takes-legal p n n_legal n_takes in
         omega (
@@ -107,8 +92,8 @@ module _ (p : Position) (m : DMove) (before : List ℕ) (c : Capture p m.from (b
         (omega (
           arith,
           sizes,
-          one_longer before m.to,
-          one_longer fits.before m.to,
+          length-append before (m.to ∷ []),
+          length-append fits.before (m.to ∷ []),
           Capture-len p m.from m.to (before ++ m.to ∷ []) m.taken c,
           Capture-len p n.from n.to (fits.before ++ m.to ∷ []) n.taken fits.route,
         ))
@@ -151,10 +136,6 @@ not_nil : (xs ys : List ℕ) (y : ℕ) → xs ++ y ∷ ys ≡ [] → ⊥
 not_nil [] ys y e = cc
 not_nil (x ∷ xs) ys y e = cc
 
-among : (xs ys : List ℕ) (y : ℕ) → AllOnBoard (xs ++ y ∷ ys) → OnBoard y
-among [] ys y on = on.0
-among (x ∷ xs) ys y on = among xs ys y on.1
-
 -- a quiet move is from a square to a square
 pub quiet-on : (p : Position) (from to : ℕ) → QuietMove p from to → OnBoard from × OnBoard to
 quiet-on p from to q = (
@@ -163,7 +144,7 @@ quiet-on p from to q = (
     | inr none ↦
         absurd (not_nil q.before q.after to (sym q.along ∙ none))
   ],
-  among q.before q.after to (subst AllOnBoard q.along (ray-on_board q.toward from)),
+  inside q.before q.after to (subst AllOnBoard q.along (ray-on_board q.toward from)),
 )
 
 -- a legal move that takes nothing is quiet
@@ -183,19 +164,21 @@ reads-back p m text legal (written.quiet none is) =
     (quiet m.from m.to, ap read_form is ∙ read_form-quiet_text m.from m.to on.0 on.1, quiet-back p m legal none)
 reads-back p m text legal (short takes none is) =
     let here = takes-legal p m legal (is_positive m.taken takes) in
-    let s = split-route p m here.landings here.capture
+    let before = take (length here.landings - 1) here.landings in
+    let split = split-route p m here.landings here.capture
     (not-empty m here.landings takes (Capture-len p m.from m.to here.landings m.taken here.capture)) in
-    let c = subst (λ xs. Capture p m.from xs m.taken m.to) s.1 here.capture in (
+    let c = subst (λ xs. Capture p m.from xs m.taken m.to) split here.capture in (
       capture m.from [] m.to,
-      ap read_form is ∙ reads-short p m s.0 c,
-      (legal, fits-short p m s.0 c, λ n n_legal fits. no_rival p m none n n_legal fits.leaves fits.comes),
+      ap read_form is ∙ reads-short p m before c,
+      (legal, fits-short p m before c, λ n n_legal fits. no_rival p m none n n_legal fits.leaves fits.comes),
     )
 reads-back p m text legal (long takes rival landings first is) =
-    let s = split-route p m landings first.route
+    let before = take (length landings - 1) landings in
+    let split = split-route p m landings first.route
     (not-empty m landings takes (Capture-len p m.from m.to landings m.taken first.route)) in
-    let c = subst (λ xs. Capture p m.from xs m.taken m.to) s.1 first.route in (
-      capture m.from s.0 m.to,
-      ap read_form (is ∙ ap (capture_text m.from) s.1)
-          ∙ reads-all p m s.0 c,
-      (legal, fits-whole p m s.0 c, λ n n_legal fits. same-move p m s.0 c legal n n_legal fits),
+    let c = subst (λ xs. Capture p m.from xs m.taken m.to) split first.route in (
+      capture m.from before m.to,
+      ap read_form (is ∙ ap (capture_text m.from) split)
+          ∙ reads-all p m before c,
+      (legal, fits-whole p m before c, λ n n_legal fits. same-move p m before c legal n n_legal fits),
     )

@@ -1,7 +1,7 @@
 -- A choice among moves, as more of them are looked at.
-use Rattle.std.proofs.Common.{◌≡◌, ℕ, ◌+◌, ◌<◌, Bool, true, false, ◌&&◌, nat_eq, List, [], ◌∷◌, ◌++◌, length, take}
-use Rattle.std.proofs.Common.{drop, get_or, Option, Some, None, inl, inr, refl, sym, ap, ◌∙◌, subst}
-use Rattle.std.proofs.lemmas.Bool.{eqb-true, eq-eqb}
+use Rattle.std.proofs.Common.{◌≡◌, ℕ, ◌+◌, ◌<◌, true, ◌&&◌, nat_eq, List, [], ◌∷◌, ◌++◌, length, take, drop, get_or}
+use Rattle.std.proofs.Common.{Option, Some, None, inl, inr, refl, sym, ap, ◌∙◌, subst}
+use Rattle.std.proofs.lemmas.Bool.{and_parts, eqb-true, eq-eqb}
 use Rattle.std.proofs.lemmas.List.{take_more, take-append-drop}
 use Rattle.squares.specs.declared.draughts.moves.DMove.{DMove}
 use Rattle.squares.specs.DraughtsSets.{same_squares}
@@ -10,14 +10,10 @@ use Rattle.squares.specs.In.{In, In-left, In-right, In-take_more}
 use Rattle.pdn.specs.declared.faults.MoveFault.{MoveFault}
 use Rattle.pdn.specs.Choice.{same_move, IsChoice, IsChoiceFault, Joins, Parts}
 
-and_true : (a b : Bool) → (a && b) ≡ true → (a ≡ true) × (b ≡ true)
-and_true true b e = (refl, e)
-and_true false b e = cc
-
 pub same_move-same : (a b : DMove) → same_move a b ≡ true → a ≡ b
 same_move-same a b e =
-    let from = and_true (nat_eq a.from b.from) (nat_eq a.to b.to && same_squares a.taken b.taken) e in
-    let to = and_true (nat_eq a.to b.to) (same_squares a.taken b.taken) from.1 in
+    let from = and_parts (nat_eq a.from b.from) (nat_eq a.to b.to && same_squares a.taken b.taken) e in
+    let to = and_parts (nat_eq a.to b.to) (same_squares a.taken b.taken) from.1 in
     let from_is = eqb-true a.from b.from from.0 in
     let to_is = eqb-true a.to b.to to.0 in
     let taken_is = same_squares-same a.taken b.taken to.1 in

@@ -1,13 +1,14 @@
 -- The items of a written position give its board.
 use Rattle.std.proofs.Common.{◌≡◌, ◌≢◌, ℕ, zero, suc, ◌+◌, ◌<◌, ◌≤◌, ◌⊎◌, inl, inr, Bool, true, false, cond, ◌&&◌, ◌||◌}
-use Rattle.std.proofs.Common.{nat_le, List, [], ◌∷◌, ◌++◌, Option, Some, None, refl, sym, ap, ◌∙◌, subst, arith}
+use Rattle.std.proofs.Common.{nat_le, Ok, length, List, [], ◌∷◌, ◌++◌, Option, Some, None, refl, sym, ap, ◌∙◌, subst}
+use Rattle.std.proofs.Common.{arith}
 use Rattle.std.specs.Prelude.{fold, IsSome, is_some}
 use Rattle.std.specs.List.{cons_option, range_with_len, list_any}
-use Rattle.std.specs.Ordering.{nat_cmp, eq_by_cmp}
+use Rattle.std.specs.Ordering.{nat_cmp}
 use Rattle.std.specs.Cmp.{nat_cmp_total, unsigned_tied}
 use Rattle.std.specs.FinMap as map
 use Rattle.std.specs.FinMap.{nat_cmp-IsAntisymmetric}
-use Rattle.std.proofs.lemmas.Bool.{cases_eq}
+use Rattle.std.proofs.lemmas.Bool.{cases_eq, le-leb}
 use Rattle.std.proofs.lemmas.Bool.Decides.{nat_tests}
 use Rattle.squares.specs.declared.sides.Side.{Side}
 use Rattle.squares.specs.declared.sides.Side.TheVariants.{First, Second}
@@ -20,9 +21,10 @@ use Rattle.squares.specs.In.{In, In-left, In-right, In-cases}
 use Rattle.draughts_moves.proofs.Proved.{In-range}
 use Rattle.pdn.specs.declared.items.Item.{Item}
 use Rattle.pdn.specs.FenText.{all_squares, fen_text}
+use Rattle.pdn.specs.FenForm.{ReadsForm}
 use Rattle.pdn.specs.ReadFen.{shares, repeated_after, repeated, put_on, put_item, IsFen}
-use Rattle.pdn.proofs.FenBackLemmas.{Entry, own, own_on, IsItemOf, AreItemsOf, AllOn, ReadBack, reads-back}
-use Rattle.pdn.proofs.FenBackLemmas.{fen_text-entries}
+use Rattle.pdn.proofs.FenBackLemmas.{Entry, own, own_on, entry_text, entries_text, IsItemOf, AllOn, item_at, items_at}
+use Rattle.pdn.proofs.FenBackLemmas.{reads-back, fen_text-entries}
 
 abbrev pub piece_on : Side → Bool → DPiece
 piece_on side king = record { side = side; king = king }
@@ -88,61 +90,67 @@ on-squares n on = In-range 1 50 n on.0 (omega (arith, on.1))
 own-on : (side : Side) (board : Board) → AllOn (own_on side board all_squares)
 own-on side board = all-on (own_on side board all_squares) (λ e h. squares-on e.0 (own-in side board all_squares e h).0)
 
-abbrev pub Apart : List Entry → Type 0
-Apart [] = Unit {0}
-Apart (e ∷ es) = ((f : Entry) → In f es → e.0 ≢ f.0) × Apart es
-
-own-square : (side : Side) (n : ℕ) (o : Option DPiece) (e : Entry) → own side n o ≡ Some e → e.0 ≡ n
-own-square side n None e h = cc
-own-square side n (Some q) e h =
-    elim (same_side q.side side) as (λ b. ◌≡◌ {A = Option Entry} (cond b (Some (n, q.king)) None) (Some e) → e.0 ≡ n) [
-      | true ↦ λ k. let is : ◌≡◌ {A = Entry} (n, q.king) e = cc in sym (ap (λ (f : Entry). f.0) is)
-      | false ↦ λ k. cc
-    ] h
-
-cons-apart : (o : Option Entry) (a : ℕ) (es : List Entry) → ((e : Entry) → o ≡ Some e → e.0 ≡ a)
-    → ((f : Entry) → In f es → a < f.0) → Apart es → Apart (cons_option o es)
-cons-apart None a es first above apart = apart
-cons-apart (Some e) a es first above apart =
-    (λ f h same. let at = first e refl in let up = above f h in absurd (omega arith), apart)
-
-own-apart : (side : Side) (board : Board) (n a : ℕ) → Apart (own_on side board (range_with_len a n))
-own-apart side board zero a = tt
-own-apart side board (suc n) a =
-    cons-apart (own side a (map.get board a)) a (own_on side board (range_with_len (a + 1) n))
-    (own-square side a (map.get board a))
-    (λ f h. let w = range-in n (a + 1) f.0 (own-in side board (range_with_len (a + 1) n) f h).0 in omega (arith, w.0))
-    (own-apart side board n (a + 1))
-
 -- items and entries
-items-of : (side : Side) (es : List Entry) (items : List Item) (i : Item) → AreItemsOf side es items → In i items
-    → (e : Entry) × In e es × IsItemOf side e i
-items-of side [] [] i are h = absurd h
-items-of side [] (j ∷ items) i are h = absurd are
-items-of side (e ∷ es) [] i are h = absurd h
-items-of side (e ∷ es) (j ∷ items) i are (inl same) = (e, inl refl, subst (IsItemOf side e) same are.0)
-items-of side (e ∷ es) (j ∷ items) i are (inr h) = let w = items-of side es items i are.1 h in (w.0, inr w.1, w.2)
+items-of : (side : Side) (base : ℕ) (es : List Entry) (i : Item) → In i (items_at side base es) → (e : Entry) × In e es
+    × IsItemOf side e i
+items-of side base [] i h = absurd h
+items-of side base (e ∷ es) i (inl same) = (e, inl refl, subst (IsItemOf side e) same (refl, refl, refl))
+items-of side base (e ∷ es) i (inr h) = let w = items-of side (base + length (entry_text e) + 1) es i h in
+    (w.0, inr w.1, w.2)
 
-of-items : (side : Side) (es : List Entry) (items : List Item) (e : Entry) → AreItemsOf side es items → In e es
-    → (i : Item) × In i items × IsItemOf side e i
-of-items side [] items e are h = absurd h
-of-items side (f ∷ es) [] e are h = absurd are
-of-items side (f ∷ es) (j ∷ items) e are (inl same) = (j, inl refl, subst (λ x. IsItemOf side x j) same are.0)
-of-items side (f ∷ es) (j ∷ items) e are (inr h) = let w = of-items side es items e are.1 h in (w.0, inr w.1, w.2)
+of-items : (side : Side) (base : ℕ) (es : List Entry) (e : Entry) → In e es → (i : Item) × In i (items_at side base es)
+    × IsItemOf side e i
+of-items side base [] e h = absurd h
+of-items side base (f ∷ es) e (inl same) = (
+  item_at base f.0 side f.1,
+  inl refl,
+  subst (λ x. IsItemOf side x (item_at base f.0 side f.1)) same (refl, refl, refl),
+)
+of-items side base (f ∷ es) e (inr h) = let w = of-items side (base + length (entry_text f) + 1) es e h in
+    (w.0, inr w.1, w.2)
+
+-- the squares of items ascend, from this one
+abbrev pub Rises : ℕ → List Item → Type 0
+Rises a [] = Unit {0}
+Rises a (i ∷ items) = (a ≤ i.from) × Rises (i.from + 1) items
+
+rises-less : (a b : ℕ) (items : List Item) → a ≤ b → Rises b items → Rises a items
+rises-less a b [] h rises = tt
+rises-less a b (i ∷ items) h rises = (omega (arith, rises.0), rises.1)
+
+rises-above : (a : ℕ) (items : List Item) (j : Item) → Rises a items → In j items → a ≤ j.from
+rises-above a [] j rises h = absurd h
+rises-above a (i ∷ items) j rises (inl same) = subst (λ (x : Item). a ≤ x.from) same rises.0
+rises-above a (i ∷ items) j rises (inr h) = omega (arith, rises.0, rises-above (i.from + 1) items j rises.1 h)
+
+own-rises : (side : Side) (board : Board) (n a base : ℕ)
+    → Rises a (items_at side base (own_on side board (range_with_len a n)))
+own-rises side board zero a base = tt
+own-rises side board (suc n) a base = by_piece (map.get board a) (own-rises side board n (a + 1))
+  where
+    by_piece : (o : Option DPiece)
+        → ((base : ℕ) → Rises (a + 1) (items_at side base (own_on side board (range_with_len (a + 1) n))))
+        → Rises a (items_at side base (cons_option (own side a o) (own_on side board (range_with_len (a + 1) n))))
+    by_piece None later = rises-less a (a + 1) (items_at side base (own_on side board (range_with_len (a + 1) n)))
+        (omega arith) (later base)
+    by_piece (Some q) later =
+        elim (same_side q.side side) as (λ b. Rises a (items_at side base
+        (cons_option (cond b (Some (a, q.king)) None) (own_on side board (range_with_len (a + 1) n))))) [
+          | true ↦ (omega arith, later (base + length (entry_text (a, q.king)) + 1))
+          | false ↦ rises-less a (a + 1) (items_at side base (own_on side board (range_with_len (a + 1) n)))
+              (omega arith) (later base)
+        ]
 
 abbrev pub ItemsApart : List Item → Type 0
 ItemsApart [] = Unit {0}
 ItemsApart (i ∷ items) = ((j : Item) → In j items → i.from ≢ j.from) × ItemsApart items
 
-items-apart : (side : Side) (es : List Entry) (items : List Item) → AreItemsOf side es items → Apart es
-    → ItemsApart items
-items-apart side [] [] are apart = tt
-items-apart side [] (i ∷ items) are apart = absurd are
-items-apart side (e ∷ es) [] are apart = tt
-items-apart side (e ∷ es) (i ∷ items) are apart = (
-  λ j h same. let w = items-of side es items j are.1 h in
-      apart.0 w.0 w.1 (sym are.0.0 ∙ same ∙ w.2.0),
-  items-apart side es items are.1 apart.1,
+rises-apart : (a : ℕ) (items : List Item) → Rises a items → ItemsApart items
+rises-apart a [] rises = tt
+rises-apart a (i ∷ items) rises = (
+  λ j h same. let above = rises-above (i.from + 1) items j rises.1 h in
+      absurd (omega arith),
+  rises-apart (i.from + 1) items rises.1,
 )
 
 append-apart : (xs ys : List Item) → ItemsApart xs → ItemsApart ys
@@ -196,70 +204,53 @@ none-repeated board (i ∷ items) before fits earlier apart cross =
           elim b [ inl same ↦ λ e. apart.0 k h (ap (λ (x : Item). x.from) same ∙ sym e) | inr never ↦ absurd never ]
     ])
 
-tied_same : (q n : ℕ) → q ≡ n → eq_by_cmp nat_cmp q n ≡ true
-tied_same q n e = unsigned_tied q n ∙ nat_eq_same q n e
-
-tied_other : (q n : ℕ) → q ≢ n → eq_by_cmp nat_cmp q n ≡ false
-tied_other q n e = unsigned_tied q n ∙ nat_eq_other q n e
-
 get-same : (b : Board) (n : ℕ) (p : DPiece) → map.get (map.insert b n p) n ≡ Some p
-get-same b n p = map.get-insert nat_cmp_total b n p n ∙ ap (λ c. cond c (Some p) (map.get b n)) (tied_same n n refl)
+get-same b n p = map.get-insert nat_cmp_total b n p n
+    ∙ ap (λ c. cond c (Some p) (map.get b n)) (unsigned_tied n n ∙ nat_eq_same n n refl)
 
 get-other : (b : Board) (n q : ℕ) (p : DPiece) → q ≢ n → map.get (map.insert b n p) q ≡ map.get b q
 get-other b n q p differ = map.get-insert nat_cmp_total b n p q
-    ∙ ap (λ c. cond c (Some p) (map.get b q)) (tied_other q n differ)
+    ∙ ap (λ c. cond c (Some p) (map.get b q)) (unsigned_tied q n ∙ nat_eq_other q n differ)
 
-within-same : (i : Item) (m : ℕ) → i.to ≡ i.from → (nat_le i.from m && nat_le m i.to) ≡ true → m ≡ i.from
-within-same i m single e = elim (cases_eq m i.from) [
-  | inl same ↦ same
-  | inr differ ↦ let apart = apart_le i.from m (λ s. differ (sym s)) in
-      let inside = ap (λ t. nat_le i.from m && nat_le m t) (sym single) ∙ e in cc
-]
+-- what an item of one square puts on a square
+put_on-is : (i : Item) (b : Board) (m : ℕ) → i.to ≡ i.from
+    → ((m ≡ i.from) × (put_on i b m ≡ map.insert b i.from i.piece)) ⊎ ((m ≢ i.from) × (put_on i b m ≡ b))
+put_on-is i b m single =
+    elim (cases_eq m i.from) [
+      | inl same ↦
+          let inside : (nat_le i.from m && nat_le m i.to) ≡ true =
+          λ k. le-leb i.from m (omega arith) k && le-leb m i.to (omega arith) k in
+          inl (same, ap (λ c. cond c (map.insert b m i.piece) b) inside ∙ ap (λ n. map.insert b n i.piece) same)
+      | inr differ ↦
+          let outside : (nat_le i.from m && nat_le m i.to) ≡ false = ap (λ t. nat_le i.from m && nat_le m t) single
+          ∙ apart_le i.from m (λ s. differ (sym s)) in
+          inr (differ, ap (λ c. cond c (map.insert b m i.piece) b) outside)
+    ]
 
--- a square that the item does not give
-put_on-other : (i : Item) (b : Board) (m q : ℕ) → i.to ≡ i.from → q ≢ i.from → map.get (put_on i b m) q ≡ map.get b q
-put_on-other i b m q single differ =
-    elim (nat_le i.from m && nat_le m i.to) as (λ c. (nat_le i.from m && nat_le m i.to) ≡ c
-    → map.get (cond c (map.insert b m i.piece) b) q ≡ map.get b q) [
-      | true ↦ λ e. get-other b m q i.piece (λ same. differ (same ∙ within-same i m single e))
-      | false ↦ λ e. refl
-    ] refl
-
+-- a square that the item does not give, and the square that it gives
 fold-other : (i : Item) (ns : List ℕ) (b : Board) (q : ℕ) → i.to ≡ i.from → q ≢ i.from
     → map.get (fold (put_on i) b ns) q ≡ map.get b q
 fold-other i [] b q single differ = refl
-fold-other i (n ∷ ns) b q single differ = fold-other i ns (put_on i b n) q single differ
-    ∙ put_on-other i b n q single differ
-
--- the square that it gives
-put_on-keeps : (i : Item) (b : Board) (m : ℕ) → i.to ≡ i.from → map.get b i.from ≡ Some i.piece
-    → map.get (put_on i b m) i.from ≡ Some i.piece
-put_on-keeps i b m single e =
-    elim (nat_le i.from m && nat_le m i.to) as (λ c. (nat_le i.from m && nat_le m i.to) ≡ c
-    → map.get (cond c (map.insert b m i.piece) b) i.from ≡ Some i.piece) [
-      | true ↦ λ within. subst (λ n. map.get (map.insert b m i.piece) n ≡ Some i.piece) (within-same i m single within)
-          (get-same b m i.piece)
-      | false ↦ λ _. e
-    ] refl
-
-put_on-here : (i : Item) (b : Board) → i.to ≡ i.from → map.get (put_on i b i.from) i.from ≡ Some i.piece
-put_on-here i b single =
-    let within : (nat_le i.from i.from && nat_le i.from i.to) ≡ true =
-    ap (λ t. nat_le i.from i.from && nat_le i.from t) single ∙ le_both i.from in
-    ap (λ c. map.get (cond c (map.insert b i.from i.piece) b) i.from) within ∙ get-same b i.from i.piece
-  where
-    le_both : (n : ℕ) → (nat_le n n && nat_le n n) ≡ true
-    le_both n = let le : nat_le n n ≡ true = grind (arith, nat_tests) in λ k. le k && le k
+fold-other i (n ∷ ns) b q single differ =
+    fold-other i ns (put_on i b n) q single differ
+    ∙ elim (put_on-is i b n single) [
+      | inl w ↦ ap (λ x. map.get x q) w.1 ∙ get-other b i.from q i.piece differ
+      | inr w ↦ ap (λ x. map.get x q) w.1
+    ]
 
 fold-here : (i : Item) (ns : List ℕ) (b : Board) → i.to ≡ i.from → (map.get b i.from ≡ Some i.piece) ⊎ In i.from ns
     → map.get (fold (put_on i) b ns) i.from ≡ Some i.piece
 fold-here i [] b single (inl e) = e
 fold-here i [] b single (inr h) = absurd h
-fold-here i (n ∷ ns) b single (inl e) = fold-here i ns (put_on i b n) single (inl (put_on-keeps i b n single e))
-fold-here i (n ∷ ns) b single (inr (inl e)) =
+fold-here i (n ∷ ns) b single h =
     fold-here i ns (put_on i b n) single
-    (inl (subst (λ m. map.get (put_on i b m) i.from ≡ Some i.piece) (sym e) (put_on-here i b single)))
-fold-here i (n ∷ ns) b single (inr (inr h)) = fold-here i ns (put_on i b n) single (inr h)
+    (elim (put_on-is i b n single) [
+      | inl w ↦ inl (ap (λ x. map.get x i.from) w.1 ∙ get-same b i.from i.piece)
+      | inr w ↦ elim h [
+        | inl e ↦ inl (ap (λ x. map.get x i.from) w.1 ∙ e)
+        | inr k ↦ elim k [ inl same ↦ absurd (w.0 same) | inr later ↦ inr later ]
+      ]
+    ])
 
 put_item-other : (i : Item) (b : Board) (q : ℕ) → i.to ≡ i.from → q ≢ i.from → map.get (put_item b i) q ≡ map.get b q
 unfolding put_item
@@ -294,23 +285,19 @@ put-all board (i ∷ items) b q fits h =
     ])
 
 module _ (p : Position) (on_board : (n : ℕ) → IsSome (map.get p.board n) → OnBoard n) where
-  white : List Entry
-  white = own_on First p.board all_squares
+  -- the items of a side that stand after so many bytes
+  abbrev pub items_of : Side → ℕ → List Item
+  items_of side base = items_at side base (own_on side p.board all_squares)
 
-  black : List Entry
-  black = own_on Second p.board all_squares
+  abbrev pub base : ℕ
+  base = 3 + length (entries_text (own_on First p.board all_squares)) + 2
 
-  back : ReadBack p.turn (own_on First p.board all_squares) (own_on Second p.board all_squares) (fen_text p)
-  back =
-      subst (λ text. ReadBack p.turn (own_on First p.board all_squares) (own_on Second p.board all_squares) text)
-      (sym (fen_text-entries p))
-      (reads-back p.turn (own_on First p.board all_squares) (own_on Second p.board all_squares) (own-on First p.board)
-      (own-on Second p.board))
+  abbrev pub all_items : List Item
+  all_items = items_of First 3 ++ items_of Second base
 
-  item-fits : (side : Side) (items : List Item) → AreItemsOf side (own_on side p.board all_squares) items → (i : Item)
-      → In i items → Fits p.board i
-  item-fits side items are i h =
-      let w = items-of side (own_on side p.board all_squares) items i are h in
+  item-fits : (side : Side) (base : ℕ) (i : Item) → In i (items_of side base) → Fits p.board i
+  item-fits side base i h =
+      let w = items-of side base (own_on side p.board all_squares) i h in
       let entry = own-in side p.board all_squares w.0 w.1 in
       record {
         single = w.2.1 ∙ sym w.2.0;
@@ -318,77 +305,64 @@ module _ (p : Position) (on_board : (n : ℕ) → IsSome (map.get p.board n) →
         stands = ap (map.get p.board) w.2.0 ∙ entry.1 ∙ ap Some (sym w.2.2);
       }
 
-  item-side : (side : Side) (items : List Item) → AreItemsOf side (own_on side p.board all_squares) items → (i : Item)
-      → In i items → i.piece.side ≡ side
-  item-side side items are i h = let w = items-of side (own_on side p.board all_squares) items i are h in
+  item-side : (side : Side) (base : ℕ) (i : Item) → In i (items_of side base) → i.piece.side ≡ side
+  item-side side base i h = let w = items-of side base (own_on side p.board all_squares) i h in
       ap (λ (q : DPiece). q.side) w.2.2
 
-  module _
-      (r : ReadBack p.turn (own_on First p.board all_squares) (own_on Second p.board all_squares) (fen_text p)) where
-    all-fit : (i : Item) → In i (r.first ++ r.second) → Fits p.board i
-    all-fit i h = elim (In-cases i r.first r.second h)
-        [ inl k ↦ item-fits First r.first r.are_first i k | inr k ↦ item-fits Second r.second r.are_second i k ]
+  all-fit : (i : Item) → In i all_items → Fits p.board i
+  all-fit i h = elim (In-cases i (items_of First 3) (items_of Second base) h)
+      [ inl k ↦ item-fits First 3 i k | inr k ↦ item-fits Second base i k ]
 
-    cross : (i j : Item) → In i r.first → In j r.second → i.from ≢ j.from
-    cross i j h k = λ same.
-        let f = item-fits First r.first r.are_first i h in
-        let g = item-fits Second r.second r.are_second j k in
-        let pieces : Some i.piece ≡ Some j.piece = sym f.stands ∙ ap (map.get p.board) same ∙ g.stands in
-        let one : i.piece ≡ j.piece = cc in
-        let sides : First ≡ Second = sym (item-side First r.first r.are_first i h) ∙ ap (λ (q : DPiece). q.side) one
-        ∙ item-side Second r.second r.are_second j k in
-        cc
+  cross : (i j : Item) → In i (items_of First 3) → In j (items_of Second base) → i.from ≢ j.from
+  cross i j h k = λ same.
+      let f = item-fits First 3 i h in
+      let g = item-fits Second base j k in
+      let pieces : Some i.piece ≡ Some j.piece = sym f.stands ∙ ap (map.get p.board) same ∙ g.stands in
+      let one : i.piece ≡ j.piece = cc in
+      let sides : First ≡ Second = sym (item-side First 3 i h) ∙ ap (λ (q : DPiece). q.side) one
+      ∙ item-side Second base j k in
+      cc
 
-    own-all-apart : (side : Side) → Apart (own_on side p.board all_squares)
-    unfolding all_squares
-    own-all-apart side = own-apart side p.board 50 1
+  side-apart : (side : Side) (base : ℕ) → ItemsApart (items_of side base)
+  unfolding all_squares
+  side-apart side base = rises-apart 1 (items_of side base) (own-rises side p.board 50 1 base)
 
-    all-apart : ItemsApart (r.first ++ r.second)
-    all-apart =
-        append-apart r.first r.second
-        (items-apart First (own_on First p.board all_squares) r.first r.are_first (own-all-apart First))
-        (items-apart Second (own_on Second p.board all_squares) r.second r.are_second (own-all-apart Second)) cross
+  no-repeat : repeated all_items ≡ None
+  no-repeat =
+      none-repeated p.board all_items [] all-fit (λ j never. absurd never)
+      (append-apart (items_of First 3) (items_of Second base) (side-apart First 3) (side-apart Second base) cross)
+      (λ i j h never. absurd never)
 
-    no-repeat : repeated (r.first ++ r.second) ≡ None
-    no-repeat = none-repeated p.board (r.first ++ r.second) [] all-fit (λ j never. absurd never) all-apart
-        (λ i j h never. absurd never)
+  given : (side : Side) (base q : ℕ) (piece : DPiece) → map.get p.board q ≡ Some piece → piece.side ≡ side → (i : Item)
+      × In i (items_of side base) × (i.from ≡ q)
+  given side base q piece stands is =
+      let on = on_board q (ap is_some stands) in
+      let entry = in-own side p.board all_squares q piece.king (on-squares q on)
+      (stands ∙ (λ i. Some (record { side = is i; king = piece.king }))) in
+      let w = of-items side base (own_on side p.board all_squares) (q, piece.king) entry in
+      (w.0, w.1, w.2.0)
 
-    given : (side : Side) (items : List Item) → AreItemsOf side (own_on side p.board all_squares) items
-        → (q : ℕ) (king : Bool) → map.get p.board q ≡ Some (piece_on side king) → (i : Item) × In i items × (i.from ≡ q)
-    given side items are q king stands =
-        let on = on_board q (ap is_some stands) in
-        let entry = in-own side p.board all_squares q king (on-squares q on) stands in
-        let w = of-items side (own_on side p.board all_squares) items (q, king) are entry in
-        (w.0, w.1, w.2.0)
+  found : (q : ℕ) (piece : DPiece) → map.get p.board q ≡ Some piece → (side : Side) → piece.side ≡ side → (i : Item)
+      × In i all_items × (i.from ≡ q)
+  found q piece stands First is = let w = given First 3 q piece stands is in
+      (w.0, In-left w.0 (items_of First 3) (items_of Second base) w.1, w.2)
+  found q piece stands Second is = let w = given Second base q piece stands is in
+      (w.0, In-right w.0 (items_of First 3) (items_of Second base) w.1, w.2)
 
-    found : (q : ℕ) (piece : DPiece) → map.get p.board q ≡ Some piece → (side : Side) → piece.side ≡ side → (i : Item)
-        × In i (r.first ++ r.second) × (i.from ≡ q)
-    found q piece stands First is =
-        let w = given First r.first r.are_first q piece.king
-        (stands ∙ (λ i. Some (record { side = is i; king = piece.king }))) in
-        (w.0, In-left w.0 r.first r.second w.1, w.2)
-    found q piece stands Second is =
-        let w = given Second r.second r.are_second q piece.king
-        (stands ∙ (λ i. Some (record { side = is i; king = piece.king }))) in
-        (w.0, In-right w.0 r.first r.second w.1, w.2)
+  square-back : (q : ℕ) (o : Option DPiece) → map.get p.board q ≡ o
+      → map.get (fold put_item map.empty all_items) q ≡ map.get p.board q
+  square-back q None e = put-all p.board all_items map.empty q all-fit (inl (map.get-empty nat_cmp q ∙ sym e))
+  square-back q (Some piece) e = put-all p.board all_items map.empty q all-fit (inr (found q piece e piece.side refl))
 
-    square-back : (q : ℕ) (o : Option DPiece) → map.get p.board q ≡ o
-        → map.get (fold put_item map.empty (r.first ++ r.second)) q ≡ map.get p.board q
-    square-back q None e = put-all p.board (r.first ++ r.second) map.empty q all-fit
-        (inl (map.get-empty nat_cmp q ∙ sym e))
-    square-back q (Some piece) e = put-all p.board (r.first ++ r.second) map.empty q all-fit
-        (inr (found q piece e piece.side refl))
-
-    board-back : fold put_item map.empty (r.first ++ r.second) ≡ p.board
-    board-back = map.same_map nat_cmp_total nat_cmp-IsAntisymmetric _ _ (λ q. square-back q (map.get p.board q) refl)
-
-    is-fen : IsFen (fen_text p) p
-    is-fen = (
-      record { turn = p.turn; items = r.first ++ r.second },
-      r.read,
-      no-repeat,
-      λ i. record { board = sym board-back i; turn = p.turn },
-    )
+  board-back : fold put_item map.empty all_items ≡ p.board
+  board-back = map.same_map nat_cmp_total nat_cmp-IsAntisymmetric _ _ (λ q. square-back q (map.get p.board q) refl)
 
   pub fen-back : IsFen (fen_text p) p
-  fen-back = is-fen back
+  fen-back = (
+    record { turn = p.turn; items = all_items },
+    subst (λ text. ReadsForm text (Ok (record { turn = p.turn; items = all_items }))) (sym (fen_text-entries p))
+        (reads-back p.turn (own_on First p.board all_squares) (own_on Second p.board all_squares)
+        (own-on First p.board) (own-on Second p.board)),
+    no-repeat,
+    λ i. record { board = sym board-back i; turn = p.turn },
+  )

@@ -1,274 +1,175 @@
--- Where a list of a position's text goes wrong, and what was read of one is read again whatever follows it.
-use Rattle.std.proofs.Common.{◌≡◌, ℕ, zero, suc, ◌+◌, ◌<◌, ◌≤◌, Bool, true, false, List, [], ◌∷◌, ◌++◌, length, Option}
-use Rattle.std.proofs.Common.{Some, None, Ok, Err, refl, sym, ap, ◌∙◌, subst, append_assoc, append-nil, arith}
+-- How far a list of a position's text is read.
+use Rattle.std.proofs.Common.{◌≡◌, ℕ, zero, suc, ◌+◌, ◌<◌, ◌≤◌, true, false, List, [], ◌∷◌, ◌++◌, length, Option, Some}
+use Rattle.std.proofs.Common.{None, Ok, Err, refl, sym, ap, ◌∙◌, subst, append_assoc, append-nil, arith, ◌||◌, nat_eq}
+use Rattle.std.proofs.Common.{length-append}
 use Rattle.squares.specs.declared.sides.Side.{Side}
 use Rattle.pdn.specs.declared.items.Item.{Item}
 use Rattle.pdn.specs.FenItems.{past_byte, ItemReading, read_item, Items, ItemsReading, ReadsItems, bad_item, last_item}
 use Rattle.pdn.specs.FenItems.{more_items, ends_list, ReadsList, no_item, some_items}
 use Rattle.pdn.specs.FenGrammar.{AreItemsText}
-use Rattle.pdn.proofs.BeginningLemmas.{lengths}
-use Rattle.pdn.proofs.FenGrammarLemmas.{past_byte-is}
-use Rattle.pdn.proofs.FenItemStopLemmas.{past_byte-same, ItemGood, ItemBad, ItemOutcome, item-outcome}
+use Rattle.pdn.proofs.StopLemmas.{first, Goes, Halts, Begun, after, halts-after}
+use Rattle.pdn.proofs.FenItemStopLemmas.{past_byte-is, past_byte-alike, ItemGoes, ItemOutcome, item-outcome}
 
--- items after so many bytes
-pub record ItemsGood (base : ℕ) (side : Side) (before : List Item) (text : List ℕ) (list : Items) : Type 0 where
-  pub written : List ℕ
-  pub first : Item
-  pub others : List Item
-  pub items : list.items ≡ before ++ first ∷ others
-  pub are : AreItemsText side base (first ∷ others) written
-  pub split : text ≡ written ++ list.rest
-  pub stable : (c : ℕ) (y z : List ℕ) → list.rest ≡ c ∷ y → (total : ℕ) → total ≡ base + length (written ++ c ∷ z)
-      → ReadsItems total side before (written ++ c ∷ z) (Ok (record { items = list.items; rest = c ∷ z }))
+-- items after those before, one at least, and any number of them
+pub record AreSome (base : ℕ) (side : Side) (before items : List Item) (text : List ℕ) : Type 0 where
+  pub head : Item
+  pub tail : List Item
+  pub items_are : items ≡ before ++ head ∷ tail
+  pub are : AreItemsText side base (head ∷ tail) text
 
-pub record ItemsBad (base : ℕ) (side : Side) (before : List Item) (text : List ℕ) (offset : ℕ) : Type 0 where
-  pub front : List ℕ
-  pub rest : List ℕ
-  pub split : text ≡ front ++ rest
-  pub size : base + length front ≡ offset
-  pub goes_on : List ℕ
-  pub first : Item
-  pub others : List Item
-  pub are : AreItemsText side base (first ∷ others) (front ++ goes_on)
-  pub stable : (c : ℕ) (y z : List ℕ) → rest ≡ c ∷ y → (total : ℕ) → total ≡ base + length (front ++ c ∷ z)
-      → ReadsItems total side before (front ++ c ∷ z) (Err offset)
+pub record AreAny (base : ℕ) (side : Side) (before items : List Item) (text : List ℕ) : Type 0 where
+  pub added : List Item
+  pub items_are : items ≡ before ++ added
+  pub are : AreItemsText side base added text
+
+-- what is read after `base` bytes
+abbrev pub ReadsSome : ℕ → Side → List Item → List ℕ → ItemsReading → Type 0
+ReadsSome base side before text r = (total : ℕ) → total ≡ base + length text → ReadsItems total side before text r
+
+abbrev pub ReadsAny : ℕ → Side → List Item → List ℕ → ItemsReading → Type 0
+ReadsAny base side before text r = (total : ℕ) → total ≡ base + length text → ReadsList total side before text r
 
 abbrev pub ItemsOutcome : ℕ → Side → List Item → List ℕ → ItemsReading → Type 0
-ItemsOutcome base side before text (Ok list) = ItemsGood base side before text list
-ItemsOutcome base side before text (Err offset) = ItemsBad base side before text offset
+ItemsOutcome base side before text (Ok list) = Goes (AreSome base side before list.items)
+    (λ t r. ReadsSome base side before t (Ok (record { items = list.items; rest = r }))) text list.rest
+ItemsOutcome base side before text (Err offset) = Halts base (Begun (List Item) (AreSome base side []))
+    (λ t. ReadsSome base side before t (Err offset)) text offset
 
-pub record ItemsRead (total base : ℕ) (side : Side) (before : List Item) (text : List ℕ) : Type 0 where
-  pub reading : ItemsReading
-  pub reads : ReadsItems total side before text reading
-  pub outcome : ItemsOutcome base side before text reading
-
-module _ (side : Side) where
-  items-bad : (base : ℕ) (before : List Item) (text : List ℕ) (offset : ℕ) → ItemBad base side text offset
-      → ItemsBad base side before text offset
-  items-bad base before text offset h =
-      record {
-        front = h.front;
-        rest = h.rest;
-        split = h.split;
-        size = h.size;
-        goes_on = h.goes_on;
-        first = h.item;
-        others = [];
-        are = (h.at, h.is);
-        stable = λ c y z is total size. bad_item before (h.front ++ c ∷ z) offset (h.stable c y z is total size);
-      }
-
-  items-last : (base : ℕ) (before : List Item) (text : List ℕ) (item : Item) (rest : List ℕ)
-      → ItemGood base side text item rest → past_byte 44 rest ≡ None
-      → ItemsGood base side before text (record { items = before ++ item ∷ []; rest = rest })
-  items-last base before text item rest h none =
-      record {
-        written = h.written;
-        first = item;
-        others = [];
-        items = refl;
-        are = (h.at, h.is);
-        split = h.split;
-        stable = λ c y z is total size.
-            last_item before (h.written ++ c ∷ z) item (c ∷ z) (h.stable c y z is total size)
-            (past_byte-same 44 [] c y z (sym (ap (past_byte 44) is) ∙ none));
-      }
-
-  module _ (base : ℕ) (before : List Item) (text : List ℕ) (item : Item) (more : List ℕ)
-      (h : ItemGood base side text item (44 ∷ more)) where
-    abbrev pub next : ℕ
-    next = base + length h.written + 1
-
-    -- more items are read after this one whatever follows its comma
-    onward : (total : ℕ) (front t : List ℕ) (r : ItemsReading) → total ≡ base + length ((h.written ++ 44 ∷ front) ++ t)
-        → (total ≡ next + length (front ++ t) → ReadsItems total side (before ++ item ∷ []) (front ++ t) r)
-        → ReadsItems total side before ((h.written ++ 44 ∷ front) ++ t) r
-    onward total front t r size later =
-        let whole : (h.written ++ 44 ∷ front) ++ t ≡ h.written ++ 44 ∷ (front ++ t) =
-        append_assoc h.written (44 ∷ front) t in
-        let long : total ≡ base + length (h.written ++ 44 ∷ (front ++ t)) = size ∙ ap (λ t. base + length t) whole in
-        let place : total ≡ next + length (front ++ t) = omega (arith, long, lengths h.written (44 ∷ (front ++ t))) in
-        subst (λ x. ReadsItems total side before x r) (sym whole)
-        (more_items before (h.written ++ 44 ∷ (front ++ t)) item (44 ∷ (front ++ t)) (front ++ t) r
-        (h.stable 44 more (front ++ t) refl total long) refl (later place))
-
-    items-more : (r : ItemsReading) → ItemsOutcome next side (before ++ item ∷ []) more r
-        → ItemsOutcome base side before text r
-    items-more (Ok list) k =
-        record {
-          written = h.written ++ 44 ∷ k.written;
-          first = item;
-          others = k.first ∷ k.others;
-          items = k.items ∙ append_assoc before (item ∷ []) (k.first ∷ k.others);
-          are = (h.written, k.written, h.at, h.is, k.are, refl);
-          split = h.split ∙ ap (λ t. h.written ++ 44 ∷ t) k.split
-              ∙ sym (append_assoc h.written (44 ∷ k.written) list.rest);
-          stable = λ c y z is total size. onward total k.written (c ∷ z)
-              (Ok (record { items = list.items; rest = c ∷ z })) size (k.stable c y z is total);
-        }
-    items-more (Err offset) k =
-        record {
-          front = h.written ++ 44 ∷ k.front;
-          rest = k.rest;
-          split = h.split ∙ ap (λ t. h.written ++ 44 ∷ t) k.split ∙ sym (append_assoc h.written (44 ∷ k.front) k.rest);
-          size = omega (arith, lengths h.written (44 ∷ k.front), k.size);
-          goes_on = k.goes_on;
-          first = item;
-          others = k.first ∷ k.others;
-          are = (h.written, k.front ++ k.goes_on, h.at, h.is, k.are, append_assoc h.written (44 ∷ k.front) k.goes_on);
-          stable = λ c y z is total size. onward total k.front (c ∷ z) (Err offset) size (k.stable c y z is total);
-        }
-
-    more-read : (total : ℕ) → ◌≡◌ {A = ItemReading} (read_item total side text)
-        (Ok (record { item = item; rest = 44 ∷ more })) → ItemsRead total next side (before ++ item ∷ []) more
-        → ItemsRead total base side before text
-    more-read total e k =
-        record {
-          reading = k.reading;
-          reads = more_items before text item (44 ∷ more) more k.reading e refl k.reads;
-          outcome = items-more k.reading k.outcome;
-        }
-
-  module _ (total base : ℕ) (before : List Item) (text : List ℕ) (size : total ≡ base + length text)
-      (later : (base : ℕ) (before : List Item) (t : List ℕ) → length t < length text → total ≡ base + length t
-      → ItemsRead total base side before t) where
-    by-comma : (item : Item) (rest : List ℕ)
-        → ◌≡◌ {A = ItemReading} (read_item total side text) (Ok (record { item = item; rest = rest }))
-        → ItemGood base side text item rest → (o : Option (List ℕ)) → past_byte 44 rest ≡ o
-        → ItemsRead total base side before text
-    by-comma item rest e h None f =
-        record {
-          reading = Ok (record { items = before ++ item ∷ []; rest = rest });
-          reads =
-              last_item before text item rest e f;
-          outcome = items-last base before text item rest h f;
-        }
-    by-comma item rest e h (Some more) f =
-        let is = past_byte-is 44 rest more f in
-        let g : ItemGood base side text item (44 ∷ more) = subst (ItemGood base side text item) is h in
-        let e' : ◌≡◌ {A = ItemReading} (read_item total side text) (Ok (record { item = item; rest = 44 ∷ more })) = e
-        ∙ ap (λ t. Ok (record { item = item; rest = t })) is in
-        let long : length text ≡ length g.written + (1 + length more) =
-        omega (arith, ap length g.split, lengths g.written (44 ∷ more)) in
-        more-read base before text item more g total e'
-        (later (base + length g.written + 1) (before ++ item ∷ []) more (omega (arith, long))
-        (omega (arith, long, size)))
-
-    by-item : (r : ItemReading) → ItemOutcome base side text r → read_item total side text ≡ r
-        → ItemsRead total base side before text
-    by-item (Err offset) h e =
-        record {
-          reading = Err offset;
-          reads = bad_item before text offset e;
-          outcome =
-              items-bad base before text offset h;
-        }
-    by-item (Ok front) h e = by-comma front.item front.rest e h (past_byte 44 front.rest) refl
-
-    step-items : ItemsRead total base side before text
-    step-items = by-item (read_item total side text) (item-outcome side base total text size) refl
-
-  items-outcome : (fuel total base : ℕ) (before : List Item) (text : List ℕ) → length text ≤ fuel
-      → total ≡ base + length text → ItemsRead total base side before text
-  items-outcome zero total base before text fits size =
-      step-items total base before text size (λ b xs t less long. absurd (omega arith))
-  items-outcome (suc fuel) total base before text fits size =
-      step-items total base before text size (λ b xs t less long. items-outcome fuel total b xs t (omega arith) long)
-
--- a list that may be empty
-pub record ListGood (base : ℕ) (side : Side) (before : List Item) (text : List ℕ) (list : Items) : Type 0 where
-  pub written : List ℕ
-  pub items : List Item
-  pub items_are : list.items ≡ before ++ items
-  pub are : AreItemsText side base items written
-  pub split : text ≡ written ++ list.rest
-  pub stable : (c : ℕ) (y z : List ℕ) → list.rest ≡ c ∷ y → (total : ℕ) → total ≡ base + length (written ++ c ∷ z)
-      → ReadsList total side before (written ++ c ∷ z) (Ok (record { items = list.items; rest = c ∷ z }))
-
-pub record ListBad (base : ℕ) (side : Side) (before : List Item) (text : List ℕ) (offset : ℕ) : Type 0 where
-  pub front : List ℕ
-  pub rest : List ℕ
-  pub split : text ≡ front ++ rest
-  pub size : base + length front ≡ offset
-  pub goes_on : List ℕ
-  pub items : List Item
-  pub are : AreItemsText side base items (front ++ goes_on)
-  pub stable : (c : ℕ) (y z : List ℕ) → rest ≡ c ∷ y → (total : ℕ) → total ≡ base + length (front ++ c ∷ z)
-      → ReadsList total side before (front ++ c ∷ z) (Err offset)
+abbrev pub ListGoes : ℕ → Side → List Item → List ℕ → Items → Type 0
+ListGoes base side before text list = Goes (AreAny base side before list.items)
+    (λ t r. ReadsAny base side before t (Ok (record { items = list.items; rest = r }))) text list.rest
 
 abbrev pub ListOutcome : ℕ → Side → List Item → List ℕ → ItemsReading → Type 0
-ListOutcome base side before text (Ok list) = ListGood base side before text list
-ListOutcome base side before text (Err offset) = ListBad base side before text offset
+ListOutcome base side before text (Ok list) = ListGoes base side before text list
+ListOutcome base side before text (Err offset) = Halts base (Begun (List Item) (AreItemsText side base))
+    (λ t. ReadsAny base side before t (Err offset)) text offset
 
-pub record ListRead (total base : ℕ) (side : Side) (before : List Item) (text : List ℕ) : Type 0 where
+-- some reading with its outcome
+pub record ItemsRead (base : ℕ) (side : Side) (before : List Item) (text : List ℕ) : Type 0 where
   pub reading : ItemsReading
-  pub reads : ReadsList total side before text reading
+  pub outcome : ItemsOutcome base side before text reading
+
+pub record ListRead (base : ℕ) (side : Side) (before : List Item) (text : List ℕ) : Type 0 where
+  pub reading : ItemsReading
   pub outcome : ListOutcome base side before text reading
 
-ends_list-same : (front : List ℕ) (c : ℕ) (y z : List ℕ) (b : Bool) → ends_list (front ++ c ∷ y) ≡ b
-    → ends_list (front ++ c ∷ z) ≡ b
-ends_list-same [] c y z b e = e
-ends_list-same (x ∷ front) c y z b e = e
+module _ (side : Side) (base : ℕ) (before : List Item) (text : List ℕ) where
+  -- more items are read after an item and its comma
+  items-more : (item : Item) (more : List ℕ) (g : ItemGoes base side text item (44 ∷ more)) (r : ItemsReading)
+      → ItemsOutcome (base + length g.written + 1) side (before ++ item ∷ []) more r
+      → ItemsOutcome base side before text r
+  items-more item more g r k = by_reading r k
+    where
+      onward : (t : List ℕ) (r : ItemsReading)
+          → ReadsSome (base + length g.written + 1) side (before ++ item ∷ []) t r
+          → ReadsSome base side before (g.written ++ 44 ∷ t) r
+      onward t r later total size =
+          more_items before (g.written ++ 44 ∷ t) item (44 ∷ t) t r (g.reads (44 ∷ t) refl total size) refl
+          (later total (omega (arith, size, length-append g.written (44 ∷ t))))
 
-some-outcome : (base : ℕ) (side : Side) (before : List Item) (text : List ℕ) → ends_list text ≡ false
-    → (r : ItemsReading) → ItemsOutcome base side before text r → ListOutcome base side before text r
-some-outcome base side before text some (Ok list) h =
-    record {
-      written = h.written;
-      items = h.first ∷ h.others;
-      items_are = h.items;
-      are = h.are;
-      split = h.split;
-      stable = λ c y z is total size.
-          some_items before (h.written ++ c ∷ z) (Ok (record { items = list.items; rest = c ∷ z }))
-          (ends_list-same h.written c y z false (ap ends_list (sym (h.split ∙ ap (λ t. h.written ++ t) is)) ∙ some))
-          (h.stable c y z is total size);
-    }
-some-outcome base side before text some (Err offset) h =
-    record {
-      front = h.front;
-      rest = h.rest;
-      split = h.split;
-      size = h.size;
-      goes_on = h.goes_on;
-      items = h.first ∷ h.others;
-      are = h.are;
-      stable = λ c y z is total size.
-          some_items before (h.front ++ c ∷ z) (Err offset)
-          (ends_list-same h.front c y z false (ap ends_list (sym (h.split ∙ ap (λ t. h.front ++ t) is)) ∙ some))
-          (h.stable c y z is total size);
-    }
+      by_reading : (r : ItemsReading) → ItemsOutcome (base + length g.written + 1) side (before ++ item ∷ []) more r
+          → ItemsOutcome base side before text r
+      by_reading (Ok list) k =
+          after (λ t. g.written ++ 44 ∷ t) (λ x y. append_assoc g.written (44 ∷ x) y) more text g.split list.rest k
+          (λ t h. record {
+            head = item;
+            tail = h.head ∷ h.tail;
+            items_are = h.items_are ∙ append_assoc before (item ∷ []) (h.head ∷ h.tail);
+            are = (g.written, t, g.is.0, g.is.1, h.are, refl);
+          }) (λ t r alike same s. onward t (Ok (record { items = list.items; rest = r })) s)
+      by_reading (Err offset) k =
+          halts-after (λ t. g.written ++ 44 ∷ t) (λ x y. append_assoc g.written (44 ∷ x) y) more text g.split k
+          (λ t s. omega (arith, length-append g.written (44 ∷ t)))
+          (λ t b. record {
+            more = b.more;
+            value = item ∷ b.is.head ∷ b.is.tail;
+            is = record {
+              head = item;
+              tail = b.is.head ∷ b.is.tail;
+              items_are = refl;
+              are = (g.written, t ++ b.more, g.is.0, g.is.1, b.is.are, append_assoc g.written (44 ∷ t) b.more);
+            };
+          }) (λ t alike s. onward t (Err offset) s)
 
-none-outcome : (base : ℕ) (side : Side) (before : List Item) (text : List ℕ) → ends_list text ≡ true
-    → ListGood base side before text (record { items = before; rest = text })
-none-outcome base side before text ends =
-    record {
-      written = [];
-      items = [];
-      items_are = sym (append-nil before);
-      are = refl;
-      split = refl;
-      stable = λ c y z is total size. no_item before (c ∷ z)
-          (ends_list-same [] c y z true (ap ends_list (sym is) ∙ ends));
-    }
+  module _ (later : (base : ℕ) (before : List Item) (t : List ℕ) → length t < length text
+      → ItemsRead base side before t) where
+    by-comma : (item : Item) (rest : List ℕ) → ItemGoes base side text item rest → (o : Option (List ℕ))
+        → past_byte 44 rest ≡ o → ItemsRead base side before text
+    by-comma item rest g None e =
+        record {
+          reading = Ok (record { items = before ++ item ∷ []; rest = rest });
+          outcome =
+              after (λ t. t) (λ x y. refl) text text refl rest g
+              (λ t h. record { head = item; tail = []; items_are = refl; are = h })
+              (λ t r alike same s total size.
+              last_item before t item r (s total size) (past_byte-alike 44 rest r same e));
+        }
+    by-comma item rest g (Some more) e =
+        let h : ItemGoes base side text item (44 ∷ more) =
+        subst (ItemGoes base side text item) (past_byte-is 44 rest more e) g in
+        let w = later (base + length h.written + 1) (before ++ item ∷ []) more
+        (omega (arith, ap length h.split, length-append h.written (44 ∷ more))) in
+        record { reading = w.reading; outcome = items-more item more h w.reading w.outcome }
 
-pub list-outcome : (total base : ℕ) (side : Side) (before : List Item) (text : List ℕ) → total ≡ base + length text
-    → ListRead total base side before text
-list-outcome total base side before text size =
-    elim (ends_list text) as (λ b. ends_list text ≡ b → ListRead total base side before text) [
-      | true ↦
-          λ e. record {
-            reading = Ok (record { items = before; rest = text });
-            reads = no_item before text e;
-            outcome =
-                none-outcome base side before text e;
-          }
-      | false ↦ λ e.
-          let r = items-outcome side (length text) total base before text (omega arith) size in
-          record {
-            reading = r.reading;
-            reads = some_items before text r.reading e r.reads;
-            outcome =
-                some-outcome base side before text e r.reading r.outcome;
-          }
-    ] refl
+    by-item : (r : ItemReading) → ItemOutcome base side text r → ItemsRead base side before text
+    by-item (Ok front) g = by-comma front.item front.rest g (past_byte 44 front.rest) refl
+    by-item (Err offset) h =
+        record {
+          reading = Err offset;
+          outcome =
+              halts-after (λ t. t) (λ x y. refl) text text refl h (λ t s. s)
+              (λ t b. record {
+                more = b.more;
+                value = b.value ∷ [];
+                is = record { head = b.value; tail = []; items_are = refl; are = b.is };
+              }) (λ t alike s total size. bad_item before t offset (s total size));
+        }
+
+    step-items : ItemsRead base side before text
+    step-items = by-item (read_item (base + length text) side text)
+        (item-outcome side base (base + length text) text refl)
+
+items-outcome : (side : Side) (fuel base : ℕ) (before : List Item) (text : List ℕ) → length text ≤ fuel
+    → ItemsRead base side before text
+items-outcome side zero base before text fits = step-items side base before text
+    (λ b xs t less. absurd (omega arith))
+items-outcome side (suc fuel) base before text fits =
+    step-items side base before text (λ b xs t less. items-outcome side fuel b xs t (omega arith))
+
+ends_list-alike : (text r : List ℕ) → first r ≡ first text → ends_list r ≡ ends_list text
+ends_list-alike [] [] alike = refl
+ends_list-alike [] (c ∷ z) alike = cc
+ends_list-alike (d ∷ y) [] alike = cc
+ends_list-alike (d ∷ y) (c ∷ z) alike = let same : c ≡ d = cc in ap (λ x. nat_eq x 58 || nat_eq x 46) same
+
+module _ (base : ℕ) (side : Side) (before : List Item) (text : List ℕ) where
+  some-outcome : ends_list text ≡ false → (r : ItemsReading) → ItemsOutcome base side before text r
+      → ListOutcome base side before text r
+  some-outcome some (Ok list) g =
+      after (λ t. t) (λ x y. refl) text text refl list.rest g
+      (λ t h. record { added = h.head ∷ h.tail; items_are = h.items_are; are = h.are })
+      (λ t r alike same s total size.
+      some_items before t (Ok (record { items = list.items; rest = r })) (ends_list-alike text t alike ∙ some)
+      (s total size))
+  some-outcome some (Err offset) h =
+      halts-after (λ t. t) (λ x y. refl) text text refl h (λ t s. s)
+      (λ t b. record { more = b.more; value = b.is.head ∷ b.is.tail; is = b.is.are })
+      (λ t alike s total size. some_items before t (Err offset) (ends_list-alike text t alike ∙ some) (s total size))
+
+  pub list-outcome : ListRead base side before text
+  list-outcome =
+      elim (ends_list text) as (λ b. ends_list text ≡ b → ListRead base side before text) [
+        | true ↦
+            λ e. record {
+              reading = Ok (record { items = before; rest = text });
+              outcome = record {
+                written = [];
+                split = refl;
+                is = record { added = []; items_are = sym (append-nil before); are = refl };
+                reads = λ r alike total size. no_item before r (ends_list-alike text r alike ∙ e);
+              };
+            }
+        | false ↦ λ e.
+            let w = items-outcome side (length text) base before text (omega arith) in
+            record { reading = w.reading; outcome = some-outcome e w.reading w.outcome }
+      ] refl

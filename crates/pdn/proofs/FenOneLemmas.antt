@@ -1,6 +1,6 @@
 -- A position's text is read in one way.
-use Rattle.std.proofs.Common.{◌≡◌, ℕ, inl, inr, List, [], ◌∷◌, ◌++◌, Some, None, true, false, Ok, Err, length, refl}
-use Rattle.std.proofs.Common.{sym, ap, ◌∙◌, subst}
+use Rattle.std.proofs.Common.{◌≡◌, Bool, Option, ℕ, inl, inr, List, [], ◌∷◌, ◌++◌, Some, None, true, false, Ok, Err}
+use Rattle.std.proofs.Common.{length, refl, sym, ap, ◌∙◌, subst}
 use Rattle.squares.specs.declared.sides.Side.{Side}
 use Rattle.squares.specs.DraughtsBoard.{Position}
 use Rattle.squares.specs.Sides.{other}
@@ -9,169 +9,131 @@ use Rattle.pdn.specs.declared.faults.FenFault.{FenFault}
 use Rattle.pdn.specs.declared.faults.FenFault.TheVariants as fault
 use Rattle.pdn.specs.FenItems.{ItemFront, ItemReading, Items, ItemsReading, past_byte, read_item, ReadsItems, bad_item}
 use Rattle.pdn.specs.FenItems.{last_item, more_items, ends_list, ReadsList, no_item, some_items}
-use Rattle.pdn.specs.FenForm.{Header, HeaderReading, RestReading, FenReading, read_header, read_between, ReadsRest}
-use Rattle.pdn.specs.FenForm.{bad_second, bad_end, ended, ReadsLists, bad_first, bad_between, both, ReadsForm}
-use Rattle.pdn.specs.FenForm.{bad_header, lists}
+use Rattle.pdn.specs.FenForm.{Header, HeaderReading, RestReading, FenReading, read_header, read_between, past_end}
+use Rattle.pdn.specs.FenForm.{ReadsRest, bad_second, bad_end, ended, ReadsLists, bad_first, bad_between, both}
+use Rattle.pdn.specs.FenForm.{ReadsForm, bad_header, lists}
 use Rattle.pdn.specs.ReadFen.{position_of, IsFen, HasFenFault}
 
--- two readings of one item
-module _ (reading : ItemReading) (i item : Item) (r rest : List ℕ)
-    (f : ◌≡◌ {A = ItemReading} reading (Ok (record { item = i; rest = r })))
-    (e : ◌≡◌ {A = ItemReading} reading (Ok (record { item = item; rest = rest }))) where
-  fronts : ◌≡◌ {A = ItemFront} (record { item = i; rest = r }) (record { item = item; rest = rest })
-  fronts = cc
-
-  one_item : i ≡ item
-  one_item = ap (λ (x : ItemFront). x.item) fronts
-
-  one_rest : r ≡ rest
-  one_rest = ap (λ (x : ItemFront). x.rest) fronts
-
 module _ (total : ℕ) (side : Side) where
-  after_bad : (before : List Item) (text : List ℕ) (s : ItemsReading) (o : ℕ)
-      → ◌≡◌ {A = ItemReading} (read_item total side text) (Err o) → ReadsItems total side before text s → s ≡ Err o
-  after_bad before text s o e (bad_item b t p f) = let same : p ≡ o = cc in ap Err same
-  after_bad before text s o e (last_item b t item rest f g) = cc
-  after_bad before text s o e (more_items b t item rest more r f g h) = cc
+  -- what is read after an item, and where no item is read
+  abbrev pub AfterComma : List Item → ItemFront → Option (List ℕ) → ItemsReading → Type 0
+  AfterComma before front None r = r ≡ Ok (record { items = before ++ front.item ∷ []; rest = front.rest })
+  AfterComma before front (Some more) r = ReadsItems total side (before ++ front.item ∷ []) more r
 
-  after_last : (before : List Item) (text : List ℕ) (s : ItemsReading) (item : Item) (rest : List ℕ)
-      → ◌≡◌ {A = ItemReading} (read_item total side text) (Ok (record { item = item; rest = rest }))
-      → past_byte 44 rest ≡ None → ReadsItems total side before text s
-      → s ≡ Ok (record { items = before ++ item ∷ []; rest = rest })
-  after_last before text s item rest e k (bad_item b t p f) = cc
-  after_last before text s item rest e k (last_item b t i r f g) =
-      let item_is : i ≡ item = one_item (read_item total side t) i item r rest f e in
-      let rest_is : r ≡ rest = one_rest (read_item total side t) i item r rest f e in
-      λ j. Ok (record { items = b ++ item_is j ∷ []; rest = rest_is j })
-  after_last before text s item rest e k (more_items b t i r more reading f g h) = let rest_is : r ≡ rest =
-      one_rest (read_item total side t) i item r rest f e in cc
+  abbrev pub AfterItem : List Item → ItemReading → ItemsReading → Type 0
+  AfterItem before (Err offset) r = r ≡ Err offset
+  AfterItem before (Ok front) r = AfterComma before front (past_byte 44 front.rest) r
 
-  after_more : (before : List Item) (text : List ℕ) (s : ItemsReading) (item : Item) (rest more : List ℕ)
-      → ◌≡◌ {A = ItemReading} (read_item total side text) (Ok (record { item = item; rest = rest }))
-      → past_byte 44 rest ≡ Some more → ReadsItems total side before text s
-      → ReadsItems total side (before ++ item ∷ []) more s
-  after_more before text s item rest more e k (bad_item b t p f) = cc
-  after_more before text s item rest more e k (last_item b t i r f g) = let rest_is : r ≡ rest =
-      one_rest (read_item total side t) i item r rest f e in cc
-  after_more before text s item rest more e k (more_items b t i r n reading f g h) =
-      let item_is : i ≡ item = one_item (read_item total side t) i item r rest f e in
-      let rest_is : r ≡ rest = one_rest (read_item total side t) i item r rest f e in
-      let more_is : n ≡ more = cc in
-      subst (λ (x : Item). ReadsItems total side (b ++ x ∷ []) more reading) item_is
-      (subst (λ t. ReadsItems total side (b ++ i ∷ []) t reading) more_is h)
+  after-item : (before : List Item) (text : List ℕ) (r : ItemsReading) → ReadsItems total side before text r
+      → AfterItem before (read_item total side text) r
+  after-item before text r (bad_item b t o e) = subst (λ (x : ItemReading). AfterItem b x r) (sym e) refl
+  after-item before text r (last_item b t item rest e g) =
+      let front : ItemFront = record { item = item; rest = rest } in
+      subst (λ (x : ItemReading). AfterItem b x r) (sym e) (subst (λ o. AfterComma b front o r) (sym g) refl)
+  after-item before text r (more_items b t item rest more reading e g h) =
+      let front : ItemFront = record { item = item; rest = rest } in
+      subst (λ (x : ItemReading). AfterItem b x reading) (sym e) (subst (λ o. AfterComma b front o reading) (sym g) h)
 
   items-one : (before : List Item) (text : List ℕ) (r s : ItemsReading) → ReadsItems total side before text r
       → ReadsItems total side before text s → s ≡ r
-  items-one before text r s (bad_item b t o e) k = after_bad b t s o e k
-  items-one before text r s (last_item b t item rest e g) k = after_last b t s item rest e g k
+  items-one before text r s (bad_item b t o e) k = subst (λ (x : ItemReading). AfterItem b x s) e (after-item b t s k)
+  items-one before text r s (last_item b t item rest e g) k =
+      let front : ItemFront = record { item = item; rest = rest } in
+      subst (λ o. AfterComma b front o s) g (subst (λ (x : ItemReading). AfterItem b x s) e (after-item b t s k))
   items-one before text r s (more_items b t item rest more reading e g h) k =
-      items-one (b ++ item ∷ []) more reading s h (after_more b t s item rest more e g k)
+      let front : ItemFront = record { item = item; rest = rest } in
+      items-one (b ++ item ∷ []) more reading s h
+      (subst (λ o. AfterComma b front o s) g (subst (λ (x : ItemReading). AfterItem b x s) e (after-item b t s k)))
 
-  empty-one : (before : List Item) (text : List ℕ) (s : ItemsReading) → ends_list text ≡ true
-      → ReadsList total side before text s → s ≡ Ok (record { items = before; rest = text })
-  empty-one before text s e (no_item b t f) = refl
-  empty-one before text s e (some_items b t r f h) = cc
+  -- a list that has no item, or has some
+  abbrev pub AfterStart : List Item → List ℕ → Bool → ItemsReading → Type 0
+  AfterStart before text true r = r ≡ Ok (record { items = before; rest = text })
+  AfterStart before text false r = ReadsItems total side before text r
 
-  some-one : (before : List Item) (text : List ℕ) (s : ItemsReading) → ends_list text ≡ false
-      → ReadsList total side before text s → ReadsItems total side before text s
-  some-one before text s e (no_item b t f) = cc
-  some-one before text s e (some_items b t r f h) = h
+  after-start : (before : List Item) (text : List ℕ) (r : ItemsReading) → ReadsList total side before text r
+      → AfterStart before text (ends_list text) r
+  after-start before text r (no_item b t e) = subst (λ x. AfterStart b t x r) (sym e) refl
+  after-start before text r (some_items b t reading e h) = subst (λ x. AfterStart b t x reading) (sym e) h
 
   pub list-one : (before : List Item) (text : List ℕ) (r s : ItemsReading) → ReadsList total side before text r
       → ReadsList total side before text s → s ≡ r
-  list-one before text r s (no_item b t e) k = empty-one b t s e k
-  list-one before text r s (some_items b t reading e h) k = items-one b t reading s h (some-one b t s e k)
+  list-one before text r s (no_item b t e) k = subst (λ x. AfterStart b t x s) e (after-start b t s k)
+  list-one before text r s (some_items b t reading e h) k =
+      items-one b t reading s h (subst (λ x. AfterStart b t x s) e (after-start b t s k))
 
+-- the second list and the end
 module _ (total : ℕ) (turn second : Side) (before : List Item) (text : List ℕ) where
+  abbrev pub at_end : Items → Option ℕ → FenReading
+  at_end list None = Ok (record { turn = turn; items = list.items })
+  at_end list (Some offset) = Err offset
+
+  abbrev pub after_second : ItemsReading → FenReading
+  after_second (Err offset) = Err offset
+  after_second (Ok list) = at_end list (past_end total list.rest)
+
+  rest-list : (r : FenReading) → ReadsRest total turn second before text r → (l : ItemsReading)
+      × ReadsList total second before text l × (r ≡ after_second l)
+  rest-list r (bad_second o h) = (Err o, h, refl)
+  rest-list r (bad_end list o h g) = (Ok list, h, sym (ap (at_end list) g))
+  rest-list r (ended list h g) = (Ok list, h, sym (ap (at_end list) g))
+
   rest-one : (r s : FenReading) → ReadsRest total turn second before text r → ReadsRest total turn second before text s
       → s ≡ r
-  rest-one r s (bad_second o h) (bad_second p k) = let e = list-one total second before text (Err o) (Err p) h k in cc
-  rest-one r s (bad_second o h) (bad_end list p k g) = let e =
-      list-one total second before text (Err o) (Ok list) h k in cc
-  rest-one r s (bad_second o h) (ended list k g) = let e = list-one total second before text (Err o) (Ok list) h k in cc
-  rest-one r s (bad_end list o h g) (bad_second p k) = let e =
-      list-one total second before text (Ok list) (Err p) h k in cc
-  rest-one r s (bad_end list o h g) (bad_end other p k f) =
-      let e = list-one total second before text (Ok list) (Ok other) h k in
-      let same : other ≡ list = cc in
-      let offsets : p ≡ o = cc in
-      ap Err offsets
-  rest-one r s (bad_end list o h g) (ended other k f) =
-      let e = list-one total second before text (Ok list) (Ok other) h k in
-      let same : other ≡ list = cc in
-      cc
-  rest-one r s (ended list h g) (bad_second p k) = let e = list-one total second before text (Ok list) (Err p) h k in cc
-  rest-one r s (ended list h g) (bad_end other p k f) =
-      let e = list-one total second before text (Ok list) (Ok other) h k in
-      let same : other ≡ list = cc in
-      cc
-  rest-one r s (ended list h g) (ended other k f) =
-      let e = list-one total second before text (Ok list) (Ok other) h k in
-      let same : other ≡ list = cc in
-      ap (λ (l : Items). Ok (record { turn = turn; items = l.items })) same
+  rest-one r s h k =
+      let v = rest-list r h in
+      let w = rest-list s k in
+      w.2 ∙ ap after_second (list-one total second before text v.0 w.0 v.1 w.1) ∙ sym v.2
 
+-- both lists
 module _ (total : ℕ) (header : Header) where
-  -- what follows the first list
-  after_first : (s : FenReading) (o : ℕ) → ReadsList total header.first [] header.rest (Err o)
-      → ReadsLists total header s → s ≡ Err o
-  after_first s o h (bad_first p k) = let e = list-one total header.first [] header.rest (Err o) (Err p) h k in cc
-  after_first s o h (bad_between list p k g) = let e =
-      list-one total header.first [] header.rest (Err o) (Ok list) h k in cc
-  after_first s o h (both list rest reading k g f) = let e =
-      list-one total header.first [] header.rest (Err o) (Ok list) h k in cc
+  abbrev pub AfterBetween : Items → RestReading → FenReading → Type 0
+  AfterBetween list (Err offset) r = r ≡ Err offset
+  AfterBetween list (Ok rest) r = ReadsRest total header.turn (other header.first) list.items rest r
 
-  after_between : (s : FenReading) (list : Items) (o : ℕ) → ReadsList total header.first [] header.rest (Ok list)
-      → ◌≡◌ {A = RestReading} (read_between total header.first list.rest) (Err o) → ReadsLists total header s
-      → s ≡ Err o
-  after_between s list o h e (bad_first p k) = let f =
-      list-one total header.first [] header.rest (Ok list) (Err p) h k in cc
-  after_between s list o h e (bad_between l p k g) =
-      let f = list-one total header.first [] header.rest (Ok list) (Ok l) h k in
-      let same : l ≡ list = cc in
-      let offsets : p ≡ o = cc in
-      ap Err offsets
-  after_between s list o h e (both l rest reading k g f) =
-      let d = list-one total header.first [] header.rest (Ok list) (Ok l) h k in
-      let same : l ≡ list = cc in
-      cc
+  abbrev pub AfterFirst : ItemsReading → FenReading → Type 0
+  AfterFirst (Err offset) r = r ≡ Err offset
+  AfterFirst (Ok list) r = AfterBetween list (read_between total header.first list.rest) r
 
-  after_both : (s : FenReading) (list : Items) (rest : List ℕ) → ReadsList total header.first [] header.rest (Ok list)
-      → ◌≡◌ {A = RestReading} (read_between total header.first list.rest) (Ok rest) → ReadsLists total header s
-      → ReadsRest total header.turn (other header.first) list.items rest s
-  after_both s list rest h e (bad_first p k) = let f =
-      list-one total header.first [] header.rest (Ok list) (Err p) h k in cc
-  after_both s list rest h e (bad_between l p k g) =
-      let f = list-one total header.first [] header.rest (Ok list) (Ok l) h k in
-      let same : l ≡ list = cc in
-      cc
-  after_both s list rest h e (both l t reading k g f) =
-      let d = list-one total header.first [] header.rest (Ok list) (Ok l) h k in
-      let same : l ≡ list = cc in
-      let rests : t ≡ rest = cc in
-      subst (λ (x : Items). ReadsRest total header.turn (other header.first) x.items rest reading) same
-      (subst (λ x. ReadsRest total header.turn (other header.first) l.items x reading) rests f)
+  after-first : (r : FenReading) → ReadsLists total header r → (l : ItemsReading)
+      × ReadsList total header.first [] header.rest l × AfterFirst l r
+  after-first r (bad_first o h) = (Err o, h, refl)
+  after-first r (bad_between list o h e) =
+      (Ok list, h, subst (λ (x : RestReading). AfterBetween list x r) (sym e) refl)
+  after-first r (both list rest reading h e f) =
+      (Ok list, h, subst (λ (x : RestReading). AfterBetween list x reading) (sym e) f)
+
+  between-one : (list : Items) (b : RestReading) (r s : FenReading) → AfterBetween list b r → AfterBetween list b s
+      → s ≡ r
+  between-one list (Err offset) r s h k = k ∙ sym h
+  between-one list (Ok rest) r s h k = rest-one total header.turn (other header.first) list.items rest r s h k
+
+  first-one : (l : ItemsReading) (r s : FenReading) → AfterFirst l r → AfterFirst l s → s ≡ r
+  first-one (Err offset) r s h k = k ∙ sym h
+  first-one (Ok list) r s h k = between-one list (read_between total header.first list.rest) r s h k
 
   lists-one : (r s : FenReading) → ReadsLists total header r → ReadsLists total header s → s ≡ r
-  lists-one r s (bad_first o h) k = after_first s o h k
-  lists-one r s (bad_between list o h e) k = after_between s list o h e k
-  lists-one r s (both list rest reading h e f) k =
-      rest-one total header.turn (other header.first) list.items rest reading s f (after_both s list rest h e k)
+  lists-one r s h k =
+      let v = after-first r h in
+      let w = after-first s k in
+      let same = list-one total header.first [] header.rest v.0 w.0 v.1 w.1 in
+      first-one v.0 r s v.2 (subst (λ (l : ItemsReading). AfterFirst l s) same w.2)
 
+-- a whole text
 module _ (text : List ℕ) where
-  after_header : (s : FenReading) (o : ℕ) → ◌≡◌ {A = HeaderReading} (read_header text) (Err o) → ReadsForm text s
-      → s ≡ Err o
-  after_header s o e (bad_header p f) = let same : p ≡ o = cc in ap Err same
-  after_header s o e (lists header reading f h) = cc
+  abbrev pub AfterHeader : HeaderReading → FenReading → Type 0
+  AfterHeader (Err offset) r = r ≡ Err offset
+  AfterHeader (Ok header) r = ReadsLists (length text) header r
 
-  after_good : (s : FenReading) (header : Header) → ◌≡◌ {A = HeaderReading} (read_header text) (Ok header)
-      → ReadsForm text s → ReadsLists (length text) header s
-  after_good s header e (bad_header p f) = cc
-  after_good s header e (lists other reading f h) = let same : other ≡ header = cc in
-      subst (λ x. ReadsLists (length text) x reading) same h
+  after-header : (r : FenReading) → ReadsForm text r → AfterHeader (read_header text) r
+  after-header r (bad_header o e) = subst (λ (x : HeaderReading). AfterHeader x r) (sym e) refl
+  after-header r (lists header reading e h) = subst (λ (x : HeaderReading). AfterHeader x reading) (sym e) h
+
+  header-one : (x : HeaderReading) (r s : FenReading) → AfterHeader x r → AfterHeader x s → s ≡ r
+  header-one (Err offset) r s h k = k ∙ sym h
+  header-one (Ok header) r s h k = lists-one (length text) header r s h k
 
   pub form-one : (r s : FenReading) → ReadsForm text r → ReadsForm text s → s ≡ r
-  form-one r s (bad_header o e) k = after_header s o e k
-  form-one r s (lists header reading e h) k = lists-one (length text) header reading s h (after_good s header e k)
+  form-one r s h k = header-one (read_header text) r s (after-header r h) (after-header s k)
 
   pub fen-one : (p q : Position) → IsFen text p → IsFen text q → q ≡ p
   fen-one p q h k =

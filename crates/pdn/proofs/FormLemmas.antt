@@ -1,49 +1,30 @@
 -- Landing squares are read one after another.
-use Rattle.std.proofs.Common.{◌≡◌, ℕ, zero, suc, ◌+◌, ◌-◌, ◌*◌, ◌<◌, ◌≤◌, true, false, cond, nat_eq, nat_le, ◌&&◌, List}
-use Rattle.std.proofs.Common.{[], ◌∷◌, ◌++◌, length, Some, None, Ok, Err, refl, sym, ap, ◌∙◌, append_assoc, append-nil}
-use Rattle.std.proofs.Common.{arith}
-use Rattle.pdn.specs.SquareText.{FrontReading, is_digit, read_second, read_number, after_zero, read_square}
+use Rattle.std.proofs.Common.{◌≡◌, ℕ, zero, suc, ◌+◌, ◌-◌, ◌<◌, ◌≤◌, Bool, true, false, cond, nat_eq, List, [], ◌∷◌}
+use Rattle.std.proofs.Common.{◌++◌, length, Some, None, Ok, Err, refl, sym, ap, ◌∙◌, append_assoc, append-nil, arith}
+use Rattle.std.proofs.Common.{length-append}
+use Rattle.pdn.specs.SquareText.{FrontReading, read_square}
 use Rattle.pdn.specs.Forms.{FormReading, capture, LandingsReading, is_cross, past_hyphen, past_cross, after_squares}
 use Rattle.pdn.specs.Forms.{at_cross, after_landing, read_up_to, read_landings, capture_of, quiet_of, at_mark}
 use Rattle.pdn.specs.Forms.{read_from, read_form}
+use Rattle.pdn.proofs.NumberLemmas.{Outcome, IsLast, square-outcome, square-some}
 
 -- what follows a square that was read is shorter than n
 abbrev pub Shorter : ℕ → FrontReading → Type 0
 Shorter n (Err bytes) = Unit {0}
 Shorter n (Ok front) = length front.rest < n
 
-read_second-shorter : (first : ℕ) (text : List ℕ) → Shorter (suc (length text)) (read_second first text)
-read_second-shorter first [] = omega arith
-read_second-shorter first (c ∷ rest) =
-    elim (is_digit c && nat_le (10 * first + (c - 48)) 50) as (λ b.
-    Shorter (suc (suc (length rest)))
-    (cond b (Ok (record { square = 10 * first + (c - 48); rest = rest }))
-    (Ok (record { square = first; rest = c ∷ rest })))) [
-      | true ↦ omega arith
-      | false ↦ omega arith
-    ]
-
-read_number-shorter : (text : List ℕ) → Shorter (length text) (read_number text)
-read_number-shorter [] = tt
-read_number-shorter (c ∷ rest) =
-    elim (nat_le 49 c && nat_le c 57) as (λ b. Shorter (suc (length rest)) (cond b (read_second (c - 48) rest)
-    (Err 0))) [
-      | true ↦ read_second-shorter (c - 48) rest
-      | false ↦ tt
-    ]
-
-after_zero-shorter : (n : ℕ) (r : FrontReading) → Shorter n r → Shorter (suc n) (after_zero r)
-after_zero-shorter n (Err bytes) h = tt
-after_zero-shorter n (Ok front) h = omega arith
-
-pub read_square-shorter : (text : List ℕ) → Shorter (length text) (read_square text)
-read_square-shorter [] = tt
-read_square-shorter (c ∷ rest) =
-    elim (nat_eq c 48) as (λ b. Shorter (suc (length rest))
-    (cond b (after_zero (read_number rest)) (read_number (c ∷ rest)))) [
-      | true ↦ after_zero-shorter (length rest) (read_number rest) (read_number-shorter rest)
-      | false ↦ read_number-shorter (c ∷ rest)
-    ]
+read_square-shorter : (text : List ℕ) → Shorter (length text) (read_square text)
+read_square-shorter text = by_outcome (read_square text) (square-outcome text)
+  where
+    by_outcome : (r : FrontReading) → Outcome read_square (IsLast 0) text r → Shorter (length text) r
+    by_outcome (Err bytes) h = tt
+    by_outcome (Ok front) g =
+        omega (
+          arith,
+          ap length g.split,
+          length-append g.written front.rest,
+          square-some front.square g.written g.is.0,
+        )
 
 -- What reads on is asked of shorter texts alone.
 at_cross-same : (f g : List ℕ → LandingsReading) (total square n : ℕ) (text : List ℕ) → length text < n
@@ -82,35 +63,32 @@ nothing_left : (rest : List ℕ) → length rest ≡ 0 → rest ≡ []
 nothing_left [] e = refl
 nothing_left (c ∷ rest) e = absurd (omega arith)
 
-crossed : (more : List ℕ → LandingsReading) (total square : ℕ) (text rest : List ℕ) → past_cross text ≡ Some rest
-    → at_cross more total square text ≡ after_squares (square ∷ []) (total - length rest) (more rest)
-crossed more total square [] rest e = cc
-crossed more total square (c ∷ r) rest e =
-    elim (is_cross c) as (λ b. cond b (Some r) None ≡ Some rest
-    → cond b (after_squares (square ∷ []) (total - length r) (more r)) (Err (total - (length r + 1)))
-    ≡ after_squares (square ∷ []) (total - length rest) (more rest)) [
-      | true ↦ λ e. let is : r ≡ rest = cc in ap (λ t. after_squares (square ∷ []) (total - length t) (more t)) is
-      | false ↦ λ e. cc
-    ] e
+-- what follows a mark, by whether it is one
+pub is_past : (b : Bool) (r rest : List ℕ) → cond b (Some r) None ≡ Some rest → (b ≡ true) × (r ≡ rest)
+is_past true r rest e = (refl, cc)
+is_past false r rest e = cc
 
-not_crossed : (more : List ℕ → LandingsReading) (total square : ℕ) (text : List ℕ) → 0 < length text
-    → past_cross text ≡ None → at_cross more total square text ≡ Err (total - length text)
-not_crossed more total square [] h e = absurd (omega arith)
-not_crossed more total square (c ∷ r) h e =
-    elim (is_cross c) as (λ b. cond b (Some r) None ≡ None
-    → cond b (after_squares (square ∷ []) (total - length r) (more r)) (Err (total - (length r + 1)))
-    ≡ Err (total - length (c ∷ r))) [
-      | true ↦ λ e. cc
-      | false ↦ λ e. ap (λ n. Err (total - n)) (omega arith)
-    ] e
+pub not_past : (b : Bool) (r : List ℕ) → cond b (Some r) None ≡ None → b ≡ false
+not_past true r e = cc
+not_past false r e = refl
+
+pub landings-by : (text : List ℕ) (r : FrontReading) → read_square text ≡ r
+    → read_landings text ≡ after_landing read_landings (length text) r
+landings-by text r e = read_landings-step text ∙ ap (after_landing read_landings (length text)) e
+
+pub crossed : (total square c : ℕ) (rest : List ℕ) → is_cross c ≡ true → at_cross read_landings total square (c ∷ rest)
+    ≡ after_squares (square ∷ []) (total - length rest) (read_landings rest)
+crossed total square c rest e = ap (λ b. cond b (after_squares (square ∷ []) (total - length rest) (read_landings rest))
+    (Err (total - (length rest + 1)))) e
+
+pub not_crossed : (total square c : ℕ) (rest : List ℕ) → is_cross c ≡ false
+    → at_cross read_landings total square (c ∷ rest) ≡ Err (total - length (c ∷ rest))
+not_crossed total square c rest e = ap (λ b. cond b (after_squares (square ∷ []) (total - length rest)
+    (read_landings rest)) (Err (total - (length rest + 1)))) e ∙ ap (λ n. Err (total - n)) (omega arith)
 
 pub past_cross-shorter : (text rest : List ℕ) → past_cross text ≡ Some rest → length rest < length text
 past_cross-shorter [] rest e = cc
-past_cross-shorter (c ∷ r) rest e =
-    elim (is_cross c) as (λ b. cond b (Some r) None ≡ Some rest → length rest < length (c ∷ r)) [
-      | true ↦ λ e. let is : r ≡ rest = cc in omega (arith, ap length is)
-      | false ↦ λ e. cc
-    ] e
+past_cross-shorter (c ∷ r) rest e = omega (arith, ap length (is_past (is_cross c) r rest e).1)
 
 -- the capture that a text goes on with, after these squares
 abbrev pub goes_on : ℕ → ℕ → List ℕ → List ℕ → FormReading
@@ -158,86 +136,86 @@ module _ (from total : ℕ) where
       pub goes_on-stops : 0 < length rest → past_cross rest ≡ None
           → goes_on from total middle text ≡ Err (total - length rest)
       goes_on-stops h e =
-          read ∙ ap (λ r. capture_of from (total - length text) (after_squares middle 0 r))
-          (not_crossed read_landings (length text) square rest h e)
+          read ∙ ap (λ r. capture_of from (total - length text) (after_squares middle 0 r)) (stops rest h e)
           ∙ ap Err (omega arith)
+        where
+          stops : (r : List ℕ) → 0 < length r → past_cross r ≡ None
+              → at_cross read_landings (length text) square r ≡ Err (length text - length r)
+          stops [] h e = absurd (omega arith)
+          stops (c ∷ r) h e = not_crossed (length text) square c r (not_past (is_cross c) r e)
 
       pub goes_on-more : (more : List ℕ) → past_cross rest ≡ Some more → length more ≤ length text
           → goes_on from total middle text ≡ goes_on from total (middle ++ square ∷ []) more
       goes_on-more more e less =
-          read ∙ ap (λ r. capture_of from (total - length text) (after_squares middle 0 r))
-          (crossed read_landings (length text) square rest more e)
+          read ∙ ap (λ r. capture_of from (total - length text) (after_squares middle 0 r)) (goes rest e)
           ∙ one_more middle square (length text) (length more) (read_landings more) less within
+        where
+          goes : (r : List ℕ) → past_cross r ≡ Some more → at_cross read_landings (length text) square r
+              ≡ after_squares (square ∷ []) (length text - length more) (read_landings more)
+          goes [] e = cc
+          goes (c ∷ r) e =
+              let w = is_past (is_cross c) r more e in
+              crossed (length text) square c r w.0
+              ∙ ap (λ t. after_squares (square ∷ []) (length text - length t) (read_landings t)) w.1
 
 -- what a text that begins with a square goes on with
+pub form-by : (text : List ℕ) (r : FrontReading) → read_square text ≡ r → read_form text ≡ read_from (length text) r
+unfolding read_form
+form-by text r e = ap (read_from (length text)) e
+
+module _ (from total c : ℕ) (rest : List ℕ) where
+  by_mark : (b d : Bool) → nat_eq c 45 ≡ b → is_cross c ≡ d
+      → at_mark from total (c ∷ rest) ≡ cond b (quiet_of from (total - length rest) total (read_square rest))
+      (cond d (capture_of from (total - length rest) (read_landings rest)) (Err (total - (length rest + 1))))
+  by_mark b d e f = λ i. cond (e i) (quiet_of from (total - length rest) total (read_square rest))
+      (cond (f i) (capture_of from (total - length rest) (read_landings rest)) (Err (total - (length rest + 1))))
+
+  pub at_hyphen : nat_eq c 45 ≡ true
+      → at_mark from total (c ∷ rest) ≡ quiet_of from (total - length rest) total (read_square rest)
+  at_hyphen e = by_mark true (is_cross c) e refl
+
+  pub at_capture : nat_eq c 45 ≡ false → is_cross c ≡ true
+      → at_mark from total (c ∷ rest) ≡ capture_of from (total - length rest) (read_landings rest)
+  at_capture e f = by_mark false true e f
+
+  pub at_other : nat_eq c 45 ≡ false → is_cross c ≡ false
+      → at_mark from total (c ∷ rest) ≡ Err (total - length (c ∷ rest))
+  at_other e f = by_mark false false e f ∙ ap (λ n. Err (total - n)) (omega arith)
+
 module _ (text : List ℕ) (square : ℕ) (rest : List ℕ)
     (is : ◌≡◌ {A = FrontReading} (read_square text) (Ok (record { square = square; rest = rest }))) where
-  read_form-from : read_form text ≡ at_mark square (length text) rest
-  unfolding read_form
-  read_form-from = ap (read_from (length text)) is
-
-  hyphen : (total : ℕ) (t more : List ℕ) → past_hyphen t ≡ Some more
-      → at_mark square total t ≡ quiet_of square (total - length more) total (read_square more)
-  hyphen total [] more e = cc
-  hyphen total (c ∷ r) more e =
-      elim (nat_eq c 45) as (λ b. cond b (Some r) None ≡ Some more
-      → cond b (quiet_of square (total - length r) total (read_square r))
-      (cond (is_cross c) (capture_of square (total - length r) (read_landings r)) (Err (total - (length r + 1))))
-      ≡ quiet_of square (total - length more) total (read_square more)) [
-        | true ↦ λ e. let same : r ≡ more = cc in
-            ap (λ t. quiet_of square (total - length t) total (read_square t)) same
-        | false ↦ λ e. cc
-      ] e
-
-  other : (total : ℕ) (t : List ℕ) → past_hyphen t ≡ None → past_cross t ≡ None
-      → at_mark square total t ≡ Err (total - length t)
-  other total [] e f = ap Err (omega arith)
-  other total (c ∷ r) e f =
-      elim (nat_eq c 45) as (λ b. cond b (Some r) None ≡ None
-      → cond b (quiet_of square (total - length r) total (read_square r))
-      (cond (is_cross c) (capture_of square (total - length r) (read_landings r)) (Err (total - (length r + 1))))
-      ≡ Err (total - length (c ∷ r))) [
-        | true ↦ λ e. cc
-        | false ↦
-            λ e. elim (is_cross c) as (λ b. cond b (Some r) None ≡ None
-            → cond b (capture_of square (total - length r) (read_landings r)) (Err (total - (length r + 1)))
-            ≡ Err (total - length (c ∷ r))) [
-              | true ↦ λ f. cc
-              | false ↦ λ f. ap (λ n. Err (total - n)) (omega arith)
-            ] f
-      ] e
-
-  cross : (total : ℕ) (t more : List ℕ) → past_hyphen t ≡ None → past_cross t ≡ Some more
-      → at_mark square total t ≡ capture_of square (total - length more) (read_landings more)
-  cross total [] more e f = cc
-  cross total (c ∷ r) more e f =
-      elim (nat_eq c 45) as (λ b. cond b (Some r) None ≡ None
-      → cond b (quiet_of square (total - length r) total (read_square r))
-      (cond (is_cross c) (capture_of square (total - length r) (read_landings r)) (Err (total - (length r + 1))))
-      ≡ capture_of square (total - length more) (read_landings more)) [
-        | true ↦ λ e. cc
-        | false ↦
-            λ e. elim (is_cross c) as (λ b. cond b (Some r) None ≡ Some more
-            → cond b (capture_of square (total - length r) (read_landings r)) (Err (total - (length r + 1)))
-            ≡ capture_of square (total - length more) (read_landings more)) [
-              | true ↦ λ f. let same : r ≡ more = cc in
-                  ap (λ t. capture_of square (total - length t) (read_landings t)) same
-              | false ↦ λ f. cc
-            ] f
-      ] e
-
   pub read_form-quiet : (more : List ℕ) → past_hyphen rest ≡ Some more
       → read_form text ≡ quiet_of square (length text - length more) (length text) (read_square more)
-  read_form-quiet more e = read_form-from ∙ hyphen (length text) rest more e
+  read_form-quiet more e = form-by text (Ok (record { square = square; rest = rest })) is ∙ hyphen (length text) rest e
+    where
+      hyphen : (total : ℕ) (t : List ℕ) → past_hyphen t ≡ Some more
+          → at_mark square total t ≡ quiet_of square (total - length more) total (read_square more)
+      hyphen total [] e = cc
+      hyphen total (c ∷ r) e =
+          let w = is_past (nat_eq c 45) r more e in
+          at_hyphen square total c r w.0 ∙ ap (λ t. quiet_of square (total - length t) total (read_square t)) w.1
 
   pub read_form-capture : (more : List ℕ) → past_hyphen rest ≡ None → past_cross rest ≡ Some more
       → read_form text ≡ capture_of square (length text - length more) (read_landings more)
-  read_form-capture more e f = read_form-from ∙ cross (length text) rest more e f
+  read_form-capture more e f = form-by text (Ok (record { square = square; rest = rest })) is
+      ∙ cross (length text) rest e f
+    where
+      cross : (total : ℕ) (t : List ℕ) → past_hyphen t ≡ None → past_cross t ≡ Some more
+          → at_mark square total t ≡ capture_of square (total - length more) (read_landings more)
+      cross total [] e f = cc
+      cross total (c ∷ r) e f =
+          let w = is_past (is_cross c) r more f in
+          at_capture square total c r (not_past (nat_eq c 45) r e) w.0
+          ∙ ap (λ t. capture_of square (total - length t) (read_landings t)) w.1
 
   pub read_form-stops : past_hyphen rest ≡ None → past_cross rest ≡ None
       → read_form text ≡ Err (length text - length rest)
-  read_form-stops e f = read_form-from ∙ other (length text) rest e f
+  read_form-stops e f = form-by text (Ok (record { square = square; rest = rest })) is ∙ other (length text) rest e f
+    where
+      other : (total : ℕ) (t : List ℕ) → past_hyphen t ≡ None → past_cross t ≡ None
+          → at_mark square total t ≡ Err (total - length t)
+      other total [] e f = ap Err (omega arith)
+      other total (c ∷ r) e f = at_other square total c r (not_past (nat_eq c 45) r e) (not_past (is_cross c) r f)
 
 pub read_form-bad : (text : List ℕ) (bytes : ℕ) → read_square text ≡ Err bytes → read_form text ≡ Err bytes
-unfolding read_form
-read_form-bad text bytes e = ap (read_from (length text)) e
+read_form-bad text bytes e = form-by text (Err bytes) e

@@ -1,110 +1,24 @@
--- The texts of the grammar are those that are read.
-use Rattle.std.proofs.Common.{◌≡◌, ℕ, zero, suc, ◌+◌, ◌-◌, ◌*◌, ◌/◌, ◌%◌, ◌<◌, ◌≤◌, inl, inr, true, false, cond, nat_eq}
-use Rattle.std.proofs.Common.{nat_lt, nat_le, ◌&&◌, ◌||◌, List, [], ◌∷◌, ◌++◌, length, Ok, Err, refl, sym, ap, ◌∙◌}
-use Rattle.std.proofs.Common.{subst, append-nil, arith}
-use Rattle.std.proofs.lemmas.Bool.Decides.{nat_tests}
-use Rattle.squares.specs.DraughtsGeometry.{OnBoard}
+-- The texts of the grammar are those that are read, and each other text is read up to where it goes wrong.
+use Rattle.std.proofs.Common.{◌≡◌, ℕ, zero, suc, ◌+◌, ◌-◌, ◌*◌, ◌<◌, ◌≤◌, inl, inr, true, false, cond, nat_eq, ◌||◌}
+use Rattle.std.proofs.Common.{List, [], ◌∷◌, ◌++◌, length, Ok, Err, refl, sym, ap, ◌∙◌, subst, append_assoc, append-nil}
+use Rattle.std.proofs.Common.{arith, length-append}
 use Rattle.squares.specs.DraughtsMarks.{nat_eq-same, nat_eq_other}
-use Rattle.pdn.specs.SquareText.{FrontReading, is_digit, square_text, read_second, read_number, after_zero, read_square}
-use Rattle.pdn.specs.Forms.{Form, quiet, capture, Landings, LandingsReading, is_cross, after_squares, at_cross}
-use Rattle.pdn.specs.Forms.{after_landing, read_landings, capture_of, quiet_of, at_mark, read_from, read_form}
+use Rattle.pdn.specs.SquareText.{FrontReading, is_digit, square_text, read_square}
+use Rattle.pdn.specs.Forms.{Form, FormReading, quiet, capture, Landings, LandingsReading, is_cross, after_squares}
+use Rattle.pdn.specs.Forms.{at_cross, after_landing, read_landings, capture_of, quiet_of, at_mark, read_from, read_form}
 use Rattle.pdn.specs.Grammar.{IsSquareText, IsCross, AreLandings, HasForm}
-use Rattle.pdn.proofs.FormLemmas.{read_landings-step}
-use Rattle.pdn.proofs.TextLemmas.{EndsNumber, read_text}
-use Rattle.pdn.proofs.BeginningLemmas.{good, lengths, landings-by, crossed, not_crossed, form-by, at_hyphen, at_capture}
-use Rattle.pdn.proofs.BeginningLemmas.{at_other, over_err}
+use Rattle.pdn.specs.Beginnings.{Begins}
+use Rattle.pdn.proofs.StopLemmas.{first, Goes, Halts, Begun, after, halts-after}
+use Rattle.pdn.proofs.NumberLemmas.{good, digit-text, digits-text, IsLast, Outcome, square-outcome, square-read}
+use Rattle.pdn.proofs.FormLemmas.{read_landings-step, landings-by, crossed, not_crossed, form-by, at_hyphen, at_capture}
+use Rattle.pdn.proofs.FormLemmas.{at_other}
 
 -- the text of a number of one digit, and of two
 pub one_digit : (d : ℕ) → d < 10 → square_text d ≡ (48 + d) ∷ []
-one_digit d h = let small : nat_lt d 10 ≡ true = grind (arith, nat_tests) in rw small refl
+one_digit d h = digit-text d h
 
 pub two_digits : (d e : ℕ) → 1 ≤ d → e < 10 → square_text (10 * d + e) ≡ (48 + d) ∷ (48 + e) ∷ []
-two_digits d e h k =
-    let great : nat_lt (10 * d + e) 10 ≡ false = grind (arith, nat_tests) in
-    let tens : (10 * d + e) / 10 ≡ d = omega arith in
-    let ones : (10 * d + e) % 10 ≡ e = omega arith in
-    rw (great, tens, ones) refl
-
--- what a number that was read says of the text
-abbrev pub NumberParts : List ℕ → FrontReading → Type 0
-NumberParts text (Err bytes) = Unit {0}
-NumberParts text (Ok front) = OnBoard front.square × (text ≡ square_text front.square ++ front.rest)
-
-second-parts : (d : ℕ) (text : List ℕ) → 1 ≤ d → d < 10 → NumberParts ((48 + d) ∷ text) (read_second d text)
-second-parts d [] h k = ((h, omega arith), ap (λ t. t ++ []) (sym (one_digit d k)))
-second-parts d (c ∷ rest) h k =
-    elim (is_digit c && nat_le (10 * d + (c - 48)) 50) as (λ b. (is_digit c && nat_le (10 * d + (c - 48)) 50) ≡ b
-    → NumberParts ((48 + d) ∷ c ∷ rest) (cond b (good (10 * d + (c - 48)) rest) (good d (c ∷ rest)))) [
-      | true ↦ λ e.
-          let low : 48 ≤ c = grind (arith, nat_tests, e) in
-          let high : c ≤ 57 = grind (arith, nat_tests, e) in
-          let within : 10 * d + (c - 48) ≤ 50 = grind (arith, nat_tests, e) in
-          let back : 48 + (c - 48) ≡ c = omega arith in (
-            (omega arith, within),
-            ap (λ x. (48 + d) ∷ x ∷ rest) (sym back)
-                ∙ ap (λ t. t ++ rest) (sym (two_digits d (c - 48) h (omega arith))),
-          )
-      | false ↦ λ e. ((h, omega arith), ap (λ t. t ++ c ∷ rest) (sym (one_digit d k)))
-    ] refl
-
-number-parts : (text : List ℕ) → NumberParts text (read_number text)
-number-parts [] = tt
-number-parts (c ∷ rest) =
-    elim (nat_le 49 c && nat_le c 57) as (λ b. (nat_le 49 c && nat_le c 57) ≡ b
-    → NumberParts (c ∷ rest) (cond b (read_second (c - 48) rest) (Err 0))) [
-      | true ↦ λ e.
-          let low : 49 ≤ c = grind (arith, nat_tests, e) in
-          let high : c ≤ 57 = grind (arith, nat_tests, e) in
-          let back : 48 + (c - 48) ≡ c = omega arith in
-          subst (λ x. NumberParts (x ∷ rest) (read_second (c - 48) rest)) back
-          (second-parts (c - 48) rest (omega arith) (omega arith))
-      | false ↦ λ e. tt
-    ] refl
-
--- and what a square that was read says
-abbrev pub SquareParts : List ℕ → FrontReading → Type 0
-SquareParts text (Err bytes) = Unit {0}
-SquareParts text (Ok front) = (square : List ℕ) × IsSquareText front.square square × (text ≡ square ++ front.rest)
-
-plain-parts : (text : List ℕ) (r : FrontReading) → NumberParts text r → SquareParts text r
-plain-parts text (Err bytes) h = tt
-plain-parts text (Ok front) h = (square_text front.square, (h.0, inl refl), h.1)
-
-zero-parts : (text : List ℕ) (r : FrontReading) → NumberParts text r → SquareParts (48 ∷ text) (after_zero r)
-zero-parts text (Err bytes) h = tt
-zero-parts text (Ok front) h = (48 ∷ square_text front.square, (h.0, inr refl), ap (λ t. 48 ∷ t) h.1)
-
-pub square-parts : (text : List ℕ) → SquareParts text (read_square text)
-square-parts [] = tt
-square-parts (c ∷ rest) =
-    elim (nat_eq c 48) as (λ b. nat_eq c 48 ≡ b
-    → SquareParts (c ∷ rest) (cond b (after_zero (read_number rest)) (read_number (c ∷ rest)))) [
-      | true ↦ λ e. subst (λ x. SquareParts (x ∷ rest) (after_zero (read_number rest))) (sym (nat_eq-same c 48 e))
-          (zero-parts rest (read_number rest) (number-parts rest))
-      | false ↦ λ e. plain-parts (c ∷ rest) (read_number (c ∷ rest)) (number-parts (c ∷ rest))
-    ] refl
-
--- A square's text is read as the square.
-zero_number : (n : ℕ) (rest : List ℕ) → OnBoard n
-    → read_square (square_text n ++ rest) ≡ read_number (square_text n ++ rest)
-zero_number n rest on =
-    elim (nat_lt n 10) as (λ b. nat_lt n 10 ≡ b
-    → read_square (cond b ((48 + n) ∷ []) ((48 + n / 10) ∷ (48 + n % 10) ∷ []) ++ rest)
-    ≡ read_number (cond b ((48 + n) ∷ []) ((48 + n / 10) ∷ (48 + n % 10) ∷ []) ++ rest)) [
-      | true ↦ λ is. ap (λ b. cond b (after_zero (read_number rest)) (read_number ((48 + n) ∷ rest)))
-          (nat_eq_other (48 + n) 48 (λ e. omega (arith, on.0)))
-      | false ↦ λ is.
-          let great : 10 ≤ n = grind (arith, nat_tests, is) in
-          ap
-          (λ b. cond b (after_zero (read_number ((48 + n % 10) ∷ rest)))
-          (read_number ((48 + n / 10) ∷ (48 + n % 10) ∷ rest))) (nat_eq_other (48 + n / 10) 48 (λ e. omega arith))
-    ] refl
-
-pub square-read : (n : ℕ) (square rest : List ℕ) → IsSquareText n square → EndsNumber rest
-    → ◌≡◌ {A = FrontReading} (read_square (square ++ rest)) (good n rest)
-square-read n square rest (on, inl e) ends = ap (λ t. read_square (t ++ rest)) e ∙ read_text n rest on ends
-square-read n square rest (on, inr e) ends =
-    ap (λ t. read_square (t ++ rest)) e ∙ ap after_zero (sym (zero_number n rest on) ∙ read_text n rest on ends)
+two_digits d e h k = digits-text d e h k
 
 -- crosses
 cross-test : (c : ℕ) → IsCross c → is_cross c ≡ true
@@ -127,51 +41,266 @@ test-cross c e =
     ] refl e
 
 -- landing squares that were read stand in the text, after a cross
-after_squares-ok : (squares : List ℕ) (before : ℕ) (l : Landings) (r : LandingsReading)
-    → ◌≡◌ {A = LandingsReading} (after_squares squares before r) (Ok l) → (more : Landings)
-    × (◌≡◌ {A = LandingsReading} r (Ok more)) × (l.middle ≡ squares ++ more.middle) × (l.to ≡ more.to)
-after_squares-ok squares before l (Err bytes) e = cc
-after_squares-ok squares before l (Ok more) e =
-    let same : ◌≡◌ {A = Landings} (record { middle = squares ++ more.middle; to = more.to }) l = cc in
-    (more, refl, sym (ap (λ (x : Landings). x.middle) same), sym (ap (λ (x : Landings). x.to) same))
+abbrev pub LandingsParts : Landings → List ℕ → Type 0
+LandingsParts l text = (c : ℕ) → IsCross c → AreLandings (l.middle ++ l.to ∷ []) (c ∷ text)
 
-abbrev pub LandingsParts : List ℕ → Landings → Type 0
-LandingsParts text l = (c : ℕ) → IsCross c → AreLandings (l.middle ++ l.to ∷ []) (c ∷ text)
+alone : (n : ℕ) (square : List ℕ) → IsSquareText n square
+    → LandingsParts (record { middle = []; to = n }) (square ++ [])
+alone n square is = λ c cross. (c ∷ square, [], (c, square, cross, is, refl), refl, refl)
 
-landings-rest : (text : List ℕ) (l : Landings)
-    → ((t : List ℕ) (m : Landings) → length t < length text → ◌≡◌ {A = LandingsReading} (read_landings t) (Ok m)
-    → LandingsParts t m) → (n : ℕ) (square rest : List ℕ) → IsSquareText n square → text ≡ square ++ rest
-    → ◌≡◌ {A = LandingsReading} (at_cross read_landings (length text) n rest) (Ok l) → LandingsParts text l
-landings-rest text l later n square [] is split e =
-    let same : ◌≡◌ {A = Landings} (record { middle = []; to = n }) l = cc in
-    subst (LandingsParts text) same (λ c cross.
-    (c ∷ square, [], (c, square, cross, is, refl), refl, ap (λ t. c ∷ t) split))
-landings-rest text l later n square (m ∷ more) is split e =
-    elim (is_cross m) as (λ b. is_cross m ≡ b → LandingsParts text l) [
-      | true ↦ λ f.
-          let w = after_squares-ok (n ∷ []) (length text - length more) l (read_landings more)
-          (sym (crossed n (length text) m more f) ∙ e) in
-          let next = later more w.0 (omega (arith, ap length split, lengths square (m ∷ more))) w.1 m (test-cross m f)
-          in
-          λ c cross. subst (λ squares. AreLandings squares (c ∷ text)) (λ i. sym w.2 i ++ sym w.3 i ∷ [])
-          (c ∷ square, m ∷ more, (c, square, cross, is, refl), next, ap (λ t. c ∷ t) split)
-      | false ↦ λ f. let bad = sym (not_crossed n (length text) m more f) ∙ e in cc
-    ] refl
+before-more : (n : ℕ) (square : List ℕ) (m : ℕ) (t : List ℕ) (l : Landings) → IsSquareText n square
+    → is_cross m ≡ true → LandingsParts l t
+    → LandingsParts (record { middle = n ∷ l.middle; to = l.to }) (square ++ m ∷ t)
+before-more n square m t l is e parts =
+    λ c cross. (c ∷ square, m ∷ t, (c, square, cross, is, refl), parts m (test-cross m e), refl)
 
-landings-step : (text : List ℕ) (l : Landings)
-    → ((t : List ℕ) (m : Landings) → length t < length text → ◌≡◌ {A = LandingsReading} (read_landings t) (Ok m)
-    → LandingsParts t m) → (r : FrontReading) → SquareParts text r
-    → ◌≡◌ {A = LandingsReading} (after_landing read_landings (length text) r) (Ok l) → LandingsParts text l
-landings-step text l later (Err bytes) h e = cc
-landings-step text l later (Ok front) h e = landings-rest text l later front.square h.0 front.rest h.1 h.2 e
+abbrev pub LandingsOutcome : List ℕ → LandingsReading → Type 0
+LandingsOutcome text (Ok l) = LandingsParts l text
+LandingsOutcome text (Err k) = Halts 0 (Begun Landings LandingsParts)
+    (λ t. ◌≡◌ {A = LandingsReading} (read_landings t) (Err k)) text k
 
-landings-parts : (fuel : ℕ) (text : List ℕ) (l : Landings) → length text ≤ fuel
-    → ◌≡◌ {A = LandingsReading} (read_landings text) (Ok l) → LandingsParts text l
-landings-parts zero text l fits e = landings-step text l (λ t m h. absurd (omega arith)) (read_square text)
-    (square-parts text) (sym (read_landings-step text) ∙ e)
-landings-parts (suc fuel) text l fits e =
-    landings-step text l (λ t m h. landings-parts fuel t m (omega arith)) (read_square text) (square-parts text)
-    (sym (read_landings-step text) ∙ e)
+-- a square was read, and this follows it
+abbrev pub SquareGoes : List ℕ → ℕ → List ℕ → Type 0
+SquareGoes text n rest = Goes (IsLast 0 n) (λ t r. ◌≡◌ {A = FrontReading} (read_square t) (good n r)) text rest
+
+module _ (text : List ℕ) where
+  module _ (n m : ℕ) (more : List ℕ) (g : SquareGoes text n (m ∷ more)) where
+    size : length text ≡ length g.written + (1 + length more)
+    size = omega (arith, ap length g.split, length-append g.written (m ∷ more))
+
+    after-cross : is_cross m ≡ true → (r : LandingsReading) → LandingsOutcome more r
+        → LandingsOutcome text (after_squares (n ∷ []) (length text - length more) r)
+    after-cross e (Ok l) parts =
+        subst (LandingsParts (record { middle = n ∷ l.middle; to = l.to })) (sym g.split)
+        (before-more n g.written m more l g.is.0 e parts)
+    after-cross e (Err k) h =
+        halts-after (λ t. g.written ++ m ∷ t) (λ x y. append_assoc g.written (m ∷ x) y) more text g.split h
+        (λ t s. omega (arith, length-append g.written (m ∷ t), size))
+        (λ t b. record {
+          more = b.more;
+          value = record { middle = n ∷ b.value.middle; to = b.value.to };
+          is = subst (LandingsParts (record { middle = n ∷ b.value.middle; to = b.value.to }))
+              (sym (append_assoc g.written (m ∷ t) b.more))
+              (before-more n g.written m (t ++ b.more) b.value g.is.0 e b.is);
+        })
+        (λ t alike s.
+        landings-by (g.written ++ m ∷ t) (good n (m ∷ t)) (g.reads (m ∷ t) refl)
+        ∙ crossed (length (g.written ++ m ∷ t)) n m t e
+        ∙ ap (after_squares (n ∷ []) (length (g.written ++ m ∷ t) - length t)) s
+        ∙ ap Err (omega (arith, length-append g.written (m ∷ t), size)))
+
+    no_cross : is_cross m ≡ false → LandingsOutcome text (Err (length text - (length more + 1)))
+    no_cross e =
+        record {
+          written = g.written;
+          rest = m ∷ more;
+          split = g.split;
+          size = omega (arith, size);
+          begins = record { more = []; value = record { middle = []; to = n }; is = alone n g.written g.is.0 };
+          reads = λ r alike. landings-by (g.written ++ r) (good n r) (g.reads r alike) ∙ stops r alike;
+        }
+      where
+        stops : (r : List ℕ) → first r ≡ first (m ∷ more) → at_cross read_landings (length (g.written ++ r)) n r
+            ≡ Err (length text - (length more + 1))
+        stops [] alike = cc
+        stops (c ∷ z) alike =
+            let same : m ≡ c = cc in
+            not_crossed (length (g.written ++ c ∷ z)) n c z (ap is_cross (sym same) ∙ e)
+            ∙ ap Err (omega (arith, length-append g.written (c ∷ z), size))
+
+  landings-step : ((t : List ℕ) → length t < length text → LandingsOutcome t (read_landings t)) → (r : FrontReading)
+      → Outcome read_square (IsLast 0) text r → LandingsOutcome text (after_landing read_landings (length text) r)
+  landings-step later (Err bytes) h =
+      halts-after (λ t. t) (λ x y. refl) text text refl h (λ t s. s)
+      (λ t b. record {
+        more = b.more;
+        value = record { middle = []; to = b.value };
+        is = subst (LandingsParts (record { middle = []; to = b.value })) (append-nil (t ++ b.more))
+            (alone b.value (t ++ b.more) b.is.0);
+      }) (λ t alike s. landings-by t (Err bytes) s)
+  landings-step later (Ok front) g = by_rest front.square front.rest g
+    where
+      by_rest : (n : ℕ) (rest : List ℕ) → SquareGoes text n rest
+          → LandingsOutcome text (at_cross read_landings (length text) n rest)
+      by_rest n [] g = subst (LandingsParts (record { middle = []; to = n })) (sym g.split) (alone n g.written g.is.0)
+      by_rest n (m ∷ more) g =
+          elim (is_cross m) as (λ b. is_cross m ≡ b → LandingsOutcome text
+          (cond b (after_squares (n ∷ []) (length text - length more) (read_landings more))
+          (Err (length text - (length more + 1))))) [
+            | true ↦ λ e. after-cross n m more g e (read_landings more) (later more (omega (arith, size n m more g)))
+            | false ↦ λ e. no_cross n m more g e
+          ] refl
+
+-- how far landing squares are read
+landings-outcome : (fuel : ℕ) (text : List ℕ) → length text ≤ fuel → LandingsOutcome text (read_landings text)
+landings-outcome zero text fits =
+    subst (LandingsOutcome text) (sym (read_landings-step text))
+    (landings-step text (λ t h. absurd (omega arith)) (read_square text) (square-outcome text))
+landings-outcome (suc fuel) text fits =
+    subst (LandingsOutcome text) (sym (read_landings-step text))
+    (landings-step text (λ t h. landings-outcome fuel t (omega arith)) (read_square text) (square-outcome text))
+
+-- how far a whole text is read
+abbrev pub FormOutcome : List ℕ → FormReading → Type 0
+FormOutcome text (Ok form) = HasForm text form
+FormOutcome text (Err k) = Halts 0 Begins (λ t. ◌≡◌ {A = FormReading} (read_form t) (Err k)) text k
+
+-- a quiet move's text that goes on
+over_err : (n total t c : ℕ) (z : List ℕ) → quiet_of n 0 total (good t (c ∷ z)) ≡ Err (total - length (c ∷ z))
+over_err n total t c z =
+    let some : nat_eq (length (c ∷ z)) 0 ≡ false = nat_eq_other (length (c ∷ z)) 0 (λ e. omega arith) in
+    ap (λ b. cond b (Ok (quiet n t)) (Err (total - length (c ∷ z)))) some
+
+-- a square goes on to a quiet move to the square 1
+to-one : (n : ℕ) (square : List ℕ) → IsSquareText n square → HasForm (square ++ 45 ∷ 49 ∷ []) (quiet n 1)
+to-one n square is = (square, 49 ∷ [], is, ((omega arith, omega arith), inl refl), refl)
+
+module _ (text : List ℕ) where
+  form-stops : (n : ℕ) (rest : List ℕ) (k : ℕ) → SquareGoes text n rest → k ≡ length text - length rest
+      → ((r : List ℕ) (total : ℕ) → first r ≡ first rest → at_mark n total r ≡ Err (total - length r))
+      → FormOutcome text (Err k)
+  form-stops n rest k g place stops =
+      record {
+        written = g.written;
+        rest = rest;
+        split = g.split;
+        size = omega (arith, ap length g.split, length-append g.written rest);
+        begins = (45 ∷ 49 ∷ [], quiet n 1, to-one n g.written g.is.0);
+        reads = λ r alike.
+            form-by (g.written ++ r) (good n r) (g.reads r alike) ∙ stops r (length (g.written ++ r)) alike
+            ∙ ap Err (omega (arith, ap length g.split, length-append g.written rest, length-append g.written r));
+      }
+
+  module _ (n m : ℕ) (more : List ℕ) (g : SquareGoes text n (m ∷ more)) where
+    onward : (t : List ℕ) → read_form (g.written ++ m ∷ t) ≡ at_mark n (length (g.written ++ m ∷ t)) (m ∷ t)
+    onward t = form-by (g.written ++ m ∷ t) (good n (m ∷ t)) (g.reads (m ∷ t) refl)
+
+    after-hyphen : nat_eq m 45 ≡ true → (r : FrontReading) → Outcome read_square (IsLast 0) more r
+        → FormOutcome text (quiet_of n (length text - length more) (length text) r)
+    after-hyphen e (Err bytes) h =
+        halts-after (λ t. g.written ++ m ∷ t) (λ x y. append_assoc g.written (m ∷ x) y) more text g.split h
+        (λ t s. omega (arith, length-append g.written (m ∷ t), size text n m more g))
+        (λ t b. (
+          b.more,
+          quiet n b.value,
+          (
+            g.written,
+            t ++ b.more,
+            g.is.0,
+            b.is.0,
+            append_assoc g.written (m ∷ t) b.more
+                ∙ ap (λ x. g.written ++ x ∷ (t ++ b.more)) (nat_eq-same m 45 e),
+          ),
+        ))
+        (λ t alike s.
+        onward t ∙ at_hyphen n (length (g.written ++ m ∷ t)) m t e
+        ∙ ap (quiet_of n (length (g.written ++ m ∷ t) - length t) (length (g.written ++ m ∷ t))) s
+        ∙ ap Err (omega (arith, length-append g.written (m ∷ t), size text n m more g)))
+    after-hyphen e (Ok front) w = by_rest front.square front.rest w
+      where
+        by_rest : (to : ℕ) (rest : List ℕ) → SquareGoes more to rest
+            → FormOutcome text (quiet_of n 0 (length text) (good to rest))
+        by_rest to rest w = ends rest both
+          where
+            both : Goes (λ t. HasForm t (quiet n to))
+                (λ t r. ◌≡◌ {A = FormReading} (read_form t) (quiet_of n 0 (length t) (good to r))) text rest
+            both =
+                after (λ t. g.written ++ m ∷ t) (λ x y. append_assoc g.written (m ∷ x) y) more text g.split rest w
+                (λ t h. (g.written, t, g.is.0, h.0, ap (λ x. g.written ++ x ∷ t) (nat_eq-same m 45 e)))
+                (λ t r alike same s.
+                onward t ∙ at_hyphen n (length (g.written ++ m ∷ t)) m t e
+                ∙ ap (quiet_of n (length (g.written ++ m ∷ t) - length t) (length (g.written ++ m ∷ t))) s)
+
+            ends : (rest : List ℕ) → Goes (λ t. HasForm t (quiet n to))
+                (λ t r. ◌≡◌ {A = FormReading} (read_form t) (quiet_of n 0 (length t) (good to r))) text rest
+                → FormOutcome text (quiet_of n 0 (length text) (good to rest))
+            ends [] q = subst (λ t. HasForm t (quiet n to)) (sym (q.split ∙ append-nil q.written)) q.is
+            ends (d ∷ over) q =
+                subst (FormOutcome text) (sym (over_err n (length text) to d over))
+                (record {
+                  written = q.written;
+                  rest = d ∷ over;
+                  split = q.split;
+                  size = omega (arith, ap length q.split, length-append q.written (d ∷ over));
+                  begins = ([], quiet n to, subst (λ t. HasForm t (quiet n to)) (sym (append-nil q.written)) q.is);
+                  reads = λ r alike. q.reads r alike ∙ stops r alike;
+                })
+              where
+                stops : (r : List ℕ) → first r ≡ first (d ∷ over)
+                    → quiet_of n 0 (length (q.written ++ r)) (good to r) ≡ Err (length text - length (d ∷ over))
+                stops [] alike = cc
+                stops (c ∷ z) alike =
+                    over_err n (length (q.written ++ c ∷ z)) to c z
+                    ∙ ap Err
+                    (omega (
+                      arith,
+                      ap length q.split,
+                      length-append q.written (d ∷ over),
+                      length-append q.written (c ∷ z),
+                    ))
+
+    after-cross-form : nat_eq m 45 ≡ false → is_cross m ≡ true → (r : LandingsReading) → LandingsOutcome more r
+        → FormOutcome text (capture_of n (length text - length more) r)
+    after-cross-form e f (Ok l) parts = (g.written, m ∷ more, g.is.0, parts m (test-cross m f), g.split)
+    after-cross-form e f (Err k) h =
+        halts-after (λ t. g.written ++ m ∷ t) (λ x y. append_assoc g.written (m ∷ x) y) more text g.split h
+        (λ t s. omega (arith, length-append g.written (m ∷ t), size text n m more g))
+        (λ t b. (
+          b.more,
+          capture n b.value.middle b.value.to,
+          (g.written, m ∷ (t ++ b.more), g.is.0, b.is m (test-cross m f), append_assoc g.written (m ∷ t) b.more),
+        ))
+        (λ t alike s.
+        onward t ∙ at_capture n (length (g.written ++ m ∷ t)) m t e f
+        ∙ ap (capture_of n (length (g.written ++ m ∷ t) - length t)) s
+        ∙ ap Err (omega (arith, length-append g.written (m ∷ t), size text n m more g)))
+
+  form-rest : (n : ℕ) (rest : List ℕ) → SquareGoes text n rest → FormOutcome text (at_mark n (length text) rest)
+  form-rest n [] g = form-stops n [] (length text) g (omega arith) stops
+    where
+      stops : (r : List ℕ) (total : ℕ) → first r ≡ first [] → at_mark n total r ≡ Err (total - length r)
+      stops [] total alike = ap Err (omega arith)
+      stops (c ∷ z) total alike = cc
+  form-rest n (m ∷ more) g =
+      elim (nat_eq m 45) as (λ b. nat_eq m 45 ≡ b → FormOutcome text
+      (cond b (quiet_of n (length text - length more) (length text) (read_square more))
+      (cond (is_cross m) (capture_of n (length text - length more) (read_landings more))
+      (Err (length text - (length more + 1)))))) [
+        | true ↦ λ e. after-hyphen n m more g e (read_square more) (square-outcome more)
+        | false ↦ λ e. elim (is_cross m) as (λ b. is_cross m ≡ b → FormOutcome text
+            (cond b (capture_of n (length text - length more) (read_landings more))
+            (Err (length text - (length more + 1))))) [
+              | true ↦ λ f. after-cross-form n m more g e f (read_landings more)
+                  (landings-outcome (length more) more (omega arith))
+              | false ↦ λ f. form-stops n (m ∷ more) (length text - (length more + 1)) g (omega arith) (stops e f)
+            ] refl
+      ] refl
+    where
+      stops : nat_eq m 45 ≡ false → is_cross m ≡ false → (r : List ℕ) (total : ℕ) → first r ≡ first (m ∷ more)
+          → at_mark n total r ≡ Err (total - length r)
+      stops e f [] total alike = cc
+      stops e f (c ∷ z) total alike =
+          let same : m ≡ c = cc in
+          at_other n total c z (ap (λ x. nat_eq x 45) (sym same) ∙ e) (ap is_cross (sym same) ∙ f)
+
+  form-from : (r : FrontReading) → Outcome read_square (IsLast 0) text r
+      → FormOutcome text (read_from (length text) r)
+  form-from (Err bytes) h =
+      halts-after (λ t. t) (λ x y. refl) text text refl h (λ t s. s)
+      (λ t b. (
+        b.more ++ 45 ∷ 49 ∷ [],
+        quiet b.value 1,
+        subst (λ x. HasForm x (quiet b.value 1)) (append_assoc t b.more (45 ∷ 49 ∷ []))
+            (to-one b.value (t ++ b.more) b.is.0),
+      )) (λ t alike s. form-by t (Err bytes) s)
+  form-from (Ok front) g = form-rest front.square front.rest g
+
+pub form-outcome : (text : List ℕ) → FormOutcome text (read_form text)
+unfolding read_form
+form-outcome text = form-from text (read_square text) (square-outcome text)
+
+pub read_form-text : (text : List ℕ) (form : Form) → read_form text ≡ Ok form → HasForm text form
+read_form-text text form e = subst (FormOutcome text) e (form-outcome text)
 
 -- and landing squares that stand in a text are read
 pub record LandingsRead (text middle : List ℕ) (to : ℕ) : Type 0 where
@@ -202,65 +331,9 @@ landings-read (n ∷ middle) to text (landing, rest, (cross, square, crosses, is
       read =
           landings-by more (good n (later.cross ∷ later.more))
           (square-read n square (later.cross ∷ later.more) is (cross-ends later.cross later.is_cross))
-          ∙ crossed n (length more) later.cross later.more (cross-test later.cross later.is_cross)
+          ∙ crossed (length more) n later.cross later.more (cross-test later.cross later.is_cross)
           ∙ ap (after_squares (n ∷ []) (length more - length later.more)) later.read;
     }
-
--- a text that was read has its form
-quiet_of-ok : (from before total : ℕ) (form : Form) (t : ℕ) (rest : List ℕ)
-    → quiet_of from before total (good t rest) ≡ Ok form → (form ≡ quiet from t) × (rest ≡ [])
-quiet_of-ok from before total form t [] e = let same : quiet from t ≡ form = cc in (sym same, refl)
-quiet_of-ok from before total form t (c ∷ z) e = let bad = sym (over_err from before total t c z) ∙ e in cc
-
-capture_of-ok : (from before : ℕ) (form : Form) (r : LandingsReading) → capture_of from before r ≡ Ok form
-    → (l : Landings) × (◌≡◌ {A = LandingsReading} r (Ok l)) × (form ≡ capture from l.middle l.to)
-capture_of-ok from before form (Err bytes) e = cc
-capture_of-ok from before form (Ok l) e = let same : capture from l.middle l.to ≡ form = cc in (l, refl, sym same)
-
-module _ (text : List ℕ) (form : Form) (n : ℕ) (square : List ℕ) (is : IsSquareText n square) where
-  hyphen-form : (m : ℕ) (more : List ℕ) → text ≡ square ++ m ∷ more → nat_eq m 45 ≡ true → (r : FrontReading)
-      → SquareParts more r → quiet_of n (length text - length more) (length text) r ≡ Ok form → HasForm text form
-  hyphen-form m more split f (Err bytes) h e = cc
-  hyphen-form m more split f (Ok front) h e =
-      let w = quiet_of-ok n (length text - length more) (length text) form front.square front.rest e in
-      subst (HasForm text) (sym w.0) (
-        square,
-        h.0,
-        is,
-        h.1,
-        split
-            ∙ (λ i. square ++ nat_eq-same m 45 f i ∷ (h.2 ∙ ap (λ t. h.0 ++ t) w.1 ∙ append-nil h.0) i),
-      )
-
-  mark-form : (rest : List ℕ) → text ≡ square ++ rest → at_mark n (length text) rest ≡ Ok form → HasForm text form
-  mark-form [] split e = cc
-  mark-form (m ∷ more) split e =
-      elim (nat_eq m 45) as (λ b. nat_eq m 45 ≡ b → HasForm text form) [
-        | true ↦ λ f. hyphen-form m more split f (read_square more) (square-parts more)
-            (sym (at_hyphen n (length text) m more f) ∙ e)
-        | false ↦ λ f. elim (is_cross m) as (λ b. is_cross m ≡ b → HasForm text form) [
-          | true ↦ λ g.
-              let w = capture_of-ok n (length text - length more) form (read_landings more)
-              (sym (at_capture n (length text) m more f g) ∙ e) in
-              subst (HasForm text) (sym w.2) (
-                square,
-                m ∷ more,
-                is,
-                landings-parts (length more) more w.0 (omega arith) w.1 m (test-cross m g),
-                split,
-              )
-          | false ↦ λ g. let bad = sym (at_other n (length text) m more f g) ∙ e in cc
-        ] refl
-      ] refl
-
-from-form : (text : List ℕ) (form : Form) (r : FrontReading) → SquareParts text r → read_from (length text) r ≡ Ok form
-    → HasForm text form
-from-form text form (Err bytes) h e = cc
-from-form text form (Ok front) h e = mark-form text form front.square h.0 h.1 front.rest h.2 e
-
-pub read_form-text : (text : List ℕ) (form : Form) → read_form text ≡ Ok form → HasForm text form
-read_form-text text form e = from-form text form (read_square text) (square-parts text)
-    (sym (form-by text (read_square text) refl) ∙ e)
 
 -- and a text that has a form is read as it
 pub text-read_form : (text : List ℕ) (form : Form) → HasForm text form → read_form text ≡ Ok form

@@ -12,7 +12,7 @@ use Rattle.squares.proofs.Proved.{ray-moved}
 use Rattle.draughts_moves.specs.Capture.{Cells, AllClear, is_enemy, Jump, Route}
 use Rattle.draughts_moves.proofs.Proved.{Jump-from_on}
 
-inside : (xs ys : List ℕ) (y : ℕ) → AllOnBoard (xs ++ y ∷ ys) → OnBoard y
+pub inside : (xs ys : List ℕ) (y : ℕ) → AllOnBoard (xs ++ y ∷ ys) → OnBoard y
 inside [] ys y on = on.0
 inside (x ∷ xs) ys y on = inside xs ys y on.1
 

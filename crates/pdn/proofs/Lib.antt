@@ -1,10 +1,8 @@
 pub mod BackLemmas
-pub mod BeginningLemmas
 pub mod ChoiceLemmas
 pub mod FenBackLemmas
 pub mod FenBoardLemmas
 pub mod FenFormLemmas
-pub mod FenGrammarLemmas
 pub mod FenItemStopLemmas
 pub mod FenLemmas
 pub mod FenListStopLemmas
@@ -14,12 +12,14 @@ pub mod FenStopLemmas
 pub mod FormLemmas
 pub mod GrammarLemmas
 pub mod LandingLemmas
+pub mod NumberLemmas
 pub mod OffsetLemmas
 pub mod OneMoveLemmas
 pub mod PassingLemmas
 pub mod Proved
 pub mod ReadingLemmas
 pub mod ReadingValueLemmas
+pub mod StopLemmas
 pub mod TextLemmas
 pub mod ValueLemmas
 pub mod WritingLemmas

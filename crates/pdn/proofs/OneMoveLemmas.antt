@@ -17,7 +17,7 @@ stands-one : (p : Position) (f : Form) (m n : DMove) → StandsFor p f m → Sta
 stands-one p (quiet from to) m n h k = k.0 ∙ sym h.0
 stands-one p (capture from middle to) m n h k = h.2 n k.0 k.1
 
-one_form : (text : List ℕ) (f g : Form) → read_form text ≡ Ok f → read_form text ≡ Ok g → g ≡ f
+pub one_form : (text : List ℕ) (f g : Form) → read_form text ≡ Ok f → read_form text ≡ Ok g → g ≡ f
 one_form text f g e k = cc
 
 pub reads-one : (p : Position) (text : List ℕ) (m n : DMove) → IsRead p text m → IsRead p text n → n ≡ m

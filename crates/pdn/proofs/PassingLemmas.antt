@@ -1,17 +1,17 @@
 -- Which routes and moves the text of a capture fits.
-use Rattle.std.proofs.Common.{◌≡◌, ℕ, suc, ◌-◌, ◌<◌, ◌≢◌, inl, inr, Bool, true, false, cond, ◌&&◌, nat_eq, nat_lt, List}
-use Rattle.std.proofs.Common.{[], ◌∷◌, ◌++◌, length, take, Some, None, refl, sym, ap, ◌∙◌, subst, arith}
+use Rattle.std.proofs.Common.{false, ◌≡◌, ℕ, suc, ◌-◌, ◌<◌, inl, inr, true, cond, ◌&&◌, nat_eq, nat_lt, List, []}
+use Rattle.std.proofs.Common.{◌∷◌, ◌++◌, length, take, Some, refl, sym, ap, ◌∙◌, subst, arith}
 use Rattle.std.specs.Prelude.{Vec, ◌↔◌}
 use Rattle.std.specs.List.{Contains, list_any}
 use Rattle.std.specs.declared.alloc.Global.{Global}
 use Rattle.std.specs.FinSet as set
 use Rattle.std.proofs.lemmas.Grind.{common_steps}
-use Rattle.std.proofs.lemmas.Bool.{cases_eq, eqb-true}
+use Rattle.std.proofs.lemmas.Bool.{and_parts, eqb-true}
 use Rattle.squares.specs.declared.draughts.piece.DPiece.{DPiece}
 use Rattle.squares.specs.declared.draughts.moves.DMove.{DMove}
 use Rattle.squares.specs.DraughtsBoard.{Position}
 use Rattle.squares.specs.DraughtsSets.{Squares}
-use Rattle.squares.specs.DraughtsMarks.{nat_eq_same, nat_eq_other}
+use Rattle.squares.specs.DraughtsMarks.{nat_eq-same, nat_eq_same}
 use Rattle.squares.specs.In.{In, In-Contains, Contains-In, list_any-found, list_any-finds, In-map, In-from_map}
 use Rattle.draughts_moves.specs.Capture.{Cells, Jump, Route, Capture, without}
 use Rattle.draughts_moves.specs.Search.{own_at, jumps}
@@ -28,30 +28,23 @@ tail_of x (z ∷ xs) [] h = h
 tail_of x (z ∷ xs) (y ∷ ys) (inl h) = inr h.1
 tail_of x (z ∷ xs) (y ∷ ys) (inr h) = inr (tail_of x (z ∷ xs) ys h)
 
-past-same : (x : ℕ) (xs : List ℕ) (y : ℕ) → x ≡ y → past (x ∷ xs) y ≡ xs
-past-same x xs y e = ap (λ b. cond b xs (x ∷ xs)) (nat_eq_same x y e)
-
-past-other : (x : ℕ) (xs : List ℕ) (y : ℕ) → x ≢ y → past (x ∷ xs) y ≡ x ∷ xs
-past-other x xs y e = ap (λ b. cond b xs (x ∷ xs)) (nat_eq_other x y e)
-
 -- a landing that is looked for is found at once
 pub past-front : (xs : List ℕ) (y : ℕ) (ys : List ℕ) → IsSubsequence xs (y ∷ ys) → IsSubsequence (past xs y) ys
 past-front [] y ys h = tt
 past-front (x ∷ xs) y ys h =
-    elim (cases_eq x y) [
-      | inl e ↦ subst (λ zs. IsSubsequence zs ys) (sym (past-same x xs y e))
-          (elim h [ inl k ↦ k.1 | inr k ↦ tail_of x xs ys k ])
-      | inr d ↦ subst (λ zs. IsSubsequence zs ys) (sym (past-other x xs y d))
-          (elim h [ inl k ↦ absurd (d k.0) | inr k ↦ k ])
-    ]
+    elim (nat_eq x y) as (λ b. nat_eq x y ≡ b → IsSubsequence (cond b xs (x ∷ xs)) ys) [
+      | true ↦ λ e. elim h [ inl k ↦ k.1 | inr k ↦ tail_of x xs ys k ]
+      | false ↦ λ e. elim h [ inl k ↦ let same = nat_eq_same x y k.0 in cc | inr k ↦ k ]
+    ] refl
 
 pub front-past : (xs : List ℕ) (y : ℕ) (ys : List ℕ) → IsSubsequence (past xs y) ys → IsSubsequence xs (y ∷ ys)
 front-past [] y ys h = tt
 front-past (x ∷ xs) y ys h =
-    elim (cases_eq x y) [
-      | inl e ↦ inl (e, subst (λ zs. IsSubsequence zs ys) (past-same x xs y e) h)
-      | inr d ↦ inr (subst (λ zs. IsSubsequence zs ys) (past-other x xs y d) h)
-    ]
+    elim (nat_eq x y) as (λ b. nat_eq x y ≡ b → IsSubsequence (cond b xs (x ∷ xs)) ys
+    → IsSubsequence (x ∷ xs) (y ∷ ys)) [
+      | true ↦ λ e k. inl (nat_eq-same x y e, k)
+      | false ↦ λ e k. inr k
+    ] refl h
 
 in_nothing : (xs : List ℕ) → IsSubsequence xs [] → xs ≡ []
 in_nothing [] h = refl
@@ -127,13 +120,6 @@ module _ (p : Position) (from : ℕ) (middle : List ℕ) (to : ℕ) where
         fits.passes,
       )
 
-  pub SomeFits-none : own_at p from ≡ None → SomeFits p from middle to → ⊥
-  SomeFits-none none f =
-      let fits = f.1 in
-      let c = subst (λ x. Capture p x (fits.before ++ to ∷ []) f.0.taken f.0.to) fits.leaves fits.route in
-      let mine = own_at-own p from c.piece c.stands c.own in
-      cc
-
 pub short_front : (xs : List ℕ) → 0 < length xs → (last : ℕ) × (xs ≡ take (length xs - 1) xs ++ last ∷ [])
 short_front [] h = absurd (omega arith)
 short_front (x ∷ []) h = (x, refl)
@@ -150,52 +136,58 @@ front_of (x ∷ xs) y =
     let size : length (x ∷ (xs ++ y ∷ [])) - 1 ≡ suc (length (xs ++ y ∷ []) - 1) = omega (arith, rest.0) in
     (omega arith, ap (λ n. take n (x ∷ (xs ++ y ∷ []))) size ∙ ap (λ r. x ∷ r) rest.1)
 
-and_true : (a b : Bool) → (a && b) ≡ true → (a ≡ true) × (b ≡ true)
-and_true true b e = (refl, e)
-and_true false b e = cc
-
 positive : (n : ℕ) → nat_lt 0 n ≡ true → 0 < n
 positive n e = grind (arith, common_steps)
 
 is_positive : (n : ℕ) → 0 < n → nat_lt 0 n ≡ true
 is_positive n h = grind (arith, common_steps)
 
-in_lists : (vs : List (Vec ℕ Global)) (v : Vec ℕ Global) → In v vs → In v.items (lists_in vs)
-in_lists vs v h = In-map (λ (u : Vec ℕ Global). u.items) v vs h
+-- a capture comes to its last square over others
+pub split-route : (p : Position) (m : DMove) (ls : List ℕ) → Capture p m.from ls m.taken m.to → 0 < length ls
+    → ls ≡ take (length ls - 1) ls ++ m.to ∷ []
+split-route p m ls c h =
+    let s = short_front ls h in
+    let before = take (length ls - 1) ls in
+    let c' = subst (λ xs. Capture p m.from xs m.taken m.to) s.1 c in
+    s.1
+    ∙ ap (λ l. before ++ l ∷ [])
+    (Route-last (without p.board m.from) c'.piece before set.empty m.from s.0 m.taken m.to c'.route)
 
-module _ (p : Position) (m : DMove) (middle : List ℕ) (vs : List (Vec ℕ Global))
-    (members : (ls : List ℕ) → Contains (lists_in vs) ls ↔ Capture p m.from ls m.taken m.to) where
-  -- some listed route passes the squares exactly where the text fits the move
-  some-route : list_any (λ v. passes middle v.items) vs ≡ true → Fits p m.from middle m.to m
-  some-route e =
-      let w = list_any-found (λ (v : Vec ℕ Global). passes middle v.items) vs e in
-      let ls = w.0.items in
-      let tests = and_true (nat_lt 0 (length ls)) (is_subsequence middle (take (length ls - 1) ls)) w.2 in
-      let split = short_front ls (positive (length ls) tests.0) in
-      let c = (members ls).0 (In-Contains ls (lists_in vs) (in_lists vs w.0 w.1)) in
+module _ (p : Position) (m : DMove) (from : ℕ) (middle : List ℕ) (to : ℕ) where
+  -- a route of a move passes the squares exactly where the text fits the move
+  pub route-fits : m.from ≡ from → m.to ≡ to → (ls : List ℕ) → Capture p m.from ls m.taken m.to
+      → passes middle ls ≡ true → Fits p from middle to m
+  route-fits leaves comes ls c e =
       let before = take (length ls - 1) ls in
-      let c' = subst (λ xs. Capture p m.from xs m.taken m.to) split.1 c in
-      let ends = Route-last (without p.board m.from) c'.piece before set.empty m.from split.0 m.taken m.to c'.route in
+      let tests = and_parts (nat_lt 0 (length ls)) (is_subsequence middle before) e in
+      let split = split-route p m ls c (positive (length ls) tests.0) ∙ ap (λ l. before ++ l ∷ []) comes in
       record {
-        leaves = refl;
-        comes = refl;
+        leaves = leaves;
+        comes = comes;
         before = before;
-        route = subst (λ l. Capture p m.from (before ++ l ∷ []) m.taken m.to) ends c';
+        route = subst (λ xs. Capture p m.from xs m.taken m.to) split c;
         passes = is_subsequence-sound middle before tests.1;
       }
 
-  pub some_passes-Fits : (from to : ℕ) → m.from ≡ from → m.to ≡ to → list_any (λ v. passes middle v.items) vs ≡ true
-      → Fits p from middle to m
-  some_passes-Fits from to leaves comes e =
-      subst (λ x. Fits p x middle to m) leaves (subst (λ x. Fits p m.from middle x m) comes (some-route e))
-
-  pub Fits-some_passes : (from to : ℕ) → Fits p from middle to m → list_any (λ v. passes middle v.items) vs ≡ true
-  Fits-some_passes from to f =
-      let ls = f.before ++ to ∷ [] in
-      let w = In-from_map (λ (u : Vec ℕ Global). u.items) ls vs (Contains-In ls (lists_in vs) ((members ls).1 f.route))
-      in
+  pub fits-passes : (f : Fits p from middle to m) → passes middle (f.before ++ to ∷ []) ≡ true
+  fits-passes f =
       let front = front_of f.before to in
-      let here : passes middle ls ≡ true =
-      (λ i. is_positive (length ls) front.0 i &&
-      (ap (is_subsequence middle) front.1 ∙ is_subsequence-complete f.before middle f.passes) i) in
-      list_any-finds (λ (v : Vec ℕ Global). passes middle v.items) vs w.0 w.1 (ap (passes middle) w.2 ∙ here)
+      λ i. is_positive (length (f.before ++ to ∷ [])) front.0 i &&
+      (ap (is_subsequence middle) front.1 ∙ is_subsequence-complete f.before middle f.passes) i
+
+  module _ (vs : List (Vec ℕ Global))
+      (members : (ls : List ℕ) → Contains (lists_in vs) ls ↔ Capture p m.from ls m.taken m.to) where
+    pub some_passes-Fits : m.from ≡ from → m.to ≡ to → list_any (λ v. passes middle v.items) vs ≡ true
+        → Fits p from middle to m
+    some_passes-Fits leaves comes e =
+        let w = list_any-found (λ (v : Vec ℕ Global). passes middle v.items) vs e in
+        let among = In-map (λ (u : Vec ℕ Global). u.items) w.0 vs w.1 in
+        route-fits leaves comes w.0.items ((members w.0.items).0 (In-Contains w.0.items (lists_in vs) among)) w.2
+
+    pub Fits-some_passes : Fits p from middle to m → list_any (λ v. passes middle v.items) vs ≡ true
+    Fits-some_passes f =
+        let ls = f.before ++ to ∷ [] in
+        let among = Contains-In ls (lists_in vs) ((members ls).1 f.route) in
+        let w = In-from_map (λ (u : Vec ℕ Global). u.items) ls vs among in
+        list_any-finds (λ (v : Vec ℕ Global). passes middle v.items) vs w.0 w.1
+        (ap (passes middle) w.2 ∙ fits-passes f)

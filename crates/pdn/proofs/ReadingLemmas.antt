@@ -1,6 +1,6 @@
 -- What the choice among the legal moves says of a text.
-use Rattle.std.proofs.Common.{◌≡◌, ℕ, ◌<◌, List, [], ◌∷◌, ◌++◌, length, Some, None, Result, Ok, Err, inl, inr, sym}
-use Rattle.std.proofs.Common.{subst, arith}
+use Rattle.std.proofs.Common.{◌≡◌, ℕ, ◌<◌, length, List, [], ◌∷◌, ◌++◌, Some, None, Result, Ok, Err, inl, inr, sym}
+use Rattle.std.proofs.Common.{subst, length-append, arith}
 use Rattle.std.specs.Prelude.{◌↔◌, IfOk, IfErr}
 use Rattle.std.specs.List.{Contains}
 use Rattle.std.specs.FinSet as set
@@ -18,15 +18,12 @@ use Rattle.pdn.specs.Forms.{Form, capture, read_form}
 use Rattle.pdn.specs.Choice.{IsChoice, IsChoiceFault}
 use Rattle.pdn.specs.ReadMove.{Fits, SomeFits, NoneFits, ShortFits, StandsFor, IsFormFault, IsRead, HasReadFault}
 
-not_none : (xs : List ℕ) (y : ℕ) → 0 < length (xs ++ y ∷ [])
-not_none [] y = omega arith
-not_none (x ∷ xs) y = omega arith
-
 module _ (p : Position) (from : ℕ) (middle : List ℕ) (to : ℕ) where
   fits-IsCapture : (m : DMove) → Fits p from middle to m → IsCapture p m
   fits-IsCapture m f =
       let size = Capture-len p m.from m.to (f.before ++ to ∷ []) m.taken f.route in
-      record { landings = f.before ++ to ∷ []; capture = f.route; takes = omega (arith, size, not_none f.before to) }
+      let some : 0 < length (f.before ++ to ∷ []) = omega (arith, length-append f.before (to ∷ [])) in
+      record { landings = f.before ++ to ∷ []; capture = f.route; takes = omega (arith, size) }
 
   -- a capture that is not legal takes fewer than another
   pub short-fits : NoneFits p from middle to → SomeFits p from middle to → ShortFits p from middle to

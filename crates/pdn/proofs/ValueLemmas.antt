@@ -1,6 +1,6 @@
 -- The functions that write and read moves are as the rules say.
-use Rattle.std.proofs.Common.{◌≡◌, ◌≢◌, ℕ, inl, inr, Bool, true, false, cond, ◌&&◌, nat_eq, List, [], ◌∷◌, Option, Some}
-use Rattle.std.proofs.Common.{None, refl, sym, ap, ◌∙◌, subst}
+use Rattle.std.proofs.Common.{◌≡◌, ◌≢◌, ℕ, inl, inr, Bool, true, false, cond, nat_eq, List, [], ◌∷◌, Option, Some, None}
+use Rattle.std.proofs.Common.{refl, sym, ap, ◌∙◌, subst}
 use Rattle.std.specs.List.{list_any}
 use Rattle.std.specs.List.Sorted.{IsStrictlySortedBy}
 use Rattle.std.specs.Option.{option_map_or}
@@ -13,6 +13,7 @@ use Rattle.std.proofs.lemmas.Bool.{eqb-true, eq-eqb}
 use Rattle.squares.specs.declared.draughts.piece.DPiece.{DPiece}
 use Rattle.squares.specs.declared.draughts.moves.DMove.{DMove}
 use Rattle.squares.specs.DraughtsBoard.{Position}
+use Rattle.squares.specs.DraughtsMarks.{nat_eq_other}
 use Rattle.squares.specs.In.{In, list_any-found, list_any-finds}
 use Rattle.squares.specs.OrderedLists.{put_all}
 use Rattle.squares.specs.PutLemmas.{put_all-sorted, put_all-in, put_all-has}
@@ -22,15 +23,10 @@ use Rattle.draughts_moves.specs.Routes.{route_cmp, landings_of}
 use Rattle.draughts_moves.specs.Legal.{Legal}
 use Rattle.draughts_moves.proofs.Proved.{moves-sound, moves-complete, IsMost-most, Capture-len, own_at-own, own_at-is}
 use Rattle.draughts_moves.proofs.Proved.{route_cmp-total, landings_of-sound, landings_of-complete}
-use Rattle.pdn.specs.MoveText.{HasRival, IsFirstRoute, IsMoveText, is_like, quiet_text, capture_text, short}
-use Rattle.pdn.specs.MoveText.{long}
+use Rattle.pdn.specs.MoveText.{HasRival, IsFirstRoute, IsMoveText, is_like, quiet_text, capture_text, short, long}
 use Rattle.pdn.specs.MoveText as written
 use Rattle.pdn.specs.MoveValue.{legal_moves, routes_in, first_of, named, move_text}
 use Rattle.pdn.proofs.WritingLemmas.{is_like-rival, rival-is_like, first_least, Legal-Capture}
-
-and_true : (a b : Bool) → (a && b) ≡ true → (a ≡ true) × (b ≡ true)
-and_true true b e = (refl, e)
-and_true false b e = cc
 
 pub legal_moves-legal : (p : Position) (m : DMove) → In m (legal_moves p) → Legal p m
 unfolding legal_moves
@@ -119,10 +115,7 @@ pub one-first : (p : Position) (m : DMove) (a b : List ℕ) → IsFirstRoute p m
 one-first p m a b f g = both_least a b (route_cmp a b) refl (f.first b g.route) (g.first a f.route)
 
 takes-nonzero : (m : DMove) → m.taken ≢ set.empty → nat_eq (set.len m.taken) 0 ≡ false
-takes-nonzero m takes = elim (nat_eq (set.len m.taken) 0) as (λ b. nat_eq (set.len m.taken) 0 ≡ b → b ≡ false) [
-  | true ↦ λ e. absurd (takes (set.empty_of_len m.taken (eqb-true (set.len m.taken) 0 e)))
-  | false ↦ λ e. refl
-] refl
+takes-nonzero m takes = nat_eq_other (set.len m.taken) 0 (λ e. takes (set.empty_of_len m.taken e))
 
 -- the function's text for each way to write
 text-quiet : (p : Position) (m : DMove) → set.len m.taken ≡ 0 → move_text p m ≡ quiet_text m.from m.to

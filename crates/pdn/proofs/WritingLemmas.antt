@@ -8,7 +8,7 @@ use Rattle.std.specs.declared.alloc.Global.{Global}
 use Rattle.std.specs.declared.cmp.Ordering.TheVariants.{Less, Equal, Greater}
 use Rattle.std.proofs.lemmas.Cmp.{tied_itself}
 use Rattle.std.specs.FinSet as set
-use Rattle.std.proofs.lemmas.Bool.{eqb-true, eq-eqb}
+use Rattle.std.proofs.lemmas.Bool.{and_parts, eqb-true, eq-eqb}
 use Rattle.squares.specs.declared.draughts.moves.DMove.{DMove}
 use Rattle.squares.specs.DraughtsBoard.{Position}
 use Rattle.squares.specs.DraughtsSets.{Squares, same_squares}
@@ -19,10 +19,6 @@ use Rattle.draughts_moves.specs.Legal.{Legal}
 use Rattle.draughts_moves.specs.Routes.{route_cmp, lists_in}
 use Rattle.draughts_moves.proofs.Proved.{route_cmp-total}
 use Rattle.pdn.specs.MoveText.{IsRival, HasRival, IsFirstRoute, is_like}
-
-and_true : (a b : Bool) → (a && b) ≡ true → (a ≡ true) × (b ≡ true)
-and_true true b e = (refl, e)
-and_true false b e = cc
 
 not_both : (a : Bool) → not a ≡ true → a ≡ true → ⊥
 not_both true e f = cc
@@ -37,8 +33,9 @@ same_move a b from to taken = λ i. record { from = from i; to = to i; taken = t
 
 pub is_like-rival : (p : Position) (m other : DMove) → Legal p other → is_like m other ≡ true → IsRival p m other
 is_like-rival p m other legal e =
-    let from = and_true (nat_eq other.from m.from) (nat_eq other.to m.to && not (same_squares other.taken m.taken)) e in
-    let to = and_true (nat_eq other.to m.to) (not (same_squares other.taken m.taken)) from.1 in
+    let from =
+    and_parts (nat_eq other.from m.from) (nat_eq other.to m.to && not (same_squares other.taken m.taken)) e in
+    let to = and_parts (nat_eq other.to m.to) (not (same_squares other.taken m.taken)) from.1 in
     record {
       legal = legal;
       from = eqb-true other.from m.from from.0;

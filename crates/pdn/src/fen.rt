@@ -41,13 +41,11 @@ fn push_pieces(text: &mut String, position: &DPos, side: Side) -> Result<(), Mem
         (string_bytes text.new ≡ string_bytes text.old ++ pieces_text side position.now.board) }
 {
     let mut is_first = true;
-    for square in &Dsq::all() {
-        match own_piece(position, side, *square) {
-            Some(piece) => {
-                push_next(text, is_first, *square, piece)?;
-                is_first = false;
-            }
-            None => {}
+    let mut rest = position.squares_of(side);
+    while let Some(square) = rest.pop() {
+        if let Some(piece) = own_piece(position, side, square) {
+            push_next(text, is_first, square, piece)?;
+            is_first = false;
         }
     }
     Ok(())
@@ -63,12 +61,15 @@ fn own_piece(position: &DPos, side: Side, square: Dsq) -> Option<DPiece>
     }
 }
 
+// The room for the text of a position, in bytes: the longest has 50 kings.
+const TEXT_ROOM: usize = 256;
+
 /// The position as FEN: the side to move, then White's pieces and Black's, each by ascending squares: `W:W28,K46:B7,8`.
 #[tactic(auto, unfolding(crate::specs::FenText::fen_text))]
 pub fn write_fen(alloc: Global, position: &DPos) -> Result<String, Memory>
     ensures { IfOk result (λ text. string_bytes text ≡ fen_text position.now) }
 {
-    let mut text = String::new(alloc);
+    let mut text = String::with_capacity(alloc, TEXT_ROOM)?;
     text.push_str(letter(position.turn()))?;
     text.push_str(":W")?;
     push_pieces(&mut text, position, Side::First)?;

@@ -1,6 +1,6 @@
 -- What bytes are as signs, and signs as bytes.
-use Rattle.std.proofs.Common.{◌≡◌, ℕ, ◌+◌, ◌-◌, ◌≤◌, Bool, true, false, cond, ◌&&◌, nat_eq, nat_le, Option, Some, None}
-use Rattle.std.proofs.Common.{refl, ap, ◌∙◌, arith}
+use Rattle.std.proofs.Common.{◌≡◌, ℕ, ◌+◌, ◌-◌, ◌≤◌, ◌&&◌, nat_eq, nat_le, Option, Some, None, refl, ap, ◌∙◌, arith}
+use Rattle.std.proofs.lemmas.Bool.{cond_both, cond-true, cond-false}
 use Rattle.std.proofs.lemmas.Bool.Decides.{nat_tests}
 use Rattle.squares.specs.DraughtsMarks.{nat_eq-same}
 use Rattle.squares.specs.declared.sides.Side.{Side}
@@ -24,10 +24,6 @@ IsSign Slash c = c ≡ 47
 IsSign Blank c = c ≡ 32
 IsSign Other c = Unit {0}
 
-by-test : {A : Type 0} (P : A → Type 0) (b : Bool) (x y : A) → (b ≡ true → P x) → (b ≡ false → P y) → P (cond b x y)
-by-test P true x y there other = there refl
-by-test P false x y there other = other refl
-
 abbrev IsCapital : ℕ → Option Kind → Type 0
 IsCapital c None = Unit {0}
 IsCapital c (Some own) = c ≡ capital own
@@ -36,14 +32,14 @@ capital-is : (c : ℕ) → IsCapital c (capital_kind c)
 capital-is c =
     let P = IsCapital c in
     let is = nat_eq-same c in
-    by-test P (nat_eq c 75) _ _ (is 75) (λ _.
-    by-test P (nat_eq c 82) _ _ (is 82) (λ _.
-    by-test P (nat_eq c 66) _ _ (is 66) (λ _.
-    by-test P (nat_eq c 71) _ _ (is 71) (λ _.
-    by-test P (nat_eq c 83) _ _ (is 83) (λ _.
-    by-test P (nat_eq c 78) _ _ (is 78) (λ _.
-    by-test P (nat_eq c 76) _ _ (is 76) (λ _.
-    by-test P (nat_eq c 80) _ _ (is 80) (λ _. tt))))))))
+    cond_both (nat_eq c 75) _ _ P (is 75) (λ _.
+    cond_both (nat_eq c 82) _ _ P (is 82) (λ _.
+    cond_both (nat_eq c 66) _ _ P (is 66) (λ _.
+    cond_both (nat_eq c 71) _ _ P (is 71) (λ _.
+    cond_both (nat_eq c 83) _ _ P (is 83) (λ _.
+    cond_both (nat_eq c 78) _ _ P (is 78) (λ _.
+    cond_both (nat_eq c 76) _ _ P (is 76) (λ _.
+    cond_both (nat_eq c 80) _ _ P (is 80) (λ _. tt))))))))
 
 first-piece : (c : ℕ) (o : Option Kind) → IsCapital c o → IsSign (piece_sign First o) c
 first-piece c None h = tt
@@ -57,46 +53,25 @@ pub sign-is : (c : ℕ) → IsSign (sign_of c) c
 sign-is c =
     let P = λ (s : Sign). IsSign s c in
     let is = nat_eq-same c in
-    by-test P (nat_eq c 48) _ _ (is 48) (λ _.
-    by-test P (nat_le 49 c && nat_le c 57) _ _
+    cond_both (nat_eq c 48) _ _ P (is 48) (λ _.
+    cond_both (nat_le 49 c && nat_le c 57) _ _ P
     (λ e. (grind (arith, nat_tests), (grind (arith, nat_tests), grind (arith, nat_tests)))) (λ _.
-    by-test P (nat_eq c 43) _ _ (is 43) (λ _.
-    by-test P (nat_eq c 45) _ _ (is 45) (λ _.
-    by-test P (nat_eq c 47) _ _ (is 47) (λ _.
-    by-test P (nat_eq c 32) _ _ (is 32) (λ _.
-    by-test P (nat_eq c 119) _ _ (is 119) (λ _.
-    by-test P (nat_le 65 c && nat_le c 90) _ _ (λ e. first-piece c (capital_kind c) (capital-is c)) (λ _.
-    by-test P (nat_le 97 c && nat_le c 122) _ _
+    cond_both (nat_eq c 43) _ _ P (is 43) (λ _.
+    cond_both (nat_eq c 45) _ _ P (is 45) (λ _.
+    cond_both (nat_eq c 47) _ _ P (is 47) (λ _.
+    cond_both (nat_eq c 32) _ _ P (is 32) (λ _.
+    cond_both (nat_eq c 119) _ _ P (is 119) (λ _.
+    cond_both (nat_le 65 c && nat_le c 90) _ _ P (λ e. first-piece c (capital_kind c) (capital-is c)) (λ _.
+    cond_both (nat_le 97 c && nat_le c 122) _ _ P
     (λ e. second-piece c (capital_kind (c - 32)) (grind (arith, nat_tests)) (capital-is (c - 32))) (λ _. tt)))))))))
-
-if-true : {A : Type 0} (b : Bool) (x y : A) → b ≡ true → cond b x y ≡ x
-if-true true x y e = refl
-if-true false x y e = cc
-
-if-false : {A : Type 0} (b : Bool) (x y : A) → b ≡ false → cond b x y ≡ y
-if-false true x y e = cc
-if-false false x y e = refl
 
 -- the sign of a byte
 pub sign-digit : (n : ℕ) → 1 ≤ n → n ≤ 9 → sign_of (48 + n) ≡ Digit n
 sign-digit n low high =
-    if-false (nat_eq (48 + n) 48) _ _ (grind (arith, nat_tests))
-    ∙ if-true (nat_le 49 (48 + n) && nat_le (48 + n) 57) _ _ (grind (arith, nat_tests)) ∙ ap Digit (omega arith)
+    cond-false (nat_eq (48 + n) 48) _ _ (grind (arith, nat_tests))
+    ∙ cond-true (nat_le 49 (48 + n) && nat_le (48 + n) 57) _ _ (grind (arith, nat_tests)) ∙ ap Digit (omega arith)
 
 pub sign-letter : (side : Side) (kind : Kind) → sign_of (letter side kind) ≡ Piece side kind
 sign-letter First kind.King = refl
-sign-letter First kind.Rook = refl
-sign-letter First kind.Bishop = refl
-sign-letter First kind.Gold = refl
-sign-letter First kind.Silver = refl
-sign-letter First kind.Knight = refl
-sign-letter First kind.Lance = refl
-sign-letter First kind.Pawn = refl
 sign-letter Second kind.King = refl
-sign-letter Second kind.Rook = refl
-sign-letter Second kind.Bishop = refl
-sign-letter Second kind.Gold = refl
-sign-letter Second kind.Silver = refl
-sign-letter Second kind.Knight = refl
-sign-letter Second kind.Lance = refl
-sign-letter Second kind.Pawn = refl
+sign-letter _ _ = refl

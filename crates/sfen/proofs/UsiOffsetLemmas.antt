@@ -1,33 +1,82 @@
 -- A text that is no move's is refused where its longest beginning ends that begins one.
-use Rattle.std.proofs.Common.{◌≡◌, ℕ, zero, suc, lit≤, ◌+◌, ◌-◌, ◌<◌, ◌≤◌, List, [], ◌∷◌, ◌++◌, length, take, max, Bool}
-use Rattle.std.proofs.Common.{true, false, is_some, Option, Some, None, refl, sym, ap, subst, ◌⊎◌, inl, inr, arith}
-use Rattle.std.proofs.lemmas.Bool.{eqb-true}
+use Rattle.std.proofs.Common.{◌≡◌, ℕ, zero, suc, ◌+◌, ◌<◌, ◌≤◌, List, [], ◌∷◌, ◌++◌, length, take, drop, get_or, Bool}
+use Rattle.std.proofs.Common.{true, false, cond, refl, ap, ◌∙◌, arith, lit≤, ◌-◌, max, is_some, Option, Some, None, sym}
+use Rattle.std.proofs.Common.{subst, inl, inr}
+use Rattle.std.proofs.lemmas.List.{at_drop_more}
+use Rattle.sfen.specs.declared.usi_reading.Place.{Place}
+use Rattle.sfen.specs.UsiReading.{fits, reach, step_places, drop_places, usi_reach, usi_reading, kind_reading, is_file}
+use Rattle.sfen.specs.UsiReading.{is_rank}
+use Rattle.std.proofs.lemmas.Bool.{cases_lt, eqb-true}
 use Rattle.squares.specs.declared.shogi.piece.HandKind.{HandKind}
 use Rattle.squares.specs.declared.shogi.moves.SMove.{SMove}
 use Rattle.squares.specs.declared.shogi.moves.SMove.TheVariants.{Step, Drop}
 use Rattle.squares.specs.ShogiGeometry.{shogi_number, file_of, rank_of}
 use Rattle.squares.specs.ShogiPieces.{on_board}
-use Rattle.sfen.specs.declared.usi_reading.Place.{Place}
 use Rattle.sfen.specs.Letters.{capital}
 use Rattle.sfen.specs.UsiText.{usi_text, IsOnBoard, IsUsiText, BeginsUsi, IsLongestUsiBeginning, IsNoUsi}
-use Rattle.sfen.specs.UsiReading.{reach, step_places, drop_places, usi_reach, usi_reading, kind_reading, is_file}
-use Rattle.sfen.specs.UsiReading.{is_rank}
-use Rattle.sfen.proofs.UsiReachLemmas.{reach-within, reach-begin, Passes, fill}
 use Rattle.sfen.proofs.UsiTextLemmas.{square-bytes, is_file-text, is_rank-text, kind_reading-text, kind_reading-sound}
 use Rattle.sfen.proofs.UsiTextLemmas.{usi_reading-sound, text-read}
 
--- of two numbers one is no more than the other
-le_or_more : (j k : ℕ) → (j ≤ k) ⊎ (k < j)
-le_or_more zero k = inl (omega arith)
-le_or_more (suc j) zero = inr (omega arith)
-le_or_more (suc j) (suc k) = elim (le_or_more j k) [ inl h ↦ inl (omega arith) | inr h ↦ inr (omega arith) ]
+-- no text goes farther than its end
+pub reach-within : (places : List Place) (text : List ℕ) → reach places text ≤ length text
+reach-within [] text = omega arith
+reach-within (p ∷ places) [] = omega arith
+reach-within (p ∷ places) (c ∷ text) =
+    let rest = reach-within places text in
+    elim (fits p c) as (λ b. cond b (suc (reach places text)) 0 ≤ suc (length text))
+    [ true ↦ omega (arith, rest) | false ↦ omega arith ]
+
+-- a byte that does not fit
+pub reach-stops : (places : List Place) (k : ℕ) (d : Place) (text : List ℕ) → k < length places → 1 ≤ length text
+    → fits (get_or places k d) (get_or text 0 0) ≡ false → reach (drop k places) text ≡ 0
+reach-stops places k d [] h some e = absurd (omega (arith, some))
+reach-stops places k d (c ∷ text) h some e =
+    at_drop_more (λ ps. reach ps (c ∷ text)) places k d h
+    ∙ ap (λ b. cond b (suc (reach (drop (k + 1) places) text)) 0) e
+
+pub reach-empty : (places : List Place) → reach places [] ≡ 0
+reach-empty [] = refl
+reach-empty (p ∷ places) = refl
+
+-- where a beginning goes on to a text that fits, the text goes as far as this beginning
+pub reach-begin : (places : List Place) (n : ℕ) (text rest : List ℕ) → n ≤ length text
+    → length (take n text ++ rest) ≤ reach places (take n text ++ rest) → n ≤ reach places text
+reach-begin places zero text rest h fit = omega arith
+reach-begin places (suc n) [] rest h fit = absurd (omega (arith, h))
+reach-begin [] (suc n) (c ∷ text) rest h fit = absurd (omega (arith, fit))
+reach-begin (p ∷ places) (suc n) (c ∷ text) rest h fit =
+    let whole = take n text ++ rest in
+    elim (fits p c) as (λ b. suc (length whole) ≤ cond b (suc (reach places whole)) 0
+    → suc n ≤ cond b (suc (reach places text)) 0) [
+      | true ↦ λ f. let more = reach-begin places n text rest (omega (arith, h)) (omega (arith, f)) in omega
+          (arith, more)
+      | false ↦ λ f. absurd (omega (arith, f))
+    ] fit
+
+-- a text that fits all the places
+abbrev pub Passes : List Place → List ℕ → Type 0
+Passes [] [] = Unit {0}
+Passes [] (c ∷ text) = ⊥
+Passes (p ∷ places) [] = ⊥
+Passes (p ∷ places) (c ∷ text) = (fits p c ≡ true) × Passes places text
+
+-- a text that stops fitting goes on to one that fits
+pub fill : (places : List Place) (text more : List ℕ) → Passes places more
+    → Passes places (take (reach places text) text ++ drop (reach places text) more)
+fill [] text [] h = h
+fill [] text (d ∷ more) h = absurd h
+fill (p ∷ places) text [] h = absurd h
+fill (p ∷ places) [] (d ∷ more) h = h
+fill (p ∷ places) (c ∷ text) (d ∷ more) h =
+    elim (fits p c) as (λ b. fits p c ≡ b → Passes (p ∷ places)
+    (take (cond b (suc (reach places text)) 0) (c ∷ text) ++ drop (cond b (suc (reach places text)) 0) (d ∷ more)))
+    [ true ↦ λ e. (e, fill places text more h.1) | false ↦ λ _. h ] refl
+
+-- ---- A text that is no move's is refused where its longest beginning ends that begins one
 
 some-kind : (k : Option HandKind) → is_some k ≡ true → (kind : HandKind) × (k ≡ Some kind)
 some-kind (Some kind) e = (kind, refl)
 some-kind None e = cc
-
-max-either : (m n : ℕ) → (max m n ≡ m) ⊎ (max m n ≡ n)
-max-either m n = elim (le_or_more m n) [ inl h ↦ inr (omega (arith, h)) | inr h ↦ inl (omega (arith, h)) ]
 
 -- A step's text, and a drop's, fit their places.
 abbrev pub WholeFits : List Place → List ℕ → Type 0
@@ -36,18 +85,13 @@ WholeFits places text = length text ≤ reach places text
 step-fits : (from to : ℕ) (promote : Bool) → from < 81 → to < 81
     → WholeFits step_places (usi_text (Step from to promote))
 unfolding step_places
-step-fits from to true f t =
+step-fits from to promote f t =
     let a : is_file (48 + file_of from) ≡ true = is_file-text from f in
     let b : is_rank (96 + rank_of from) ≡ true = is_rank-text from f in
     let c : is_file (48 + file_of to) ≡ true = is_file-text to t in
     let d : is_rank (96 + rank_of to) ≡ true = is_rank-text to t in
-    rw (a, b, c, d) (lit≤ tt)
-step-fits from to false f t =
-    let a : is_file (48 + file_of from) ≡ true = is_file-text from f in
-    let b : is_rank (96 + rank_of from) ≡ true = is_rank-text from f in
-    let c : is_file (48 + file_of to) ≡ true = is_file-text to t in
-    let d : is_rank (96 + rank_of to) ≡ true = is_rank-text to t in
-    rw (a, b, c, d) (lit≤ tt)
+    elim promote as (λ p. WholeFits step_places (usi_text (Step from to p)))
+    [ true ↦ rw (a, b, c, d) (lit≤ tt) | false ↦ rw (a, b, c, d) (lit≤ tt) ]
 
 drop-fits : (kind : HandKind) (to : ℕ) → to < 81 → WholeFits drop_places (usi_text (Drop kind to))
 unfolding drop_places
@@ -112,9 +156,9 @@ drop-passes = (refl, (refl, (refl, (refl, tt))))
 begins-longer : (text : List ℕ) (m n : ℕ) → BeginsUsi (take m text) → BeginsUsi (take n text)
     → BeginsUsi (take (max m n) text)
 begins-longer text m n a b =
-    elim (max-either m n) [
-      | inl e ↦ subst (λ (k : ℕ). BeginsUsi (take k text)) (sym e) a
-      | inr e ↦ subst (λ (k : ℕ). BeginsUsi (take k text)) (sym e) b
+    elim (cases_lt m n) [
+      | inl less ↦ let top : n ≡ max m n = omega arith in subst (λ k. BeginsUsi (take k text)) top b
+      | inr most ↦ let top : m ≡ max m n = omega arith in subst (λ k. BeginsUsi (take k text)) top a
     ]
 
 pub begins : (text : List ℕ) → BeginsUsi (take (usi_reach text) text)
@@ -134,7 +178,7 @@ no-usi text e = record {
 }
 
 one-longest : (text : List ℕ) (j k : ℕ) → IsLongestUsiBeginning text j → IsLongestUsiBeginning text k → j ≤ k
-one-longest text j k a b = elim (le_or_more j k) [ inl h ↦ h | inr h ↦ absurd (b.longest j h a.within a.begins) ]
+one-longest text j k a b = elim (cases_lt k j) [ inl h ↦ absurd (b.longest j h a.within a.begins) | inr h ↦ h ]
 
 not-read : (text : List ℕ) → ((m : SMove) → IsUsiText text m → ⊥) → (r : Option SMove) → usi_reading text ≡ r
     → usi_reading text ≡ None

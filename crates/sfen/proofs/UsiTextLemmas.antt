@@ -1,8 +1,7 @@
 -- The texts of moves are those that are read, each as its move.
-use Rattle.std.proofs.Common.{◌≡◌, ℕ, ◌+◌, ◌-◌, ◌<◌, ◌≤◌, List, [], ◌∷◌, ◌++◌, Bool, true, false, cond, ◌&&◌, nat_eq}
-use Rattle.std.proofs.Common.{nat_le, Option, Some, None, refl, sym, ap, subst, ◌∙◌, arith}
-use Rattle.std.proofs.lemmas.Bool.{eqb-true}
-use Rattle.std.proofs.lemmas.Bool.Decides.{nat_tests}
+use Rattle.std.proofs.Common.{◌≡◌, ℕ, ◌+◌, ◌-◌, ◌<◌, List, [], ◌∷◌, ◌++◌, Bool, true, false, cond, ◌&&◌, nat_eq, nat_le}
+use Rattle.std.proofs.Common.{Option, Some, None, refl, sym, ap, subst, ◌∙◌, arith}
+use Rattle.std.proofs.lemmas.Bool.{and_parts, eqb-true, ne_eqb, le-leb, leb-true}
 use Rattle.squares.specs.declared.shogi.piece.HandKind.{HandKind}
 use Rattle.squares.specs.declared.shogi.piece.HandKind.TheVariants as in_hand
 use Rattle.squares.specs.declared.shogi.moves.SMove.{SMove}
@@ -13,49 +12,28 @@ use Rattle.sfen.specs.Letters.{capital}
 use Rattle.sfen.specs.UsiText.{square_text, promotion_text, usi_text, IsOnBoard, IsUsiText}
 use Rattle.sfen.specs.UsiReading.{is_file, is_rank, square_reading, kind_reading, step_of, drop_of, usi_reading}
 
-le_true : (a b : ℕ) → a ≤ b → nat_le a b ≡ true
-le_true a b h = grind (arith, nat_tests)
-
-le_is : (a b : ℕ) → nat_le a b ≡ true → a ≤ b
-le_is a b h = grind (arith, nat_tests)
-
-eq_false : (a b : ℕ) → a < b → nat_eq b a ≡ false
-eq_false a b h = grind (arith, nat_tests)
-
-and_true : (a b : Bool) → (a && b) ≡ true → (a ≡ true) × (b ≡ true)
-and_true true b e = (refl, e)
-and_true false b e = cc
-
 -- the bytes of a square
-pub record AreSquareBytes (file rank : ℕ) : Type 0 where
-  pub file_low : 49 ≤ file
-  pub file_high : file ≤ 57
-  pub rank_low : 97 ≤ rank
-  pub rank_high : rank ≤ 105
-
-pub file-bounds : (c : ℕ) → is_file c ≡ true → (49 ≤ c) × (c ≤ 57)
-file-bounds c e = let h = and_true (nat_le 49 c) (nat_le c 57) e in (le_is 49 c h.0, le_is c 57 h.1)
-
-pub rank-bounds : (c : ℕ) → is_rank c ≡ true → (97 ≤ c) × (c ≤ 105)
-rank-bounds c e = let h = and_true (nat_le 97 c) (nat_le c 105) e in (le_is 97 c h.0, le_is c 105 h.1)
-
 pub is_file-text : (n : ℕ) → n < 81 → is_file (48 + file_of n) ≡ true
-is_file-text n h = rw (le_true 49 (48 + file_of n) (omega arith), le_true (48 + file_of n) 57 (omega arith)) refl
+is_file-text n h = rw (le-leb 49 (48 + file_of n) (omega arith), le-leb (48 + file_of n) 57 (omega arith)) refl
 
 pub is_rank-text : (n : ℕ) → n < 81 → is_rank (96 + rank_of n) ≡ true
-is_rank-text n h = rw (le_true 97 (96 + rank_of n) (omega arith), le_true (96 + rank_of n) 105 (omega arith)) refl
+is_rank-text n h = rw (le-leb 97 (96 + rank_of n) (omega arith), le-leb (96 + rank_of n) 105 (omega arith)) refl
 
 -- the square of a file's digit and a rank's letter
 pub square-bytes : (file rank : ℕ) → is_file file ≡ true → is_rank rank ≡ true
     → (shogi_number (file - 48) (rank - 96) < 81)
     × (file ∷ rank ∷ [] ≡ square_text (shogi_number (file - 48) (rank - 96)))
 square-bytes file rank f r =
-    let fb = file-bounds file f in
-    let rb = rank-bounds rank r in
+    let file_tests = and_parts (nat_le 49 file) (nat_le file 57) f in
+    let rank_tests = and_parts (nat_le 97 rank) (nat_le rank 105) r in
+    let file_low = leb-true 49 file file_tests.0 in
+    let file_high = leb-true file 57 file_tests.1 in
+    let rank_low = leb-true 97 rank rank_tests.0 in
+    let rank_high = leb-true rank 105 rank_tests.1 in
     let n = shogi_number (file - 48) (rank - 96) in
-    let is_file : file ≡ 48 + file_of n = omega (arith, fb.0, fb.1, rb.0, rb.1) in
-    let is_rank : rank ≡ 96 + rank_of n = omega (arith, fb.0, fb.1, rb.0, rb.1) in
-    (omega (arith, fb.0, fb.1, rb.0, rb.1), λ i. is_file i ∷ is_rank i ∷ [])
+    let file_is : file ≡ 48 + file_of n = omega arith in
+    let rank_is : rank ≡ 96 + rank_of n = omega arith in
+    (omega arith, λ i. file_is i ∷ rank_is i ∷ [])
 
 pub square_reading-sound : (file rank n : ℕ) → square_reading file rank ≡ Some n → (n < 81)
     × (file ∷ rank ∷ [] ≡ square_text n)
@@ -64,7 +42,7 @@ square_reading-sound file rank n =
     → cond b (Some (shogi_number (file - 48) (rank - 96))) None ≡ Some n → (n < 81)
     × (file ∷ rank ∷ [] ≡ square_text n)) [
       | true ↦ λ is e.
-          let tests = and_true (is_file file) (is_rank rank) is in
+          let tests = and_parts (is_file file) (is_rank rank) is in
           let same : shogi_number (file - 48) (rank - 96) ≡ n = cc in
           subst (λ (m : ℕ). (m < 81) × (file ∷ rank ∷ [] ≡ square_text m)) same (square-bytes file rank tests.0 tests.1)
       | false ↦ λ is e. absurd cc
@@ -80,12 +58,7 @@ square_reading-text n h =
 
 pub kind_reading-text : (kind : HandKind) → kind_reading (capital (on_board kind)) ≡ Some kind
 kind_reading-text in_hand.Rook = refl
-kind_reading-text in_hand.Bishop = refl
-kind_reading-text in_hand.Gold = refl
-kind_reading-text in_hand.Silver = refl
-kind_reading-text in_hand.Knight = refl
-kind_reading-text in_hand.Lance = refl
-kind_reading-text in_hand.Pawn = refl
+kind_reading-text _ = refl
 
 -- one test of a letter: it is that of the kind, or the others tell
 one_letter : (c d : ℕ) (kind found : HandKind) (others : Option HandKind) → d ≡ capital (on_board kind)
@@ -119,8 +92,7 @@ step-sound a b c d promote m (Some from) (Some to) f t e =
     let text : a ∷ b ∷ c ∷ d ∷ promotion_text promote ≡ usi_text (Step from to promote) = λ i.
     first.1 i ++ (second.1 i ++ promotion_text promote) in
     subst (λ (n : SMove). IsUsiText (a ∷ b ∷ c ∷ d ∷ promotion_text promote) n) same ((first.0, second.0), text)
-step-sound a b c d promote m (Some from) None f t e = absurd cc
-step-sound a b c d promote m None to f t e = absurd cc
+step-sound a b c d promote m _ _ f t e = absurd cc
 
 drop-sound : (a c d : ℕ) (m : SMove) (kind : Option HandKind) (to : Option ℕ) → kind_reading a ≡ kind
     → square_reading c d ≡ to → drop_of kind to ≡ Some m → IsUsiText (a ∷ 42 ∷ c ∷ d ∷ []) m
@@ -130,15 +102,10 @@ drop-sound a c d m (Some kind) (Some to) k t e =
     let same : Drop kind to ≡ m = cc in
     let text : a ∷ 42 ∷ c ∷ d ∷ [] ≡ usi_text (Drop kind to) = λ i. first i ∷ 42 ∷ second.1 i in
     subst (λ (n : SMove). IsUsiText (a ∷ 42 ∷ c ∷ d ∷ []) n) same (second.0, text)
-drop-sound a c d m (Some kind) None k t e = absurd cc
-drop-sound a c d m None to k t e = absurd cc
+drop-sound a c d m _ _ k t e = absurd cc
 
 -- what is read as a move is that move's text
 pub usi_reading-sound : (text : List ℕ) (m : SMove) → usi_reading text ≡ Some m → IsUsiText text m
-usi_reading-sound [] m e = absurd cc
-usi_reading-sound (a ∷ []) m e = absurd cc
-usi_reading-sound (a ∷ b ∷ []) m e = absurd cc
-usi_reading-sound (a ∷ b ∷ c ∷ []) m e = absurd cc
 usi_reading-sound (a ∷ b ∷ c ∷ d ∷ []) m e =
     elim (nat_eq b 42) as (λ t. nat_eq b 42 ≡ t
     → cond t (drop_of (kind_reading a) (square_reading c d))
@@ -157,12 +124,13 @@ usi_reading-sound (a ∷ b ∷ c ∷ d ∷ f ∷ []) m e =
           (step-sound a b c d true m (square_reading a b) (square_reading c d) refl refl h)
       | false ↦ λ is h. absurd cc
     ] refl e
-usi_reading-sound (a ∷ b ∷ c ∷ d ∷ f ∷ g ∷ rest) m e = absurd cc
+usi_reading-sound _ m e = absurd cc
 
 -- a move's text is read as that move
 pub usi_reading-text : (m : SMove) → IsOnBoard m → usi_reading (usi_text m) ≡ Some m
 usi_reading-text (Step from to false) on =
-    let no_star : nat_eq (96 + rank_of from) 42 ≡ false = eq_false 42 (96 + rank_of from) (omega arith) in
+    let no_star : nat_eq (96 + rank_of from) 42 ≡ false = ne_eqb (96 + rank_of from) 42
+    (λ e. absurd (omega arith)) in
     let steps = step_of (square_reading (48 + file_of from) (96 + rank_of from))
     (square_reading (48 + file_of to) (96 + rank_of to)) false in
     let drops = drop_of (kind_reading (48 + file_of from)) (square_reading (48 + file_of to) (96 + rank_of to)) in

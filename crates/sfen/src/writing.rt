@@ -118,6 +118,9 @@ fn push_hands(text: &mut String, hands: Hands) -> Result<(), Memory>
     Ok(())
 }
 
+// The room for the text of a position, in bytes: few are longer.
+const TEXT_ROOM: usize = 128;
+
 /// The text of a position without the number of the next move: the ranks from the first on, each from file 9 to
 /// file 1, the side to move, and the pieces in the hands, as
 /// `lnsgkgsnl/1r5b1/ppppppppp/9/9/9/PPPPPPPPP/1B5R1/LNSGKGSNL b -`. It stands for that position, with the number 1
@@ -128,7 +131,7 @@ pub fn write_position(alloc: Global, position: &SPos) -> Result<String, Memory>
     ensures text { IfOk result (λ text. string_bytes text ≡ position_text position.now) }
     ensures stands_for { IfOk result (λ text. IsSfenText (string_bytes text) position.now 1) }
 {
-    let mut text = String::new(alloc);
+    let mut text = String::with_capacity(alloc, TEXT_ROOM)?;
     push_board(&mut text, position.board())?;
     text.push_str(" ")?;
     text.push(turn_letter(position.turn()) as char)?;

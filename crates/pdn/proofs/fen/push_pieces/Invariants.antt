@@ -1,15 +1,13 @@
-use Rattle.std.proofs.Common.{◌≡◌, ◌++◌, take, string_bytes}
-use Rattle.pdn.specs.FenText.{pieces_on, all_squares}
-use Rattle.pdn.proofs.FenLemmas.{has_none}
+use Rattle.std.proofs.Common.{◌≡◌, ◌++◌, length, string_bytes}
+use Rattle.squares.specs.DraughtsSets.{ascending}
+use Rattle.pdn.specs.FenText.{pieces_text}
+use Rattle.pdn.proofs.FenLemmas.{parted, items_on}
 use Rattle.pdn.proofs.fen.push_pieces.Given as goal
-
-pub record Written (text first : Type 0) : Type 0 where
-  pub written : text
-  pub is_first : first
 
 abbrev pub invariant-loop-square : goal.invariant-loop-square
 invariant-loop-square l =
-    Written
-    (string_bytes l.text ≡ string_bytes l.initial.text ++ pieces_on l.side l.position.board
-    (take l.square-index all_squares))
-    (l.is_first ≡ has_none l.side l.position.board (take l.square-index all_squares))
+    string_bytes l.text ++ parted l.is_first (items_on l.side l.position.board (ascending l.rest))
+    ≡ string_bytes l.initial.text ++ pieces_text l.side l.position.board
+
+abbrev pub decreases-loop-square : goal.decreases-loop-square
+decreases-loop-square l = length (ascending l.rest)

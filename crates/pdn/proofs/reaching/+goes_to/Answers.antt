@@ -1,4 +1,4 @@
-use Rattle.std.proofs.Common.{◌≡◌, ℕ, ◌<◌, List, inl, inr, take, refl, sym, ap, ◌∙◌, subst, arith}
+use Rattle.std.proofs.Common.{◌≡◌, ℕ, ◌<◌, List, inl, inr, get_or, length, take, refl, sym, ap, ◌∙◌, subst, arith}
 use Rattle.std.specs.FinSet as set
 use Rattle.std.proofs.lemmas.List.{take_all}
 use Rattle.squares.specs.DraughtsBoard.{Position}
@@ -16,15 +16,18 @@ use Rattle.pdn.proofs.reaching.+goes_to.Goals as goal
 Goes : Position → Mover → List ℕ → ℕ → Type 0
 Goes p mover middle to = GoesTo (without p.board mover.origin) mover.piece mover.taken mover.at middle to
 
+-- what the loop looks at is a jump
+item-jump : (items js : List (ℕ × ℕ)) (k : ℕ) (item : ℕ × ℕ) → item ≡ get_or items k item → k < length items
+    → items ≡ js → In item js
+item-jump items js k item is within same = subst (λ xs. In item xs) same
+    (subst (λ x. In x items) (sym is) (In-get_or items k item within))
+
 pub returns-then-ends_here : goal.returns-then-ends_here
 returns-then-ends_here t c =
     let b = without c.args.position.now.board c.args.mover.now.origin in
     let item = c.loop-over-item.result in
-    let items = c.items-over-items.result.now in
-    let among : In item items = subst (λ x. In x items) (sym c.loop-over-item.is)
-    (In-get_or items c.loop-over.over-index item c.loop-over-test.true) in
-    let jump : In item (jumps b c.args.mover.now.piece c.args.mover.now.taken c.args.mover.now.at) =
-    subst (λ js. In item js) c.loop-over.invariant.items_are among in (
+    let jump = item-jump c.items-over-items.result.now _ c.loop-over.over-index item c.loop-over-item.is
+    c.loop-over-test.true c.loop-over.invariant.items_are in (
       λ _. GoesTo-by b c.args.mover.now.piece c.args.mover.now.taken c.args.mover.now.at c.args.middle.now c.args.to
           item
           jump (inl (c.ends_here.ensures.0 c.if-ends_here.true)),
@@ -35,11 +38,9 @@ pub goes_to-requires : goal.goes_to-requires
 goes_to-requires t c =
     let b = without c.args.position.now.board c.args.mover.now.origin in
     let item = c.loop-over-item.result in
-    let items = c.items-over-items.result.now in
-    let among : In item items = subst (λ x. In x items) (sym c.loop-over-item.is)
-    (In-get_or items c.loop-over.over-index item c.loop-over-test.true) in
     let jump = jumps-sound b c.args.mover.now.piece c.args.mover.now.taken c.args.mover.now.at item.0 item.1
-    (subst (λ js. In item js) c.loop-over.invariant.items_are among) in
+    (item-jump c.items-over-items.result.now _ c.loop-over.over-index item c.loop-over-item.is c.loop-over-test.true
+    c.loop-over.invariant.items_are) in
     let falls = prey_left-falls b c.args.mover.now.piece c.args.mover.now.taken c.args.mover.now.at item.0 item.1 jump
     in
     let left_by : Mover → ℕ = λ mover. prey_left (without c.args.position.now.board mover.origin) mover.piece
@@ -55,11 +56,8 @@ unfolding Goes
 returns-then-goes_to t c =
     let b = without c.args.position.now.board c.args.mover.now.origin in
     let item = c.loop-over-item.result in
-    let items = c.items-over-items.result.now in
-    let among : In item items = subst (λ x. In x items) (sym c.loop-over-item.is)
-    (In-get_or items c.loop-over.over-index item c.loop-over-test.true) in
-    let jump : In item (jumps b c.args.mover.now.piece c.args.mover.now.taken c.args.mover.now.at) =
-    subst (λ js. In item js) c.loop-over.invariant.items_are among in
+    let jump = item-jump c.items-over-items.result.now _ c.loop-over.over-index item c.loop-over-item.is
+    c.loop-over-test.true c.loop-over.invariant.items_are in
     let there : Goes c.args.position.now c.jumped-next.result c.past.result.now c.args.to =
     c.goes_to.ensures.0 c.if-goes_to.true in
     let next = subst (λ (mover : Mover). Goes c.args.position.now mover (past c.args.middle.now item.1) c.args.to)

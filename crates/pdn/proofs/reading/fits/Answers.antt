@@ -16,8 +16,8 @@ returns c =
     let middle = c.args.middle.now in
     let vs = c.in_ok-found.found.items in
     let is = c.some_passes.ensures ∙ ap (λ rs. list_any (λ v. passes middle v.items) rs) c.as_slice.ensures.value in (
-      λ e. some_passes-Fits p m middle vs c.in_ok-found.ensures.members c.args.from c.args.to
+      λ e. some_passes-Fits p m c.args.from middle c.args.to vs c.in_ok-found.ensures.members
           (same m.from c.args.from _ _ refl c.ne.ensures c.if-ne.false)
           (same m.to c.args.to _ _ refl c.ne-2.ensures c.if-ne-2.false) (sym is ∙ e),
-      λ f. is ∙ Fits-some_passes p m middle vs c.in_ok-found.ensures.members c.args.from c.args.to f,
+      λ f. is ∙ Fits-some_passes p m c.args.from middle c.args.to vs c.in_ok-found.ensures.members f,
     )

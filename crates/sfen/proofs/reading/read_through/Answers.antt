@@ -1,5 +1,5 @@
 use Rattle.std.proofs.Common.{refl, slice_index_or}
-use Rattle.sfen.proofs.TakingLemmas.{goes-on, stops-at}
+use Rattle.sfen.proofs.OneLemmas.{goes-on, stops-at}
 use Rattle.sfen.proofs.reading.read_through.Goals as goal
 
 pub returns-then-not-take-clause-stopped : goal.returns-then-not-take-clause-stopped

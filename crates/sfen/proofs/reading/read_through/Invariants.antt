@@ -1,5 +1,4 @@
-use Rattle.std.proofs.Common.{◌≡◌, Some}
-use Rattle.std.proofs.Common.{take}
+use Rattle.std.proofs.Common.{◌≡◌, Some, take}
 use Rattle.sfen.specs.Places.{IsSane}
 use Rattle.sfen.specs.Reading.{run, take_byte, beginning}
 use Rattle.sfen.proofs.reading.read_through.Given as goal

@@ -1,4 +1,4 @@
-use Rattle.sfen.proofs.AnswerLemmas.{one-form}
+use Rattle.sfen.proofs.OneLemmas.{one-form}
 use Rattle.sfen.proofs.reading_laws.has_one_form.Goals as goal
 
 pub returns : goal.returns

@@ -2,7 +2,7 @@ use Rattle.std.proofs.Common.{◌≡◌, ℕ, ◌+◌, ◌-◌, ◌<◌, List, [
 use Rattle.std.proofs.lemmas.List.{drop_all}
 use Rattle.sfen.specs.declared.usi_reading.Place.{Place}
 use Rattle.sfen.specs.UsiReading.{reach}
-use Rattle.sfen.proofs.UsiReachLemmas.{reach-stops, reach-empty}
+use Rattle.sfen.proofs.UsiOffsetLemmas.{reach-stops, reach-empty}
 use Rattle.sfen.proofs.usi_reading.reach.Goals as goal
 use Rattle.sfen.proofs.usi_reading.reach.Goals.{else-loop-place-test, then-loop-place-test+in_default}
 use Rattle.sfen.proofs.usi_reading.reach.Goals.{then-loop-place-test+in_default-2}

@@ -1,6 +1,6 @@
 use Rattle.std.proofs.Common.{ℕ, List, ◌++◌, ap, ◌∙◌, string_bytes, append_assoc}
 use Rattle.sfen.specs.SfenText.{rank_text, more_ranks, board_text}
-use Rattle.sfen.proofs.WritingLemmas.{ranks-end}
+use Rattle.sfen.proofs.WrittenLemmas.{ranks-end}
 use Rattle.sfen.proofs.writing.push_board.Goals as goal
 
 pub returns : goal.returns

@@ -3,7 +3,7 @@ use Rattle.std.proofs.lemmas.List.{drop_all}
 use Rattle.squares.specs.declared.shogi.piece.HandKind.{HandKind}
 use Rattle.squares.specs.declared.shogi.piece.HandKind.TheVariants.{Rook}
 use Rattle.sfen.specs.SfenText.{held_text, kinds_text, hand_kinds}
-use Rattle.sfen.proofs.WritingLemmas.{kinds-more}
+use Rattle.sfen.proofs.WrittenLemmas.{kinds-more}
 use Rattle.sfen.proofs.writing.push_hand.Goals as goal
 
 pub loop-kind-preserved : goal.loop-kind-preserved

@@ -1,7 +1,7 @@
 use Rattle.std.proofs.Common.{string_bytes, arith}
 use Rattle.squares.specs.declared.sides.Side.TheVariants.{First, Second}
 use Rattle.sfen.specs.SfenText.{kinds_text, hand_kinds, hands_text}
-use Rattle.sfen.proofs.WritingLemmas.{some-hands, no-hands}
+use Rattle.sfen.proofs.WrittenLemmas.{some-hands, no-hands}
 use Rattle.sfen.proofs.writing.push_hands.Goals as goal
 
 pub returns-in_ok-push_str : goal.returns-in_ok-push_str

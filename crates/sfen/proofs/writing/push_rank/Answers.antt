@@ -4,7 +4,7 @@ use Rattle.squares.specs.declared.shogi.piece.SPiece.{SPiece}
 use Rattle.squares.specs.ShogiGeometry.{shogi_number}
 use Rattle.sfen.specs.SfenGrammar.{cells_from}
 use Rattle.sfen.specs.SfenText.{cells_text, rank_text}
-use Rattle.sfen.proofs.WritingLemmas.{cells-more, rank-piece, rank-gap}
+use Rattle.sfen.proofs.WrittenLemmas.{cells-more, rank-piece, rank-gap}
 use Rattle.sfen.proofs.writing.push_rank.Goals as goal
 use Rattle.sfen.proofs.writing.push_rank.Goals.{in-Some+in_ok-push_gap-in-Some+in_ok-push_piece-in-Some, in-None}
 

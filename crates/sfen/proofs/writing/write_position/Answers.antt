@@ -4,8 +4,7 @@ use Rattle.squares.specs.ShogiSets.{ShogiPosition}
 use Rattle.sfen.specs.Letters.{turn_letter}
 use Rattle.sfen.specs.SfenGrammar.{IsSfenText}
 use Rattle.sfen.specs.SfenText.{board_text, hands_text, position_text}
-use Rattle.sfen.proofs.WritingLemmas.{parts-alone}
-use Rattle.sfen.proofs.WrittenLemmas.{position-alone}
+use Rattle.sfen.proofs.WrittenLemmas.{parts-alone, position-alone}
 use Rattle.sfen.proofs.writing.write_position.Goals as goal
 
 pub returns-clause-text : goal.returns-clause-text
@@ -18,7 +17,7 @@ returns-clause-text c =
     let t4 : List ℕ = string_bytes c.push_str-2.new.self in
     let t5 : List ℕ = string_bytes c.push_hands.new.text in
     let e1 : t1 ≡ board_text p.board = c.in_ok-push_board.ensures
-    ∙ ap (λ t. t ++ board_text c.board.result.now) c.new-text.ensures.bytes
+    ∙ ap (λ t. t ++ board_text c.board.result.now) c.in_ok-text.ensures.bytes
     ∙ ap (λ (b : ShogiBoard). board_text b) c.board.ensures.value in
     let e2 : t2 ≡ t1 ++ 32 ∷ [] = c.in_ok-push_str.ensures.bytes in
     let e3 : t3 ≡ t2 ++ turn_letter p.turn ∷ [] = c.in_ok-push.ensures.bytes

@@ -1,4 +1,4 @@
-use Rattle.sfen.proofs.WrittenBoardLemmas.{greatest-runs}
+use Rattle.sfen.proofs.WrittenLemmas.{greatest-runs}
 use Rattle.sfen.proofs.writing_laws.writes_greatest_runs.Goals as goal
 
 pub returns : goal.returns
