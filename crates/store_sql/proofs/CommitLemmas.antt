@@ -2,12 +2,17 @@
 use Rattle.std.proofs.Common.{◌≡◌, arith, sym, subst, true, false, IsTrue}
 use Rattle.sqlite.specs.Held.{Held, state}
 use Rattle.sqlite.specs.State.{Shows}
-use Rattle.store_tables.specs.Contents.{Content}
-use Rattle.store_tables.specs.Over.{HoldsBeside, HoldsFirst, IsBesideThem, IsFirstBeside, LeavesBeside, Neighbours, over}
+use Rattle.store_tables.specs.Club.{Leaves}
+use Rattle.store_tables.specs.Contents.{Content, Holds, IsExactlyEmpty}
+use Rattle.store_tables.specs.Over.{HoldsBeside, HoldsFirst, IsBesideThem, IsFirstBeside, LeavesBeside, Neighbours}
+use Rattle.store_tables.specs.Over.{alone, over}
 use Rattle.store_tables.specs.Placed.{TakesClub}
-use Rattle.store_tables.specs.Sql.{Database, HasCleanDisk, State, Survives, Trees}
+use Rattle.store_tables.specs.Room.{HasRoom, IsWithoutClub}
+use Rattle.store_tables.specs.Sql.{Database, HasCleanDisk, Schema, State, Survives, Trees}
+use Rattle.store_tables.specs.Tables.{schema_after}
 use Rattle.store_tables.specs.declared.names.Version.TheVariants.{Current}
-use Rattle.store_tables.proofs.Proved.{commits, leaves_of}
+use Rattle.store_tables.proofs.Proved.{alone_leaves, alone_room, alone_takes, commits, holds_nothing, leaves_of}
+use Rattle.store_tables.proofs.Proved.{room_takes}
 use Rattle.sqlite.proofs.Callers.{survives_begin}
 use Rattle.sqlite.proofs.StateLemmas.{survives_then}
 use Rattle.sqlite_trees.specs.declared.store.Store.{Ghosts}
@@ -31,15 +36,36 @@ left_beside them content db clear holds = record {
   leaves = leaves_of them.schema db (over them.schema content them.rows) holds;
 }
 
-pub commits_beside : (them : Neighbours) (content : Content) (last new : State) → TakesClub Current them.schema
-    → HoldsBeside them content last.now → Shows last new last.now last.now false
-    → ((db : Trees) → IsTrue new.is_open → new.may_leave db → db ≡ new.committed.trees)
-    → IsBesideThem them content new
-commits_beside them content last new clear holds shown settled = record {
-  clear = clear;
-  exactly = commits them.schema (over them.schema content them.rows) last new holds shown settled;
-}
+pub commits_beside : {S : Type 0} (g : Ghosts S) (them : Neighbours) (content : Content) (last end new : Held S)
+    → end ≡ new → TakesClub Current them.schema → HoldsBeside them content (state g last).now
+    → Shows (state g last) (state g end) (state g last).now (state g last).now false
+    → ((db : Trees) → IsTrue (state g end).is_open → (state g end).may_leave db → db ≡ (state g end).committed.trees)
+    → IsBesideThem them content (state g new)
+commits_beside g them content last end new same clear holds shown settled =
+    subst (λ h. IsBesideThem them content (state g h)) same (record {
+      clear = clear;
+      exactly = commits them.schema (over them.schema content them.rows) (state g last) (state g end) holds shown
+          settled;
+    })
 
 pub held_first : (them : Neighbours) (content : Content) (s : State) → IsFirstBeside them content s
     → HoldsFirst them content s.now
 held_first them content s k = record { schema = k.schema; before = k.before; holds = k.exactly.now }
+
+-- where there is room for a club, the database comes to hold this content of one
+abbrev pub Fits : Content → Database → Database → Type 0
+Fits content old new =
+    (schema : Schema) (them : Neighbours) → HasRoom schema them → Holds schema old them.rows
+    → HoldsBeside them content new
+
+module _ (content : Content) (old : State) (new : Database) (fits : Fits content old.now new) where
+  pub fits_alone : IsExactlyEmpty old → HoldsBeside alone content new
+  fits_alone k = fits (schema_after 0) alone alone_room (holds_nothing (schema_after 0) _ k.now)
+
+  pub left_alone : IsExactlyEmpty old → Leaves content new.trees
+  left_alone k = alone_leaves content new.trees (left_beside alone content new alone_takes (fits_alone k))
+
+  pub left_behind : (them : Neighbours) → IsWithoutClub them old → LeavesBeside them content new.trees
+  left_behind them k =
+      left_beside them content new (room_takes k.schema them k.before old.now k.exactly.now)
+      (fits k.schema them k.before k.exactly.now)

@@ -1,8 +1,7 @@
 -- Rows put in turn make the new table of the old.
 use Rattle.std.proofs.Common.{◌≡◌, ℕ, Bool, true, false, not, List, [], ◌∷◌, refl, ap, sym, subst, ◌∙◌, inl, inr, ◌⊎◌}
-use Rattle.std.proofs.Common.{true≢false, Option, Some, None}
+use Rattle.std.proofs.Common.{true≢false, Option, Some, None, if◌then◌else◌, ◌==◌}
 use Rattle.std.specs.List.{AllByRecursion}
-use Rattle.std.specs.Prelude.{if◌then◌else◌, ◌==◌}
 use Rattle.std.proofs.lemmas.Bool.{cases_Bool, not-true}
 use Rattle.store_tables.specs.Sql.{Has, Row, Table}
 use Rattle.sqlite_rules.proofs.ListLemmas.{has_filtered, has_kept}
@@ -60,23 +59,20 @@ module _ (key : List ℕ) where
     ]
   ]
 
-  -- a row stays where each row that is put over it is itself
-  rows_stay : (changed rows : List Row) (z : Row) → ((c : Row) → Has changed c → same_key key z c ≡ true → z ≡ c)
-      → Has rows z → Has (put_rows key changed rows) z
-  rows_stay [] rows z alone h = h
-  rows_stay (r ∷ changed) rows z alone h =
-      rows_stay changed (put key r rows) z (λ c among. alone c (inr among)) (elim (cases_Bool (same_key key z r)) [
-        | inl same ↦ inl (alone r (inl refl) same)
-        | inr other ↦ put_kept r rows z h other
-      ])
-
+  -- a row that stood or is put stands where each row that is put over it is itself
   rows_come : (changed rows : List Row) (z : Row) → ((c : Row) → Has changed c → same_key key z c ≡ true → z ≡ c)
-      → Has changed z → Has (put_rows key changed rows) z
-  rows_come [] rows z alone h = absurd h
-  rows_come (r ∷ changed) rows z alone (inl is) =
-      rows_stay changed (put key r rows) z (λ c among. alone c (inr among)) (inl is)
-  rows_come (r ∷ changed) rows z alone (inr more) =
-      rows_come changed (put key r rows) z (λ c among. alone c (inr among)) more
+      → Has rows z ⊎ Has changed z → Has (put_rows key changed rows) z
+  rows_come [] rows z alone (inl h) = h
+  rows_come [] rows z alone (inr none) = absurd none
+  rows_come (r ∷ changed) rows z alone h =
+      rows_come changed (put key r rows) z (λ c among. alone c (inr among)) (elim h [
+        | inl stood ↦ inl (elim (cases_Bool (same_key key z r)) [
+          | inl same ↦ inl (alone r (inl refl) same)
+          | inr other ↦ put_kept r rows z stood other
+        ])
+        | inr (inl is) ↦ inl (inl is)
+        | inr (inr more) ↦ inr more
+      ])
 
   -- The changed rows, put in turn, make the new table of the old.
   pub altered : (changed old new : List Row) → Alters key changed old new → HaveSame (put_rows key changed old) new
@@ -89,12 +85,7 @@ module _ (key : List ℕ) where
       ]
     ];
     back = λ z h.
-        let alone : (c : Row) → Has changed c → same_key key z c ≡ true
-        → z ≡ c = λ c among same. it.one z c h (it.among c among) same in
-        elim (it.from z h) [
-          | inl was ↦ rows_stay changed old z alone was
-          | inr put ↦ rows_come changed old z alone put
-        ];
+        rows_come changed old z (λ c among same. it.one z c h (it.among c among) same) (it.from z h);
   }
 
   -- where nothing is changed, the rows are the same
@@ -122,30 +113,18 @@ module _ (key : List ℕ) where
   each_at tree (r ∷ rows) content t = each_at tree rows (put_in tree key r content) t
       ∙ each_step (t == tree) r rows (content t)
 
-maybe_at : (o : Option MetaRow) (content : Content) (t : ℕ)
-    → ◌≡◌ {A = List Row} (put_maybe o content t)
-    (if t == 0 then put_rows (0 ∷ []) (maybe_row o) (content t) else content t)
-maybe_at None content t = each_at (0 ∷ []) 0 [] content t
-maybe_at (Some meta) content t = each_at (0 ∷ []) 0 (meta_cells meta ∷ []) content t
-
 -- what is put into the table, and into another one
 module _ (t : ℕ) where
-  in_past : (tree : ℕ) (key : List ℕ) (row : Row) (content : Content) (rows : List Row) → (t == tree) ≡ false
-      → content t ≡ rows → put_in tree key row content t ≡ rows
-  in_past tree key row content rows other is =
-      ap (λ b. if b then put key row (content t) else content t) other ∙ is
-
   pub each_past : (tree : ℕ) (key : List ℕ) (puts : List Row) (content : Content) (rows : List Row) → (t == tree)
       ≡ false
       → content t ≡ rows → put_each tree key puts content t ≡ rows
-  each_past tree key [] content rows other is = is
-  each_past tree key (row ∷ puts) content rows other is =
-      each_past tree key puts (put_in tree key row content) rows other (in_past tree key row content rows other is)
+  each_past tree key puts content rows other is =
+      each_at key tree puts content t ∙ (λ i. if other i then put_rows key puts (content t) else is i)
 
   pub maybe_past : (meta : Option MetaRow) (content : Content) (rows : List Row) → (t == 0) ≡ false → content t ≡ rows
       → put_maybe meta content t ≡ rows
   maybe_past None content rows other is = is
-  maybe_past (Some meta) content rows other is = in_past 0 (0 ∷ []) (meta_cells meta) content rows other is
+  maybe_past (Some meta) content rows other is = each_past 0 (0 ∷ []) (meta_cells meta ∷ []) content rows other is
 
   each_own : (tree : ℕ) (key : List ℕ) (puts : List Row) (content : Content) (was : List Row) → (t == tree) ≡ true
       → content t ≡ was → put_each tree key puts content t ≡ put_rows key puts was

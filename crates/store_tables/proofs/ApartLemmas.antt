@@ -1,7 +1,6 @@
 -- With no filter a SELECT shows a row for each row of the tree, and what holds of each two rows holds of each two that
 -- are shown.
-use Rattle.std.proofs.Common.{◌≡◌, ℕ, List, [], ◌∷◌, map, flat_map, refl, sym, ap, subst, subst₂, ◌∙◌}
-use Rattle.std.specs.List.Sorted.{IsPermutation}
+use Rattle.std.proofs.Common.{◌≡◌, ℕ, List, [], ◌∷◌, map, sym, ap, subst₂, ◌∙◌, IsPermutation}
 use Rattle.std.proofs.lemmas.List.Sorted.{IsPermutation-refl, IsPermutation-trans, IsPermutation-cons}
 use Rattle.std.proofs.lemmas.List.Sorted.{IsPermutation-middle, IsPermutation-map}
 use Rattle.sqlite_value.specs.declared.value.Value.TheVariants.{Null}
@@ -15,6 +14,8 @@ use Rattle.sqlite_sql.specs.Term.{Term, eval_all}
 use Rattle.sqlite_sql.specs.Query.{IsAnswer, Output, output}
 use Rattle.sqlite_sql.specs.Program.{overlay}
 use Rattle.store_tables.specs.Put.{selects}
+use Rattle.store_tables.proofs.ReadLemmas.{same_shown}
+use Rattle.std.proofs.lemmas.List.Concat.{flat_map_single}
 
 module _ {X : Type 0} (P : X → X → Type 0) (back : (a b : X) → P a b → P b a) where
   abbrev Passes : List X → List X → Type 0
@@ -28,10 +29,6 @@ module _ {X : Type 0} (P : X → X → Type 0) (back : (a b : X) → P a b → P
       (λ xs ys zs one two. (IsPermutation-trans xs ys zs one.0 two.0, λ t. two.1 (one.1 t)))
       xs ys h).1
 
-singles : {A B : Type 0} (g : A → B) (xs : List A) → flat_map (λ x. g x ∷ []) xs ≡ map g xs
-singles g [] = refl
-singles g (x ∷ xs) = ap (λ l. g x ∷ l) (singles g xs)
-
 -- with no filter, a row is shown for each row of the tree
 pub each_shown : (db : Database) (params : Row) (tree : ℕ) (project : List Term) (order : List (Term × Key))
     (names : List (List ℕ)) (rows : List Row) → ((d : Trees) → overlay d [] tree ≡ d tree)
@@ -41,10 +38,8 @@ each_shown db params tree project order names rows plain h =
     let q = selects tree [] project order in
     let a : IsAnswer q (overlay db.trees []) params rows = h.answer Null in
     let env = λ (r : Row). params ∷ r ∷ [] in
-    let staged : a.staged ≡ map env (db.trees tree) = a.grouped ∙ ap (flat_map (λ r. env r ∷ [])) (plain db.trees)
-    ∙ singles env (db.trees tree) in
-    let kept : a.kept ≡ map (output q) (map env (db.trees tree)) = a.distinct ∙ ap (map (output q)) staged in
-    let shown = IsPermutation-map (λ (o : Output). o.1) (map (output q) (map env (db.trees tree))) a.ordered
-    (subst (λ k. IsPermutation k a.ordered) kept a.same) in
-    subst₂ IsPermutation (map-map (λ (o : Output). o.1) (output q) (map env (db.trees tree))
+    let shown = IsPermutation-map (λ (o : Output). o.1) _ a.ordered
+    (same_shown db params tree [] project order plain rows a) in
+    subst₂ IsPermutation (ap (λ l. map (λ (o : Output). o.1) (map (output q) l)) (flat_map_single env (db.trees tree))
+    ∙ map-map (λ (o : Output). o.1) (output q) (map env (db.trees tree))
     ∙ map-map (λ e. (output q e).1) env (db.trees tree)) (sym a.shown) shown

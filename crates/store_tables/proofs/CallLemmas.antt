@@ -1,6 +1,6 @@
 -- What calls that only read leave, one after another.
 use Rattle.std.proofs.Common.{Bool, true, false, refl, arith}
-use Rattle.sqlite.specs.State.{State, HasCleanDisk}
+use Rattle.store_tables.specs.Sql.{State, HasCleanDisk}
 use Rattle.store_tables.specs.Over.{HasRows}
 use Rattle.store_tables.specs.Contents.{Content}
 use Rattle.store_tables.specs.Reading.{Reads}

@@ -1,11 +1,10 @@
 -- What `excluded.NAME` stands for in ON CONFLICT DO UPDATE, whatever further tables the schema has.
 use Rattle.std.proofs.Common.{◌≡◌, ℕ, Bool, true, false, List, [], ◌∷◌, ◌++◌, Option, Some, None, Ok, refl, sym, ap}
-use Rattle.std.proofs.Common.{subst, ◌∙◌, slice_get, length, option_map, is_some, not, ◌||◌, ◌&&◌, codes, map}
+use Rattle.std.proofs.Common.{◌∙◌, slice_get, length, option_map, is_some, not, ◌||◌, ◌&&◌, codes, map, if◌then◌else◌}
+use Rattle.std.proofs.Common.{option_and_then}
 use Rattle.std.proofs.lemmas.Bool.{and_parts, not-true}
 use Rattle.std.specs.List.{list_all}
-use Rattle.std.specs.Prelude.{if◌then◌else◌, option_and_then}
-use Rattle.sqlite_ast.specs.declared.Expr.{Expr, out-Expr}
-use Rattle.sqlite_ast.specs.declared.Expr.TheOpen.{Expr-F}
+use Rattle.sqlite_ast.specs.declared.Expr.{Expr}
 use Rattle.sqlite_ast.specs.declared.Expr.TheVariants as written_expr
 use Rattle.sqlite_sql.specs.Term.{Term, col}
 use Rattle.store_tables.specs.Sql.{Schema, Table}
@@ -16,19 +15,18 @@ use Rattle.sqlite_resolve.specs.declared.scope.Level.{Level}
 use Rattle.sqlite_resolve.specs.declared.scope.Found.TheVariants.{Column, Alias}
 use Rattle.sqlite_resolve.specs.declared.state.Carried.{Carried}
 use Rattle.sqlite_resolve.specs.declared.state.State.{State}
-use Rattle.sqlite_resolve.specs.Lowering.{Checked, Lowering, and_then, or_else, spend, begin, finish, carry, pure, lift}
-use Rattle.sqlite_resolve.specs.Lowering.{get, fail, fresh, max_budget, ◌>>◌, ◌>>=◌}
+use Rattle.sqlite_resolve.specs.Lowering.{Checked, Lowering, and_then, or_else, carry, pure, lift, get, fail, fresh}
+use Rattle.sqlite_resolve.specs.Lowering.{max_budget, ◌>>◌, ◌>>=◌}
 use Rattle.sqlite_resolve.specs.Scope.{Context, Name, is_rowid, column_in, hit, only, in_level, find, find_from}
 use Rattle.sqlite_resolve.specs.Scope.{found_or, column_at, term_of, column, at_most_one, alias_of, declared, is_hidden}
-use Rattle.sqlite_resolve.specs.Scope.{is_meant}
-use Rattle.sqlite_resolve.specs.Expr.{lower, lower_to, node, node_at, opened, passes}
+use Rattle.sqlite_resolve.specs.Expr.{lower_to, node_at, opened}
 use Rattle.sqlite_resolve.specs.Write.{level_of, with_place, sets_from, sets, assigned, updated_in, picked, row}
 use Rattle.sqlite_resolve.specs.Body.{tests}
 use Rattle.sqlite_resolve.specs.Reach.{any_scans}
 use Rattle.sqlite_resolve.specs.Select.{value_of}
-use Rattle.sqlite_resolve.specs.Given.{at_rowid, do_update, given, given_level, nested, with_given}
+use Rattle.sqlite_resolve.specs.Given.{at_rowid, do_update, given, with_given}
 use Rattle.sqlite_ast.specs.declared.Upsert as written
-use Rattle.sqlite_ast.specs.Layer.{Layer}
+use Rattle.store_tables.proofs.PlacedTerms.{lowered_same}
 
 pub slice_last : (ts : List Table) (x : Table) → slice_get (ts ++ x ∷ []) (length ts) ≡ Some x
 slice_last [] x = refl
@@ -59,10 +57,6 @@ cell_in found j =
 -- a column of the new row, as its table tells it
 abbrev shown_by : Table → ℕ → Lowering Term
 shown_by given j = lift (cell_in (Some given) j) >>= (λ found. carry found.1 >> pure found.0)
-
-meant : is_meant (Some new_row) (bound 0) ≡ true
-unfolding same_name
-meant = refl
 
 module _ (s : Schema) (k : ℕ) (given : Table) (at : slice_get s.tables k ≡ Some given) (name : Name) (j : ℕ)
     (named : column_named given name ≡ Some j) where
@@ -101,19 +95,9 @@ module _ (s : Schema) (k : ℕ) (given : Table) (at : slice_get s.tables k ≡ S
     unfolding column term_of
     shown_is st = (λ i. (lift (find_is i) >>= term_of here) st) ∙ column_is st
 
-    opens : (e : Expr) → out-Expr e ≡ Expr-F.Column (Some new_row) name → (st : State)
-        → opened (lower_to 699) here e st ≡ shown_by given j st
+    opens : (st : State) → opened (lower_to 699) here (written_expr.Column (Some new_row) name) st ≡ shown_by given j st
     unfolding opened
-    opens e is st = (λ i. node_at (lower_to 699) here (is i) st) ∙ shown_is st
-
-    pub lowered : (e : Expr) → out-Expr e ≡ Expr-F.Column (Some new_row) name → (st : State)
-        → lower here e st
-        ≡ and_then (spend 1 st) (λ a. and_then (begin a.1)
-        (λ b. and_then (shown_by given j b.1) (λ t. (finish b.0 (passes e) >> pure t.0) t.1)))
-    unfolding lower_to node
-    lowered e is st i =
-        and_then (spend 1 st) (λ a. and_then (begin a.1)
-        (λ b. and_then (opens e is b.1 i) (λ t. (finish b.0 (passes e) >> pure t.0) t.1)))
+    opens st = (λ i. node_at (lower_to 699) here (written_expr.outs-Column (Some new_row) name i) st) ∙ shown_is st
 
 -- no table of the statement has the name of the new row
 module _ (s : Schema) (name : Name) (plain : is_rowid name ≡ false) (at : ℕ) (table : Name)
@@ -133,25 +117,6 @@ module _ (s : Schema) (name : Name) (plain : is_rowid name ≡ false) (at : ℕ)
       and_then (if plain i then only s (Some new_row) name true (inner ∷ []) else Ok None) (λ rowid.
       if is_some rowid || true then Ok rowid else Ok (option_map (Alias 0) (alias_of name []))))
 
-abbrev named_in : Layer → Name
-named_in (Expr-F.Column table name) = name
-named_in _ = []
-
-abbrev column_of : Table → Expr → Option ℕ
-column_of given e = column_named given (named_in (out-Expr e))
-
-abbrev place_in : Option ℕ → ℕ
-place_in None = 0
-place_in (Some j) = j
-
--- each column is set to one of the new row
-abbrev pub AreOfNew : Table → List (Name × Expr) → Type 0
-AreOfNew given [] = Unit {0}
-AreOfNew given (set ∷ more) =
-    (out-Expr set.1 ≡ Expr-F.Column (Some new_row) (named_in (out-Expr set.1)))
-    × (is_rowid (named_in (out-Expr set.1)) ≡ false)
-    × (column_of given set.1 ≡ Some (place_in (column_of given set.1))) × AreOfNew given more
-
 -- the column of a name, set to that of the new row
 abbrev pub new_of : Name → Name × Expr
 new_of name = (name, written_expr.Column (Some new_row) name)
@@ -159,24 +124,9 @@ new_of name = (name, written_expr.Column (Some new_row) name)
 abbrev pub is_of_table : Table → Name → Bool
 is_of_table given name = not (is_rowid name) && is_some (column_named given name)
 
-some_place : (found : Option ℕ) → is_some found ≡ true → found ≡ Some (place_in found)
-some_place None h = cc
-some_place (Some j) h = refl
-
-pub of_new : (row : Table) (names : List Name) → list_all (is_of_table row) names ≡ true
-    → AreOfNew row (map new_of names)
-of_new row [] all = tt
-of_new row (name ∷ names) all =
-    let both = and_parts _ _ all in
-    let here = and_parts _ _ both.0 in
-    let e : Expr = written_expr.Column (Some new_row) name in
-    let is : out-Expr e ≡ Expr-F.Column (Some new_row) name = written_expr.outs-Column (Some new_row) name in
-    let same : named_in (out-Expr e) ≡ name = ap named_in is in (
-      is ∙ ap (λ n. Expr-F.Column (Some new_row) n) (sym same),
-      ap is_rowid same ∙ not-true _ here.0,
-      some_place _ (subst (λ n. is_some (column_named row n) ≡ true) (sym same) here.1),
-      of_new row names both.1,
-    )
+some_at : (found : Option ℕ) → is_some found ≡ true → (j : ℕ) × (found ≡ Some j)
+some_at None h = absurd cc
+some_at (Some j) h = (j, refl)
 
 -- the new row stands in both schemas, after whatever tables
 module _ (s t : Schema) (k l : ℕ) (given : Table) (one : slice_get s.tables k ≡ Some given)
@@ -188,48 +138,51 @@ module _ (s t : Schema) (k l : ℕ) (given : Table) (one : slice_get s.tables k 
     abbrev second_context : Context
     second_context = context_of t l (level_of at table.name)
 
-    sets_same : (more : List (Name × Expr)) → AreOfNew given more → (done : List ℕ × List Term) (st : State)
-        → sets_from first_context table done more st ≡ sets_from second_context table done more st
-    sets_same [] are done st = refl
-    sets_same (set ∷ more) (is, plain, named, rest) done st =
-        let name = named_in (out-Expr set.1) in
-        let j = place_in (column_of given set.1) in
-        let left = lowered s k given one name j named (level_of at table.name)
-        (hidden_is s name plain at table.name other) set.1 is st in
-        let right = lowered t l given two name j named (level_of at table.name)
-        (hidden_is t name plain at table.name other) set.1 is st in
-        let both = left ∙ sym right in
-        λ i. and_then (with_place table done.0 set.0)
-        (λ at. and_then (both i) (λ r. sets_same more rest (at, done.1 ++ r.0 ∷ []) r.1 i))
+    sets_same : (names : List Name) → list_all (is_of_table given) names ≡ true → (done : List ℕ × List Term)
+        (st : State)
+        → sets_from first_context table done (map new_of names) st
+        ≡ sets_from second_context table done (map new_of names) st
+    sets_same [] known done st = refl
+    sets_same (name ∷ names) known done st =
+        let both = and_parts _ _ known in
+        let here = and_parts _ _ both.0 in
+        let (j, named) = some_at (column_named given name) here.1 in
+        let inner = level_of at table.name in
+        let hidden = λ (u : Schema). hidden_is u name (not-true _ here.0) at table.name other in
+        let same = lowered_same first_context second_context 699 (written_expr.Column (Some new_row) name) (λ x.
+        opens s k given one name j named inner (hidden s) x
+        ∙ sym (opens t l given two name j named inner (hidden t) x)) st in
+        λ i. and_then (with_place table done.0 name)
+        (λ at. and_then (same i) (λ r. sets_same names both.1 (at, done.1 ++ r.0 ∷ []) r.1 i))
 
-    assigned_same : (all : List (Name × Expr)) → AreOfNew given all → (st : State)
-        → assigned first_context table all st ≡ assigned second_context table all st
+    assigned_same : (names : List Name) → list_all (is_of_table given) names ≡ true → (st : State)
+        → assigned first_context table (map new_of names) st ≡ assigned second_context table (map new_of names) st
     unfolding assigned sets
-    assigned_same all are st i =
-        and_then (sets_same all are ([], []) st i)
+    assigned_same names known st i =
+        and_then (sets_same names known ([], []) st i)
         (λ r. (get >>= (λ s. if any_scans table.tree s.steps then fail Unsupported else pure r.0)) r.1)
 
-    updated_same : (all : List (Name × Expr)) → AreOfNew given all
-        → updated_in first_context table all None ≡ updated_in second_context table all None
+    updated_same : (names : List Name) → list_all (is_of_table given) names ≡ true
+        → updated_in first_context table (map new_of names) None
+        ≡ updated_in second_context table (map new_of names) None
     unfolding updated_in picked tests
-    updated_same all are i =
-        and_then (assigned_same all are (fresh 2 max_budget) i) (λ r.
+    updated_same names known i =
+        and_then (assigned_same names known (fresh 2 max_budget) i) (λ r.
         and_then (row table None r.0.0 (col 1 0 ∷ []) r.0.1)
         (λ project. value_of (picked first_context table project None r.1)))
 
--- ON CONFLICT DO UPDATE that sets each column to one of the new row means the same in each schema.
-pub update_same : (s t : Schema) (at base : ℕ) (table : Table) (u : written.Upsert) → u.filter ≡ None
-    → AreOfNew (given table base) u.sets → same_name table.name new_row ≡ false
-    → do_update s at table base u ≡ do_update t at table base u
+-- ON CONFLICT DO UPDATE that sets columns of these names to those of the new row
+abbrev pub updates_to : (target names : List Name) → written.Upsert
+updates_to target names = record { target = target; sets = map new_of names; filter = None }
+
+-- It means the same in each schema.
+pub update_same : (s t : Schema) (at base : ℕ) (table : Table) (target names : List Name)
+    → list_all (is_of_table (given table base)) names ≡ true → same_name table.name new_row ≡ false
+    → do_update s at table base (updates_to target names) ≡ do_update t at table base (updates_to target names)
 unfolding do_update
-update_same s t at base table u bare are other =
+update_same s t at base table target names known other i =
     let it = with_given s table base in
     let that = with_given t table base in
-    let middle = updated_same it that (length s.tables) (length t.tables) (given table base)
-    (slice_last s.tables (given table base)) (slice_last t.tables (given table base)) at table other u.sets are in
-    λ i. and_then (((λ j. updated_in (nested it (level_of at table.name) (given_level s new_row [])) table u.sets
-    (bare j))
-    ∙ middle
-    ∙ (λ j. updated_in (nested that (level_of at table.name) (given_level t new_row [])) table u.sets (sym bare j)))
-    i)
+    and_then (updated_same it that (length s.tables) (length t.tables) (given table base)
+    (slice_last s.tables (given table base)) (slice_last t.tables (given table base)) at table other names known i)
     (λ d. Ok (at_rowid base d))

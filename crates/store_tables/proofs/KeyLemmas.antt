@@ -1,7 +1,8 @@
 -- SQL's = on keys.
 use Rattle.std.proofs.Common.{◌≡◌, ℤ, Bool, true, false, cond, ◌||◌, Ordering, Less, Equal, Greater, refl, sym, ◌∙◌}
-use Rattle.std.proofs.Common.{true≢false, Some}
-use Rattle.std.specs.Ordering.{is_eq, is_ne}
+use Rattle.std.proofs.Common.{true≢false, Some, is_eq}
+use Rattle.std.specs.Cmp.{Equal-is}
+use Rattle.std.specs.Ordering.{is_ne}
 use Rattle.std.specs.FinMap.{int_cmp-IsAntisymmetric}
 use Rattle.sqlite_value.specs.declared.value.Value.{Value}
 use Rattle.sqlite_value.specs.declared.value.Value.TheVariants.{Null, Int}
@@ -20,9 +21,7 @@ compared_parts false true h = (refl, refl)
 compared_parts false false h = absurd (true≢false (sym h))
 
 pub tied : (o : Ordering) → is_eq o ≡ true → o ≡ Equal
-tied Less h = absurd (true≢false (sym h))
-tied Equal h = refl
-tied Greater h = absurd (true≢false (sym h))
+tied o = (Equal-is o).0
 
 pub equal_cmp : (a b : Value) → equal Binary a b ≡ true → value_cmp a b ≡ Equal
 unfolding binary

@@ -1,8 +1,6 @@
 pub mod AlterLemmas
 pub mod ApartLemmas
-pub mod BesideLemmas
 pub mod CallLemmas
-pub mod ContentLemmas
 pub mod ExcludedLemmas
 pub mod IdLemmas
 pub mod KeyLemmas
@@ -10,12 +8,9 @@ pub mod MakeLemmas
 pub mod Meanings
 pub mod OrderLemmas
 pub mod OverLemmas
-pub mod PlacedColumns
 pub mod PlacedCreated
 pub mod PlacedCreates
-pub mod PlacedFills
 pub mod PlacedMakes
-pub mod PlacedMeanings
 pub mod PlacedMissing
 pub mod PlacedOver
 pub mod PlacedPuts
@@ -23,7 +18,6 @@ pub mod PlacedQueries
 pub mod PlacedQuestions
 pub mod PlacedSelects
 pub mod PlacedSound
-pub mod PlacedStanding
 pub mod PlacedSteps
 pub mod PlacedTaken
 pub mod PlacedTerms
@@ -33,14 +27,10 @@ pub mod PlacedTrees
 pub mod PlacedUpserts
 pub mod Proved
 pub mod PutLemmas
-pub mod PutMeanings
 pub mod QueryLemmas
 pub mod ReadLemmas
 pub mod RowLemmas
 pub mod SameLemmas
-pub mod SelectMeanings
-pub mod StandingLemmas
 pub mod StepLemmas
 pub mod TellLemmas
 pub mod UpsertLemmas
-pub mod UpsertTexts

@@ -10,8 +10,7 @@ use Rattle.sqlite_tied.specs.Compute.{everything}
 use Rattle.store_tables.specs.Tables.{made_as}
 use Rattle.store_tables.specs.Texts.{create_of}
 use Rattle.store_tables.specs.declared.names.Table as of_club
-use Rattle.store_tables.specs.declared.names.Table.TheVariants.{Members, Events, EventRules, Challenges, Moves, Games}
-use Rattle.store_tables.specs.declared.names.Table.TheVariants.{Seen, Scores, Meta}
+use Rattle.store_tables.specs.declared.names.Table.TheVariants.{Meta}
 
 -- ---- what makes a table
 
@@ -19,14 +18,7 @@ use Rattle.store_tables.specs.declared.names.Table.TheVariants.{Seen, Scores, Me
 pub defined : (table : of_club.Table) → table_defined_by (create_of table) ≡ Ok (made_as table 0)
 unfolding everything
 defined Meta = refl
-defined Members = refl
-defined Events = refl
-defined Challenges = refl
-defined Moves = refl
-defined Games = refl
-defined Seen = refl
-defined Scores = refl
-defined EventRules = refl
+defined _ = refl
 
 -- ---- what puts a row, beside what other programs made
 

@@ -1,8 +1,9 @@
 -- In which order a SELECT with ORDER BY shows its rows.
-use Rattle.std.proofs.Common.{◌≡◌, ℕ, zero, suc, ◌+◌, ◌<◌, List, [], ◌∷◌, length, map, refl, sym, ap, subst, subst₂}
-use Rattle.std.proofs.Common.{◌∙◌, arith, get_or, Ordering, inl, inr}
-use Rattle.std.specs.Ordering.{is_lt}
-use Rattle.std.specs.List.Sorted.{IsSorted}
+use Rattle.std.proofs.Common.{◌≡◌, ℕ, ◌+◌, ◌<◌, List, [], ◌∷◌, length, map, sym, ap, subst, subst₂, ◌∙◌, arith, get_or}
+use Rattle.std.proofs.Common.{Ordering, is_lt, IsSorted}
+use Rattle.std.proofs.lemmas.List.{get_or-map, length-map}
+use Rattle.sqlite_rules.proofs.ListLemmas.{all_from}
+use Rattle.sqlite_trees.proofs.ListLemmas.{all-get_or}
 use Rattle.sqlite_value.specs.declared.value.Value.TheVariants.{Null}
 use Rattle.sqlite_value.specs.declared.keys.Key.{Key}
 use Rattle.store_tables.specs.Sql.{Row, Trees, Database, Has}
@@ -16,18 +17,13 @@ use Rattle.store_tables.proofs.ReadLemmas.{env_of}
 
 pub got : {A B : Type 0} (f : A → B) (xs : List A) (j : ℕ) (d : B) (e : A) → j < length xs
     → get_or (map f xs) j d ≡ f (get_or xs j e)
-got f [] j d e h = absurd (omega arith)
-got f (x ∷ xs) zero d e h = refl
-got f (x ∷ xs) (suc j) d e h = got f xs j d e (omega arith)
+got f xs j d e = get_or-map f xs j e d
 
 pub same_length : {A B : Type 0} (f : A → B) (xs : List A) → length (map f xs) ≡ length xs
-same_length f [] = refl
-same_length f (x ∷ xs) = ap suc (same_length f xs)
+same_length f xs = length-map xs f
 
 pub has_index : {A : Type 0} (xs : List A) (j : ℕ) (e : A) → j < length xs → Has xs (get_or xs j e)
-has_index [] j e h = absurd (omega arith)
-has_index (x ∷ xs) zero e h = inl refl
-has_index (x ∷ xs) (suc j) e h = inr (has_index xs j e (omega arith))
+has_index xs j e h = all-get_or (Has xs) xs j e (all_from (Has xs) xs (λ x has. has)) h
 
 sorted_map : {A B : Type 0} (f : A → B) (R : A → A → Ordering) (S : B → B → Ordering) (xs : List A)
     → ((x y : A) → Has xs x → Has xs y → R x y ≡ S (f x) (f y)) → IsSorted R xs → IsSorted S (map f xs)
@@ -56,10 +52,8 @@ pub sorted_rows : (db : Database) (params : Row) (tree : ℕ) (filter project : 
 sorted_rows db params tree filter project order names rows cmp plain keys h =
     let q = selects tree filter project order in
     let a : IsAnswer q (overlay db.trees []) params rows = h.answer Null in
-    let from : (o : Output) → Has a.ordered o → (r : Row)
-    × (o ≡ output q (params ∷ r ∷ [])) = λ o there.
-    env_of db params tree filter project order rows plain a o there in
+    let from = env_of db params tree filter project order plain rows a in
     subst (IsSorted cmp) (sym a.shown) (sorted_map (λ (o : Output). o.1) (output_cmp q) cmp a.ordered (λ o p there also.
     let r = from o there in
     let s = from p also in
-    subst₂ (λ x y. output_cmp q x y ≡ cmp x.1 y.1) (sym r.1) (sym s.1) (keys r.0 s.0)) a.sorted)
+    subst₂ (λ x y. output_cmp q x y ≡ cmp x.1 y.1) (sym r.3) (sym s.3) (keys r.0 s.0)) a.sorted)

@@ -1,101 +1,55 @@
 -- A club among its neighbours: what of it is the club's, what stays, and a club alone.
-use Rattle.std.proofs.Common.{◌≡◌, ℕ, false, List, [], ◌∷◌, ◌++◌, Option, Some, None, refl, ap, sym, subst, ◌∙◌, inl, inr}
-use Rattle.std.proofs.Common.{map}
+use Rattle.std.proofs.lemmas.Bool.{and_parts, not-true}
+use Rattle.std.proofs.Common.{true, Bool, not, ◌&&◌, ◌≡◌, ℕ, false, List, [], ◌∷◌, Option, Some, None, refl, ap, sym}
+use Rattle.std.proofs.Common.{subst, ◌∙◌, inl, inr, map, arith, nat_lt, ◌^◌}
+use Rattle.std.proofs.lemmas.Option.{same_Some}
 use Rattle.std.specs.List.{AllByRecursion}
-use Rattle.sqlite.specs.Effect.{Database}
-use Rattle.sqlite_catalog.specs.Change.{created, is_used}
+use Rattle.store_tables.specs.Sql.{Database, Has, Row, State, Schema, Table, Trees}
+use Rattle.sqlite_catalog.specs.Change.{created, is_used, next_tree}
+use Rattle.sqlite.specs.Does.{lacks_sequence}
 use Rattle.sqlite_rules.proofs.ListLemmas.{all_has, has_got}
-use Rattle.sqlite_rules.specs.Lists.{Has}
+use Rattle.sqlite_trees.proofs.ListLemmas.{all-map, all_both, all_from_map, all_of, all_weaker}
 use Rattle.sqlite_schema.specs.Names.{same_name}
-use Rattle.store_tables.specs.Sql.{Row, State, Schema, Table, Trees}
 use Rattle.store_tables.specs.Changes.{HaveSame, AreSame}
 use Rattle.store_tables.specs.Content.{AreApart, Keeps, cells}
 use Rattle.store_tables.specs.Contents as of_schema
 use Rattle.store_tables.specs.Contents.{AreStored, Content, Stores, nothing}
 use Rattle.store_tables.specs.Club.{IsExactly, Leaves}
 use Rattle.store_tables.specs.Names.{in_order, table_name, tree_of}
-use Rattle.store_tables.specs.Over.{HasRows, HoldsBeside, HoldsFirst, IsBesideThem, IsFirstBeside, IsUpgraded, LeavesBeside}
-use Rattle.store_tables.specs.Over.{LeavesFirst, Neighbours, alone, over}
+use Rattle.store_tables.specs.Over.{HasRows, HoldsBeside, HoldsFirst, IsBesideThem, IsFirstBeside, IsUpgraded}
+use Rattle.store_tables.specs.Over.{LeavesBeside, LeavesFirst, Neighbours, alone, over}
 use Rattle.store_tables.specs.Placed.{HasTables, HasTablesOf, Stands, TakesClub, by_club, club_trees, tables_of}
 use Rattle.store_tables.specs.Placed.{tree_in}
 use Rattle.store_tables.specs.Reading.{KeepsContent}
-use Rattle.store_tables.specs.Room.{HasRoom, IsWithoutClub, LeavesNoClub}
+use Rattle.store_tables.specs.Room.{AreUnused, HasRoom, IsWithoutClub, LeavesNoClub}
 use Rattle.store_tables.specs.Tables.{club_schema, first_schema, made_as, schema_after, schema_of, standing}
 use Rattle.store_tables.specs.declared.names.Table as of_club
-use Rattle.store_tables.specs.declared.names.Table.TheVariants.{Members, Events, EventRules, Challenges, Moves, Games}
-use Rattle.store_tables.specs.declared.names.Table.TheVariants.{Seen, Scores, Meta}
+use Rattle.store_tables.specs.declared.names.Table.TheVariants.{EventRules, Meta}
 use Rattle.store_tables.specs.declared.names.Version.{Version}
 use Rattle.store_tables.specs.declared.names.Version.TheVariants.{First, Current}
 use Rattle.store_tables.proofs.AlterLemmas.{same_by}
-use Rattle.store_tables.proofs.SameLemmas.{exactly_on, exactly_same, leaves_same}
-use Rattle.store_tables.proofs.PlacedCreated.{AreFree, all_made}
-use Rattle.store_tables.proofs.PlacedFills.{room_alone, unused_alone}
+use Rattle.store_tables.proofs.SameLemmas.{exactly_on, exactly_same, leaves_on, leaves_same}
 use Rattle.store_tables.proofs.PlacedCreates.{is_free}
-use Rattle.store_tables.proofs.PlacedMakes.{free_of}
+use Rattle.store_tables.proofs.PlacedMakes.{unused_parts}
+use Rattle.store_tables.proofs.PlacedSteps.{LeavesRoom}
 use Rattle.store_tables.proofs.PlacedOver.{all_stand, last_missing}
 use Rattle.store_tables.proofs.PlacedSelects.{tree_is}
-use Rattle.store_tables.proofs.PlacedTaken.{made_takes_club}
-use Rattle.store_tables.proofs.PlacedTrees.{StandsOrNot, by_club_at, in_all, one_or_none, over_at, over_club}
-use Rattle.store_tables.proofs.PlacedTrees.{over_past, tree_found}
-
--- ---- contents that are held alike by any schema
-
-keeps_same : (table : Table) (db : Trees) (one other : List Row) → HaveSame one other → Keeps table db one
-    → Keeps table db other
-keeps_same table db one other same keeps = record {
-  stored = λ row h. keeps.stored row (same.back row h);
-  only = λ r h. same.there _ (keeps.only r h);
-}
-
-module _ (one other : Content) (same : (t : ℕ) → HaveSame (one t) (other t)) where
-  stored_alike : (db : Trees) (tables : List Table) → AllByRecursion (λ table. Stores table db one) tables
-      → AllByRecursion (λ table. Stores table db other) tables
-  stored_alike db [] all = tt
-  stored_alike db (table ∷ tables) all = (
-    record {
-      rows = keeps_same table db (one table.tree) (other table.tree) (same table.tree) all.0.rows;
-      apart = all.0.apart;
-    },
-    stored_alike db tables all.1,
-  )
-
-  pub leaves_alike : (schema : Schema) (db : Trees) → of_schema.Leaves schema one db → of_schema.Leaves schema other db
-  leaves_alike schema db left = record { sound = left.sound; tables = stored_alike db schema.tables left.tables }
-
-  pub exactly_alike : (schema : Schema) (s : State) → of_schema.IsExactly schema one s
-      → of_schema.IsExactly schema other s
-  exactly_alike schema s k = record {
-    is_open = k.is_open;
-    idle = k.idle;
-    now = record {
-      schema = k.now.schema;
-      sound = k.now.sound;
-      tables = stored_alike s.now.trees schema.tables k.now.tables;
-    };
-    committed = k.committed;
-    may_leave = λ db h. leaves_alike schema db (k.may_leave db h);
-  }
+use Rattle.store_tables.proofs.PlacedTaken.{Taken, all_taken, made_takes_club}
+use Rattle.store_tables.proofs.PlacedTrees.{StandsOrNot, by_club_at, in_all, one_or_none, over_at, over_club, over_past}
+use Rattle.store_tables.proofs.PlacedTrees.{tree_found}
 
 -- ---- contents that have the same rows of a club
+
+tree_is_of : (table : of_club.Table) → (standing table).tree ≡ tree_of table
+tree_is_of table = tree_is table (tree_of table)
 
 -- each table of a club is one of those that stand alone
 alike_at : (one other : Content) → AreSame club_schema one other → (table : of_club.Table)
     → HaveSame (one (tree_of table)) (other (tree_of table))
-alike_at one other (a, (b, (c, (d, (e, (f, (g, (h, (i, all))))))))) = λ table. by_case table a b c d e f g h i
-  where
-    by_case : (table : of_club.Table) → HaveSame (one 0) (other 0) → HaveSame (one 1) (other 1)
-        → HaveSame (one 4) (other 4) → HaveSame (one 6) (other 6) → HaveSame (one 8) (other 8)
-        → HaveSame (one 10) (other 10) → HaveSame (one 12) (other 12) → HaveSame (one 14) (other 14)
-        → HaveSame (one 16) (other 16) → HaveSame (one (tree_of table)) (other (tree_of table))
-    by_case Meta a b c d e f g h i = a
-    by_case Members a b c d e f g h i = b
-    by_case Events a b c d e f g h i = c
-    by_case Challenges a b c d e f g h i = d
-    by_case Moves a b c d e f g h i = e
-    by_case Games a b c d e f g h i = f
-    by_case Seen a b c d e f g h i = g
-    by_case Scores a b c d e f g h i = h
-    by_case EventRules a b c d e f g h i = i
+alike_at one other same table =
+    let P = λ (t : Table). HaveSame (one t.tree) (other t.tree) in
+    subst (λ n. HaveSame (one n) (other n)) (tree_is_of table)
+    (all_has (λ t. P (standing t)) in_order table (all_from_map P standing in_order same) (in_all table))
 
 module _ (one other : Content) (same : AreSame club_schema one other) where
   over_same : (schema : Schema) (rows : Content) → AllByRecursion (StandsOrNot schema) in_order → (n : ℕ)
@@ -110,18 +64,24 @@ module _ (one other : Content) (same : AreSame club_schema one other) where
     | inr past ↦ same_by _ _ (over_past schema one rows n past ∙ sym (over_past schema other rows n past))
   ]
 
+  all_same : (them : Neighbours) → TakesClub Current them.schema
+      → AreSame them.schema (over them.schema one them.rows) (over them.schema other them.rows)
+  all_same them takes =
+      all_of (λ (t : Table). HaveSame (over them.schema one them.rows t.tree) (over them.schema other them.rows t.tree))
+      (λ t. over_same them.schema them.rows (all_stand them.schema takes.club) t.tree) them.schema.tables
+
   pub beside_same : (them : Neighbours) (s : State) → IsBesideThem them one s → IsBesideThem them other s
   beside_same them s k = record {
     clear = k.clear;
-    exactly = exactly_alike (over them.schema one them.rows) (over them.schema other them.rows)
-        (over_same them.schema them.rows (all_stand them.schema k.clear.club)) them.schema s k.exactly;
+    exactly = exactly_on them.schema (over them.schema one them.rows) (over them.schema other them.rows) s
+        (all_same them k.clear) k.exactly;
   }
 
   pub left_same : (them : Neighbours) (db : Trees) → LeavesBeside them one db → LeavesBeside them other db
   left_same them db left = record {
     clear = left.clear;
-    leaves = leaves_alike (over them.schema one them.rows) (over them.schema other them.rows)
-        (over_same them.schema them.rows (all_stand them.schema left.clear.club)) them.schema db left.leaves;
+    leaves = leaves_on them.schema (over them.schema one them.rows) (over them.schema other them.rows) db
+        (all_same them left.clear) left.leaves;
   }
 
 -- ---- what a stop may leave, and what a call that answered leaves
@@ -150,11 +110,6 @@ still_first old new kept them content k =
 
 -- ---- the rows of a club among those of all tables
 
-pub each_of_them : (P : of_club.Table → Type 0) → ((table : of_club.Table) → P table) → (tables : List of_club.Table)
-    → AllByRecursion P tables
-each_of_them P all [] = tt
-each_of_them P all (table ∷ tables) = (all table, each_of_them P all tables)
-
 pub rows_beside : (them : Neighbours) (content : Content) (s : State) → IsBesideThem them content s → HasRows content s
 rows_beside them content s k =
     let schema = them.schema in
@@ -162,31 +117,16 @@ rows_beside them content s k =
       schema,
       whole,
       k.clear.club,
-      each_with schema (λ table. by_club schema whole (tree_of table) ≡ content (tree_of table)) in_order k.clear.club
-          (λ table stands. over_club schema (all_stand schema k.clear.club) content them.rows table stands),
+      all_weaker (Stands schema) (λ table. by_club schema whole (tree_of table) ≡ content (tree_of table))
+          (λ table stands. over_club schema (all_stand schema k.clear.club) content them.rows table stands) in_order
+          k.clear.club,
       k.exactly,
     )
-  where
-    each_with : (schema : Schema) (P : of_club.Table → Type 0) (tables : List of_club.Table)
-        → AllByRecursion (Stands schema) tables → ((table : of_club.Table) → Stands schema table → P table)
-        → AllByRecursion P tables
-    each_with schema P [] stand all = tt
-    each_with schema P (table ∷ tables) stand all = (all table stand.0, each_with schema P tables stand.1 all)
 
 -- A table of a club keeps its rows where it stands.
 pub cells_are : (table : of_club.Table) (tree : ℕ) (r : Row) → cells (made_as table tree) r ≡ cells (standing table) r
 cells_are Meta tree r = refl
-cells_are Members tree r = refl
-cells_are Events tree r = refl
-cells_are Challenges tree r = refl
-cells_are Moves tree r = refl
-cells_are Games tree r = refl
-cells_are Seen tree r = refl
-cells_are Scores tree r = refl
-cells_are EventRules tree r = refl
-
-tree_is_of : (table : of_club.Table) → (standing table).tree ≡ tree_of table
-tree_is_of table = tree_is table (tree_of table)
+cells_are _ tree r = refl
 
 -- the rows of one table are those of another with the same columns
 pub keeps_moved : (one other : Table) (here there : Trees) (rows wanted : List Row)
@@ -222,31 +162,39 @@ module _ (schema : Schema) (trees : Trees) where
   -- What all tables keep, those of the club keep.
   each_stored : (whole content : Content) → AreStored schema trees whole → (tables : List of_club.Table)
       → AllByRecursion (Stands schema) tables
-      → ((table : of_club.Table) (s : Stands schema table) → Has tables table → whole s.tree ≡ content (tree_of table))
+      → AllByRecursion (λ table. (s : Stands schema table) → whole s.tree ≡ content (tree_of table)) tables
       → AllByRecursion (λ t. Stores t (by_club schema trees) content) (map standing tables)
-  each_stored whole content all [] stand are = tt
-  each_stored whole content all (table ∷ tables) stand are =
-      let s = stand.0 in (
-        stores_here table s whole content
-            (all_has (λ t. Stores t trees whole) schema.tables (made_as table s.tree) all
-            (has_got schema.tables s.place (made_as table s.tree) s.at)) (are table s (inl refl)),
-        each_stored whole content all tables stand.1 (λ t it has. are t it (inr has)),
-      )
+  each_stored whole content all tables stand are =
+      all-map (λ t. Stores t (by_club schema trees) content) standing tables
+      (all_both (Stands schema) (λ table. (s : Stands schema table) → whole s.tree ≡ content (tree_of table))
+      (λ table. Stores (standing table) (by_club schema trees) content) (λ table s is.
+      stores_here table s whole content
+      (all_has (λ t. Stores t trees whole) schema.tables (made_as table s.tree) all
+      (has_got schema.tables s.place (made_as table s.tree) s.at)) (is s)) tables stand are)
+
+  -- So they do of rows that are over those of others.
+  over_stored : (content rows : Content) → AreStored schema trees (over schema content rows)
+      → (tables : List of_club.Table) → AllByRecursion (Stands schema) tables
+      → AllByRecursion (StandsOrNot schema) in_order
+      → AllByRecursion (λ t. Stores t (by_club schema trees) content) (map standing tables)
+  over_stored content rows all tables stand or_not =
+      each_stored (over schema content rows) content all tables stand
+      (all_of (λ table. (s : Stands schema table) → over schema content rows s.tree ≡ content (tree_of table))
+      (λ table s. over_at schema or_not content rows table s) tables)
 
 pub club_held : (them : Neighbours) (content : Content) (db : Database) → TakesClub Current them.schema
     → HoldsBeside them content db → AreStored club_schema (club_trees db) content
 club_held them content db takes k =
     subst (λ s. AreStored club_schema (by_club s db.trees) content) (sym k.schema)
-    (each_stored them.schema db.trees (over them.schema content them.rows) content k.tables in_order takes.club
-    (λ table s has. over_at them.schema (all_stand them.schema takes.club) content them.rows table s))
+    (over_stored them.schema db.trees content them.rows k.tables in_order takes.club
+    (all_stand them.schema takes.club))
 
 pub first_held : (them : Neighbours) (content : Content) (db : Database) → HoldsFirst them content db
     → AreStored first_schema (club_trees db) content
 first_held them content db k =
     subst (λ s. AreStored first_schema (by_club s db.trees) content) (sym k.holds.schema)
-    (each_stored k.schema db.trees (over k.schema content them.rows) content k.holds.tables (tables_of First)
-    k.before.tables.0
-    (λ table s has. over_at k.schema (last_missing k.schema k.before.tables) content them.rows table s))
+    (over_stored k.schema db.trees content them.rows k.holds.tables (tables_of First) k.before.tables.0
+    (last_missing k.schema k.before.tables))
 
 -- the rows of a table of the club, where it stands
 pub rows_standing : (content : Content) (s : State) (k : HasRows content s) (table : of_club.Table)
@@ -263,8 +211,9 @@ rows_stored content s k =
     let (schema, whole, club, are, exactly) = k in
     subst (λ d. AreStored club_schema (by_club d s.now.trees) content) (sym exactly.now.schema)
     (each_stored schema s.now.trees whole content exactly.now.tables in_order club
-    (λ table stands has. sym (by_club_at schema whole table stands)
-    ∙ all_has (λ t. by_club schema whole (tree_of t) ≡ content (tree_of t)) in_order table are has))
+    (all_weaker (λ table. by_club schema whole (tree_of table) ≡ content (tree_of table))
+    (λ table. (stands : Stands schema table) → whole stands.tree ≡ content (tree_of table))
+    (λ table is stands. sym (by_club_at schema whole table stands) ∙ is) in_order are))
 
 -- ---- the two versions
 
@@ -276,31 +225,49 @@ pub versions_apart : (schema : Schema) → HasTablesOf First schema → HasTable
 versions_apart schema first current =
     let stands = all_has (Stands schema) in_order EventRules current (in_all EventRules) in
     let missing = (is_free schema (table_name EventRules) first.1).table in
-    none_is stands.place (sym stands.named ∙ missing)
-  where
-    none_is : (place : ℕ) → ◌≡◌ {A = Option ℕ} (Some place) None → ⊥
-    none_is place is = cc
+    let is : ◌≡◌ {A = Option ℕ} (Some stands.place) None = sym stands.named ∙ missing in
+    absurd (cc)
 
 -- ---- a club alone
+
+-- In an empty database a club can be made, since every name is free.
+room_alone : LeavesRoom (schema_after 0)
+room_alone = record { trees = tt; owned = tt; unrelated = tt }
+
+-- as a test
+abbrev are_unused : List of_club.Table → Schema → Bool
+are_unused [] schema = true
+are_unused (table ∷ tables) schema =
+    not (is_used schema (table_name table)) && (nat_lt (next_tree schema) (2 ^ 31)
+    && (not (lacks_sequence (created schema (made_as table 0)))
+    && are_unused tables (created schema (made_as table 0))))
+
+unused_by : (tables : List of_club.Table) (schema : Schema) → are_unused tables schema ≡ true → AreUnused schema tables
+unused_by [] schema all = tt
+unused_by (table ∷ tables) schema all =
+    let free = and_parts _ _ all in
+    let stored = and_parts _ _ free.1 in
+    let counted = and_parts _ _ stored.1 in
+    let rest = unused_by tables (created schema (made_as table 0)) counted.1 in
+    (not-true _ free.0, stored.0, not-true _ counted.0, rest)
+
+unused_alone : AreUnused (schema_after 0) in_order
+unfolding same_name
+unused_alone = unused_by in_order (schema_after 0) refl
 
 pub alone_room : HasRoom (schema_after 0) alone
 alone_room = record { trees = tt; unrelated = tt; unused = unused_alone; is = refl; bare = λ tree late. refl }
 
 pub alone_takes : TakesClub Current club_schema
 alone_takes =
-    (made_takes_club (schema_after 0) room_alone (free_of in_order (schema_after 0) unused_alone) nothing
+    (made_takes_club (schema_after 0) room_alone unused_alone nothing
     (λ tree late. refl)).0
-
-free_first : (tables more : List of_club.Table) (schema : Schema) → AreFree schema (tables ++ more)
-    → AreFree schema tables
-free_first [] more schema free = tt
-free_first (table ∷ tables) more schema (unnamed, stored, rest) =
-    (unnamed, stored, free_first tables more (created schema (made_as table 0)) rest)
 
 first_stands : HasTables First first_schema
 first_stands =
-    all_made (tables_of First) (schema_after 0)
-    (free_first (tables_of First) (EventRules ∷ []) (schema_after 0) (free_of in_order (schema_after 0) unused_alone))
+    all_weaker (Taken 0 first_schema) (Stands first_schema) (λ table it. it.stands) (tables_of First)
+    (all_taken 0 (tables_of First) (schema_after 0) room_alone
+    (unused_parts (schema_after 0) (tables_of First) (EventRules ∷ []) unused_alone).0 (omega arith)).0
 
 unused_first : is_used first_schema (table_name EventRules) ≡ false
 unfolding same_name
@@ -321,70 +288,45 @@ upgraded_alone = record {
   bare = refl;
 }
 
+stand_alone : (version : Version) → HasTables version (schema_of version)
+stand_alone First = first_stands
+stand_alone Current = alone_takes.club
+
+or_not_alone : (version : Version) → AllByRecursion (StandsOrNot (schema_of version)) in_order
+or_not_alone First = last_missing first_schema (first_stands, unused_first)
+or_not_alone Current = all_stand club_schema alone_takes.club
+
 -- Its tables stand where the club gives them their trees.
-one_number : (n m : ℕ) → ◌≡◌ {A = Option ℕ} (Some n) (Some m) → n ≡ m
-one_number n m is = cc
-
-tree_alone : (table : of_club.Table) → tree_in club_schema table ≡ Some (tree_of table)
+trees_alone : (version : Version)
+    → AllByRecursion (λ table. tree_in (schema_of version) table ≡ Some (tree_of table)) (tables_of version)
 unfolding tree_in same_name
-tree_alone Meta = refl
-tree_alone Members = refl
-tree_alone Events = refl
-tree_alone Challenges = refl
-tree_alone Moves = refl
-tree_alone Games = refl
-tree_alone Seen = refl
-tree_alone Scores = refl
-tree_alone EventRules = refl
+trees_alone First = (refl, (refl, (refl, (refl, (refl, (refl, (refl, (refl, tt))))))))
+trees_alone Current = (refl, (refl, (refl, (refl, (refl, (refl, (refl, (refl, (refl, tt)))))))))
 
-tree_first : AllByRecursion (λ table. tree_in first_schema table ≡ Some (tree_of table)) (tables_of First)
-unfolding tree_in same_name
-tree_first = (refl, (refl, (refl, (refl, (refl, (refl, (refl, (refl, tt))))))))
+module _ (version : Version) (content : Content) where
+  abbrev rows_alone : Content
+  rows_alone = over (schema_of version) content nothing
 
-module _ (schema : Schema) (all : AllByRecursion (StandsOrNot schema) in_order) (content : Content) where
-  alone_each : (tables : List of_club.Table) → AllByRecursion (Stands schema) tables
-      → AllByRecursion (λ table. tree_in schema table ≡ Some (tree_of table)) tables
-      → AllByRecursion (λ t. content t.tree ≡ over schema content nothing t.tree) (map standing tables)
-  alone_each [] stand trees = tt
-  alone_each (table ∷ tables) stand trees =
-      let s = stand.0 in
-      let tree : s.tree ≡ tree_of table =
-      one_number s.tree (tree_of table) (sym (tree_found schema table s) ∙ trees.0) in (
-        ap content (tree_is_of table) ∙ sym (over_at schema all content nothing table s)
-            ∙ ap (over schema content nothing) (tree ∙ sym (tree_is_of table)),
-        alone_each tables stand.1 trees.1,
-      )
-
-same_each : (one other : Content) (tables : List Table)
-    → AllByRecursion (λ t. one t.tree ≡ other t.tree) tables
-    → AllByRecursion (λ t. HaveSame (one t.tree) (other t.tree)) tables
-same_each one other [] all = tt
-same_each one other (t ∷ tables) all = (same_by _ _ all.0, same_each one other tables all.1)
-
-turn_each : (one other : Content) (tables : List Table)
-    → AllByRecursion (λ t. one t.tree ≡ other t.tree) tables
-    → AllByRecursion (λ t. other t.tree ≡ one t.tree) tables
-turn_each one other [] all = tt
-turn_each one other (t ∷ tables) all = (sym all.0, turn_each one other tables all.1)
-
-are_alone : (content : Content)
-    → AllByRecursion (λ t. content t.tree ≡ over club_schema content nothing t.tree) club_schema.tables
-are_alone content =
-    alone_each club_schema (all_stand club_schema alone_takes.club) content in_order alone_takes.club
-    (each_of_them (λ table. tree_in club_schema table ≡ Some (tree_of table)) tree_alone in_order)
-
-same_alone : (content : Content) → AreSame club_schema content (over club_schema content nothing)
-same_alone content = same_each content (over club_schema content nothing) club_schema.tables (are_alone content)
+  same_alone : AllByRecursion (λ t. HaveSame (content t.tree) (rows_alone t.tree)) (map standing (tables_of version))
+  same_alone =
+      all-map (λ (t : Table). HaveSame (content t.tree) (rows_alone t.tree)) standing (tables_of version)
+      (all_both (Stands (schema_of version)) (λ table. tree_in (schema_of version) table ≡ Some (tree_of table))
+      (λ table. HaveSame (content (standing table).tree) (rows_alone (standing table).tree)) (λ table s is.
+      same_by _ _ (ap content (tree_is_of table)
+      ∙ sym (over_at (schema_of version) (or_not_alone version) content nothing table s)
+      ∙ ap rows_alone (same_Some _ _ (sym (tree_found (schema_of version) table s) ∙ is) ∙ sym (tree_is_of table))))
+      (tables_of version) (stand_alone version) (trees_alone version))
 
 same_back : (content : Content) → AreSame club_schema (over club_schema content nothing) content
 same_back content =
-    same_each (over club_schema content nothing) content club_schema.tables
-    (turn_each content (over club_schema content nothing) club_schema.tables (are_alone content))
+    all_weaker (λ (t : Table). HaveSame (content t.tree) (over club_schema content nothing t.tree))
+    (λ (t : Table). HaveSame (over club_schema content nothing t.tree) (content t.tree))
+    (λ t same. record { there = same.back; back = same.there }) club_schema.tables (same_alone Current content)
 
 pub beside_alone : (content : Content) (s : State) → IsExactly content s → IsBesideThem alone content s
 beside_alone content s k = record {
   clear = alone_takes;
-  exactly = exactly_same content (over club_schema content nothing) s (same_alone content) k;
+  exactly = exactly_same content (over club_schema content nothing) s (same_alone Current content) k;
 }
 
 pub alone_exactly : (content : Content) (s : State) → IsBesideThem alone content s → IsExactly content s
@@ -393,7 +335,7 @@ alone_exactly content s k = exactly_same (over club_schema content nothing) cont
 pub left_alone : (content : Content) (db : Trees) → Leaves content db → LeavesBeside alone content db
 left_alone content db left = record {
   clear = alone_takes;
-  leaves = leaves_same content (over club_schema content nothing) db (same_alone content) left;
+  leaves = leaves_same content (over club_schema content nothing) db (same_alone Current content) left;
 }
 
 pub alone_leaves : (content : Content) (db : Trees) → LeavesBeside alone content db → Leaves content db
@@ -406,32 +348,23 @@ pub first_alone : (content : Content) (s : State) → of_schema.IsExactly first_
 first_alone content s k = record {
   schema = first_schema;
   before = upgraded_alone;
-  exactly = exactly_on first_schema content (over first_schema content nothing) s
-      (same_each content (over first_schema content nothing) first_schema.tables
-      (alone_each first_schema (last_missing first_schema (first_stands, unused_first)) content (tables_of First)
-      first_stands tree_first)) k;
+  exactly = exactly_on first_schema content (over first_schema content nothing) s (same_alone First content) k;
 }
 
 -- What a database holds that has the tables of a version alone, it holds by the club's numbers.
-itself_at : (content : Content) (schema : Schema) (tables : List of_club.Table) → AllByRecursion (Stands schema) tables
-    → AllByRecursion (λ table. tree_in schema table ≡ Some (tree_of table)) tables
-    → (table : of_club.Table) (s : Stands schema table) → Has tables table → content s.tree ≡ content (tree_of table)
-itself_at content schema [] stand trees table s has = absurd has
-itself_at content schema (t ∷ tables) stand trees table s (inl same) =
-    ap content (one_number s.tree (tree_of table)
-    (sym (tree_found schema table s)
-    ∙ subst (λ u. tree_in schema u ≡ Some (tree_of u)) (sym same) trees.0))
-itself_at content schema (t ∷ tables) stand trees table s (inr has) =
-    itself_at content schema tables stand.1 trees.1 table s has
+itself_stored : (version : Version) (db : Database) (content : Content) → of_schema.Holds (schema_of version) db content
+    → AllByRecursion (λ t. Stores t (club_trees db) content) (map standing (tables_of version))
+itself_stored version db content k =
+    let schema = schema_of version in
+    subst (λ s. AllByRecursion (λ t. Stores t (by_club s db.trees) content) (map standing (tables_of version)))
+    (sym k.schema)
+    (each_stored schema db.trees content content k.tables (tables_of version) (stand_alone version)
+    (all_weaker (λ table. tree_in schema table ≡ Some (tree_of table))
+    (λ table. (s : Stands schema table) → content s.tree ≡ content (tree_of table))
+    (λ table is s. ap content (same_Some _ _ (sym (tree_found schema table s) ∙ is))) (tables_of version)
+    (trees_alone version)))
 
 pub stored_alone : (version : Version) (db : Database) (content : Content)
     → of_schema.Holds (schema_of version) db content → AreStored (schema_of version) (club_trees db) content
-stored_alone First db content k =
-    subst (λ s. AreStored first_schema (by_club s db.trees) content) (sym k.schema)
-    (each_stored first_schema db.trees content content k.tables (tables_of First) first_stands
-    (itself_at content first_schema (tables_of First) first_stands tree_first))
-stored_alone Current db content k =
-    subst (λ s. AreStored club_schema (by_club s db.trees) content) (sym k.schema)
-    (each_stored club_schema db.trees content content k.tables in_order alone_takes.club
-    (itself_at content club_schema in_order alone_takes.club
-    (each_of_them (λ table. tree_in club_schema table ≡ Some (tree_of table)) tree_alone in_order)))
+stored_alone First = itself_stored First
+stored_alone Current = itself_stored Current

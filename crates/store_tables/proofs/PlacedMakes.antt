@@ -1,28 +1,24 @@
 -- What the texts that make the tables of a club do, behind the tables of other programs.
-use Rattle.std.proofs.Common.{◌≡◌, true, false, List, [], ◌∷◌, ◌++◌, Ok, None, refl, sym, ap, subst, ◌∙◌, inl, inr, arith}
-use Rattle.std.proofs.Math.Nat.{le_refl}
+use Rattle.std.proofs.Common.{◌≡◌, true, false, List, [], ◌∷◌, ◌++◌, Ok, None, refl, sym, ap, subst, ◌∙◌, arith}
+use Rattle.std.proofs.Common.{le_refl}
 use Rattle.sqlite.proofs.Callers.{runs_as}
-use Rattle.sqlite.specs.Change.{created, next_tree}
+use Rattle.sqlite_catalog.specs.Change.{created, next_tree, KeepsRows, is_used}
 use Rattle.sqlite.specs.Command.TheVariants.{CreateTable}
 use Rattle.sqlite.specs.Does.{Tally, lacks_sequence}
-use Rattle.sqlite.specs.Effect.{Database}
-use Rattle.sqlite.specs.Schema.{Schema}
-use Rattle.sqlite.specs.State.{State, Writes}
-use Rattle.sqlite.specs.Table.{Table}
-use Rattle.sqlite_catalog.proofs.StepLemmas.{table_below}
-use Rattle.sqlite_catalog.specs.Change.{KeepsRows, is_used}
-use Rattle.sqlite_rules.proofs.ListLemmas.{all_from, all_has, has_either, has_right}
+use Rattle.store_tables.specs.Sql.{Database, Schema, State, Table}
+use Rattle.sqlite.specs.State.{Writes}
+use Rattle.sqlite_trees.proofs.ListLemmas.{all-append, all_both}
 use Rattle.store_tables.specs.Contents.{Content, Holds, Ran, Stores}
 use Rattle.store_tables.specs.Names.{table_name}
+use Rattle.store_tables.proofs.PlacedCreated.{next_rises}
 use Rattle.store_tables.specs.Room.{AreUnused, made_in}
-use Rattle.store_tables.proofs.PlacedStanding.{IsEmptyFrom}
+use Rattle.store_tables.proofs.PlacedSteps.{IsEmptyFrom}
 use Rattle.store_tables.specs.Tables.{made_as}
 use Rattle.store_tables.specs.Texts.{create_of}
 use Rattle.store_tables.specs.declared.names.Table as of_club
 use Rattle.store_tables.proofs.MakeLemmas.{stores_by, stores_none}
 use Rattle.store_tables.proofs.Meanings.{defined}
-use Rattle.store_tables.proofs.PlacedCreated.{AreFree}
-use Rattle.store_tables.proofs.PlacedCreates.{creates_here, is_free}
+use Rattle.store_tables.proofs.PlacedCreates.{creates_here}
 use Rattle.store_tables.proofs.UpsertLemmas.{same_value, went}
 
 module _ (table : of_club.Table) (schema : Schema) (unused : is_used schema (table_name table) ≡ false)
@@ -55,33 +51,17 @@ module _ (table : of_club.Table) (schema : Schema) (unused : is_used schema (tab
       subst (λ s. first.0.trees (next_tree s) ≡ []) k.schema it.empty in
       let kept : KeepsRows schema.tables old.now.trees first.0.trees =
       subst (λ s. KeepsRows s.tables old.now.trees first.0.trees) k.schema it.others in
+      let fresh : Table = record made { tree = next_tree schema } in
       record {
         schema = ap (λ (d : Database). d.schema) now ∙ is;
         sound = w.sound;
-        tables = all_from (λ t. Stores t new.now.trees content) after.tables
-            (λ t known. elim (has_either schema.tables _ t known) [
-              | inl was ↦ stores_by t old.now.trees new.now.trees content
-                  (ap (λ (d : Database). d.trees t.tree) now
-                  ∙ all_has (λ t. first.0.trees t.tree ≡ old.now.trees t.tree) schema.tables t kept was)
-                  (all_has (λ t. Stores t old.now.trees content) schema.tables t k.tables was)
-              | inr new_one ↦
-                  elim new_one [
-                    | inl e ↦ stores_none t new.now.trees content
-                        (ap (λ (d : Database). d.trees t.tree) now
-                        ∙ ap (λ (u : Table). first.0.trees u.tree) e ∙ empty)
-                        (ap (λ (u : Table). content u.tree) e ∙ free)
-                    | inr nothing ↦ absurd nothing
-                  ]
-            ]);
+        tables = all-append (λ t. Stores t new.now.trees content) schema.tables (fresh ∷ [])
+            (all_both (λ t. first.0.trees t.tree ≡ old.now.trees t.tree) (λ t. Stores t old.now.trees content)
+            (λ t. Stores t new.now.trees content) (λ t same was.
+            stores_by t old.now.trees new.now.trees content (ap (λ (d : Database). d.trees t.tree) now ∙ same) was)
+            schema.tables kept k.tables)
+            (stores_none fresh new.now.trees content (ap (λ (d : Database). d.trees fresh.tree) now ∙ empty) free, tt);
       }
-
-pub free_of : (tables : List of_club.Table) (schema : Schema) → AreUnused schema tables → AreFree schema tables
-free_of [] schema unused = tt
-free_of (table ∷ tables) schema (unused, stored, uncounted, rest) = (
-  (is_free schema (table_name table) unused).table,
-  stored,
-  free_of tables (created schema (made_as table 0)) rest,
-)
 
 -- Inside a transaction these tables of a club were made behind those of other programs, whose rows stay, and nothing
 -- was committed.
@@ -94,9 +74,8 @@ pub record MakesHere (tables : List of_club.Table) (old new : State) : Type 0 wh
 later : (schema : Schema) (table : Table) (content : Content) → IsEmptyFrom (next_tree schema) content
     → IsEmptyFrom (next_tree (created schema table)) content
 later schema table content empty n from =
-    let new : Table = record table { tree = next_tree schema } in
-    let below = table_below (created schema table) new (has_right schema.tables (new ∷ []) new (inl refl)) in
-    empty n (omega (arith, below, from))
+    let rises = next_rises schema table in
+    empty n (omega (arith, rises, from))
 
 -- ---- one table after those that were made
 
@@ -105,17 +84,13 @@ made_push : (schema : Schema) (tables : List of_club.Table) (table : of_club.Tab
 made_push schema [] table = refl
 made_push schema (t ∷ tables) table = made_push (created schema (made_as t 0)) tables table
 
-unused_first : (schema : Schema) (tables more : List of_club.Table) → AreUnused schema (tables ++ more)
-    → AreUnused schema tables
-unused_first schema [] more unused = tt
-unused_first schema (t ∷ tables) more (free, stored, counted, rest) =
-    (free, stored, counted, unused_first (created schema (made_as t 0)) tables more rest)
-
-unused_last : (schema : Schema) (tables more : List of_club.Table) → AreUnused schema (tables ++ more)
-    → AreUnused (made_in schema tables) more
-unused_last schema [] more unused = unused
-unused_last schema (t ∷ tables) more (free, stored, counted, rest) =
-    unused_last (created schema (made_as t 0)) tables more rest
+-- Those that are made first can be, and then the rest.
+pub unused_parts : (schema : Schema) (tables more : List of_club.Table) → AreUnused schema (tables ++ more)
+    → AreUnused schema tables × AreUnused (made_in schema tables) more
+unused_parts schema [] more unused = (tt, unused)
+unused_parts schema (t ∷ tables) more (free, stored, counted, rest) =
+    let parts = unused_parts (created schema (made_as t 0)) tables more rest in
+    ((free, stored, counted, parts.0), parts.1)
 
 later_all : (schema : Schema) (tables : List of_club.Table) (content : Content)
     → IsEmptyFrom (next_tree schema) content → IsEmptyFrom (next_tree (made_in schema tables)) content
@@ -128,12 +103,13 @@ pub makes_next : (tables : List of_club.Table) (table : of_club.Table) (a b c : 
     → Ran (create_of table) b c → MakesHere (tables ++ table ∷ []) a c
 makes_next tables table a b c one two = record {
   made = λ schema unused content k empty.
-      let (free, stored, counted, rest) = unused_last schema tables (table ∷ []) unused in
+      let parts = unused_parts schema tables (table ∷ []) unused in
+      let (free, stored, counted, rest) = parts.1 in
       let late = later_all schema tables content empty in
       let before = made_in schema tables in
       subst (λ s. Holds s c.now content) (sym (made_push schema tables table))
       (makes_one table before free counted b c two content
-      (one.made schema (unused_first schema tables (table ∷ []) unused) content k empty)
+      (one.made schema parts.0 content k empty)
       (late (next_tree before) (le_refl (next_tree before))));
   committed = two.runs.1.committed_is ∙ one.committed;
   inside = two.runs.1.mode;

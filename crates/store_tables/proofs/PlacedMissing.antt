@@ -1,15 +1,14 @@
 -- A text that asks for the rules of events, where their table is not there, is not understood.
-use Rattle.std.proofs.Common.{◌≡◌, false, None, refl, ◌∙◌}
-use Rattle.std.specs.Prelude.{if◌then◌else◌, is_ok}
-use Rattle.sqlite.specs.Listing.{understood, listing_schema, misses_table, if_select}
+use Rattle.std.proofs.Common.{◌≡◌, false, None, refl, ◌∙◌, if◌then◌else◌, is_ok}
+use Rattle.sqlite.specs.Listing.{listing_schema, misses_table, if_select}
+use Rattle.store_tables.specs.Sql.{understood, Schema}
 use Rattle.sqlite_schema.specs.Names.{same_name, table_named, view_named}
-use Rattle.sqlite_schema.specs.declared.schema.Schema.{Schema}
 use Rattle.sqlite_resolve.specs.Compile.{compiled}
 use Rattle.store_tables.specs.Names.{table_name}
 use Rattle.store_tables.specs.Tables.{standing}
 use Rattle.store_tables.specs.Texts.{by_first_text}
 use Rattle.store_tables.specs.declared.names.Table.TheVariants.{EventRules}
-use Rattle.store_tables.proofs.PlacedMeanings.{are_meant, group_asked}
+use Rattle.store_tables.proofs.PlacedSelects.{are_meant, group_asked}
 use Rattle.store_tables.proofs.PlacedTexts.{compiled_none}
 
 listed : table_named listing_schema (table_name EventRules) ≡ None

@@ -1,18 +1,15 @@
 -- The rows of a club over those of its neighbours, and what calls make of them.
-use Rattle.std.proofs.Common.{◌≡◌, ℕ, ◌==◌, true, false, List, [], ◌∷◌, ◌++◌, None, Ok, refl}
-use Rattle.std.proofs.Common.{sym, ap, subst, subst₂, ◌∙◌, inl, inr, ◌<◌, arith}
+use Rattle.std.proofs.Common.{◌≡◌, ℕ, ◌==◌, true, false, List, [], ◌∷◌, ◌++◌, None, Ok, refl, sym, ap, subst, subst₂}
+use Rattle.std.proofs.Common.{◌∙◌, inl, inr, ◌<◌, arith}
 use Rattle.std.proofs.lemmas.Grind.{common_steps}
 use Rattle.std.specs.List.{AllByRecursion}
 use Rattle.sqlite.specs.Change.{created, next_tree}
 use Rattle.sqlite.specs.Does.{lacks_sequence}
-use Rattle.sqlite.specs.Effect.{Database}
-use Rattle.sqlite.specs.Order.{Row}
-use Rattle.sqlite.specs.Schema.{Schema}
-use Rattle.sqlite.specs.State.{State, ExecutesInside}
-use Rattle.sqlite_rules.proofs.ListLemmas.{all_from, all_has, has_either, has_got, has_left}
+use Rattle.store_tables.specs.Sql.{Database, Row, Schema, State, Has}
+use Rattle.sqlite.specs.State.{ExecutesInside}
+use Rattle.sqlite_rules.proofs.ListLemmas.{all_from, all_has, has_either, has_got}
 use Rattle.sqlite_catalog.proofs.StepLemmas.{table_below}
 use Rattle.sqlite_catalog.specs.Listing.{IsSound}
-use Rattle.sqlite_rules.specs.Lists.{Has}
 use Rattle.sqlite_schema.specs.Names.{table_named}
 use Rattle.store_tables.specs.Content.{Keeps}
 use Rattle.store_tables.specs.Contents.{Content, Holds, Ran, Stores, nothing, opening_meta, put_each, put_in}
@@ -25,51 +22,31 @@ use Rattle.store_tables.specs.Texts.{create_of, put_text}
 use Rattle.store_tables.specs.declared.names.Table as of_club
 use Rattle.store_tables.specs.declared.names.Table.TheVariants.{EventRules, Meta}
 use Rattle.store_tables.specs.declared.names.Version.TheVariants.{First, Current}
-use Rattle.store_tables.proofs.PlacedCreated.{all_joined, stands_grown, stands_on}
+use Rattle.store_tables.proofs.PlacedCreated.{stands_grown, stands_on}
+use Rattle.sqlite_trees.proofs.ListLemmas.{all-append, all_weaker}
 use Rattle.store_tables.proofs.PlacedCreates.{is_free}
-use Rattle.store_tables.proofs.PlacedMakes.{MakesHere, free_of, makes_one}
-use Rattle.store_tables.proofs.PlacedPuts.{PutsAnywhere}
-use Rattle.store_tables.proofs.PlacedStanding.{AreHere, LeavesRoom, StepsHere}
+use Rattle.store_tables.proofs.PlacedMakes.{MakesHere, makes_one}
+use Rattle.store_tables.proofs.PlacedPuts.{PutsAnywhere, key_of}
+use Rattle.store_tables.proofs.PlacedSteps.{AreHere, LeavesRoom, StepsHere, each_at, each_from, each_has, one_tree}
+use Rattle.store_tables.proofs.PlacedSteps.{put_row_here}
 use Rattle.store_tables.proofs.PlacedSelects.{tree_is}
 use Rattle.store_tables.proofs.PlacedSound.{sound_owned}
-use Rattle.store_tables.proofs.PlacedSteps.{one_tree, put_row_here}
 use Rattle.store_tables.proofs.PlacedTaken.{TakesNone, made_takes_club}
 use Rattle.store_tables.proofs.PlacedTrees.{StandsOrNot, in_all, one_or_none, over_at, over_past, tree_found}
 use Rattle.store_tables.proofs.PlacedTrees.{tree_missing}
-use Rattle.store_tables.proofs.PutMeanings.{key_of}
 use Rattle.store_tables.proofs.StepLemmas.{put_each-push}
 
 -- ---- which of a club's tables stand
 
-all_standing : (schema : Schema) (tables : List of_club.Table) → AllByRecursion (Stands schema) tables
-    → AllByRecursion (StandsOrNot schema) tables
-all_standing schema [] all = tt
-all_standing schema (t ∷ tables) all = (inl all.0, all_standing schema tables all.1)
-
 pub all_stand : (schema : Schema) → HasTables Current schema → AllByRecursion (StandsOrNot schema) in_order
-all_stand schema club = all_standing schema in_order club
+all_stand schema = all_weaker (Stands schema) (StandsOrNot schema) (λ table stands. inl stands) in_order
 
 -- Of schema 1 the last does not.
 pub last_missing : (schema : Schema) → HasTablesOf First schema → AllByRecursion (StandsOrNot schema) in_order
-last_missing schema ((a, (b, (c, (d, (e, (f, (g, (h, none)))))))), unused) = (
-  inl a,
-  (
-    inl b,
-    (
-      inl c,
-      (
-        inl d,
-        (
-          inl e,
-          (
-            inl f,
-            (inl g, (inl h, (inr (is_free schema (table_name EventRules) unused).table, tt))),
-          ),
-        ),
-      ),
-    ),
-  ),
-)
+last_missing schema (first, unused) =
+    all-append (StandsOrNot schema) (tables_of First) (EventRules ∷ [])
+    (all_weaker (Stands schema) (StandsOrNot schema) (λ table stands. inl stands) (tables_of First) first)
+    (inr (is_free schema (table_name EventRules) unused).table, tt)
 
 past_tree : (tree next : ℕ) → tree < next → (next == tree) ≡ false
 past_tree tree next less = grind (arith, common_steps, less)
@@ -80,44 +57,13 @@ below schema table s =
     subst (λ n. n < next_tree schema) (tree_is table s.tree)
     (table_below schema (made_as table s.tree) (has_got schema.tables s.place (made_as table s.tree) s.at))
 
-at_standing : (schema : Schema) (n : ℕ) (tables : List of_club.Table) (stand : AllByRecursion (Stands schema) tables)
-    → EachStanding schema (λ table s. (n == s.tree) ≡ false) tables stand → (table : of_club.Table)
-    → Has tables table → (s : Stands schema table) → (n == s.tree) ≡ false
-at_standing schema n [] stand past table has s = absurd has
-at_standing schema n (t ∷ tables) stand past table (inl same) s =
-    subst (λ u. (it : Stands schema u) → (n == it.tree) ≡ false) (sym same)
-    (λ it. ap (λ m. n == m) (one_tree schema t it stand.0) ∙ past.0) s
-at_standing schema n (t ∷ tables) stand past table (inr has) s =
-    at_standing schema n tables stand.1 past.1 table has s
-
 -- ---- the rows of all tables, and those of a club among them
 
 module _ (schema : Schema) (club : HasTables Current schema) (content rows : Content) where
-  here_each : (tables : List of_club.Table) (stand : AllByRecursion (Stands schema) tables)
-      → EachStanding schema (λ table s. over schema content rows s.tree ≡ content (tree_of table)) tables stand
-  here_each [] stand = tt
-  here_each (t ∷ tables) stand =
-      (over_at schema (all_stand schema club) content rows t stand.0, here_each tables stand.1)
-
   pub here_over : AreHere Current schema club (over schema content rows) content
-  here_over = here_each in_order club
-
-  at_each : (whole : Content) (tables : List of_club.Table) (stand : AllByRecursion (Stands schema) tables)
-      → EachStanding schema (λ table s. whole s.tree ≡ content (tree_of table)) tables stand
-      → (table : of_club.Table) → Has tables table → (s : Stands schema table)
-      → whole s.tree ≡ content (tree_of table)
-  at_each whole [] stand are table has s = absurd has
-  at_each whole (t ∷ tables) stand are table (inl same) s =
-      subst (λ u. (it : Stands schema u) → whole it.tree ≡ content (tree_of u)) (sym same)
-      (λ it. ap whole (one_tree schema t it stand.0) ∙ are.0) s
-  at_each whole (t ∷ tables) stand are table (inr has) s = at_each whole tables stand.1 are.1 table has s
-
-  none_each : (n : ℕ) (tables : List of_club.Table) (stand : AllByRecursion (Stands schema) tables)
-      → AllByRecursion (λ table. is_tree n (tree_in schema table) ≡ false) tables
-      → EachStanding schema (λ table s. (n == s.tree) ≡ false) tables stand
-  none_each n [] stand past = tt
-  none_each n (t ∷ tables) stand past =
-      (sym (ap (is_tree n) (tree_found schema t stand.0)) ∙ past.0, none_each n tables stand.1 past.1)
+  here_over =
+      each_from schema (λ table s. over schema content rows s.tree ≡ content (tree_of table)) in_order club
+      (λ table has s. over_at schema (all_stand schema club) content rows table s)
 
   -- Rows of which the club's are these and the rest those of others are these over those.
   module _ (whole : Content) (here : AreHere Current schema club whole content)
@@ -127,20 +73,23 @@ module _ (schema : Schema) (club : HasTables Current schema) (content rows : Con
       same_over n = elim (one_or_none schema n in_order (all_stand schema club)) [
         | inl found ↦
             let (table, s, is, has) = found in
-            ap whole is ∙ at_each whole in_order club here table has s
+            ap whole is ∙ each_at schema (λ u m. whole m ≡ content (tree_of u)) in_order club here table has s
             ∙ sym (ap (over schema content rows) is
             ∙ over_at schema (all_stand schema club) content rows table s)
         | inr past ↦
-            others n (none_each n in_order club past) ∙ sym (over_past schema content rows n past)
+            others n (each_from schema (λ table s. (n == s.tree) ≡ false) in_order club (λ table has s.
+            sym (ap (is_tree n) (tree_found schema table s))
+            ∙ all_has (λ u. is_tree n (tree_in schema u) ≡ false) in_order table past has))
+            ∙ sym (over_past schema content rows n past)
       ]
 
       pub held_over : (db : Database) → Holds schema db whole → Holds schema db (over schema content rows)
       held_over db k = record {
         schema = k.schema;
         sound = k.sound;
-        tables = all_from (λ t. Stores t db.trees (over schema content rows)) schema.tables (λ t listed.
-            let was = all_has (λ u. Stores u db.trees whole) schema.tables t k.tables listed in
-            record { rows = subst (Keeps t db.trees) (same_over t.tree) was.rows; apart = was.apart });
+        tables = all_weaker (λ t. Stores t db.trees whole) (λ t. Stores t db.trees (over schema content rows))
+            (λ t was. record { rows = subst (Keeps t db.trees) (same_over t.tree) was.rows; apart = was.apart })
+            schema.tables k.tables;
       }
 
 -- ---- what is put
@@ -158,18 +107,14 @@ steps_beside change old new steps = record {
   inside = steps.inside;
 }
   where
-    past_of : (schema : Schema) (n : ℕ) (tables : List of_club.Table) (stand : AllByRecursion (Stands schema) tables)
-        → EachStanding schema (λ table s. (n == s.tree) ≡ false) tables stand
-        → AllByRecursion (λ table. is_tree n (tree_in schema table) ≡ false) tables
-    past_of schema n [] stand none = tt
-    past_of schema n (t ∷ tables) stand none =
-        (ap (is_tree n) (tree_found schema t stand.0) ∙ none.0, past_of schema n tables stand.1 none.1)
-
     past_over : (them : Neighbours) (club : HasTables Current them.schema) (content : Content) (n : ℕ)
         → EachStanding them.schema (λ table s. (n == s.tree) ≡ false) in_order club
         → over them.schema content them.rows n ≡ them.rows n
     past_over them club content n none =
-        over_past them.schema content them.rows n (past_of them.schema n in_order club none)
+        over_past them.schema content them.rows n
+        (all_from (λ table. is_tree n (tree_in them.schema table) ≡ false) in_order (λ table has.
+        let found = each_has them.schema (λ u s. (n == s.tree) ≡ false) in_order club none table has in
+        ap (is_tree n) (tree_found them.schema table found.0) ∙ found.1))
 
 -- a call that puts the row
 abbrev pub Put : of_club.Table → Row → Type 1
@@ -216,7 +161,7 @@ room_none schema them room db k =
       unrelated = room.unrelated;
     } in
     subst (TakesNone them.rows) (sym room.is)
-    (made_takes_club schema leaves (free_of in_order schema room.unused) them.rows room.bare)
+    (made_takes_club schema leaves room.unused them.rows room.bare)
 
 pub room_takes : (schema : Schema) (them : Neighbours) → HasRoom schema them → (db : Database)
     → Holds schema db them.rows → TakesClub Current them.schema
@@ -264,46 +209,41 @@ module _ (schema : Schema) (them : Neighbours) (before : IsUpgraded schema them)
   free : table_named schema (table_name EventRules) ≡ None
   free = (is_free schema (table_name EventRules) before.tables.1).table
 
-  -- No table that stands has the next tree.
-  past_next : (tables : List of_club.Table) → AllByRecursion (StandsOrNot schema) tables
-      → AllByRecursion (λ table. is_tree next (tree_in schema table) ≡ false) tables
-  past_next [] all = tt
-  past_next (t ∷ tables) (inl s, all) =
-      (ap (is_tree next) (tree_found schema t s) ∙ past_tree s.tree next (below schema t s), past_next tables all)
-  past_next (t ∷ tables) (inr missing, all) =
-      (ap (is_tree next) (tree_missing schema t missing), past_next tables all)
+  -- A tree that no table of the club has, has the rows of the others.
+  past_at : (n : ℕ) (table : of_club.Table) → ((s : Stands schema table) → (n == s.tree) ≡ false)
+      → StandsOrNot schema table → is_tree n (tree_in schema table) ≡ false
+  past_at n table other (inl s) = ap (is_tree n) (tree_found schema table s) ∙ other s
+  past_at n table other (inr missing) = ap (is_tree n) (tree_missing schema table missing)
+
+  outside : (n : ℕ) → ((table : of_club.Table) → Has in_order table → (s : Stands schema table) → (n == s.tree) ≡ false)
+      → whole n ≡ them.rows n
+  outside n other =
+      over_past schema content them.rows n
+      (all_from (λ table. is_tree n (tree_in schema table) ≡ false) in_order (λ table has.
+      past_at n table (other table has)
+      (all_has (StandsOrNot schema) in_order table (last_missing schema before.tables) has)))
 
   bare_next : whole next ≡ []
-  bare_next =
-      over_past schema content them.rows next (past_next in_order (last_missing schema before.tables)) ∙ before.bare
+  bare_next = outside next (λ table has s. past_tree s.tree next (below schema table s)) ∙ before.bare
 
   -- A table of schema 1 has its rows where it stood, and the new one has none.
-  had : (tables : List of_club.Table) → AllByRecursion (Stands schema) tables → (table : of_club.Table)
-      → Has tables table → (s : Stands after table) → whole s.tree ≡ content (tree_of table)
+  had : (table : of_club.Table) → Has (tables_of First) table → (s : Stands after table)
+      → whole s.tree ≡ content (tree_of table)
   unfolding stands_on
-  had [] stand table has s = absurd has
-  had (t ∷ tables) stand table (inl same) s =
-      subst (λ u. (it : Stands after u) → whole it.tree ≡ content (tree_of u)) (sym same)
-      (λ it. ap whole (one_tree after t it (stands_on schema (made_as EventRules 0) t stand.0))
-      ∙ over_at schema (last_missing schema before.tables) content them.rows t stand.0) s
-  had (t ∷ tables) stand table (inr has) s = had tables stand.1 table has s
+  had table has s =
+      let was = all_has (Stands schema) (tables_of First) table before.tables.0 has in
+      ap whole (one_tree after table s (stands_on schema (made_as EventRules 0) table was))
+      ∙ over_at schema (last_missing schema before.tables) content them.rows table was
 
   new_one : (s : Stands after EventRules) → whole s.tree ≡ content (tree_of EventRules)
   new_one s =
       ap whole (one_tree after EventRules s (stands_grown schema EventRules free before.stored))
       ∙ bare_next ∙ sym none
 
-  each_here : (tables : List of_club.Table) (stand : AllByRecursion (Stands after) tables)
-      → ((table : of_club.Table) → Has tables table → (s : Stands after table) → whole s.tree ≡ content (tree_of table))
-      → EachStanding after (λ table s. whole s.tree ≡ content (tree_of table)) tables stand
-  each_here [] stand are = tt
-  each_here (t ∷ tables) stand are =
-      (are t (inl refl) stand.0, each_here tables stand.1 (λ table has. are table (inr has)))
-
   either : (table : of_club.Table) → Has in_order table → (s : Stands after table)
       → whole s.tree ≡ content (tree_of table)
   either table has s = elim (has_either (tables_of First) (EventRules ∷ []) table has) [
-    | inl first ↦ had (tables_of First) before.tables.0 table first s
+    | inl first ↦ had table first s
     | inr last ↦
         elim last [
           | inl same ↦
@@ -313,31 +253,18 @@ module _ (schema : Schema) (them : Neighbours) (before : IsUpgraded schema them)
   ]
 
   -- What is no tree of a club of schema 2 was none before.
-  was_past : (n : ℕ) (tables : List of_club.Table) → AllByRecursion (Stands schema) tables
-      → ((table : of_club.Table) → Has tables table → (s : Stands after table) → (n == s.tree) ≡ false)
-      → AllByRecursion (λ table. is_tree n (tree_in schema table) ≡ false) tables
-  unfolding stands_on
-  was_past n [] stand past = tt
-  was_past n (t ∷ tables) stand past = (
-    ap (is_tree n) (tree_found schema t stand.0)
-        ∙ past t (inl refl) (stands_on schema (made_as EventRules 0) t stand.0),
-    was_past n tables stand.1 (λ table has. past table (inr has)),
-  )
-
   others : (club : HasTables Current after) (n : ℕ)
       → EachStanding after (λ table s. (n == s.tree) ≡ false) in_order club → whole n ≡ them.rows n
-  others club n past =
-      over_past schema content them.rows n
-      (all_joined (λ table. is_tree n (tree_in schema table) ≡ false) (tables_of First) (EventRules ∷ [])
-      (was_past n (tables_of First) before.tables.0
-      (λ table has s. at_standing after n in_order club past table (has_left (tables_of First) (EventRules ∷ [])
-      table has) s))
-      (ap (is_tree n) (tree_missing schema EventRules free), tt))
+  unfolding stands_on
+  others club n past = outside n (λ table has s.
+      each_at after (λ t m. (n == m) ≡ false) in_order club past table has
+      (stands_on schema (made_as EventRules 0) table s))
 
   pub widened_over : (club : HasTables Current after) (db : Database) → Holds after db whole
       → Holds after db (over after content them.rows)
   widened_over club db k =
-      held_over after club content them.rows whole (each_here in_order club either) (others club) db k
+      held_over after club content them.rows whole
+      (each_from after (λ table s. whole s.tree ≡ content (tree_of table)) in_order club either) (others club) db k
 
 pub widens : (old new : State) (sql : List ℕ) → sql ≡ create_of EventRules → Ran sql old new → Widens old new
 widens old new sql text h = record {

@@ -1,47 +1,126 @@
 -- The texts that put a row put it wherever its table stands in a schema.
 use Rattle.std.proofs.Common.{◌≡◌, ℤ, Bool, true, false, List, [], ◌∷◌, ◌++◌, Some, refl, sym, ap, subst, ◌∙◌, length}
-use Rattle.std.proofs.Common.{slice_get, slice_index_or, drop, ◌||◌, ◌&&◌, inl, inr, true≢false}
-use Rattle.std.proofs.lemmas.Bool.{and_parts, and_from, cases_Bool, eq-eqb}
+use Rattle.std.proofs.Common.{slice_get, slice_index_or, drop, ◌||◌, ◌&&◌, ℕ, ◌==◌, Option, None, flat_map, filter_map}
+use Rattle.std.proofs.Common.{IfSome, cond, subst₂, if◌then◌else◌, eq-eqb}
+use Rattle.std.proofs.lemmas.Bool.{and_parts, and_from, false_from_ne_true, not-true, both_ways}
 use Rattle.std.proofs.lemmas.Slice.Eq.{bytes_eq-Decides}
-use Rattle.std.specs.List.{AllByRecursion, list_any}
+use Rattle.std.specs.List.{AllByRecursion, list_any, range_with_len}
 use Rattle.sqlite.specs.Effect.{IsSource}
-use Rattle.sqlite.specs.Order.{Row, column}
+use Rattle.store_tables.specs.Sql.{Row, column, Schema, Table, Trees, Has, rowid}
 use Rattle.sqlite.specs.Rows.{stamped, shown}
-use Rattle.sqlite.specs.Schema.{Schema}
-use Rattle.sqlite.specs.Table.{Table}
 use Rattle.sqlite.specs.Term.{eval_all}
-use Rattle.sqlite.specs.Tree.{Trees}
-use Rattle.sqlite_rules.proofs.ListLemmas.{has_got, some_from}
+use Rattle.sqlite_rules.proofs.ListLemmas.{all_has, has_got, some_has, some_from, test_has}
 use Rattle.sqlite_rules.specs.Keys.{aims, conflicts, shares}
-use Rattle.sqlite_rules.specs.Lists.{Has}
-use Rattle.sqlite_schema.specs.Rules.{agree, guards, Keeps as KeepsRule}
+use Rattle.sqlite_schema.specs.Rules.{agree, guards, Keeps as KeepsRule, ParentKey, parent_key, equal, differ}
 use Rattle.sqlite_schema.specs.declared.schema.Index.{Index}
-use Rattle.sqlite_value.specs.Keys.{plain}
-use Rattle.sqlite.specs.declared.types.Value.TheVariants.{Null, Int}
+use Rattle.sqlite_value.specs.Keys.{plain, first_key}
+use Rattle.sqlite.specs.declared.types.Value.TheVariants.{Null, Int, Text as Words}
 use Rattle.sqlite_catalog.specs.Listing.{automatic}
-use Rattle.sqlite_rules.specs.Action.{works}
-use Rattle.sqlite_rules.specs.Cast.{cast_row}
+use Rattle.sqlite_rules.specs.Action.{works, Work, loses, pairs, work_by, work_for}
+use Rattle.sqlite_rules.specs.Cast.{cast_row, cast}
 use Rattle.sqlite_rules.specs.Edit.{next_rowid, with_rowid}
 use Rattle.sqlite_rules.specs.declared.error.Rowids.TheVariants.{Chosen}
 use Rattle.sqlite_schema.specs.declared.schema.Constraint.TheVariants.{Unique}
 use Rattle.sqlite_schema.specs.declared.schema.Keys.TheVariants.{Enforced}
-use Rattle.sqlite_trees.specs.Tree.{rowid}
 use Rattle.sqlite_value.specs.declared.value.Value.{Value}
 use Rattle.store_tables.specs.Cells.{MetaRow, MemberRow, EventRow, EventRuleRow, ChallengeRow, MoveRow, GameRecord}
 use Rattle.store_tables.specs.Cells.{SeenRow, ScoreRow, meta_cells, member_cells, event_cells, challenge_cells}
 use Rattle.store_tables.specs.Cells.{move_cells, game_cells, event_rule_cells, seen_cells, score_cells}
 use Rattle.store_tables.specs.Content.{cells, same_key}
-use Rattle.store_tables.specs.Placed.{IsAlike, IsLeftAlone, Stands, only}
+use Rattle.store_tables.specs.Placed.{IsAlike, IsLeftAlone, Stands, only, IsOfOthers}
 use Rattle.store_tables.specs.Put.{IsPut}
-use Rattle.store_tables.specs.Tables.{made_as}
+use Rattle.store_tables.specs.Tables.{made_as, standing}
 use Rattle.store_tables.specs.declared.names.Table as of_club
 use Rattle.store_tables.specs.declared.names.Table.TheVariants.{Members, Events, EventRules, Challenges, Moves, Games}
 use Rattle.store_tables.specs.declared.names.Table.TheVariants.{Seen, Scores, Meta}
-use Rattle.store_tables.proofs.BesideLemmas.{no_works}
 use Rattle.store_tables.proofs.Meanings.{source_of, updates_of}
 use Rattle.store_tables.proofs.PlacedSelects.{is_bare}
-use Rattle.store_tables.proofs.PutMeanings.{by_id, by_index, cast_int, cast_maybe_int, cast_maybe_text, cast_null}
-use Rattle.store_tables.proofs.PutMeanings.{key_of}
+use Rattle.sqlite_rules.specs.declared.action.Deed.{Deed}
+use Rattle.sqlite_schema.specs.declared.schema.Keys.{Keys}
+use Rattle.sqlite_schema.specs.declared.schema.Reference.{Reference}
+use Rattle.sqlite.specs.Values.{or_null}
+use Rattle.sqlite.specs.Kind.TheVariants.{Integer, Text}
+use Rattle.sqlite.specs.Collation.TheVariants.{Binary}
+use Rattle.sqlite_rules.proofs.RuleLemmas.{keeps_at}
+use Rattle.sqlite_sql.specs.Ops.{unary}
+use Rattle.store_tables.proofs.KeyLemmas.{equal_ints, differ_ints}
+
+-- ---- no FOREIGN KEY of theirs acts
+
+elsewhere : (key tree : ℕ) (x : Bool) (w : Work) → (key == tree) ≡ false
+    → ◌≡◌ {A = Option Work} (if (key == tree) && x then Some w else None) None
+elsewhere key tree x w other i = if other i && x then Some w else None
+
+module _ (table : Table) (depth : ℕ) where
+  no_work : (moves : List (Row × Row)) (child : Table) (ref : Reference) (deed : Option Deed) (key : Option ParentKey)
+      → IfSome key (λ k. AllByRecursion (λ t. (k.0 == t.tree) ≡ false) (only table).tables)
+      → work_by depth table.tree moves child ref deed key ≡ None
+  no_work moves child ref None key other = refl
+  no_work moves child ref (Some deed) None other = refl
+  no_work moves child ref (Some deed) (Some key) other =
+      elsewhere key.0 table.tree (list_any (loses key.2 key.1) moves) _ other.0
+
+  module _ (schema : Schema) (keys : Keys) (olds news : List Row) where
+    none_for : (child : Table) (refs : List Reference) → AllByRecursion (IsOfOthers (only table) schema.tables) refs
+        → filter_map (work_for schema keys depth table.tree olds news child) refs ≡ []
+    none_for child [] others = refl
+    none_for child (ref ∷ refs) others =
+        let here : work_for schema keys depth table.tree olds news child ref ≡ None =
+        no_work (pairs olds news) child ref _ (parent_key schema.tables ref) others.0 in
+        rw here (none_for child refs others.1)
+
+    no_works : (ts : List Table)
+        → AllByRecursion (λ t. AllByRecursion (IsOfOthers (only table) schema.tables) t.references) ts
+        → flat_map (λ child. filter_map (work_for schema keys depth table.tree olds news child) child.references) ts
+        ≡ []
+    no_works [] others = refl
+    no_works (t ∷ ts) others = rw (none_for t t.references others.0) (no_works ts others.1)
+
+-- ---- what stays as it is when it is cast, and when keys are the same
+
+either : {X : Type 0} (b : Bool) (x : X) → cond b x x ≡ x
+either true x = refl
+either false x = refl
+
+cast_null : cast Integer Null ≡ Null
+unfolding unary
+cast_null = either _ Null
+
+cast_int : (n : ℤ) → cast Integer (Int n) ≡ Int n
+unfolding unary
+cast_int n = either _ (Int n)
+
+-- two rows with the key of a unique index have one rowid
+by_index : (schema : Schema) (table : Table) (index : Index) → Has schema.tables table → Has schema.indexes index
+    → guards index table ≡ true → (next : Trees) (r s : Row) (m n : ℤ) → KeepsRule Unique schema next
+    → rowid r ≡ Int m → rowid s ≡ Int n → Has (next table.tree) r → Has (next table.tree) s
+    → agree index.order index.columns r index.columns s ≡ true → n ≡ m
+by_index schema table index listed has guard next r s m n keeps id jd there here same =
+    let passes = test_has _ schema.indexes index (keeps_at Unique schema next table s keeps listed here) has in
+    sym
+    (differ_ints m n
+    (subst₂ (λ a b. differ a b ≡ false) id jd
+    (false_from_ne_true _
+    (λ apart. both_ways _ (not-true _ passes)
+    (and_from _ _ guard (some_from _ (next table.tree) r there (and_from _ _ same apart)))))))
+
+cast_maybe_int : (o : Option ℤ) → cast Integer (or_null Int o) ≡ or_null Int o
+cast_maybe_int None = cast_null
+cast_maybe_int (Some n) = cast_int n
+
+cast_maybe_text : {X : Type 0} (f : X → List ℕ) (o : Option X)
+    → cast Text (or_null (λ x. Words (f x)) o) ≡ or_null (λ x. Words (f x)) o
+cast_maybe_text f None = refl
+cast_maybe_text f (Some x) = refl
+
+-- the columns of the primary key, which come first
+abbrev pub key_of : of_club.Table → List ℕ
+key_of table = range_with_len 0 (length (standing table).primary)
+
+by_id : (s : Row) (m id : ℤ) → rowid s ≡ Int m → same_key (0 ∷ []) (rowid s ∷ []) (Int id ∷ []) ≡ true → id ≡ m
+unfolding first_key
+by_id s m id is same =
+    sym (equal_ints m id (subst (λ v. equal Binary v (Int id) ≡ true) is (and_parts _ _ same).0))
 
 pub same_test : (one two : Bool) → (one ≡ true → two ≡ true) → (two ≡ true → one ≡ true) → one ≡ two
 same_test true two there back = sym (there refl)
@@ -64,14 +143,9 @@ module _ (table : Table) (new row : Row) where
 
   shared_has : (is : List Index) → AllByRecursion (IsAlike table) is
       → list_any (shares (Some table.primary) table new row) is ≡ true → has_key ≡ true
-  shared_has [] alike h = absurd (true≢false (sym h))
-  shared_has (i ∷ is) alike h =
-      elim (cases_Bool (shares (Some table.primary) table new row i)) [
-        | inl here ↦ shared_by i alike.0 here
-        | inr other ↦
-            let rest = list_any (shares (Some table.primary) table new row) is in
-            shared_has is alike.1 (subst (λ b. (b || rest) ≡ true) other h)
-      ]
+  shared_has is alike h =
+      let it = some_has (shares (Some table.primary) table new row) is h in
+      shared_by it.0 (all_has (IsAlike table) is it.0 alike it.1) it.2
 
   absorbed : (one two : Bool) → (two ≡ true → one ≡ true) → (one || two) ≡ one
   absorbed true two h = refl
@@ -83,32 +157,22 @@ module _ (table : Table) (new row : Row) where
       → conflicts (Some table.primary) is table new row ≡ has_key
   meets_by_id is alike id =
       (λ i.
-      (by_rowid i && agree plain (sym id i) row (sym id i) new)
+      ((bytes_eq-Decides table.primary (0 ∷ [])).1 id i && agree plain (sym id i) row (sym id i) new)
       || list_any (shares (Some table.primary) table new row) is)
       ∙ absorbed has_key (list_any (shares (Some table.primary) table new row) is) (shared_has is alike)
-    where
-      by_rowid : aims (Some table.primary) (0 ∷ []) ≡ true
-      by_rowid = (bytes_eq-Decides table.primary (0 ∷ [])).1 id
 
   -- A row meets the new one by the index of its key.
   pub meets_by_index : (is : List Index) → AllByRecursion (IsAlike table) is
-      → aims (Some table.primary) (0 ∷ []) ≡ false → (index : Index) → Has is index → guards index table ≡ true
-      → index.columns ≡ table.primary → index.order ≡ plain
-      → conflicts (Some table.primary) is table new row ≡ has_key
-  meets_by_index is alike other index has guard columns order =
+      → aims (Some table.primary) (0 ∷ []) ≡ false → slice_index_or table.orders 0 plain ≡ plain → (tree : ℕ)
+      → Has is (automatic table 0 table.primary tree) → conflicts (Some table.primary) is table new row ≡ has_key
+  meets_by_index is alike other ordered tree has =
       (λ i.
       (other i && agree plain (0 ∷ []) row (0 ∷ []) new) || list_any (shares (Some table.primary) table new row) is)
       ∙ same_test (list_any (shares (Some table.primary) table new row) is) has_key (shared_has is alike)
-      (λ h. some_from (shares (Some table.primary) table new row) is index has
-      (and_from _ _ (and_from _ _ guard aimed) (agreed h)))
-    where
-      aimed : aims (Some table.primary) index.columns ≡ true
-      aimed = (bytes_eq-Decides table.primary index.columns).1 (sym columns)
-
-      agreed : has_key ≡ true → agree index.order index.columns row index.columns new ≡ true
-      agreed h =
-          subst (λ k. agree index.order k row k new ≡ true) (sym columns)
-          (subst (λ o. agree o table.primary row table.primary new ≡ true) (sym order) h)
+      (λ h. some_from (shares (Some table.primary) table new row) is (automatic table 0 table.primary tree) has
+      (and_from _ _ (and_from _ _ (eq-eqb table.tree table.tree refl)
+      ((bytes_eq-Decides table.primary table.primary).1 refl))
+      (subst (λ o. agree o table.primary row table.primary new ≡ true) (sym ordered) h)))
 
 -- ---- a row that is put
 
@@ -135,9 +199,7 @@ module _ (of_this : of_club.Table) (schema : Schema) (stands : Stands schema of_
 
   -- no FOREIGN KEY acts
   idle : (olds news : List Row) → works schema Enforced 0 there.tree olds news ≡ []
-  idle olds news =
-      no_works (only there) schema.tables there (inl refl) schema refl Enforced 0 olds news schema.tables
-      clear.childless
+  idle olds news = no_works there 0 schema Enforced olds news schema.tables clear.childless
 
   -- The row is made of its source, and stored by its rowid.
   module _ (row source : Row) (stored : Value → Row) where
@@ -208,12 +270,13 @@ module _ (of_this : of_club.Table) (schema : Schema) (stands : Stands schema of_
     with_null v = Int id ∷ Null ∷ rest
 
     puts_by_id : there.primary ≡ 0 ∷ [] → IsSourced (Int id ∷ rest) (with_null Null) with_null
-        → IsTyped (Int id ∷ rest) (with_null Null) with_null → Shows (Int id ∷ rest) (with_null Null) with_null
+        → cast_row there (with_null Null) ≡ with_null Null → Shows (Int id ∷ rest) (with_null Null) with_null
         → ((r : Row) → same_key (key_of of_this) (cells there r) (Int id ∷ rest)
         ≡ same_key (0 ∷ []) (rowid r ∷ []) (Int id ∷ []))
         → PutsHere schema of_this stands (Int id ∷ rest)
-    puts_by_id by_rowid sourced typed shows same =
-        puts (Int id ∷ rest) (with_null Null) with_null sourced typed shows
+    puts_by_id by_rowid sourced casts shows same =
+        puts (Int id ∷ rest) (with_null Null) with_null sourced
+        (λ rows. (id, ap (with_rowid Chosen rows) casts), λ n. casts) shows
         (λ r n. meets_by_id there (with_null (Int n)) r schema.indexes clear.alike by_rowid) the_id
         (λ next r n m keeps is found put alike. the_id r m is alike ∙ sym is)
       where
@@ -229,16 +292,19 @@ module _ (of_this : of_club.Table) (schema : Schema) (stands : Stands schema of_
 
     puts_by_key : aims (Some there.primary) (0 ∷ []) ≡ false → slice_get there.uniques 0 ≡ Some there.primary
         → slice_index_or there.orders 0 plain ≡ plain → IsSourced row (Null ∷ row) with_rowid_first
-        → IsTyped row (Null ∷ row) with_rowid_first → Shows row (Null ∷ row) with_rowid_first
+        → ((v : Value) → cast_row there (v ∷ row) ≡ cast Integer v ∷ row)
+        → Shows row (Null ∷ row) with_rowid_first
         → PutsHere schema of_this stands row
-    puts_by_key other unique ordered sourced typed shows =
+    puts_by_key other unique ordered sourced casts shows =
         let own = stands.guarded 0 there.primary unique in
         let index : Index = automatic there 0 there.primary own.0 in
         let guard : guards index there ≡ true = eq-eqb there.tree there.tree refl in
-        puts row (Null ∷ row) with_rowid_first sourced typed shows
-        (λ r n.
-        meets_by_index there (with_rowid_first (Int n)) r schema.indexes clear.alike other index own.1 guard refl
-        ordered)
+        let cast_as = λ (v w : Value) (is : cast Integer v ≡ w). casts v ∙ ap with_rowid_first is in
+        puts row (Null ∷ row) with_rowid_first sourced (
+          λ rows. (next_rowid rows, ap (with_rowid Chosen rows) (cast_as Null Null cast_null)),
+          λ n. cast_as (Int n) (Int n) (cast_int n),
+        ) shows
+        (λ r n. meets_by_index there (with_rowid_first (Int n)) r schema.indexes clear.alike other ordered own.0 own.1)
         (λ was m id alike. refl)
         (λ next r n m keeps id found put alike.
         ap Int
@@ -250,55 +316,45 @@ module _ (of_this : of_club.Table) (schema : Schema) (stands : Stands schema of_
 pub meta_placed : (r : MetaRow) → PutsAnywhere Meta (meta_cells r)
 meta_placed r schema stands clear =
     puts_by_id Meta schema stands clear r.id (drop 1 (meta_cells r)) refl (λ db rows h. h.1, refl)
-    (λ rows. (r.id, simp (cast_null, cast_int)), λ n. simp (cast_null, cast_int))
-    (λ n. refl, λ s n. refl, λ was n. refl, λ stood was n. refl) (λ s. refl)
+    (simp (cast_null, cast_int)) (λ n. refl, λ s n. refl, λ was n. refl, λ stood was n. refl) (λ s. refl)
 
 pub member_placed : (r : MemberRow) → PutsAnywhere Members (member_cells r)
 member_placed r schema stands clear =
     puts_by_id Members schema stands clear r.id (drop 1 (member_cells r)) refl (λ db rows h. h.1, refl)
-    (λ rows. (r.id, simp (cast_null, cast_int)), λ n. simp (cast_null, cast_int))
-    (λ n. refl, λ s n. refl, λ was n. refl, λ stood was n. refl) (λ s. refl)
+    (simp (cast_null, cast_int)) (λ n. refl, λ s n. refl, λ was n. refl, λ stood was n. refl) (λ s. refl)
 
 pub event_placed : (r : EventRow) → PutsAnywhere Events (event_cells r)
 event_placed r schema stands clear =
     puts_by_id Events schema stands clear r.id (drop 1 (event_cells r)) refl (λ db rows h. h.1, refl)
-    (λ rows. (r.id, simp (cast_null, cast_int)), λ n. simp (cast_null, cast_int))
-    (λ n. refl, λ s n. refl, λ was n. refl, λ stood was n. refl) (λ s. refl)
+    (simp (cast_null, cast_int)) (λ n. refl, λ s n. refl, λ was n. refl, λ stood was n. refl) (λ s. refl)
 
 pub event_rule_placed : (r : EventRuleRow) → PutsAnywhere EventRules (event_rule_cells r)
 event_rule_placed r schema stands clear =
     puts_by_id EventRules schema stands clear r.event (drop 1 (event_rule_cells r)) refl (λ db rows h. h.1, refl)
-    (λ rows. (r.event, simp (cast_null, cast_int)), λ n. simp (cast_null, cast_int))
-    (λ n. refl, λ s n. refl, λ was n. refl, λ stood was n. refl) (λ s. refl)
+    (simp (cast_null, cast_int)) (λ n. refl, λ s n. refl, λ was n. refl, λ stood was n. refl) (λ s. refl)
 
 pub game_placed : (r : GameRecord) → PutsAnywhere Games (game_cells r)
 game_placed r schema stands clear =
-    puts_by_id Games schema stands clear r.id (drop 1 (game_cells r)) refl (λ db rows h. h.1, refl) (
-      λ rows. (r.id, simp (cast_null, cast_int, cast_maybe_int, cast_maybe_text)),
-      λ n. simp (cast_null, cast_int, cast_maybe_int, cast_maybe_text),
-    )
+    puts_by_id Games schema stands clear r.id (drop 1 (game_cells r)) refl (λ db rows h. h.1, refl)
+    (simp (cast_null, cast_int, cast_maybe_int, cast_maybe_text))
     (λ n. refl, λ s n. refl, λ was n. refl, λ stood was n. refl) (λ s. refl)
 
 pub challenge_placed : (r : ChallengeRow) → PutsAnywhere Challenges (challenge_cells r)
 challenge_placed r schema stands clear =
     puts_by_key Challenges schema stands clear (challenge_cells r) refl refl refl (λ db rows h. h.1, refl)
-    (λ rows. (next_rowid rows, simp (cast_null, cast_int, cast_maybe_int)), λ n. simp (cast_int, cast_maybe_int))
-    (λ n. refl, λ s n. refl, λ was n. refl, λ stood was n. refl)
+    (λ v. simp (cast_int, cast_maybe_int)) (λ n. refl, λ s n. refl, λ was n. refl, λ stood was n. refl)
 
 pub move_placed : (r : MoveRow) → PutsAnywhere Moves (move_cells r)
 move_placed r schema stands clear =
     puts_by_key Moves schema stands clear (move_cells r) refl refl refl (λ db rows h. h.1, refl)
-    (λ rows. (next_rowid rows, simp (cast_null, cast_int)), λ n. simp (cast_int))
-    (λ n. refl, λ s n. refl, λ was n. refl, λ stood was n. refl)
+    (λ v. simp (cast_int)) (λ n. refl, λ s n. refl, λ was n. refl, λ stood was n. refl)
 
 pub seen_placed : (r : SeenRow) → PutsAnywhere Seen (seen_cells r)
 seen_placed r schema stands clear =
     puts_by_key Seen schema stands clear (seen_cells r) refl refl refl (λ db rows h. h.1, refl)
-    (λ rows. (next_rowid rows, simp (cast_null, cast_int)), λ n. simp (cast_int))
-    (λ n. refl, λ s n. refl, λ was n. refl, λ stood was n. refl)
+    (λ v. simp (cast_int)) (λ n. refl, λ s n. refl, λ was n. refl, λ stood was n. refl)
 
 pub score_placed : (r : ScoreRow) → PutsAnywhere Scores (score_cells r)
 score_placed r schema stands clear =
     puts_by_key Scores schema stands clear (score_cells r) refl refl refl (λ db rows h. h.1, refl)
-    (λ rows. (next_rowid rows, simp (cast_null, cast_int)), λ n. simp (cast_int))
-    (λ n. refl, λ s n. refl, λ was n. refl, λ stood was n. refl)
+    (λ v. simp (cast_int)) (λ n. refl, λ s n. refl, λ was n. refl, λ stood was n. refl)

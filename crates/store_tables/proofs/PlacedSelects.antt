@@ -1,44 +1,146 @@
 -- Each SELECT of a club's table shows what it shows wherever the table stands in a schema.
-use Rattle.std.proofs.Common.{◌≡◌, ℕ, ◌==◌, true, [], ◌∷◌, Some, None, refl, sym, ap, subst, ◌∙◌, length, slice_get}
-use Rattle.std.specs.Prelude.{if◌then◌else◌, find as first_that, nat_lt, unwrap_or, ◌-◌, ◌^◌}
-use Rattle.sqlite.specs.Schema.{Schema}
-use Rattle.sqlite.specs.Table.{Table}
-use Rattle.sqlite.specs.Term.{col}
+use Rattle.std.proofs.Common.{◌≡◌, ℕ, ◌==◌, true, [], ◌∷◌, Some, None, refl, sym, ap, subst, ◌∙◌, length, slice_get, ℤ}
+use Rattle.std.proofs.Common.{List, Option, map, drop, take, suc, if◌then◌else◌, find as first_that, nat_lt, unwrap_or}
+use Rattle.std.proofs.Common.{◌-◌, ◌^◌, Ordering}
+use Rattle.store_tables.specs.Sql.{Schema, Table, Row, column, Trees}
+use Rattle.sqlite_sql.specs.Term.{col, Term, op2, eval_all, holds}
 use Rattle.sqlite.specs.declared.types.Value.TheVariants.{Int}
-use Rattle.sqlite_schema.specs.Names.{table_named}
+use Rattle.sqlite_schema.specs.Names.{table_named, is_key, place_of as stored_at}
 use Rattle.store_tables.specs.Names.{table_name}
 use Rattle.store_tables.specs.Placed.{Stands}
-use Rattle.store_tables.specs.Queries.{AreShownBy, is_read_as_select}
+use Rattle.store_tables.specs.Queries.{AreShownBy, is_read_as_select, by_others}
 use Rattle.store_tables.specs.Tables.{made_as}
-use Rattle.store_tables.specs.Texts.{names_of, id_name}
+use Rattle.store_tables.specs.Texts.{names_of, id_name, key_names, all_text, ids_text, by_first_text}
 use Rattle.store_tables.specs.declared.names.Table as of_club
-use Rattle.store_tables.specs.declared.names.Table.TheVariants.{Members, Events, EventRules, Challenges, Moves, Games}
-use Rattle.store_tables.specs.declared.names.Table.TheVariants.{Seen, Scores, Meta}
-use Rattle.store_tables.proofs.PlacedMeanings.{all_asked, are_meant, group_asked, ids_asked}
-use Rattle.store_tables.proofs.PlacedTexts.{IsFound, command_is, plain_is, stored, unlisted_is}
-use Rattle.store_tables.proofs.SelectMeanings.{IsBare, all_shown, columns_of, group_of, key_of, rising_by}
+use Rattle.store_tables.specs.declared.names.Table.TheVariants.{Meta}
+use Rattle.store_tables.proofs.PlacedTexts.{IsFound, command_is, plain_is, stored, unlisted_is, IsMeant, meant_so}
+use Rattle.std.specs.List.{range_with_len, list_all}
+use Rattle.sqlite_tied.specs.Compute.{everything}
+use Rattle.sqlite_value.specs.Keys.{first_key, ascending}
+use Rattle.sqlite_value.specs.declared.keys.Collation.{Collation}
+use Rattle.sqlite_value.specs.declared.keys.Collation.TheVariants.{Binary}
+use Rattle.store_tables.specs.Reading.{by_columns}
+use Rattle.store_tables.proofs.PlacedQueries.{Asked, asked_of}
+use Rattle.sqlite_sql.specs.Query.{Query, output, output_cmp}
+use Rattle.sqlite_sql.specs.declared.ops.BinaryOp.TheVariants.{Compare}
+use Rattle.sqlite_sql.specs.declared.ops.CompareOp.TheVariants.{Eq}
+use Rattle.sqlite_sql.specs.Program.{overlay}
+use Rattle.sqlite_value.specs.declared.keys.Key.{Key}
+use Rattle.store_tables.specs.Content.{cells, same_key}
+use Rattle.store_tables.specs.Put.{selects}
+
+-- ---- the parts of a SELECT of one table
+
+-- each column of the table, as a query names it
+abbrev pub columns_of : Table → List Term
+columns_of table = map (λ at. col 1 (stored_at table at)) (range_with_len 0 (length table.columns))
+
+-- the columns of its primary key
+abbrev pub key_of : Table → List Term
+key_of table = map (col 1) table.primary
+
+-- the columns at these places are as the parameters from one on
+abbrev pub as_given : ℕ → List ℕ → List Term
+as_given k [] = []
+as_given k (at ∷ places) = op2 (Compare Eq Binary) (col 1 at) (col 0 k) ∷ as_given (suc k) places
+
+abbrev pub rising_by : List Term → List (Term × Key)
+rising_by terms = map (λ t. (t, ascending Binary)) terms
+
+shown_at : (table : Table) (given r : Row) (places : List ℕ)
+    → eval_all (map (λ at. col 1 (stored_at table at)) places) (given ∷ r ∷ [])
+    ≡ map (λ at. column r (stored_at table at)) places
+shown_at table given r [] = refl
+shown_at table given r (at ∷ places) = ap (λ l. column r (stored_at table at) ∷ l) (shown_at table given r places)
+
+pub all_shown : (table : Table) (given r : Row) → eval_all (columns_of table) (given ∷ r ∷ []) ≡ cells table r
+all_shown table given r = shown_at table given r (range_with_len 0 (length table.columns))
+
+-- No WITH of the text stands for this tree.
+abbrev pub IsBare : ℕ → Type 0
+IsBare tree = (d : Trees) → overlay d [] tree ≡ d tree
+
+-- Rows are shown in this order.
+abbrev pub ShowsIn : Query → (given : Row) → (Row → Row → Ordering) → Type 0
+ShowsIn query given cmp = (r s : Row)
+    → output_cmp query (output query (given ∷ r ∷ [])) (output query (given ∷ s ∷ []))
+    ≡ cmp (eval_all query.project (given ∷ r ∷ [])) (eval_all query.project (given ∷ s ∷ []))
+
+-- The query takes the rows whose columns have the wanted values.
+abbrev pub Picks : Table → List ℕ → List Term → (wanted given : Row) → Type 0
+Picks table key filter wanted given =
+    (r : Row) → list_all (holds (given ∷ r ∷ [])) filter ≡ same_key key (cells table r) wanted
+
+-- ---- the rows of a table, their rowids, and those with a number in the first column
+
+abbrev pub all_of : Table → Query
+all_of table = selects table.tree [] (columns_of table) (rising_by (key_of table))
+
+abbrev pub group_of : Table → Query
+group_of table =
+    selects table.tree (as_given 0 (stored_at table 0 ∷ [])) (columns_of table) (rising_by (drop 1 (key_of table)))
+
+-- ---- the parts of the texts
+
+abbrev pub all_asked : Table → Asked
+all_asked table = asked_of table (names_of table) [] (key_names table) (all_text table)
+
+abbrev pub ids_asked : Table → Asked
+ids_asked table = asked_of table (id_name table ∷ []) [] (id_name table ∷ []) (ids_text table)
+
+abbrev pub group_asked : Table → Asked
+group_asked table =
+    asked_of table (names_of table) (take 1 (names_of table)) (drop 1 (key_names table)) (by_first_text table)
+
+-- ---- what is found by computing
+
+-- The three texts of a table, with this tree.
+pub record AreMeant (table : Table) : Type 0 where
+  pub all : IsMeant table (all_asked table) (all_text table) [] (columns_of table) (rising_by (key_of table))
+      (names_of table)
+  pub ids : IsMeant table (ids_asked table) (ids_text table) [] (col 1 0 ∷ []) (rising_by (col 1 0 ∷ []))
+      (id_name table ∷ [])
+  pub group : IsMeant table (group_asked table) (by_first_text table) (as_given 0 (stored_at table 0 ∷ []))
+      (columns_of table) (rising_by (drop 1 (key_of table))) (names_of table)
+  pub by_all : ShowsIn (all_of table) [] (by_columns (length table.primary))
+  pub by_rest : (n : ℤ) → ShowsIn (group_of table) (Int n ∷ []) (by_others (length table.primary))
+  pub picks : (n : ℤ) → Picks table (0 ∷ []) (group_of table).filter (Int n ∷ []) (Int n ∷ [])
+
+-- the collations of the columns: none of the rowid
+abbrev pub hows : Table → List (Option Collation)
+hows table =
+    map (λ at. if is_key table.key at then None else Some Binary) (range_with_len 0 (length table.columns))
+
+pub are_meant : (of_this : of_club.Table) (tree : ℕ) → AreMeant (made_as of_this tree)
+unfolding everything first_key
+are_meant Meta tree =
+    let table = made_as Meta tree in
+    record {
+      all = meant_so table (all_asked table) _ _ _ _ _ (hows table) refl refl refl refl (λ place tree. refl) refl;
+      ids = meant_so table (ids_asked table) _ _ _ _ _ (None ∷ []) refl refl refl refl (λ place tree. refl) refl;
+      group = meant_so table (group_asked table) _ _ _ _ _ (hows table) refl refl refl refl (λ place tree. refl) refl;
+      by_all = λ r s. refl;
+      by_rest = λ n r s. refl;
+      picks = λ n r. refl;
+    }
+are_meant of_this tree =
+    let table = made_as of_this tree in
+    record {
+      all = meant_so table (all_asked table) _ _ _ _ _ (hows table) refl refl refl refl (λ place tree. refl) refl;
+      ids = meant_so table (ids_asked table) _ _ _ _ _ (None ∷ []) refl refl refl refl (λ place tree. refl) refl;
+      group = meant_so table (group_asked table) _ _ _ _ _ (hows table) refl refl refl refl (λ place tree. refl) refl;
+      by_all = λ r s. refl;
+      by_rest = λ n r s. refl;
+      picks = λ n r. refl;
+    }
 
 pub name_is : (table : of_club.Table) (tree : ℕ) → (made_as table tree).name ≡ table_name table
 name_is Meta tree = refl
-name_is Members tree = refl
-name_is Events tree = refl
-name_is Challenges tree = refl
-name_is Moves tree = refl
-name_is Games tree = refl
-name_is Seen tree = refl
-name_is Scores tree = refl
-name_is EventRules tree = refl
+name_is _ tree = refl
 
 pub tree_is : (table : of_club.Table) (tree : ℕ) → (made_as table tree).tree ≡ tree
 tree_is Meta tree = refl
-tree_is Members tree = refl
-tree_is Events tree = refl
-tree_is Challenges tree = refl
-tree_is Moves tree = refl
-tree_is Games tree = refl
-tree_is Seen tree = refl
-tree_is Scores tree = refl
-tree_is EventRules tree = refl
+tree_is _ tree = refl
 
 module _ (schema : Schema) (of_this : of_club.Table) (stands : Stands schema of_this) where
   abbrev pub table : Table

@@ -1,22 +1,15 @@
 -- What a sound database has of what is asked of the tables of a club and of their neighbours.
-use Rattle.std.proofs.Common.{◌≡◌, ℕ, ◌<◌, ◌&&◌, Bool, true, false, List, [], ◌∷◌, Some, refl, sym, ap, subst, ◌∙◌}
-use Rattle.std.proofs.Common.{inl, inr, arith, true≢false, slice_get, slice_index_or}
+use Rattle.std.proofs.Common.{◌≡◌, ℕ, ◌<◌, ◌&&◌, true, false, List, [], ◌∷◌, Some, refl, sym, ap, subst, ◌∙◌, arith}
+use Rattle.std.proofs.Common.{slice_get, slice_index_or, nat_lt, ◌^◌, eq-eqb}
 use Rattle.std.proofs.lemmas.Grind.{common_steps}
 use Rattle.std.specs.List.{AllByRecursion, AllZip}
-use Rattle.std.specs.Prelude.{nat_lt, ◌^◌}
-use Rattle.sqlite.specs.Order.{Row, column}
-use Rattle.sqlite.specs.Schema.{Schema}
-use Rattle.sqlite.specs.Table.{Table}
-use Rattle.sqlite.specs.Tree.{Trees}
-use Rattle.sqlite.specs.declared.types.Value.TheVariants.{Blob, Int, Null, Real, Text}
-use Rattle.sqlite_catalog.specs.Listing.{IsDefined, IsGuarded, IsIndexRow, IsSound, IsTableRow}
-use Rattle.sqlite_rules.proofs.ListLemmas.{all_has}
-use Rattle.sqlite_rules.specs.Lists.{Has}
+use Rattle.store_tables.specs.Sql.{Row, column, Schema, Table, Trees, Has}
+use Rattle.sqlite.specs.declared.types.Value.TheVariants.{Null, Text}
+use Rattle.sqlite_catalog.specs.Listing.{IsDefined, IsGuarded, IsIndexRow, IsSound, IsTableRow, automatic}
+use Rattle.sqlite_rules.proofs.ListLemmas.{all_has, has_got, test_has}
 use Rattle.sqlite_schema.specs.declared.schema.Index.{Index}
 use Rattle.sqlite_value.specs.declared.value.Value.{Value}
-use Rattle.std.proofs.lemmas.Bool.{eq-eqb, not-true}
-use Rattle.sqlite_catalog.specs.Listing.{automatic}
-use Rattle.sqlite_rules.proofs.ListLemmas.{has_got, test_has}
+use Rattle.std.proofs.lemmas.Bool.{not-true}
 use Rattle.sqlite_rules.proofs.RuleLemmas.{keeps_at}
 use Rattle.sqlite_schema.specs.Rules.{clashes, guards}
 use Rattle.sqlite_schema.specs.declared.schema.Constraint.TheVariants.{Unique}
@@ -27,42 +20,32 @@ use Rattle.store_tables.specs.Tables.{made_as}
 use Rattle.store_tables.specs.declared.names.Table as of_club
 use Rattle.store_tables.proofs.PlacedSelects.{tree_is}
 use Rattle.store_tables.proofs.PlacedTrees.{by_club_at}
-use Rattle.store_tables.proofs.PlacedStanding.{IsOwned}
+use Rattle.store_tables.proofs.PlacedSteps.{IsOwned}
 
 of_table : (table : Table) (index : Index) (by : Value) → IsDefined table index by → index.table ≡ table.tree
 of_table table index Null defined = ap (λ (i : Index). i.table) defined.3
-of_table table index (Int n) defined = absurd defined
-of_table table index (Real x) defined = absurd defined
 of_table table index (Text sql) defined = ap (λ (i : Index). i.table) defined.2
-of_table table index (Blob b) defined = absurd defined
+of_table table index _ defined = absurd defined
 
-owned_in : (schema : Schema) (rows : List Row) (indexes : List Index) → AllZip (IsIndexRow schema.tables) rows indexes
-    → AllByRecursion (IsOwned schema) indexes
-owned_in schema [] [] all = tt
-owned_in schema [] (index ∷ indexes) all = absurd all
-owned_in schema (row ∷ rows) [] all = absurd all
-owned_in schema (row ∷ rows) (index ∷ indexes) all =
-    let one = all.0 in
-    ((one.table, one.listed, of_table one.table index (column row 4) one.defined), owned_in schema rows indexes all.1)
+-- what the second of two lists has of the first, place by place
+zip_second : {A B : Type 0} (R : A → B → Type 0) (P : B → Type 0) → ((x : A) (y : B) → R x y → P y) → (xs : List A)
+    (ys : List B) → AllZip R xs ys → AllByRecursion P ys
+zip_second R P so xs [] all = tt
+zip_second R P so [] (y ∷ ys) all = absurd all
+zip_second R P so (x ∷ xs) (y ∷ ys) all = (so x y all.0, zip_second R P so xs ys all.1)
 
 -- Each index of a sound database is of one of its tables.
 pub sound_owned : (schema : Schema) (db : Trees) → IsSound schema db → AllByRecursion (IsOwned schema) schema.indexes
-sound_owned schema db sound = owned_in schema _ schema.indexes sound.lists.listed.indexes
+sound_owned schema db sound =
+    zip_second (IsIndexRow schema.tables) (IsOwned schema)
+    (λ row index one. (one.table, one.listed, of_table one.table index (column row 4) one.defined)) _ schema.indexes
+    sound.lists.listed.indexes
 
 -- Each UNIQUE of a table of a sound database has its index.
 pub sound_guarded : (schema : Schema) (db : Trees) → IsSound schema db → (table : Table) → Has schema.tables table
     → IsGuarded schema.indexes table
 sound_guarded schema db sound table has =
     all_has (IsGuarded schema.indexes) schema.tables table sound.lists.guarded has
-
-low_in : (rows : List Row) (tables : List Table) → AllZip IsTableRow rows tables → (table : Table) → Has tables table
-    → table.tree < 65536
-low_in [] [] all table has = absurd has
-low_in [] (t ∷ tables) all table has = absurd all
-low_in (row ∷ rows) [] all table has = absurd has
-low_in (row ∷ rows) (t ∷ tables) all table (inl same) =
-    subst (λ (u : Table). u.tree < 65536) (sym same) all.0.described.low
-low_in (row ∷ rows) (t ∷ tables) all table (inr has) = low_in rows tables all.1 table has
 
 is_stored : (tree : ℕ) → tree < 65536 → nat_lt tree (2 ^ 31) ≡ true
 is_stored tree low = grind (arith, common_steps, low)
@@ -71,13 +54,12 @@ is_stored tree low = grind (arith, common_steps, low)
 pub sound_stored : (schema : Schema) (db : Trees) → IsSound schema db → (table : Table) → Has schema.tables table
     → nat_lt table.tree (2 ^ 31) ≡ true
 sound_stored schema db sound table has =
-    is_stored table.tree (low_in _ schema.tables sound.lists.listed.tables table has)
+    is_stored table.tree
+    (all_has (λ (t : Table). t.tree < 65536) schema.tables table
+    (zip_second IsTableRow (λ (t : Table). t.tree < 65536) (λ row t is. is.described.low) _ schema.tables
+    sound.lists.listed.tables) has)
 
 -- ---- no two rows have one key
-
-other_fails : (a b : Bool) → a ≡ true → (a && b) ≡ false → b ≡ false
-other_fails true b is fails = fails
-other_fails false b is fails = absurd (true≢false (sym is))
 
 -- Of a sound database no row of a club's table has the UNIQUE key of another.
 pub unique_here : (schema : Schema) (trees : Trees) → IsSound schema trees → (table : of_club.Table)
@@ -98,4 +80,4 @@ unique_here schema trees sound table s key unique ordered r =
     let passes = test_has _ schema.indexes index
     (keeps_at Unique schema trees there r (sound.obeys.rules Unique) listed has) own.1 in
     subst (λ o. clashes o key (trees there.tree) r ≡ false) ordered
-    (other_fails _ _ guard (not-true _ passes)))
+    (subst (λ g. (g && clashes index.order index.columns (trees there.tree) r) ≡ false) guard (not-true _ passes)))

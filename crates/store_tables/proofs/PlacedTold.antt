@@ -1,6 +1,5 @@
 -- What is told of a table where it stands is told of the club's table.
-use Rattle.std.proofs.Common.{◌≡◌, ℕ, List, [], ◌∷◌, map, refl, ap, subst, ◌∙◌}
-use Rattle.std.specs.List.Sorted.{IsPermutation}
+use Rattle.std.proofs.Common.{◌≡◌, ℕ, List, map, refl, ap, subst, ◌∙◌, IsPermutation}
 use Rattle.store_tables.specs.Sql.{Row, State}
 use Rattle.store_tables.specs.Content.{cells}
 use Rattle.store_tables.specs.Placed.{Stands, club_trees}
@@ -9,16 +8,11 @@ use Rattle.store_tables.specs.Tables.{made_as, standing}
 use Rattle.store_tables.specs.declared.names.Table as of_club
 use Rattle.store_tables.proofs.OverLemmas.{cells_are, keeps_moved, trees_here}
 
-maps_alike : (f g : Row → Row) → ((r : Row) → f r ≡ g r) → (rows : List Row) → map f rows ≡ map g rows
-maps_alike f g same [] = refl
-maps_alike f g same (r ∷ rows) = λ i. same r i ∷ maps_alike f g same rows i
-
 module _ (table : of_club.Table) (old new : State) (stands : Stands old.now.schema table) (rows : List Row) where
   same_cells : map (cells (made_as table stands.tree)) (old.now.trees (made_as table stands.tree).tree)
       ≡ map (cells (standing table)) (club_trees old.now (standing table).tree)
   same_cells =
-      maps_alike (cells (made_as table stands.tree)) (cells (standing table)) (cells_are table stands.tree)
-      (old.now.trees (made_as table stands.tree).tree)
+      (λ i. map (λ r. cells_are table stands.tree r i) (old.now.trees (made_as table stands.tree).tree))
       ∙ ap (map (cells (standing table))) (trees_here old.now.schema old.now.trees table stands)
 
   pub told_here : (keys : ℕ) → Tells (made_as table stands.tree) keys rows old.now.trees old new

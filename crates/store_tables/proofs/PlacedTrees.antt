@@ -1,21 +1,19 @@
 -- The rows of a club by its own numbers, and where they stand.
-use Rattle.std.proofs.Common.{◌≡◌, ℕ, ◌==◌, Bool, false, List, [], ◌∷◌, Some, None, refl, sym, ap}
-use Rattle.std.proofs.Common.{◌∙◌, inl, inr, ◌⊎◌, true≢false}
-use Rattle.std.proofs.lemmas.Bool.{cases_Bool, eq-eqb, eqb-true}
+use Rattle.std.proofs.Common.{true, ◌≡◌, ℕ, ◌==◌, Bool, false, List, [], ◌∷◌, Some, None, refl, sym, ap, ◌∙◌, inl, inr}
+use Rattle.std.proofs.Common.{◌⊎◌, true≢false, if◌then◌else◌, eq-eqb, eqb-true}
+use Rattle.std.proofs.lemmas.Bool.{cases_Bool}
 use Rattle.std.specs.List.{AllByRecursion}
-use Rattle.std.specs.Prelude.{if◌then◌else◌}
-use Rattle.sqlite.specs.Schema.{Schema}
-use Rattle.sqlite_rules.specs.Lists.{Has}
+use Rattle.sqlite_rules.proofs.ListLemmas.{has_found}
+use Rattle.store_tables.specs.Sql.{Schema, Has}
 use Rattle.sqlite_schema.specs.Names.{table_named}
 use Rattle.store_tables.specs.Contents.{Content}
 use Rattle.store_tables.specs.Names.{in_order, table_name, tree_of}
 use Rattle.store_tables.specs.Over.{is_tree, over, over_each}
 use Rattle.store_tables.specs.Placed.{Stands, by_club, rows_at, tree_at, tree_in, tree_of_found}
 use Rattle.store_tables.specs.declared.names.Table as of_club
-use Rattle.store_tables.specs.declared.names.Table.TheVariants.{Members, Events, EventRules, Challenges, Moves, Games}
-use Rattle.store_tables.specs.declared.names.Table.TheVariants.{Seen, Scores, Meta}
+use Rattle.store_tables.specs.declared.names.Table.TheVariants.{Meta}
 use Rattle.store_tables.proofs.PlacedSelects.{tree_is}
-use Rattle.store_tables.proofs.PlacedSteps.{two_tables}
+use Rattle.store_tables.proofs.PlacedSteps.{numbered_back, two_tables}
 
 -- ---- the tree of a table that stands, or does not
 
@@ -34,14 +32,7 @@ at_table : (schema : Schema) (content : Content) (table : of_club.Table)
     → by_club schema content (tree_of table) ≡ rows_at content (tree_in schema table)
 unfolding by_club
 at_table schema content Meta = refl
-at_table schema content Members = refl
-at_table schema content Events = refl
-at_table schema content Challenges = refl
-at_table schema content Moves = refl
-at_table schema content Games = refl
-at_table schema content Seen = refl
-at_table schema content Scores = refl
-at_table schema content EventRules = refl
+at_table schema content _ = refl
 
 pub by_club_at : (schema : Schema) (content : Content) (table : of_club.Table) (stands : Stands schema table)
     → by_club schema content (tree_of table) ≡ content stands.tree
@@ -61,9 +52,12 @@ standing_at : (schema : Schema) (n : ℕ) (table : of_club.Table) (stands : Stan
     → is_at schema n table ≡ (n == stands.tree)
 standing_at schema n table stands = ap (is_tree n) (tree_found schema table stands)
 
-missing_at : (schema : Schema) (n : ℕ) (table : of_club.Table) → table_named schema (table_name table) ≡ None
-    → is_at schema n table ≡ false
-missing_at schema n table missing = ap (is_tree n) (tree_missing schema table missing)
+found_at : (schema : Schema) (n : ℕ) (table : of_club.Table) → StandsOrNot schema table → is_at schema n table ≡ true
+    → (stands : Stands schema table) × (n ≡ stands.tree)
+found_at schema n table (inl stands) here =
+    (stands, eqb-true n stands.tree (sym (standing_at schema n table stands) ∙ here))
+found_at schema n table (inr missing) here =
+    absurd (true≢false (sym here ∙ ap (is_tree n) (tree_missing schema table missing)))
 
 module _ (schema : Schema) (club others : Content) where
   -- A table that stands has its rows of the club.
@@ -73,15 +67,9 @@ module _ (schema : Schema) (club others : Content) where
   over_in [] all table stands has = absurd has
   over_in (t ∷ tables) all table stands has = elim (cases_Bool (is_at schema stands.tree t)) [
     | inl here ↦
-        elim all.0 [
-          | inl other ↦ (
-              let trees : stands.tree ≡ other.tree =
-              eqb-true stands.tree other.tree (sym (standing_at schema stands.tree t other) ∙ here) in
-              (λ i. if here i then club (tree_of t) else over_each schema tables club others stands.tree)
-              ∙ ap (λ u. club (tree_of u)) (sym (two_tables schema table t stands other trees))
-              )
-          | inr missing ↦ absurd (true≢false (sym here ∙ missing_at schema stands.tree t missing))
-        ]
+        let other = found_at schema stands.tree t all.0 here in
+        (λ i. if here i then club (tree_of t) else over_each schema tables club others stands.tree)
+        ∙ ap (λ u. club (tree_of u)) (sym (two_tables schema table t stands other.0 other.1))
     | inr past ↦
         (λ i. if past i then club (tree_of t) else over_each schema tables club others stands.tree)
         ∙ elim has [
@@ -104,15 +92,7 @@ module _ (schema : Schema) (club others : Content) where
 
 -- each table of a club is one of them
 pub in_all : (table : of_club.Table) → Has in_order table
-in_all Meta = inl refl
-in_all Members = inr (inl refl)
-in_all Events = inr (inr (inl refl))
-in_all Challenges = inr (inr (inr (inl refl)))
-in_all Moves = inr (inr (inr (inr (inl refl))))
-in_all Games = inr (inr (inr (inr (inr (inl refl)))))
-in_all Seen = inr (inr (inr (inr (inr (inr (inl refl))))))
-in_all Scores = inr (inr (inr (inr (inr (inr (inr (inl refl)))))))
-in_all EventRules = inr (inr (inr (inr (inr (inr (inr (inr (inl refl))))))))
+in_all table = (has_found (λ t. tree_of t == tree_of table) in_order table (numbered_back table)).0
 
 module _ (schema : Schema) (all : AllByRecursion (StandsOrNot schema) in_order) (club others : Content) where
   pub over_at : (table : of_club.Table) (stands : Stands schema table)
@@ -139,12 +119,7 @@ pub one_or_none : (schema : Schema) (n : ℕ) (tables : List of_club.Table)
     ⊎ AllByRecursion (λ table. is_tree n (tree_in schema table) ≡ false) tables
 one_or_none schema n [] all = inr tt
 one_or_none schema n (t ∷ tables) all = elim (cases_Bool (is_tree n (tree_in schema t))) [
-  | inl here ↦
-      elim all.0 [
-        | inl stands ↦
-            inl (t, stands, eqb-true n stands.tree (sym (standing_at schema n t stands) ∙ here), inl refl)
-        | inr missing ↦ absurd (true≢false (sym here ∙ missing_at schema n t missing))
-      ]
+  | inl here ↦ let it = found_at schema n t all.0 here in inl (t, it.0, it.1, inl refl)
   | inr past ↦
       elim (one_or_none schema n tables all.1) [
         | inl found ↦ inl (found.0, found.1, found.2, inr found.3)

@@ -1,23 +1,19 @@
 -- What a text that puts a row makes of the trees.
 use Rattle.std.proofs.Common.{◌≡◌, ◌≢◌, ◌⊎◌, ℕ, ℤ, Bool, true, false, cond, not, List, [], ◌∷◌, ◌++◌, map, flat_map}
 use Rattle.std.proofs.Common.{find, Some, None, Option, Ok, Equal, refl, sym, ap, subst, ◌∙◌, inl, inr, true≢false}
-use Rattle.std.proofs.Common.{unwrap_or, subst₂}
-use Rattle.std.specs.Prelude.{MatchBool, if◌then◌else◌}
-use Rattle.std.specs.List.{list_all}
-use Rattle.std.specs.List.Sorted.{IsPermutation}
-use Rattle.std.proofs.lemmas.Bool.{false_from_ne_true, and_parts}
+use Rattle.std.proofs.Common.{unwrap_or, subst₂, MatchBool, if◌then◌else◌, IsPermutation, is_eq, is_lt, int_cmp}
+use Rattle.std.specs.List.{list_all, AllByRecursion}
+use Rattle.std.proofs.lemmas.Bool.{false_from_ne_true, and_parts, cases_Bool, not-true}
 use Rattle.sqlite_value.specs.declared.value.Value.TheVariants.{Null, Int}
-use Rattle.sqlite_value.specs.Order.{Row, column, value_cmp}
-use Rattle.store_tables.specs.Sql.{Trees, rowid, Schema, Has, Table}
+use Rattle.sqlite_value.specs.Order.{value_cmp}
+use Rattle.store_tables.specs.Sql.{Row, column, Trees, rowid, Schema, Has, Table}
 use Rattle.sqlite_trees.specs.Tree.{without_rowid, has_rowid, IsAscending}
-use Rattle.sqlite_trees.specs.View.{is_int}
 use Rattle.sqlite_sql.specs.Term.{Term, eval_all, holds}
 use Rattle.std.specs.Cmp.{tied_itself, tied_back}
 use Rattle.sqlite_rules.proofs.RuleLemmas.{Turns}
 use Rattle.sqlite_value.proofs.OrderLemmas.{value_cmp_total}
 use Rattle.sqlite.specs.Collation.TheVariants.{Binary}
 use Rattle.store_tables.proofs.KeyLemmas.{equal_cmp, equal_from, tied}
-use Rattle.std.specs.Ordering.{is_eq, is_lt, int_cmp}
 use Rattle.sqlite_schema.specs.declared.schema.Constraint.TheVariants.{Unique}
 use Rattle.sqlite_sql.specs.Query.{IsAnswer, Output, output, page}
 use Rattle.sqlite_sql.specs.Program.{overlay}
@@ -33,29 +29,27 @@ use Rattle.sqlite_rules.specs.declared.error.Refusal.{Refusal}
 use Rattle.sqlite_rules.specs.declared.error.Rowids.TheVariants.{Given, Chosen, Above}
 use Rattle.sqlite_rules.specs.declared.error.Rowids.{Rowids}
 use Rattle.sqlite_rules.proofs.TableLemmas.{int_is, put_all_has, put_all_keeps, put_all_adds, without_all_has}
-use Rattle.sqlite_rules.proofs.ListLemmas.{all_has, has_filtered, has_kept, has_found}
+use Rattle.sqlite_rules.proofs.ListLemmas.{all_has, has_filtered, has_kept}
 use Rattle.sqlite.specs.Effect.{Answers}
 use Rattle.sqlite.specs.Rows.{Task, Written, InsertsOr, Tries, Upserts, Puts, Clears, Judged, TriesEach, nothing}
 use Rattle.sqlite.specs.Rows.{count_of, rowids_for, shown}
 use Rattle.sqlite.proofs.Callers.{one_step, one_permutation}
 use Rattle.store_tables.specs.Content.{cells, AreApart, same_key}
 use Rattle.store_tables.specs.Put.{picks, on_key, IsPut, HasPut}
-use Rattle.store_tables.proofs.UpsertLemmas.{went, same_value, same_rowid, only_one, apart-put_row, apart-filter}
+use Rattle.store_tables.proofs.UpsertLemmas.{went, same_value, only_one, apart-put_row, apart-filter}
 
-not_from_true : (b : Bool) → not b ≡ true → b ≡ false
-not_from_true true h = absurd (true≢false (sym h))
-not_from_true false h = refl
-
-at_was : (rows : List Row) → AreApart rows → (m : ℤ) (was : Row) → Has rows was → rowid was ≡ Int m → (r : Row)
-    → Has rows r → r ≡ row_at rows m → r ≡ was
-at_was rows shaped m was here id r there at = go (find (has_rowid m) rows) refl at
-  where
-    go : (o : Option Row) → find (has_rowid m) rows ≡ o → r ≡ unwrap_or o [] → r ≡ was
-    go None f e = absurd (true≢false (sym (all_has _ rows r shaped.ints there) ∙ ap (λ x. is_int (rowid x)) e))
-    go (Some y) f e =
-        let found = has_found (has_rowid m) rows y f in
-        e ∙ same_rowid rows y was shaped found.0 here
-        (subst (λ v. value_cmp (rowid y) v ≡ Equal) (sym id) (tied (value_cmp (rowid y) (Int m)) found.1))
+-- the row with a rowid is the one that is found by it
+found_row : (rows : List Row) (m : ℤ) (r : Row) → IsAscending (λ a b. value_cmp (rowid a) (rowid b) ≢ Equal) rows
+    → Has rows r → has_rowid m r ≡ true → r ≡ row_at rows m
+found_row [] m r apart there h = absurd there
+found_row (x ∷ rows) m r apart (inl same) h =
+    let here : has_rowid m x ≡ true = ap (has_rowid m) (sym same) ∙ h in
+    same ∙ sym (λ i. unwrap_or (if here i then Some x else find (has_rowid m) rows) [])
+found_row (x ∷ rows) m r apart (inr later) h =
+    let other : has_rowid m x ≡ false = false_from_ne_true _ (λ it.
+    all_has _ rows r apart.0 later (value_cmp_total.congr (rowid x) (Int m) (rowid r) (tied _ it)
+    ∙ tied_back value_cmp_total (rowid r) (Int m) (tied _ h))) in
+    found_row rows m r apart.1 later h ∙ sym (λ i. unwrap_or (if other i then Some x else find (has_rowid m) rows) [])
 
 -- what an edit does to the table, given that each row stays or goes
 turns_by : (schema : Schema) (db next : Trees) (edit : Edit) → IsAscending (λ a b. a.tree ≡ b.tree → ⊥) schema.tables
@@ -76,43 +70,16 @@ turns_by schema db next edit apart listed it split =
       split = split;
     }
 
-never_missed : (p : Row → Bool) (rows : List Row) (r : Row) → find p rows ≡ None → Has rows r → p r ≡ true → ⊥
-never_missed p [] r f there h = there
-never_missed p (x ∷ rows) r f there h = go (p x) refl f there (λ g later. never_missed p rows r g later h)
-  where
-    go : (b : Bool) → p x ≡ b → (if b then Some x else find p rows) ≡ None → Has (x ∷ rows) r
-        → (find p rows ≡ None → Has rows r → ⊥) → ⊥
-    go true e f there on = absurd (cc)
-    go false e f (inl same) on = true≢false (sym h ∙ ap p same ∙ e)
-    go false e f (inr later) on = on f later
-
 left_or_gone : (rows : List Row) → AreApart rows → (m : ℤ) (r : Row) → Has rows r → Has (without_rowid m rows) r
     ⊎ Has (row_at rows m ∷ []) r
-left_or_gone rows t m r there = go (has_rowid m r) refl (find (has_rowid m) rows) refl
-  where
-    go : (b : Bool) → has_rowid m r ≡ b → (o : Option Row) → find (has_rowid m) rows ≡ o → Has (without_rowid m rows) r
-        ⊎ ((r ≡ unwrap_or o []) ⊎ ⊥)
-    go false h o f = inl (has_kept (λ x. not (has_rowid m x)) rows r there (ap not h))
-    go true h (Some y) f =
-        let found = has_found (has_rowid m) rows y f in
-        inr
-        (inl
-        (same_rowid rows r y t there found.0
-        (value_cmp_total.congr (rowid r) (Int m) (rowid y) (tied (value_cmp (rowid r) (Int m)) h)
-        ∙ tied_back value_cmp_total (rowid y) (Int m) (tied (value_cmp (rowid y) (Int m)) found.1))))
-    go true h None f = absurd (never_missed (has_rowid m) rows r f there h)
+left_or_gone rows t m r there = elim (cases_Bool (has_rowid m r)) [
+  | inl it ↦ inr (inl (found_row rows m r t.apart there it))
+  | inr other ↦ inl (has_kept (λ x. not (has_rowid m x)) rows r there (ap not other))
+]
 
 if_false : (b : Bool) (A B : Type 0) → b ≡ false → MatchBool b A B → B
 if_false true A B p h = absurd (true≢false p)
 if_false false A B p h = h
-
-uncounted : (b x : Bool) → b ≡ false → cond b x false ≡ false
-uncounted true x p = absurd (true≢false p)
-uncounted false x p = refl
-
-chosen : (b : Bool) (top : ℤ) → b ≡ false → cond b (Above top) Chosen ≡ Chosen
-chosen true top p = absurd (true≢false p)
-chosen false top p = refl
 
 module _ (limit : Option ℕ) (schema : Schema) (table : Table) (params : Row) (key : List ℕ) (row : Row) (from : Source)
     (places : List ℕ) (base : ℕ) (project : List Term)
@@ -196,7 +163,7 @@ module _ (limit : Option ℕ) (schema : Schema) (table : Table) (params : Row) (
       let n = is.placed (db table.tree) in
       let new : with_rowid (rowids_for table top) (db table.tree) (cast_row table is.source) ≡ is.stored n.0 =
       ap (λ (k : Rowids). with_rowid k (db table.tree) (cast_row table is.source))
-      (chosen table.is_counted top is.uncounted) ∙ n.1 in
+      (λ i. cond (is.uncounted i) (Above top) Chosen) ∙ n.1 in
       let trees : done.0.trees ≡ on.0.trees = ap (λ (p : Written × ℤ). p.0.trees) (same_value on.2) in (
         n.0,
         subst (λ (t : Trees). PutsNew db t n.0 ⊎ Replaces db t n.0) (sym trees)
@@ -219,7 +186,7 @@ module _ (limit : Option ℕ) (schema : Schema) (table : Table) (params : Row) (
       (Ok done.0)) rows done.1) in
       let last : next.0 ≡ done.0.0.trees = same_value
       (if_false (if table.is_counted then is_lt (int_cmp (count_of counter.0) done.0.1) else false) _ _
-      (uncounted table.is_counted _ is.uncounted) next.1) in
+      (λ i. if is.uncounted i then is_lt (int_cmp (count_of counter.0) done.0.1) else false) next.1) in
       let trees : w.trees ≡ done.0.0.trees = ap (λ (x : Written). x.trees) (same_value next.2) ∙ last in
       (each.0, subst (λ (t : Trees). PutsNew db t each.0 ⊎ Replaces db t each.0) (sym trees) each.1)
 
@@ -272,38 +239,49 @@ module _ (limit : Option ℕ) (schema : Schema) (table : Table) (params : Row) (
 
   module _ (db next : Trees) (shaped : AreApart (db table.tree))
       (apart : IsAscending (λ a b. a.tree ≡ b.tree → ⊥) schema.tables) (listed : Has schema.tables table) where
+    -- The row k is new among those that are left, and what is taken had its key.
+    has_put : (k : ℤ) (left taken : List Row)
+        → Turns schema db next table left taken (cast_row table (is.stored k) ∷ [])
+        → ((r : Row) → Has (db table.tree) r → Has taken r → same_key key (cells table r) row ≡ true)
+        → ((r : Row) → Has left r → same_key key (cells table r) row ≡ false) → AreApart (next table.tree)
+        → AllByRecursion (λ t. (t.tree ≡ table.tree → ⊥) → next t.tree ≡ db t.tree) schema.tables
+        → HasPut schema table key row db next
+    has_put k left taken turn gone other next_apart others = record {
+      kept = λ rows keeps. record {
+        stored = λ x there. elim there [
+          | inl same ↦ (is.stored k, turn.added (is.stored k) (inl (sym (is.recast k))), is.shows k ∙ sym same)
+          | inr rest ↦
+              let both = has_filtered _ rows x rest in
+              let old = keeps.stored x both.0 in (
+                old.0,
+                elim (turn.split old.0 old.1) [
+                  | inl stays ↦ turn.stays old.0 stays
+                  | inr went ↦ absurd (true≢false (sym (gone old.0 old.1 went)
+                      ∙ ap (λ y. same_key key y row) old.2 ∙ not-true _ both.1))
+                ],
+                old.2,
+              )
+        ];
+        only = λ r there. elim (turn.from r there) [
+          | inl (inl same) ↦ inl (ap (cells table) (same ∙ is.recast k) ∙ is.shows k)
+          | inl (inr none) ↦ absurd none
+          | inr stays ↦ inr
+              (has_kept _ rows (cells table r) (keeps.only r (turn.was r stays)) (ap not (other r stays)))
+        ];
+      };
+      apart = next_apart;
+      others = others;
+    }
+
     new_has : (n : ℤ) → PutsNew db next n → HasPut schema table key row db next
     new_has n it =
         let edit : Edit = edit_of db table [] Given 0 (is.stored n ∷ []) in
         let turn = turns_by schema db next edit apart listed it.applies (λ r h. inl h) in
-        record {
-          kept = λ rows k. record {
-            stored = λ x there. elim there [
-              | inl same ↦ (is.stored n, turn.added (is.stored n) (inl (sym (is.recast n))), is.shows n ∙ sym same)
-              | inr other ↦
-                  let was = k.stored x (has_filtered _ rows x other).0 in (
-                    was.0,
-                    elim (turn.split was.0 was.1) [ inl left ↦ turn.stays was.0 left | inr old ↦ absurd old ],
-                    was.2,
-                  )
-            ];
-            only = λ r there. elim (turn.from r there) [
-              | inl new ↦
-                  elim new [
-                    | inl same ↦ inl (ap (cells table) (same ∙ is.recast n) ∙ is.shows n)
-                    | inr none ↦
-                        absurd none
-                  ]
-              | inr left ↦
-                  inr
-                  (has_kept _ rows (cells table r) (k.only r (turn.was r left)) (ap not (it.free r (turn.was r left))))
-            ];
-          };
-          apart = subst AreApart (sym it.applies.rows)
-              (apart-put_row (cast_row table (is.stored n)) (db table.tree)
-              (not_from_true _ (and_parts _ _ it.applies.fresh).0) (and_parts _ _ it.applies.keyed).0 shaped);
-          others = it.applies.tables;
-        }
+        has_put n (left_by db edit) (taken_by db edit) turn (λ r there none. absurd none)
+        (λ r left. it.free r (turn.was r left))
+        (subst AreApart (sym it.applies.rows)
+        (apart-put_row (cast_row table (is.stored n)) (db table.tree) (not-true _ (and_parts _ _ it.applies.fresh).0)
+        (and_parts _ _ it.applies.keyed).0 shaped)) it.applies.tables
 
     replaced_has : (n : ℤ) → Replaces db next n → HasPut schema table key row db next
     replaced_has n it =
@@ -316,61 +294,28 @@ module _ (limit : Option ℕ) (schema : Schema) (table : Table) (params : Row) (
         it.applies in
         let turn = turns_by schema db next edit apart listed applies (left_or_gone (db table.tree) shaped m) in
         let new : Has (next table.tree) (is.stored m) = turn.added (is.stored m) (inl (sym (is.recast m))) in
-        let named = is.named it.was m id it.same in
-        record {
-          kept = λ rows k. record {
-            stored = λ x there. elim there [
-              | inl same ↦ (is.stored m, new, is.shows m ∙ sym same)
-              | inr other ↦
-                  let both = has_filtered _ rows x other in
-                  let was = k.stored x both.0 in (
-                    was.0,
-                    elim (turn.split was.0 was.1) [
-                      | inl left ↦ turn.stays was.0 left
-                      | inr old ↦
-                          elim old [
-                            | inl same ↦
-                                absurd
-                                (true≢false
-                                (sym
-                                (subst (λ y. same_key key y row ≡ true)
-                                (sym
-                                (ap (cells table)
-                                (at_was (db table.tree) shaped m it.was it.here id was.0 was.1 same))
-                                ∙ was.2) it.same) ∙ not_from_true _ both.1))
-                            | inr none ↦ absurd none
-                          ]
-                    ],
-                    was.2,
-                  )
-            ];
-            only = λ r there. elim (turn.from r there) [
-              | inl new ↦
-                  elim new [
-                    | inl same ↦ inl (ap (cells table) (same ∙ is.recast m) ∙ is.shows m)
-                    | inr none ↦
-                        absurd none
-                  ]
-              | inr left ↦
-                  inr
-                  (has_kept _ rows (cells table r) (k.only r (turn.was r left)) (ap not (false_from_ne_true _ (λ same.
-                  let kept = has_filtered _ (db table.tree) r left in
-                  let int : rowid r ≡ Int (id_in (rowid r)) = int_is (rowid r) (all_has _ _ r shaped.ints kept.0) in
-                  let equal = is.distinct next r m (id_in (rowid r)) (applies.fits.rules Unique (λ e. absurd (cc))) int
-                  there new same in
-                  true≢false
-                  (sym
-                  (ap is_eq
-                  (subst (λ v. value_cmp (rowid r) v ≡ Equal) (sym equal ∙ named)
-                  (tied_itself value_cmp_total (rowid r)))) ∙ not_from_true _ kept.1)))))
-            ];
-          };
-          apart = subst AreApart (sym applies.rows)
-              (apart-put_row (cast_row table (is.stored m)) (without_rowid m (db table.tree))
-              (not_from_true _ (and_parts _ _ applies.fresh).0) (and_parts _ _ applies.keyed).0
-              (apart-filter _ (db table.tree) shaped));
-          others = applies.tables;
-        }
+        has_put m (left_by db edit) (taken_by db edit) turn
+        (λ r there old. elim old [
+          | inl same ↦ subst (λ y. same_key key (cells table y) row ≡ true)
+              (found_row (db table.tree) m it.was shaped.apart it.here
+              (ap (λ v. is_eq (value_cmp v (Int m))) id ∙ ap is_eq (tied_itself value_cmp_total (Int m))) ∙ sym same)
+              it.same
+          | inr none ↦ absurd none
+        ])
+        (λ r left. false_from_ne_true _ (λ same.
+        let kept = has_filtered _ (db table.tree) r left in
+        let int : rowid r ≡ Int (id_in (rowid r)) = int_is (rowid r) (all_has _ _ r shaped.ints kept.0) in
+        let equal = is.distinct next r m (id_in (rowid r)) (applies.fits.rules Unique (λ e. absurd (cc))) int
+        (turn.stays r left) new same in
+        true≢false
+        (sym
+        (ap is_eq
+        (subst (λ v. value_cmp (rowid r) v ≡ Equal) (sym equal ∙ is.named it.was m id it.same)
+        (tied_itself value_cmp_total (rowid r)))) ∙ not-true _ kept.1)))
+        (subst AreApart (sym applies.rows)
+        (apart-put_row (cast_row table (is.stored m)) (without_rowid m (db table.tree))
+        (not-true _ (and_parts _ _ applies.fresh).0) (and_parts _ _ applies.keyed).0
+        (apart-filter _ (db table.tree) shaped))) applies.tables
 
     -- an upsert by key, whole
     pub puts : (w : Written) → InsertsOr task Abort (on_key places table.tree base project) from db (Ok w)

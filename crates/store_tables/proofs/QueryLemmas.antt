@@ -1,7 +1,6 @@
 -- A SELECT changes nothing, whatever the schema.
-use Rattle.std.proofs.Common.{◌≡◌, ℕ, Bool, true, false, true≢false, List, Ok, Err, Result, Option, None, refl}
-use Rattle.std.proofs.Common.{sym, ap, subst, ◌∙◌, inl, inr, ◌⊎◌, IsTrue, arith}
-use Rattle.std.specs.Prelude.{if◌then◌else◌, IfOk, IfErr, IsSome}
+use Rattle.std.proofs.Common.{◌≡◌, ℕ, Bool, true, false, true≢false, List, Ok, Err, Result, Option, None, refl, sym, ap}
+use Rattle.std.proofs.Common.{subst, ◌∙◌, inl, inr, ◌⊎◌, IsTrue, arith, if◌then◌else◌, IfOk, IfErr, IsSome}
 use Rattle.std.proofs.lemmas.Bool.{cases_Bool}
 use Rattle.store_tables.specs.Sql.{Row, Schema, understood, State, Shown, IsUnchanged, Survives, HasCleanDisk}
 use Rattle.sqlite.specs.Command.{Command}
@@ -128,21 +127,23 @@ module _ (sql : List ℕ) (select : IsSelect sql) (params : Row) (old new : Stat
     kept = λ t. absurd (true≢false (sym t));
   }
 
--- ---- one call after another
+-- ---- calls that read, one after another
 
-pub reads_nothing : (s : State) → OnlyReads s s
-reads_nothing s =
-    record {
-      idle = λ h. h;
-      clean = omega arith;
-      may = λ clean db h. h;
-      was_open = λ clean h. h;
-      committed = λ clean h. refl;
-      kept = λ t. absurd (true≢false (sym t));
-    }
+-- no call
+pub read_nothing : (answered : Bool) (s : State) → Reads answered s s
+read_nothing answered s = record {
+  idle = λ h. h;
+  clean = omega arith;
+  may = λ clean db h. h;
+  was_open = λ clean h. h;
+  committed = λ clean h. refl;
+  kept = λ t clean schema content k. k;
+}
 
-pub reads_then : (a b c : State) → OnlyReads a b → OnlyReads b c → OnlyReads a c
-reads_then a b c one two =
+-- a call after one that answered, if the last did
+chain : (first answered : Bool) (a b c : State) → (IsTrue answered → IsTrue first) → Reads first a b
+    → Reads answered b c → Reads answered a c
+chain first answered a b c so one two =
     let before : HasCleanDisk c → HasCleanDisk b = λ clean. omega (arith, clean, two.clean) in
     record {
       idle = λ h. two.idle (one.idle h);
@@ -150,10 +151,15 @@ reads_then a b c one two =
       may = λ clean db h. one.may (before clean) db (two.may clean db h);
       was_open = λ clean h. one.was_open (before clean) (two.was_open clean h);
       committed = λ clean h. two.committed clean h ∙ one.committed (before clean) (two.was_open clean h);
-      kept = λ t. absurd (true≢false (sym t));
+      kept = λ t clean schema content k.
+          two.kept t clean schema content (one.kept (so t) (before clean) schema content k);
     }
 
--- ---- calls that read
+pub reads_then : (a b c : State) → OnlyReads a b → OnlyReads b c → OnlyReads a c
+reads_then a b c = chain false false a b c (λ t. t)
+
+pub read_then : (answered : Bool) (a b c : State) → Reads true a b → Reads answered b c → Reads answered a c
+read_then answered a b c = chain true answered a b c (λ t. refl)
 
 pub reads_by : (answered : Bool) (old new : State) → OnlyReads old new
     → (IsTrue answered → HasCleanDisk new → KeepsContent old new) → Reads answered old new
@@ -167,29 +173,12 @@ reads_by answered old new only kept = record {
 }
 
 pub only_reading : (answered : Bool) (old new : State) → Reads answered old new → OnlyReads old new
-only_reading answered old new reads = record {
-  idle = reads.idle;
-  clean = reads.clean;
-  may = reads.may;
-  was_open = reads.was_open;
-  committed = reads.committed;
-  kept = λ t. absurd (true≢false (sym t));
-}
-
--- no call
-pub read_nothing : (answered : Bool) (s : State) → Reads answered s s
-read_nothing answered s = reads_by answered s s (reads_nothing s) (λ t clean schema content k. k)
-
--- a call after one that answered
-pub read_then : (answered : Bool) (a b c : State) → Reads true a b → Reads answered b c → Reads answered a c
-read_then answered a b c one two =
-    reads_by answered a c (reads_then a b c (only_reading true a b one) (only_reading answered b c two))
-    (λ t clean schema content k. two.kept t clean schema content
-    (one.kept refl (omega (arith, clean, two.clean)) schema content k))
+only_reading answered old new reads =
+    chain answered false old new new (λ t. absurd (true≢false (sym t))) reads (read_nothing false new)
 
 -- a call whose answer comes to nothing
 pub read_failed : (answered : Bool) (a b : State) → Reads answered a b → Reads false a b
-read_failed answered a b reads = reads_by false a b (only_reading answered a b reads) (λ t. absurd (true≢false (sym t)))
+read_failed = only_reading
 
 -- what a call that answered leaves
 pub still_rows : (old new : State) → KeepsContent old new → (content : Content) → HasRows content old

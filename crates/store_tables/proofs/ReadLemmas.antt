@@ -1,9 +1,7 @@
 -- What a SELECT from one table shows.
 use Rattle.std.proofs.Common.{◌≡◌, ℕ, Bool, true, false, List, [], ◌∷◌, map, flat_map, refl, sym, ap, subst, ◌∙◌, inl}
-use Rattle.std.proofs.Common.{inr}
-use Rattle.std.specs.Prelude.{if◌then◌else◌}
+use Rattle.std.proofs.Common.{inr, if◌then◌else◌, IsPermutation}
 use Rattle.std.specs.List.{list_all}
-use Rattle.std.specs.List.Sorted.{IsPermutation}
 use Rattle.std.proofs.lemmas.List.Sorted.{Contains-permutation, IsPermutation-sym}
 use Rattle.sqlite_value.specs.declared.value.Value.TheVariants.{Null}
 use Rattle.sqlite_value.specs.declared.keys.Key.{Key}
@@ -17,20 +15,17 @@ use Rattle.sqlite.proofs.Callers.{IsPlain, never_commits}
 use Rattle.store_tables.specs.Content.{cells, Keeps}
 use Rattle.store_tables.specs.Contents.{Content, Holds, Leaves, IsExactly}
 use Rattle.sqlite_sql.specs.Term.{Term, eval_all, holds}
-use Rattle.sqlite_sql.specs.Query.{IsAnswer, Output, output}
+use Rattle.sqlite_sql.specs.Query.{IsAnswer, Output, Query, output}
 use Rattle.sqlite_sql.specs.Program.{overlay}
+use Rattle.sqlite_rules.proofs.ProbeLemmas.{has_mapped as mapped_from, mapped_has}
 use Rattle.sqlite_rules.proofs.ListLemmas.{has_contained, contains_had, has_either, has_left, has_right}
 use Rattle.store_tables.specs.Put.{selects}
 
 pub has_mapped : {A B : Type 0} (f : A → B) (xs : List A) (y : B) → Has (map f xs) y → (x : A) × Has xs x × (y ≡ f x)
-has_mapped f [] y h = absurd h
-has_mapped f (x ∷ xs) y (inl e) = (x, inl refl, e)
-has_mapped f (x ∷ xs) y (inr h) = let it = has_mapped f xs y h in (it.0, inr it.1, it.2)
+has_mapped = mapped_from
 
 pub has_map : {A B : Type 0} (f : A → B) (xs : List A) (x : A) → Has xs x → Has (map f xs) (f x)
-has_map f [] x h = absurd h
-has_map f (y ∷ xs) x (inl e) = inl (ap f e)
-has_map f (y ∷ xs) x (inr h) = inr (has_map f xs x h)
+has_map = mapped_has
 
 has_flat : {A B : Type 0} (f : A → List B) (xs : List A) (y : B) → Has (flat_map f xs) y → (x : A) × Has xs x
     × Has (f x) y
@@ -61,53 +56,53 @@ one_of true x y (inl e) = (refl, e)
 one_of true x y (inr h) = absurd h
 one_of false x y h = absurd h
 
-pub shown_rows : (db : Database) (params : Row) (tree : ℕ) (filter project : List Term) (order : List (Term × Key))
-    (names : List (List ℕ)) (rows : List Row) → ((d : Trees) → overlay d [] tree ≡ d tree)
-    → Reads (Select (record { lets = []; body = selects tree filter project order }) names) db params rows
-    → AreShown db.trees params tree filter project rows
-shown_rows db params tree filter project order names rows plain h =
-    let q = selects tree filter project order in
-    let a : IsAnswer q (overlay db.trees []) params rows = h.answer Null in
-    let f = λ (r : Row). if list_all (holds (params ∷ r ∷ [])) filter then (params ∷ r ∷ []) ∷ [] else [] in
-    let staged : a.staged ≡ flat_map f (db.trees tree) = a.grouped ∙ ap (flat_map f) (plain db.trees) in
-    let kept : a.kept ≡ map (output q) (flat_map f (db.trees tree)) = a.distinct ∙ ap (map (output q)) staged in
-    let same : IsPermutation (map (output q) (flat_map f (db.trees tree))) a.ordered =
-    subst (λ k. IsPermutation k a.ordered) kept a.same in
-    record {
-      sound = λ x there.
-          let o = has_mapped (λ (p : Output). p.1) a.ordered x (subst (λ l. Has l x) a.shown there) in
-          let e = has_mapped (output q) (flat_map f (db.trees tree)) o.0
-          (has_turned _ _ o.0 (IsPermutation-sym _ _ same) o.1) in
-          let r = has_flat f (db.trees tree) e.0 e.1 in
-          let is = one_of (list_all (holds (params ∷ r.0 ∷ [])) filter) (params ∷ r.0 ∷ []) e.0 r.2 in
-          (r.0, r.1, is.0, o.2 ∙ ap (λ (p : Output). p.1) (e.2 ∙ ap (output q) is.1));
-      complete = λ r there passes.
-          let env = params ∷ r ∷ [] in
-          let staged : Has (flat_map f (db.trees tree)) env =
-          has_in_flat f (db.trees tree) r env there
-          (subst (λ b. Has (if b then env ∷ [] else []) env) (sym passes) (inl refl)) in
-          let ordered = has_turned _ _ (output q env) same (has_map (output q) _ env staged) in
-          subst (λ l. Has l (eval_all project env)) (sym a.shown)
-          (has_map (λ (p : Output). p.1) a.ordered (output q env) ordered);
-    }
+module _ (db : Database) (params : Row) (tree : ℕ) (filter project : List Term) (order : List (Term × Key))
+    (plain : (d : Trees) → overlay d [] tree ≡ d tree) where
+  abbrev query : Query
+  query = selects tree filter project order
 
--- each row that is shown comes from one of the table
-pub env_of : (db : Database) (params : Row) (tree : ℕ) (filter project : List Term) (order : List (Term × Key))
-    (rows : List Row) → ((d : Trees) → overlay d [] tree ≡ d tree)
-    → (a : IsAnswer (selects tree filter project order) (overlay db.trees []) params rows) (o : Output)
-    → Has a.ordered o → (r : Row) × (o ≡ output (selects tree filter project order) (params ∷ r ∷ []))
-env_of db params tree filter project order rows plain a o there =
-    let q = selects tree filter project order in
-    let f = λ (r : Row). if list_all (holds (params ∷ r ∷ [])) filter then (params ∷ r ∷ []) ∷ [] else [] in
-    let staged : a.staged ≡ flat_map f (db.trees tree) = a.grouped ∙ ap (flat_map f) (plain db.trees) in
-    let kept : a.kept ≡ map (output q) (flat_map f (db.trees tree)) = a.distinct ∙ ap (map (output q)) staged in
-    let same : IsPermutation (map (output q) (flat_map f (db.trees tree))) a.ordered =
-    subst (λ k. IsPermutation k a.ordered) kept a.same in
-    let e = has_mapped (output q) (flat_map f (db.trees tree)) o (has_turned _ _ o (IsPermutation-sym _ _ same) there)
-    in
-    let r = has_flat f (db.trees tree) e.0 e.1 in
-    let is = one_of (list_all (holds (params ∷ r.0 ∷ [])) filter) (params ∷ r.0 ∷ []) e.0 r.2 in
-    (r.0, e.2 ∙ ap (output q) is.1)
+  abbrev IsRead : List Row → Type 0
+  IsRead rows = IsAnswer query (overlay db.trees []) params rows
+
+  abbrev passed : Row → List (List Row)
+  passed r = if list_all (holds (params ∷ r ∷ [])) filter then (params ∷ r ∷ []) ∷ [] else []
+
+  -- what is shown is, in some order, what the query makes of the rows that pass
+  pub same_shown : (rows : List Row) (a : IsRead rows)
+      → IsPermutation (map (output query) (flat_map passed (db.trees tree))) a.ordered
+  same_shown rows a =
+      subst (λ k. IsPermutation k a.ordered)
+      (a.distinct ∙ ap (map (output query)) (a.grouped ∙ ap (flat_map passed) (plain db.trees))) a.same
+
+  -- each row that is shown comes from one of the table
+  pub env_of : (rows : List Row) (a : IsRead rows) (o : Output) → Has a.ordered o → (r : Row) × Has (db.trees tree) r
+      × (list_all (holds (params ∷ r ∷ [])) filter ≡ true) × (o ≡ output query (params ∷ r ∷ []))
+  env_of rows a o there =
+      let e = has_mapped (output query) (flat_map passed (db.trees tree)) o
+      (has_turned _ _ o (IsPermutation-sym _ _ (same_shown rows a)) there) in
+      let r = has_flat passed (db.trees tree) e.0 e.1 in
+      let is = one_of (list_all (holds (params ∷ r.0 ∷ [])) filter) (params ∷ r.0 ∷ []) e.0 r.2 in
+      (r.0, r.1, is.0, e.2 ∙ ap (output query) is.1)
+
+  pub shown_rows : (names : List (List ℕ)) (rows : List Row)
+      → Reads (Select (record { lets = []; body = query }) names) db params rows
+      → AreShown db.trees params tree filter project rows
+  shown_rows names rows h =
+      let a : IsRead rows = h.answer Null in
+      record {
+        sound = λ x there.
+            let o = has_mapped (λ (p : Output). p.1) a.ordered x (subst (λ l. Has l x) a.shown there) in
+            let r = env_of rows a o.0 o.1 in
+            (r.0, r.1, r.2, o.2 ∙ ap (λ (p : Output). p.1) r.3);
+        complete = λ r there passes.
+            let env = params ∷ r ∷ [] in
+            let staged : Has (flat_map passed (db.trees tree)) env =
+            has_in_flat passed (db.trees tree) r env there
+            (subst (λ b. Has (if b then env ∷ [] else []) env) (sym passes) (inl refl)) in
+            let ordered = has_turned _ _ (output query env) (same_shown rows a) (has_map (output query) _ env staged) in
+            subst (λ l. Has l (eval_all project env)) (sym a.shown)
+            (has_map (λ (p : Output). p.1) a.ordered (output query env) ordered);
+      }
 
 pub shown_unchanged : (sql : List ℕ) (params : Row) (old new : State) (rows : List Row)
     → IsPlain (understood old.now.schema sql) → Shown sql params old new rows → IsUnchanged old new
@@ -145,7 +140,7 @@ pub found_rows : (table : Table) (project : List Term) (order : List (Term × Ke
     (Select (record { lets = []; body = selects table.tree [] project order }) names) db [] rows
     → Keeps table db.trees rows
 found_rows table project order names overlaid shows db rows h =
-    let are = shown_rows db [] table.tree [] project order names rows overlaid h in
+    let are = shown_rows db [] table.tree [] project order overlaid names rows h in
     record {
       stored = λ x there. let it = are.sound x there in (it.0, it.1, sym (it.3 ∙ shows it.0));
       only = λ r there. subst (λ y. Has rows y) (shows r) (are.complete r there refl);

@@ -1,6 +1,6 @@
 -- Contents whose tables have the same rows are held alike.
-use Rattle.std.proofs.Common.{List, [], ◌∷◌}
-use Rattle.std.specs.List.{AllByRecursion}
+use Rattle.std.proofs.Common.{List}
+use Rattle.sqlite_trees.proofs.ListLemmas.{all_both}
 use Rattle.store_tables.specs.Sql.{Row, Schema, Table, Trees, State}
 use Rattle.store_tables.specs.Changes.{HaveSame, AreSame}
 use Rattle.store_tables.specs.Content.{Keeps}
@@ -16,19 +16,14 @@ keeps_same table db one other same keeps = record {
   only = λ r h. same.there _ (keeps.only r h);
 }
 
-both_all : {A : Type 0} (P Q R : A → Type 0) (xs : List A) → ((x : A) → P x → Q x → R x) → AllByRecursion P xs
-    → AllByRecursion Q xs → AllByRecursion R xs
-both_all P Q R [] f p q = tt
-both_all P Q R (x ∷ xs) f p q = (f x p.0 q.0, both_all P Q R xs f p.1 q.1)
-
 module _ (schema : Schema) (one other : Content) where
   stored_on : (db : Trees) → AreSame schema one other → AreStored schema db one → AreStored schema db other
   stored_on db =
-      both_all (λ t. HaveSame (one t.tree) (other t.tree)) (λ t. Stores t db one) (λ t. Stores t db other)
-      schema.tables (λ t same stores. record {
+      all_both (λ t. HaveSame (one t.tree) (other t.tree)) (λ t. Stores t db one) (λ t. Stores t db other)
+      (λ t same stores. record {
         rows = keeps_same t db (one t.tree) (other t.tree) same stores.rows;
         apart = stores.apart;
-      })
+      }) schema.tables
 
   pub leaves_on : (db : Trees) → AreSame schema one other → of_schema.Leaves schema one db
       → of_schema.Leaves schema other db

@@ -1,10 +1,9 @@
 -- What a SELECT of all rows tells of whatever database, and what a SELECT by a key tells of a content.
 use Rattle.std.proofs.Common.{◌≡◌, ◌≢◌, ℕ, true, List, [], ◌∷◌, map, Ok, Err, Result, refl, sym, ap, subst, subst₂, ◌∙◌}
-use Rattle.std.proofs.Common.{inl, inr, IsTrue, Equal, Option, Some, slice_get, All, get_or}
+use Rattle.std.proofs.Common.{inl, inr, IsTrue, Equal, Option, Some, slice_get, All, get_or, Ordering, IsSorted}
+use Rattle.std.proofs.Common.{IsPermutation}
 use Rattle.std.specs.List.{AllByRecursion}
-use Rattle.std.specs.List.Sorted.{IsSorted, IsPermutation}
 use Rattle.std.specs.Cmp.{tied_back, tied_itself}
-use Rattle.std.specs.declared.cmp.Ordering.{Ordering}
 use Rattle.std.proofs.lemmas.List.Sorted.{IsPermutation-sym}
 use Rattle.sqlite_value.specs.Order.{value_cmp}
 use Rattle.sqlite_value.proofs.OrderLemmas.{value_cmp_total}
@@ -37,33 +36,60 @@ use Rattle.store_tables.proofs.ReadLemmas.{found_rows, shown_rows, has_map, has_
 use Rattle.store_tables.proofs.ReadLemmas.{unchanged_exactly}
 
 module _ (schema : Schema) (tree count : ℕ) (sql : List ℕ) (project : List Term)
-    (is : Selects schema tree count sql project) where
-  read_by : (old new : State) (rows : List Row) → old.now.schema ≡ schema → Shown sql [] old new rows
-      → Reads (Select (record { lets = []; body = selects tree [] project is.order }) is.names) old.now [] rows
-  read_by old new rows has h = reads_as sql [] old new schema has _ is.command is.plain is.unlisted rows h
+    (is : Selects schema tree count sql project) (old new : State) (rows : List Row) (has : old.now.schema ≡ schema)
+    (h : Shown sql [] old new rows) where
+  read_by : Reads (Select (record { lets = []; body = selects tree [] project is.order }) is.names) old.now [] rows
+  read_by = reads_as sql [] old new schema has _ is.command is.plain is.unlisted rows h
 
-  kept_by : (old new : State) (rows : List Row) → old.now.schema ≡ schema → Shown sql [] old new rows
-      → IsUnchanged old new
-  kept_by old new rows has h = shown_unchanged sql [] old new rows
-      (subst (λ s. IsPlain (understood s sql)) (sym has) is.plain) h
+  kept_by : IsUnchanged old new
+  kept_by = shown_unchanged sql [] old new rows (subst (λ s. IsPlain (understood s sql)) (sym has) is.plain) h
 
-  sorted_by : (old new : State) (rows : List Row) → old.now.schema ≡ schema → Shown sql [] old new rows
-      → IsSorted (by_columns count) rows
-  sorted_by old new rows has h = sorted_rows old.now [] tree [] project is.order is.names rows (by_columns count)
-      is.overlaid is.by (read_by old new rows has h)
+  sorted_by : IsSorted (by_columns count) rows
+  sorted_by =
+      sorted_rows old.now [] tree [] project is.order is.names rows (by_columns count) is.overlaid is.by read_by
 
-  abbrev Apart : Row → Row → Type 0
-  Apart a b = value_cmp (column a 0) (column b 0) ≢ Equal
+  each_read : IsPermutation (map (λ r. eval_all project ([] ∷ r ∷ [])) (old.now.trees tree)) rows
+  each_read = each_shown old.now [] tree project is.order is.names rows is.overlaid read_by
 
-  abbrev show : Row → Row
-  show r = eval_all project ([] ∷ r ∷ [])
+-- Rows that are shown in some way, with the rowid first: they are apart if and only if those of the table are.
+module _ (show : Row → Row) (stored rows : List Row) (first : (r : Row) → column (show r) 0 ≡ rowid r)
+    (once : IsPermutation (map show stored) rows) where
+  abbrev Differ : Row → Row → Type 0
+  Differ a b = value_cmp (column a 0) (column b 0) ≢ Equal
 
-  turn : (a b : Row) → Apart a b → Apart b a
-  turn a b differ same = differ (tied_back value_cmp_total (column b 0) (column a 0) same)
+  abbrev IsApart : Row → Row → Type 0
+  IsApart r s = value_cmp (rowid r) (rowid s) ≢ Equal
 
-maps-same : {A B : Type 0} (f g : A → B) → ((x : A) → f x ≡ g x) → (xs : List A) → map f xs ≡ map g xs
-maps-same f g same [] = refl
-maps-same f g same (x ∷ xs) = λ i. same x i ∷ maps-same f g same xs i
+  abbrev HasInt : Row → Type 0
+  HasInt x = IsTrue (is_int (column x 0))
+
+  abbrev HasRowid : Row → Type 0
+  HasRowid r = IsTrue (is_int (rowid r))
+
+  turned : (a b : Row) → Differ a b → Differ b a
+  turned a b differ same = differ (tied_back value_cmp_total (column b 0) (column a 0) same)
+
+  back : IsPermutation rows (map show stored)
+  back = IsPermutation-sym _ _ once
+
+  ids_shown : AreApart stored → AreIds rows
+  ids_shown are = record {
+    apart = pairs_turned Differ turned (map show stored) rows once (ascending-map Differ show stored
+        (ascending_weaker IsApart (λ r s. Differ (show r) (show s))
+        (λ r s other same. other (subst₂ (λ x y. value_cmp x y ≡ Equal) (first r) (first s) same)) stored are.apart));
+    ints = all-permutation HasInt (map show stored) rows once (all-map HasInt show stored
+        (all_weaker HasRowid (λ r. HasInt (show r)) (λ r int. subst (λ v. IsTrue (is_int v)) (sym (first r)) int)
+        stored are.ints));
+  }
+
+  apart_shown : AreIds rows → AreApart stored
+  apart_shown ids = record {
+    apart = ascending_weaker (λ r s. Differ (show r) (show s)) IsApart
+        (λ r s other same. other (subst₂ (λ x y. value_cmp x y ≡ Equal) (sym (first r)) (sym (first s)) same)) stored
+        (ascending_from_map Differ show stored (pairs_turned Differ turned rows (map show stored) back ids.apart));
+    ints = all_weaker (λ r. HasInt (show r)) HasRowid (λ r int. subst (λ v. IsTrue (is_int v)) (first r) int) stored
+        (all_from_map HasInt show stored (all-permutation HasInt rows (map show stored) back ids.ints));
+  }
 
 -- where every column is selected, in the order of the key
 pub tells : (schema : Schema) (table : Table) (count : ℕ) (sql : List ℕ) (project : List Term)
@@ -74,9 +100,8 @@ tells schema table count sql project is shows old new rows has h = record {
   keeps = found_rows table project is.order is.names is.overlaid shows old.now rows
       (read_by schema table.tree count sql project is old new rows has h);
   once = subst (λ shown. IsPermutation shown rows)
-      (maps-same (λ r. eval_all project ([] ∷ r ∷ [])) (cells table) shows (old.now.trees table.tree))
-      (each_shown old.now [] table.tree project is.order is.names rows is.overlaid
-      (read_by schema table.tree count sql project is old new rows has h));
+      (λ i. map (λ r. shows r i) (old.now.trees table.tree))
+      (each_read schema table.tree count sql project is old new rows has h);
   sorted = sorted_by schema table.tree count sql project is old new rows has h;
   same = kept_by schema table.tree count sql project is old new rows has h;
 }
@@ -87,35 +112,11 @@ pub tells_ids : (schema : Schema) (tree : ℕ) (sql : List ℕ) (project : List 
     → (old new : State) (rows : List Row) → old.now.schema ≡ schema → Shown sql [] old new rows
     → TellsIds (old.now.trees tree) rows old new
 tells_ids schema tree sql project is first old new rows has h =
-    let stored = old.now.trees tree in
-    let one = each_shown old.now [] tree project is.order is.names rows is.overlaid
-    (read_by schema tree 1 sql project is old new rows has h) in
-    let differ = Apart schema tree 1 sql project is in
-    let shown = show schema tree 1 sql project is in
-    let turned = turn schema tree 1 sql project is in
+    let show = λ (r : Row). eval_all project ([] ∷ r ∷ []) in
+    let once = each_read schema tree 1 sql project is old new rows has h in
     record {
-      apart = λ ids. record {
-        apart = ascending_weaker (λ r s. differ (shown r) (shown s)) (λ r s. value_cmp (rowid r) (rowid s) ≢ Equal)
-            (λ r s other same. other (subst₂ (λ x y. value_cmp x y ≡ Equal) (sym (first r)) (sym (first s)) same))
-            stored
-            (ascending_from_map differ shown stored
-            (pairs_turned differ turned rows (map shown stored) (IsPermutation-sym _ _ one) ids.apart));
-        ints = all_weaker (λ r. IsTrue (is_int (column (shown r) 0))) (λ r. IsTrue (is_int (rowid r)))
-            (λ r int. subst (λ v. IsTrue (is_int v)) (first r) int) stored
-            (all_from_map (λ x. IsTrue (is_int (column x 0))) shown stored
-            (all-permutation (λ x. IsTrue (is_int (column x 0))) rows (map shown stored) (IsPermutation-sym _ _ one)
-            ids.ints));
-      };
-      ids = λ are. record {
-        apart = pairs_turned differ turned (map shown stored) rows one (ascending-map differ shown stored
-            (ascending_weaker (λ r s. value_cmp (rowid r) (rowid s) ≢ Equal) (λ r s. differ (shown r) (shown s))
-            (λ r s other same. other (subst₂ (λ x y. value_cmp x y ≡ Equal) (first r) (first s) same)) stored
-            are.apart));
-        ints = all-permutation (λ x. IsTrue (is_int (column x 0))) (map shown stored) rows one
-            (all-map (λ x. IsTrue (is_int (column x 0))) shown stored
-            (all_weaker (λ r. IsTrue (is_int (rowid r))) (λ r. IsTrue (is_int (column (shown r) 0)))
-            (λ r int. subst (λ v. IsTrue (is_int v)) (sym (first r)) int) stored are.ints));
-      };
+      apart = apart_shown show (old.now.trees tree) rows first once;
+      ids = ids_shown show (old.now.trees tree) rows first once;
       sorted = sorted_by schema tree 1 sql project is old new rows has h;
       same = kept_by schema tree 1 sql project is old new rows has h;
     }
@@ -129,7 +130,7 @@ pub tells_first : (schema : Schema) (table : Table) (sql : List ℕ) (project : 
     × (Has (map (λ r. column r 0 ∷ []) wanted) z → Has rows z)
 tells_first schema table sql project is shows old new rows wanted has h keeps z =
     let first : Row → Row = λ r. column r 0 ∷ [] in
-    let are = shown_rows old.now [] table.tree [] project is.order is.names rows is.overlaid
+    let are = shown_rows old.now [] table.tree [] project is.order is.overlaid is.names rows
     (read_by schema table.tree 1 sql project is old new rows has h) in (
       λ there.
           let it = are.sound z there in
@@ -141,6 +142,12 @@ tells_first schema table sql project is shows old new rows wanted has h keeps z 
           subst (Has rows) (shows it.0 ∙ ap first it.2 ∙ sym y.2) (are.complete it.0 it.1 refl),
     )
 
+-- the table at a place of the schema is stored
+pub stored_at : (schema : Schema) (table : Table) (place : ℕ) → slice_get schema.tables place ≡ Some table
+    → (db : Trees) (content : Content) → AreStored schema db content → Stores table db content
+stored_at schema table place at db content all =
+    all_has (λ t. Stores t db content) schema.tables table all (has_got schema.tables place table at)
+
 pub finds : (schema : Schema) (table : Table) (place : ℕ) (key : List ℕ) (wanted params : Row) (sql : List ℕ)
     (cmp : Row → Row → Ordering) → Finds schema table place key wanted params sql cmp
     → (old new : State) (rows : List Row) → Survives old new (CommitsShowing sql params old) → HasCleanDisk new
@@ -149,10 +156,9 @@ pub finds : (schema : Schema) (table : Table) (place : ℕ) (key : List ℕ) (wa
     × IsSorted cmp rows × IsExactly schema content new
 finds schema table place key wanted params sql cmp is old new rows s clean h content k =
     let reads = reads_as sql params old new schema k.now.schema _ is.command is.plain is.unlisted rows h in
-    let are = shown_rows old.now params table.tree is.filter is.project is.order is.names rows is.overlaid reads in
+    let are = shown_rows old.now params table.tree is.filter is.project is.order is.overlaid is.names rows reads in
     let kept : Stores table old.now.trees content =
-    all_has (λ t. Stores t old.now.trees content) schema.tables table k.now.tables
-    (has_got schema.tables place table is.at) in (
+    stored_at schema table place is.at old.now.trees content k.now.tables in (
       record {
         sound = λ x there.
             let it = are.sound x there in
@@ -175,11 +181,7 @@ finds schema table place key wanted params sql cmp is old new rows s clean h con
 
 no_store : (cause : StoreError) → IsNoInput (store_error cause)
 no_store failure.OutOfMemory why e = cc
-no_store failure.Io why e = cc
-no_store failure.Corrupt why e = cc
-no_store failure.Full why e = cc
-no_store failure.Broken why e = cc
-no_store failure.Unstorable why e = cc
+no_store _ why e = cc
 
 no_err : (r : Result Compiled CompileError) (fault : CompileError) → IsPlain r → r ≡ Err fault → ⊥
 no_err (Ok c) fault plain e = let x = e in cc
@@ -242,45 +244,8 @@ one_shown table db (y ∷ z ∷ rest) x one two ids =
 -- the rows that are shown begin with the rowids, where these are shown first
 pub ids_of : (table : Table) (stored rows : List Row) → ((r : Row) → column (cells table r) 0 ≡ rowid r)
     → IsPermutation (map (cells table) stored) rows → AreApart stored → AreIds rows
-ids_of table stored rows first once are = record {
-  apart = pairs_turned differ turned (map (cells table) stored) rows once (ascending-map differ (cells table) stored
-      (ascending_weaker (λ r s. value_cmp (rowid r) (rowid s) ≢ Equal) (λ r s. differ (cells table r) (cells table s))
-      (λ r s other same. other (subst₂ (λ x y. value_cmp x y ≡ Equal) (first r) (first s) same)) stored are.apart));
-  ints = all-permutation (λ x. IsTrue (is_int (column x 0))) (map (cells table) stored) rows once
-      (all-map (λ x. IsTrue (is_int (column x 0))) (cells table) stored
-      (all_weaker (λ r. IsTrue (is_int (rowid r))) (λ r. IsTrue (is_int (column (cells table r) 0)))
-      (λ r int. subst (λ v. IsTrue (is_int v)) (sym (first r)) int) stored are.ints));
-}
-  where
-    differ : Row → Row → Type 0
-    differ a b = value_cmp (column a 0) (column b 0) ≢ Equal
-
-    turned : (a b : Row) → differ a b → differ b a
-    turned a b other same = other (tied_back value_cmp_total (column b 0) (column a 0) same)
+ids_of table = ids_shown (cells table)
 
 pub apart_of : (table : Table) (stored rows : List Row) → ((r : Row) → column (cells table r) 0 ≡ rowid r)
     → IsPermutation (map (cells table) stored) rows → AreIds rows → AreApart stored
-apart_of table stored rows first once ids = record {
-  apart = ascending_weaker (λ r s. differ (cells table r) (cells table s))
-      (λ r s. value_cmp (rowid r) (rowid s) ≢ Equal)
-      (λ r s other same. other (subst₂ (λ x y. value_cmp x y ≡ Equal) (sym (first r)) (sym (first s)) same)) stored
-      (ascending_from_map differ (cells table) stored
-      (pairs_turned differ turned rows (map (cells table) stored) (IsPermutation-sym _ _ once) ids.apart));
-  ints = all_weaker (λ r. IsTrue (is_int (column (cells table r) 0))) (λ r. IsTrue (is_int (rowid r)))
-      (λ r int. subst (λ v. IsTrue (is_int v)) (first r) int) stored
-      (all_from_map (λ x. IsTrue (is_int (column x 0))) (cells table) stored
-      (all-permutation (λ x. IsTrue (is_int (column x 0))) rows (map (cells table) stored)
-      (IsPermutation-sym _ _ once) ids.ints));
-}
-  where
-    differ : Row → Row → Type 0
-    differ a b = value_cmp (column a 0) (column b 0) ≢ Equal
-
-    turned : (a b : Row) → differ a b → differ b a
-    turned a b other same = other (tied_back value_cmp_total (column b 0) (column a 0) same)
-
--- the table at a place of the schema is stored
-pub stored_at : (schema : Schema) (table : Table) (place : ℕ) → slice_get schema.tables place ≡ Some table
-    → (db : Trees) (content : Content) → AreStored schema db content → Stores table db content
-stored_at schema table place at db content all =
-    all_has (λ t. Stores t db content) schema.tables table all (has_got schema.tables place table at)
+apart_of table = apart_shown (cells table)

@@ -1,14 +1,14 @@
 -- An upsert of one row by its key, over any table.
 use Rattle.std.proofs.Common.{◌≡◌, ◌≢◌, ◌⊎◌, Bool, false, List, [], ◌∷◌, ◌++◌, filter, flat_map, Ok, Err, Result}
 use Rattle.std.proofs.Common.{Ordering, Less, Equal, Greater, refl, sym, ap, ◌∙◌, inl, inr, append-nil, true≢false}
-use Rattle.std.proofs.Common.{IsTrue}
+use Rattle.std.proofs.Common.{IsTrue, is_eq}
 use Rattle.std.specs.List.{AllByRecursion}
-use Rattle.std.specs.Ordering.{is_eq, match_ordering}
+use Rattle.std.specs.Ordering.{match_ordering}
 use Rattle.std.proofs.lemmas.Bool.{or_parts}
 use Rattle.std.proofs.lemmas.Cmp.{tied_back}
-use Rattle.sqlite_value.specs.Order.{Row, value_cmp}
+use Rattle.sqlite_value.specs.Order.{value_cmp}
+use Rattle.store_tables.specs.Sql.{Row, rowid, Has}
 use Rattle.sqlite_value.proofs.OrderLemmas.{value_cmp_total}
-use Rattle.store_tables.specs.Sql.{rowid, Has}
 use Rattle.sqlite_rules.proofs.ListLemmas.{all_has}
 use Rattle.store_tables.specs.Content.{AreApart}
 use Rattle.sqlite_trees.specs.Tree.{put_row, IsAscending}

@@ -1,20 +1,9 @@
-use Rattle.std.proofs.Common.{◌≡◌, arith, rules, [], ◌∷◌, map, subst}
-use Rattle.sqlite.specs.Held.{state}
-use Rattle.store_tables.specs.Cells.{seen_cells, score_cells}
-use Rattle.store_tables.specs.Contents.{put_each}
-use Rattle.store_tables.specs.Over.{StepsBeside}
+use Rattle.std.proofs.Common.{arith}
 use Rattle.store_tables.proofs.Proved.{steps_then}
 use Rattle.store_sql.proofs.commit.put_counts.Goals as goal
 
 pub returns-clause-put : goal.returns-clause-put
 returns-clause-put g c clean inside =
-    let s0 = state g.S.Store c.args.tx.now.conn.now in
-    let s1 = state g.S.Store c.put_all.new.tx.conn.now in
-    let s2 = state g.S.Store c.put_all-2.new.tx.conn.now in
-    let seen : c.deref.result.now ≡ c.args.changes.now.seen.items = search rules in
-    let step1 = subst (λ l. StepsBeside (put_each 12 (0 ∷ 1 ∷ []) (map seen_cells l)) s0 s1) seen
-    (c.in_ok-put_all.ensures.put (omega (arith, c.put_all-2.ensures.survives.clean)) inside) in
-    let scores : c.deref-2.result.now ≡ c.args.changes.now.scores.items = search rules in
-    let step2 = subst (λ l. StepsBeside (put_each 14 (0 ∷ 1 ∷ 2 ∷ []) (map score_cells l)) s1 s2) scores
-    (c.in_ok-put_all-2.ensures.put clean step1.inside) in
-    steps_then _ _ s0 s1 s2 step1 step2
+    let one = c.in_ok-put_all.ensures.put (omega arith) inside in
+    let two = c.in_ok-put_all-2.ensures.put clean one.inside in
+    rw (c.deref.ensures.value, c.deref-2.ensures.value) at (steps_then _ _ _ _ _ one two)

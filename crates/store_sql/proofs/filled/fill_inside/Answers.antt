@@ -5,7 +5,7 @@ use Rattle.store_sql.proofs.filled.fill_inside.Goals as goal
 
 pub returns-clause-filled : goal.returns-clause-filled
 returns-clause-filled g c clean inside =
-    let one = c.in_ok-create_inside.ensures.filled (omega (arith, c.put_changes.ensures.survives.clean)) inside in
+    let one = c.in_ok-create_inside.ensures.filled (omega arith) inside in
     let two = c.in_ok-put_changes.ensures.put clean one.inside in
     record {
       holds = λ schema them room k.
@@ -13,7 +13,3 @@ returns-clause-filled g c clean inside =
       committed = two.committed ∙ one.committed;
       inside = two.inside;
     }
-
-pub returns-clause-refuses : goal.returns-clause-refuses
-returns-clause-refuses g c clean inside has =
-    c.in_ok-create_inside.ensures.refuses (omega (arith, c.put_changes.ensures.survives.clean)) inside has

@@ -1,5 +1,4 @@
 use Rattle.std.proofs.Common.{arith, subst, sym}
-use Rattle.sqlite.specs.Held.{state}
 use Rattle.store_tables.specs.Placed.{TakesClub}
 use Rattle.store_tables.specs.declared.names.Version.TheVariants.{Current}
 use Rattle.store_tables.proofs.Proved.{fills, room_takes}
@@ -8,23 +7,16 @@ use Rattle.store_sql.proofs.make.create_inside.Goals as goal
 
 pub returns-clause-filled : goal.returns-clause-filled
 returns-clause-filled g c clean inside =
-    let made = c.in_ok-make_tables.ensures.made (omega (arith, c.put_meta.ensures.survives.clean)) inside in
-    fills (state g.S.Store c.args.tx.now.conn.now) (state g.S.Store c.make_tables.new.tx.conn.now)
-    (state g.S.Store c.put_meta.new.tx.conn.now) made (c.in_ok-put_meta.ensures.put clean made.inside)
-
-pub returns-clause-refuses : goal.returns-clause-refuses
-returns-clause-refuses g c clean inside has =
-    c.in_ok-make_tables.ensures.refuses (omega (arith, c.put_meta.ensures.survives.clean)) inside has
+    let made = c.in_ok-make_tables.ensures.made (omega arith) inside in
+    fills _ _ _ made (c.in_ok-put_meta.ensures.put clean made.inside)
 
 pub returns-in_err-make_tables-clause-known : goal.returns-in_err-make_tables-clause-known
 returns-in_err-make_tables-clause-known g c clean inside schema them room holds =
-    handed_on c.from_residual.result c.in_err-make_tables.field-0.0 c.from_residual.ensures.1
-    (c.in_err-make_tables.ensures.known clean inside schema them room holds)
+    handed_on _ _ c.from_residual.ensures.1 (c.in_err-make_tables.ensures.known clean inside schema them room holds)
 
 pub returns-in_err-put_meta-clause-known : goal.returns-in_err-put_meta-clause-known
 returns-in_err-put_meta-clause-known g c clean inside schema them room holds =
-    let made = c.in_ok-make_tables.ensures.made (omega (arith, c.put_meta.ensures.survives.clean)) inside in
-    handed_on c.from_residual-in_err-put_meta.result c.in_err-put_meta.field-0.0
-    c.from_residual-in_err-put_meta.ensures.1
+    let made = c.in_ok-make_tables.ensures.made (omega arith) inside in
+    handed_on _ _ c.from_residual-in_err-put_meta.ensures.1
     (c.in_err-put_meta.ensures.known clean made.inside
     (subst (TakesClub Current) (sym (made.made schema them room holds).schema) (room_takes schema them room _ holds)))

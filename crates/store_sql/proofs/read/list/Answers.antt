@@ -1,38 +1,28 @@
-use Rattle.std.proofs.Common.{◌≡◌, rules, map, sym, subst, ◌∙◌, IfOk, []}
-use Rattle.std.proofs.lemmas.Result.{IfOk-weaker}
+use Rattle.std.proofs.Common.{◌≡◌, rules, map, IsTrue}
 use Rattle.sqlite.specs.Held.{state}
 use Rattle.store_tables.specs.Changes.{HaveSame}
+use Rattle.store_tables.specs.Contents.{Content}
+use Rattle.store_tables.specs.Over.{HasRows}
 use Rattle.store_tables.proofs.Proved.{read_nothing, read_then}
-use Rattle.store_sql.proofs.SelectLemmas.{same_rows, stands_now, told_rows}
+use Rattle.store_sql.proofs.SelectLemmas.{carried, same_rows, told_rows}
+use Rattle.store_sql.specs.Read.{BeginWithPlaces}
 use Rattle.store_sql.proofs.read.list.Goals as goal
 
 pub returns-in-Ok-clause-reads : goal.returns-in-Ok-clause-reads
-returns-in-Ok-clause-reads g c =
-    let new = state g.S.Store c.show_all.new.conn in
-    read_then _ (state g.S.Store c.args.conn.now) new new c.in-Ok.ensures.reads (read_nothing _ new)
+returns-in-Ok-clause-reads g c = read_then _ _ _ _ c.in-Ok.ensures.reads (read_nothing _ _)
 
 pub returns-in-Ok-clause-rows : goal.returns-in-Ok-clause-rows
 returns-in-Ok-clause-rows g c clean =
-    let old = state g.S.Store c.args.conn.now in
-    let new = state g.S.Store c.show_all.new.conn in
-    let have : IfOk c.parsed.result (λ found. c.in-Ok.shown.items ≡ map g.T.TableRow.cells found.items) =
-    search rules in
-    IfOk-weaker c.parsed.result (λ found. c.in-Ok.shown.items ≡ map g.T.TableRow.cells found.items) _
-    (λ found shows id content k places.
-    let stands = stands_now g.T.Select.which g.T.Select.table g.T.Select.width g.met.T.Select.is_table g.met.T.Select.read [] [] old new content k in
-    sym shows ∙ told_rows g.T.Select.which g.T.Select.table g.T.Select.width g.met.T.Select.is_table g.met.T.Select.read [] []
-    old new content k (g.met.T.Select.numbered id).0 (g.met.T.Select.numbered id).1 c.in-Ok.shown.items
-    (c.in-Ok.ensures.rows clean stands) places) have
+    carried c.parsed.result (λ found. map g.T.TableRow.cells found.items) c.in-Ok.shown.items
+    (λ l. IsTrue g.T.Select.has_id → (content : Content) → HasRows content (state g.S.Store c.args.conn.now)
+    → BeginWithPlaces (content g.T.Select.table.tree) → l ≡ content g.T.Select.table.tree) (search rules)
+    (λ id content k places.
+    told_rows g.met.T.Select.is_table g.met.T.Select.read _ _ content k (g.met.T.Select.numbered id) _
+    (c.in-Ok.ensures.rows clean) places)
 
 pub returns-in-Ok-clause-same : goal.returns-in-Ok-clause-same
 returns-in-Ok-clause-same g c clean =
-    let old = state g.S.Store c.args.conn.now in
-    let new = state g.S.Store c.show_all.new.conn in
-    let have : IfOk c.parsed.result (λ found. c.in-Ok.shown.items ≡ map g.T.TableRow.cells found.items) =
-    search rules in
-    IfOk-weaker c.parsed.result (λ found. c.in-Ok.shown.items ≡ map g.T.TableRow.cells found.items) _
-    (λ found shows content k.
-    let stands = stands_now g.T.Select.which g.T.Select.table g.T.Select.width g.met.T.Select.is_table g.met.T.Select.read [] [] old new content k in
-    subst (λ l. HaveSame l (content g.T.Select.table.tree)) shows
-    (same_rows g.T.Select.which g.T.Select.table g.T.Select.width g.met.T.Select.is_table g.met.T.Select.read [] [] old new
-    content k c.in-Ok.shown.items (c.in-Ok.ensures.rows clean stands))) have
+    carried c.parsed.result (λ found. map g.T.TableRow.cells found.items) c.in-Ok.shown.items
+    (λ l. (content : Content) → HasRows content (state g.S.Store c.args.conn.now)
+    → HaveSame l (content g.T.Select.table.tree)) (search rules) (λ content k.
+    same_rows g.met.T.Select.is_table g.met.T.Select.read _ _ content k _ (c.in-Ok.ensures.rows clean))

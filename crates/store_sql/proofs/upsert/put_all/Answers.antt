@@ -1,4 +1,4 @@
-use Rattle.std.proofs.Common.{◌≡◌, arith, [], ◌∷◌, map, subst, sym, ap, ◌∙◌, take, ◌++◌, ◌<◌, length}
+use Rattle.std.proofs.Common.{arith, [], ◌∷◌, map, subst, sym, ap, ◌∙◌, take, ◌++◌, ◌<◌, length}
 use Rattle.std.proofs.lemmas.List.{take_all, take_more, map-append}
 use Rattle.sqlite.specs.Held.{state}
 use Rattle.sqlite.proofs.StateLemmas.{survives_then}
@@ -9,33 +9,24 @@ use Rattle.store_sql.proofs.upsert.put_all.Goals as goal
 
 pub rows-preserved : goal.rows-preserved
 rows-preserved g c =
-    let old = state g.S.Store c.args.tx.now.conn.now in
-    let mid = state g.S.Store c.rows.tx.conn.now in
-    let new = state g.S.Store c.put.new.tx.conn.now in
-    let tree = g.T.Put.tree in
-    let key = g.T.Put.key in
     let cells = g.T.TableRow.cells in
+    let rows = c.args.rows.now in
     let i = c.rows.row-index in (
       c.put.ensures.same_reference ∙ c.rows.invariant.0,
-      survives_then old mid new _ _ (λ _. ⊥) (λ _ db none. none) (λ _ db none. none) c.rows.invariant.1
+      survives_then _ _ _ _ _ (λ _. ⊥) (λ _ db none. none) (λ _ db none. none) c.rows.invariant.1
           c.put.ensures.survives,
       λ clean inside.
           let so_far = c.rows.invariant.2 (omega (arith, c.put.ensures.survives.clean)) inside in
-          let step = c.in_ok-put.ensures.put clean so_far.inside in
-          let rows = c.args.rows.now in
           let within : i < length rows = omega arith in
           let longer = take_more rows i c.row-item.result within
           ∙ ap (λ r. take i rows ++ r ∷ []) (sym c.row-item.is) in
-          let shown = ap (map cells) longer ∙ map-append cells (take i rows) (c.row-item.result ∷ []) in
-          subst (λ l. StepsBeside (put_each tree key l) old new) (sym shown)
-          (one_more tree key (map cells (take i rows)) (cells c.row-item.result) old mid new so_far
-          step),
+          rw (ap (map cells) longer ∙ map-append cells (take i rows) (c.row-item.result ∷ []))
+          (one_more g.T.Put.tree g.T.Put.key (map cells (take i rows)) (cells c.row-item.result) _ _ _ so_far
+          (c.in_ok-put.ensures.put clean so_far.inside)),
     )
 
 pub returns-clause-put : goal.returns-clause-put
 returns-clause-put g c clean inside =
-    let rows = c.args.rows.now in
-    let whole : take c.rows.row-index rows ≡ rows = take_all c.rows.row-index rows (omega arith) in
     subst (λ l. StepsBeside (put_each g.T.Put.tree g.T.Put.key (map g.T.TableRow.cells l))
-    (state g.S.Store c.args.tx.now.conn.now) (state g.S.Store c.rows.tx.conn.now)) whole
-    (c.rows.invariant.2 clean inside)
+    (state g.S.Store c.args.tx.now.conn.now) (state g.S.Store c.rows.tx.conn.now))
+    (take_all c.rows.row-index c.args.rows.now (omega arith)) (c.rows.invariant.2 clean inside)

@@ -1,18 +1,13 @@
 use Rattle.std.proofs.Common.{rules}
-use Rattle.sqlite.specs.Held.{state}
-use Rattle.store_tables.specs.declared.names.Table.TheVariants.{Meta}
 use Rattle.store_tables.proofs.Proved.{put_row, meta_placed}
 use Rattle.store_sql.proofs.CreateLemmas.{put_known}
 use Rattle.store_sql.proofs.upsert.put_meta.Goals as goal
 
 pub returns-in-Ok-clause-put : goal.returns-in-Ok-clause-put
 returns-in-Ok-clause-put g c clean inside =
-    put_row Meta _ (meta_placed c.args.row.now) _ _ (state g.S.Store c.args.tx.now.conn.now)
-    (state g.S.Store c.execute.new.self.conn.now) c.in-Ok.field-0 c.put.ensures (search rules)
+    put_row _ _ (meta_placed c.args.row.now) _ _ _ _ c.in-Ok.field-0 c.put.ensures (search rules)
     (rw c.in-Ok.is at c.execute.ensures.runs clean inside)
 
 pub returns-in-Err-clause-known : goal.returns-in-Err-clause-known
 returns-in-Err-clause-known g c clean inside has =
-    put_known _ _ (state g.S.Store c.args.tx.now.conn.now) (state g.S.Store c.execute.new.self.conn.now) c.put.ensures
-    has
-    c.in-Err.error (rw c.in-Err.is at c.execute.ensures.runs clean inside)
+    put_known _ _ _ _ c.put.ensures has c.in-Err.error (rw c.in-Err.is at c.execute.ensures.runs clean inside)

@@ -1,17 +1,11 @@
 use Rattle.std.proofs.Common.{arith, ◌∙◌}
-use Rattle.sqlite.specs.Held.{state}
 use Rattle.store_tables.proofs.Proved.{widens}
 use Rattle.store_sql.proofs.wider.widen_inside.Goals as goal
 
 pub returns-clause-widened : goal.returns-clause-widened
 returns-clause-widened g c clean inside =
-    let a = state g.S.Store c.args.tx.now.conn.now in
-    let b = state g.S.Store c.make.new.tx.conn.now in
-    let one =
-    widens a b _ c.create.ensures
-    (c.in_ok-make.ensures.ran (omega (arith, c.put_all.ensures.survives.clean, c.put.ensures.survives.clean)) inside)
-    in
-    let two = c.in_ok-put_all.ensures.put (omega (arith, c.put.ensures.survives.clean)) one.inside in
+    let one = widens _ _ _ c.create.ensures (c.in_ok-make.ensures.ran (omega arith) inside) in
+    let two = c.in_ok-put_all.ensures.put (omega arith) one.inside in
     let three = c.in_ok-put.ensures.put clean two.inside in
     record {
       holds = λ them content free k.

@@ -1,18 +1,15 @@
-use Rattle.std.proofs.Common.{[], ◌∷◌, rules}
-use Rattle.sqlite.specs.Held.{state}
-use Rattle.store_tables.specs.declared.names.Table.TheVariants.{Moves}
+use Rattle.std.proofs.Common.{rules}
 use Rattle.store_tables.proofs.Proved.{moves_by_ply_placed}
 use Rattle.store_sql.proofs.SelectLemmas.{question_reads, question_rows}
 use Rattle.store_sql.proofs.keys.MovePlyQuestion.show.Goals as goal
 
 pub returns-clause-reads : goal.returns-clause-reads
 returns-clause-reads g c =
-    question_reads Moves (0 ∷ 1 ∷ []) _ _ (moves_by_ply_placed c.args.self.now.game c.args.self.now.ply) _ (search rules)
-    (state g.S.Store c.args.conn.now) (state g.S.Store c.query_all.new.self) (λ rows. rows.items) c.query_all.result
-    c.query_all.ensures.mode c.query_all.ensures.survives c.query_all.ensures.ok c.query_all.ensures.err
+    question_reads (moves_by_ply_placed c.args.self.now.game c.args.self.now.ply) (search rules) _ _
+    (λ rows. rows.items) _ c.query_all.ensures.mode c.query_all.ensures.survives c.query_all.ensures.ok
+    c.query_all.ensures.err
 
 pub returns-clause-rows : goal.returns-clause-rows
 returns-clause-rows g c clean =
-    question_rows Moves (0 ∷ 1 ∷ []) _ _ (moves_by_ply_placed c.args.self.now.game c.args.self.now.ply) _ (search rules)
-    (state g.S.Store c.args.conn.now) (state g.S.Store c.query_all.new.self) (λ rows. rows.items) c.query_all.result
-    c.query_all.ensures.survives clean (c.query_all.ensures.ok clean)
+    question_rows (moves_by_ply_placed c.args.self.now.game c.args.self.now.ply) (search rules) _ _
+    (λ rows. rows.items) _ c.query_all.ensures.survives clean (c.query_all.ensures.ok clean)
