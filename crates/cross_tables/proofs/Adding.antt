@@ -1,16 +1,23 @@
--- Sums over standings and rows, as one row is added.
-use Rattle.std.proofs.Common.{◌≡◌, ◌∙◌, ◌+◌, ◌<◌, ◌≤◌, ◌==◌, ℕ, zero, suc, Bool, true, false, not, cond, nat_lt, Some}
-use Rattle.std.proofs.Common.{None, List, [], ◌∷◌, ◌++◌, length, get_or, set, refl, sym, ap, subst, arith}
-use Rattle.std.specs.Prelude.{if◌then◌else◌, Result, Ok, Err, OnOk, OnErr}
-use Rattle.std.specs.List.{sum_by, count_by, position, position_or_len}
-use Rattle.std.proofs.lemmas.List.Sums.{sum_by-cons, sum_by-set, sum_by_push, get_or-le-sum_by}
+-- Sums over standings and rows: at a place, in another order, and as one row is added.
+use Rattle.std.proofs.Common.{◌≡◌, ◌∙◌, ◌+◌, ◌<◌, ◌≤◌, ◌==◌, ℕ, suc, Bool, true, false}
+use Rattle.std.proofs.Common.{None, List, [], ◌∷◌, ◌++◌, length, get_or, set, take, refl, sym, ap, subst, arith}
+use Rattle.std.proofs.Common.{inl, inr}
+use Rattle.std.proofs.Common.{length-set}
+use Rattle.std.specs.Prelude.{if◌then◌else◌}
+use Rattle.std.specs.List.{count_by, position, position_or_len, remove}
+use Rattle.std.specs.List.Sorted.{IsPermutation}
+use Rattle.std.proofs.lemmas.Bool.{cases_Bool, eqb-true}
 use Rattle.std.proofs.lemmas.Grind.{common_steps}
+use Rattle.std.proofs.lemmas.List.{get_or-set_same}
+use Rattle.std.proofs.lemmas.List.Sums.{sum_by-cons, sum_by-set, sum_by-remove, sum_by_push, sum_by-take-le}
+use Rattle.std.proofs.lemmas.List.Sums.{get_or-le-sum_by}
+use Rattle.std.proofs.lemmas.List.Sorted.{sum_by-IsPermutation}
 use Rattle.cross_tables.specs.declared.sums.Sums.{Sums}
 use Rattle.cross_tables.specs.declared.sums.Scored.{Scored}
 use Rattle.cross_tables.specs.declared.standings.Standing.{Standing}
-use Rattle.cross_tables.specs.Totals.{AreTotals, Fit, plus_sums, raised, total, totals, shown, times, rows_of}
+use Rattle.cross_tables.specs.Totals.{AreTotals, Fit, IsEachOnce, plus_sums, raised, total, totals, shown, times}
 
--- what a row adds for a member
+-- what an element adds for a member
 abbrev pub adds : Bool → ℕ → ℕ
 adds same n = if same then n else 0
 
@@ -18,191 +25,170 @@ adds-plus : (same : Bool) (m n : ℕ) → adds same (m + n) ≡ adds same m + ad
 adds-plus true m n = refl
 adds-plus false m n = refl
 
-sum-raised : {X : Type 0} (f : X → ℕ) (xs : List X) (i : ℕ) (y d : X) (more : ℕ) → i < length xs
-    → f y ≡ f (get_or xs i d) + more → sum_by f (set xs i y) ≡ sum_by f xs + more
-sum-raised f xs i y d more h e = omega (arith, sum_by-set f xs i y d h, e)
+-- ---- a member in a list
 
-module _ (xs : List Standing) (i : ℕ) (d : Standing) (more : Sums) (h : i < length xs) where
-  abbrev old : Standing
-  old = get_or xs i d
+pub times-cons : (m : ℕ) (x : Standing) (xs : List Standing) → times m (x ∷ xs) ≡ adds (x.member == m) 1 + times m xs
+times-cons m x xs = sum_by-cons (λ s. if s.member == m then 1 else 0) x xs
 
-  shown-raised : (part : Sums → ℕ) → part (plus_sums old.sums more) ≡ part old.sums + part more → (member : ℕ)
-      → shown part member (set xs i (raised old more)) ≡ shown part member xs + adds (old.member == member) (part more)
-  shown-raised part e member =
-      sum-raised (λ s. if s.member == member then part s.sums else 0) xs i (raised old more) d _ h
-      (ap (adds (old.member == member)) e ∙ adds-plus (old.member == member) (part old.sums) (part more))
+pub placed : (m : ℕ) (xs : List Standing) → 0 < times m xs
+    → (i : ℕ) × (i < length xs) × ((d : Standing) → (get_or xs i d).member ≡ m)
+placed m [] h = absurd (omega (arith, h))
+placed m (x ∷ xs) h = elim (cases_Bool (x.member == m)) [
+  | inl is ↦ (0, omega arith, λ _. eqb-true x.member m is)
+  | inr other ↦
+      let (i, low, at) = placed m xs (omega (arith, h, times-cons m x xs, ap (λ b. adds b 1) other)) in
+      (suc i, omega (arith, low), at)
+]
 
-  times-raised : (member : ℕ) → times member (set xs i (raised old more)) ≡ times member xs
-  times-raised member = omega (arith, sum_by-set (λ s. if s.member == member then 1 else 0) xs i (raised old more) d h)
+pub stands-here : (m : ℕ) (xs : List Standing) (i : ℕ) (d : Standing) → i < length xs → (get_or xs i d).member ≡ m
+    → 0 < times m xs
+stands-here m xs i d h is =
+    grind (arith, common_steps, get_or-le-sum_by (λ s. if s.member == m then 1 else 0) xs i d h)
 
-  times-here : (member : ℕ) → (old.member == member) ≡ true → 0 < times member xs
-  times-here member e = let least : adds (old.member == member) 1 ≤ times member xs =
-      get_or-le-sum_by (λ s. if s.member == member then 1 else 0) xs i d h in
-      let one : adds (old.member == member) 1 ≡ 1 = ap (λ b. adds b 1) e in omega (arith, least, one)
-
--- with the row, from what stood and what was scored before
-joined : (shown_before total_before shown_after total_after more : ℕ) → shown_before ≡ total_before
-    → shown_after ≡ shown_before + more → total_after ≡ total_before + more → shown_after ≡ total_after
-joined s t s' t' more e es et = omega (arith, e, es, et)
-
--- ---- a member who stands
-
-module _ (xs : List Standing) (rows : List Scored) (row : Scored) (i : ℕ) (d : Standing) (h : i < length xs)
-    (same : (get_or xs i d).member ≡ row.member) (t : AreTotals xs rows) where
-  abbrev then_rows : List Scored
-  then_rows = rows ++ row ∷ []
-
-  abbrev then_stands : List Standing
-  then_stands = set xs i (raised (get_or xs i d) row.sums)
-
-  rows-more : (member : ℕ) → rows_of member then_rows ≡ rows_of member rows + adds (row.member == member) 1
-  rows-more member = sum_by_push (λ r. if r.member == member then 1 else 0) rows row
-
-  total-more : (part : Sums → ℕ) (member : ℕ)
-      → total part member then_rows ≡ total part member rows + adds (row.member == member) (part row.sums)
-  total-more part member = sum_by_push (λ r. if r.member == member then part r.sums else 0) rows row
-
-  -- the row's member stands, and others have no more rows than before
-  stands-still : (member : ℕ) (b : Bool) → (row.member == member) ≡ b → 0 < rows_of member rows + adds b 1
-      → 0 < times member xs
-  stands-still member true e _ = times-here xs i d row.sums h member (ap (λ m. m == member) same ∙ e)
-  stands-still member false e more = t.listed member (omega (arith, more))
-
-  part-raised : (part : Sums → ℕ) → part (plus_sums (get_or xs i d).sums row.sums)
-      ≡ part (get_or xs i d).sums + part row.sums
-      → ((member : ℕ) → shown part member xs ≡ total part member rows) → (member : ℕ)
-      → shown part member then_stands ≡ total part member then_rows
-  part-raised part e before member =
-      joined (shown part member xs) (total part member rows) _ _ (adds (row.member == member) (part row.sums))
-      (before member)
-      (shown-raised xs i d row.sums h part e member
-      ∙ ap (λ m. shown part member xs + adds (m == member) (part row.sums)) same)
-      (total-more part member)
-
-  pub AreTotals-raised : AreTotals then_stands then_rows
-  AreTotals-raised =
-      record {
-        once = λ member. subst (λ n. n ≤ 1) (sym (times-raised xs i d row.sums h member)) (t.once member);
-        listed = λ member more.
-            subst (λ n. 0 < n) (sym (times-raised xs i d row.sums h member))
-            (stands-still member (row.member == member) refl (subst (λ n. 0 < n) (rows-more member) more));
-        scored = λ member is.
-            let was : 0 < rows_of member rows = t.scored member
-            (subst (λ n. 0 < n) (times-raised xs i d row.sums h member) is) in
-            let more : rows_of member then_rows ≡ rows_of member rows + adds (row.member == member) 1 =
-            rows-more member in
-            omega (arith, was, more);
-        points = part-raised (λ s. s.points) refl t.points;
-        wins = part-raised (λ s. s.wins) refl t.wins;
-        draws = part-raised (λ s. s.draws) refl t.draws;
-        losses = part-raised (λ s. s.losses) refl t.losses;
-      }
-
-  -- what is kept for the row's member, with the row, is no more than the totals with the row
-  kept-least : (part : Sums → ℕ) → ((member : ℕ) → shown part member xs ≡ total part member rows)
-      → part (get_or xs i d).sums + part row.sums ≤ total part row.member then_rows
-  kept-least part before =
-      let mine : (row.member == row.member) ≡ true = grind arith in
-      let stands : adds ((get_or xs i d).member == row.member) (part (get_or xs i d).sums) ≤ shown part row.member xs =
-      get_or-le-sum_by (λ s. if s.member == row.member then part s.sums else 0) xs i d h in
-      let here : adds ((get_or xs i d).member == row.member) (part (get_or xs i d).sums) ≡ part (get_or xs i d).sums =
-      ap (λ b. adds b (part (get_or xs i d).sums)) (ap (λ m. m == row.member) same ∙ mine) in
-      let counted : adds (row.member == row.member) (part row.sums) ≡ part row.sums =
-      ap (λ b. adds b (part row.sums)) mine in
-      let more : total part row.member then_rows ≡ total part row.member rows + adds (row.member == row.member)
-      (part row.sums) = total-more part row.member in
-      omega (arith, stands, here, counted, more, before row.member)
-
-  pub Fit-raised : Fit (totals row.member then_rows) → Fit (plus_sums (get_or xs i d).sums row.sums)
-  Fit-raised fit =
-      record {
-        points = omega (arith, kept-least (λ s. s.points) t.points, fit.points);
-        wins = omega (arith, kept-least (λ s. s.wins) t.wins, fit.wins);
-        draws = omega (arith, kept-least (λ s. s.draws) t.draws, fit.draws);
-        losses = omega (arith, kept-least (λ s. s.losses) t.losses, fit.losses);
-      }
-
--- ---- a member who does not stand yet
-
-not-over : (a b : ℕ) → cond (nat_lt a b) (Some a) None ≡ None → b ≤ a
-not-over a b = grind (arith, common_steps)
+none-shown : (part : Sums → ℕ) (m : ℕ) (xs : List Standing) → times m xs ≡ 0 → shown part m xs ≡ 0
+none-shown part m [] h = refl
+none-shown part m (x ∷ xs) h = grind (
+  arith,
+  common_steps,
+  none-shown part m xs,
+  times-cons m x xs,
+  sum_by-cons (λ s. if s.member == m then part s.sums else 0) x xs,
+)
 
 none-counted : {X : Type 0} (p : X → Bool) (xs : List X) → length xs ≤ position_or_len p xs → count_by p xs ≡ 0
 none-counted p [] h = refl
-none-counted p (x ∷ xs) h =
-    sum_by-cons (λ y. if p y then 1 else 0) x xs ∙
-    (elim (p x) as (λ b. length (x ∷ xs) ≤ cond (not b) (1 + position_or_len p xs) 0
-    → (if b then 1 else 0) + count_by p xs ≡ 0) [
-      | true ↦ λ k. absurd (omega (arith, k))
-      | false ↦ λ k. let none : count_by p xs ≡ 0 = none-counted p xs (omega (arith, k)) in omega (arith, none)
-    ] h)
+none-counted p (x ∷ xs) h = grind (arith, common_steps, none-counted p xs, sum_by-cons (λ y. if p y then 1 else 0) x xs)
 
 pub position-none : {X : Type 0} (p : X → Bool) (xs : List X) → position p xs ≡ None → count_by p xs ≡ 0
-position-none p xs e = none-counted p xs (not-over (position_or_len p xs) (length xs) e)
+position-none p xs e = none-counted p xs (grind (arith, common_steps))
 
+-- ---- at a place
+
+module _ (xs : List Standing) (rows : List Scored) (t : AreTotals xs rows) (i : ℕ) (d : Standing)
+    (h : i < length xs) where
+  part-at : (part : Sums → ℕ) → ((member : ℕ) → shown part member xs ≡ total part member rows)
+      → part (get_or xs i d).sums ≡ total part (get_or xs i d).member rows
+  part-at part e =
+      let m = (get_or xs i d).member in
+      grind (
+        arith,
+        common_steps,
+        t.once m,
+        e m,
+        none-shown part m (remove xs i),
+        sum_by-remove (λ s. if s.member == m then 1 else 0) xs i d h,
+        sum_by-remove (λ s. if s.member == m then part s.sums else 0) xs i d h,
+      )
+
+  pub sums-at : (get_or xs i d).sums ≡ totals (get_or xs i d).member rows
+  sums-at =
+      λ k.
+      record {
+        points = part-at (λ s. s.points) t.points k;
+        wins = part-at (λ s. s.wins) t.wins k;
+        draws = part-at (λ s. s.draws) t.draws k;
+        losses = part-at (λ s. s.losses) t.losses k;
+      }
+
+-- what does not fit in a beginning does not fit in the whole
+pub Fit-take : (rows : List Scored) (i m : ℕ) → Fit (totals m rows) → Fit (totals m (take i rows))
+Fit-take rows i m fit =
+    record {
+      points = omega (arith, sum_by-take-le (λ r. if r.member == m then r.sums.points else 0) rows i, fit.points);
+      wins = omega (arith, sum_by-take-le (λ r. if r.member == m then r.sums.wins else 0) rows i, fit.wins);
+      draws = omega (arith, sum_by-take-le (λ r. if r.member == m then r.sums.draws else 0) rows i, fit.draws);
+      losses = omega (arith, sum_by-take-le (λ r. if r.member == m then r.sums.losses else 0) rows i, fit.losses);
+    }
+
+-- ---- in another order
+
+module _ (xs ys : List Standing) (rows : List Scored) (same : IsPermutation xs ys) (t : AreTotals xs rows) where
+  shown-same : (part : Sums → ℕ) (member : ℕ) → shown part member ys ≡ shown part member xs
+  shown-same part member = sum_by-IsPermutation (λ s. if s.member == member then part s.sums else 0) xs ys same
+
+  pub AreTotals-permutation : AreTotals ys rows
+  AreTotals-permutation =
+      record {
+        once = λ member. omega (arith, shown-same (λ _. 1) member, t.once member);
+        listed = λ member h. omega (arith, shown-same (λ _. 1) member, t.listed member h);
+        scored = λ member h. t.scored member (omega (arith, shown-same (λ _. 1) member, h));
+        points = λ member. shown-same (λ s. s.points) member ∙ t.points member;
+        wins = λ member. shown-same (λ s. s.wins) member ∙ t.wins member;
+        draws = λ member. shown-same (λ s. s.draws) member ∙ t.draws member;
+        losses = λ member. shown-same (λ s. s.losses) member ∙ t.losses member;
+      }
+
+-- ---- with one row more
+
+-- standings with the row's sums, those of its member being among them
+module _ (xs ys : List Standing) (rows : List Scored) (row : Scored) (t : AreTotals xs rows) (once : IsEachOnce ys)
+    (stand : (m : ℕ) → (0 < times m xs + adds (row.member == m) 1 → 0 < times m ys)
+    × (0 < times m ys → 0 < times m xs + adds (row.member == m) 1))
+    (grown : (part : Sums → ℕ) → ((a b : Sums) → part (plus_sums a b) ≡ part a + part b) → (m : ℕ)
+    → shown part m ys ≡ shown part m xs + adds (row.member == m) (part row.sums)) where
+  total-more : (part : Sums → ℕ) (m : ℕ)
+      → total part m (rows ++ row ∷ []) ≡ total part m rows + adds (row.member == m) (part row.sums)
+  total-more part m = sum_by_push (λ r. if r.member == m then part r.sums else 0) rows row
+
+  part-more : (part : Sums → ℕ) → ((a b : Sums) → part (plus_sums a b) ≡ part a + part b)
+      → ((m : ℕ) → shown part m xs ≡ total part m rows) → (m : ℕ)
+      → shown part m ys ≡ total part m (rows ++ row ∷ [])
+  part-more part e before m = omega (arith, grown part e m, before m, total-more part m)
+
+  AreTotals-more : AreTotals ys (rows ++ row ∷ [])
+  AreTotals-more =
+      record {
+        once = once;
+        listed = λ m h. (stand m).0 (grind (arith, total-more (λ _. 1) m, t.listed m, h));
+        scored = λ m h. let was = (stand m).1 h in grind (arith, total-more (λ _. 1) m, t.scored m, was);
+        points = part-more (λ s. s.points) (λ _ _. refl) t.points;
+        wins = part-more (λ s. s.wins) (λ _ _. refl) t.wins;
+        draws = part-more (λ s. s.draws) (λ _ _. refl) t.draws;
+        losses = part-more (λ s. s.losses) (λ _ _. refl) t.losses;
+      }
+
+-- a member who stands
+module _ (xs : List Standing) (rows : List Scored) (row : Scored) (i : ℕ) (d : Standing) (h : i < length xs)
+    (same : (get_or xs i d).member ≡ row.member) (t : AreTotals xs rows) where
+  abbrev now : Standing
+  now = raised (get_or xs i d) row.sums
+
+  shown-raised : (part : Sums → ℕ) (more : ℕ) → part now.sums ≡ part (get_or xs i d).sums + more → (m : ℕ)
+      → shown part m (set xs i now) ≡ shown part m xs + adds (row.member == m) more
+  shown-raised part more e m =
+      grind (arith, common_steps, e, same, sum_by-set (λ s. if s.member == m then part s.sums else 0) xs i now d h)
+
+  times-raised : (m : ℕ) → times m (set xs i now) ≡ times m xs
+  times-raised m = omega (arith, sum_by-set (λ s. if s.member == m then 1 else 0) xs i now d h)
+
+  pub AreTotals-raised : AreTotals (set xs i now) (rows ++ row ∷ [])
+  AreTotals-raised =
+      AreTotals-more xs (set xs i now) rows row t (λ m. omega (arith, times-raised m, t.once m))
+      (λ m. (
+        λ more. grind (arith, common_steps, times-raised m, more, stands-here m xs i d h),
+        λ is. omega (arith, times-raised m, is),
+      )) (λ part e m. shown-raised part (part row.sums) (e _ _) m)
+
+  -- what is kept for the row's member, with the row, is no more than the totals with the row
+  pub Fit-raised : Fit (totals row.member (rows ++ row ∷ [])) → Fit now.sums
+  Fit-raised fit =
+      let is = subst (λ s. s.sums ≡ totals s.member (rows ++ row ∷ [])) (get_or-set_same xs i now d h)
+      (sums-at (set xs i now) (rows ++ row ∷ []) AreTotals-raised i d (omega (arith, h, length-set xs i now))) in
+      subst Fit (sym is) (subst (λ m. Fit (totals m (rows ++ row ∷ []))) (sym same) fit)
+
+-- a member who does not stand yet
 module _ (xs : List Standing) (rows : List Scored) (row : Scored) (absent : times row.member xs ≡ 0)
     (t : AreTotals xs rows) where
   abbrev entered : List Standing
   entered = xs ++ record { member = row.member; sums = row.sums } ∷ []
 
-  times-more : (member : ℕ) → times member entered ≡ times member xs + adds (row.member == member) 1
-  times-more member = sum_by_push (λ s. if s.member == member then 1 else 0) xs _
-
-  with-row : (member : ℕ) → rows_of member (rows ++ row ∷ []) ≡ rows_of member rows + adds (row.member == member) 1
-  with-row member = sum_by_push (λ r. if r.member == member then 1 else 0) rows row
-
-  still-once : (member : ℕ) (b : Bool) → (row.member == member) ≡ b → times member xs + adds b 1 ≤ 1
-  still-once member true e =
-      let is : row.member ≡ member = grind arith in
-      let none : times member xs ≡ 0 = subst (λ m. times m xs ≡ 0) is absent in omega (arith, none)
-  still-once member false e = omega (arith, t.once member)
-
-  both : (a b more : ℕ) → (0 < a → 0 < b) → 0 < a + more → 0 < b + more
-  both a zero zero k h = absurd (omega (arith, k (omega (arith, h))))
-  both a zero (suc n) k h = omega arith
-  both a (suc b) n k h = omega arith
-
-  part-entered : (part : Sums → ℕ) → ((member : ℕ) → shown part member xs ≡ total part member rows)
-      → (member : ℕ) → shown part member entered ≡ total part member (rows ++ row ∷ [])
-  part-entered part before member =
-      joined (shown part member xs) (total part member rows) _ _ (adds (row.member == member) (part row.sums))
-      (before member)
-      (sum_by_push (λ s. if s.member == member then part s.sums else 0) xs _)
-      (sum_by_push (λ r. if r.member == member then part r.sums else 0) rows row)
+  shown-more : (part : Sums → ℕ) (m : ℕ)
+      → shown part m entered ≡ shown part m xs + adds (row.member == m) (part row.sums)
+  shown-more part m = sum_by_push (λ s. if s.member == m then part s.sums else 0) xs _
 
   pub AreTotals-entered : AreTotals entered (rows ++ row ∷ [])
   AreTotals-entered =
-      record {
-        once = λ member. subst (λ n. n ≤ 1) (sym (times-more member)) (still-once member (row.member == member) refl);
-        listed = λ member more.
-            subst (λ n. 0 < n) (sym (times-more member))
-            (both (rows_of member rows) (times member xs) _ (t.listed member)
-            (subst (λ n. 0 < n) (with-row member) more));
-        scored = λ member more.
-            subst (λ n. 0 < n) (sym (with-row member))
-            (both (times member xs) (rows_of member rows) _ (t.scored member)
-            (subst (λ n. 0 < n) (times-more member) more));
-        points = part-entered (λ s. s.points) t.points;
-        wins = part-entered (λ s. s.wins) t.wins;
-        draws = part-entered (λ s. s.draws) t.draws;
-        losses = part-entered (λ s. s.losses) t.losses;
-      }
-
--- ---- what a call answers
-
-pub on_ok : {A E P Q : Type 0} (r : Result A E) → (P → Q) → OnOk r P → OnOk r Q
-on_ok (Ok a) go h = go h
-on_ok (Err e) go h = h
-
-pub on_err : {A E P : Type 0} (r : Result A E) (e : E) → r ≡ Err e → OnErr r P → P
-on_err {A} {E} {P} r e is h = subst (λ q. OnErr q P) is h
-
-pub member-is : (m n : ℕ) → (m == n) ≡ true → m ≡ n
-member-is m n = grind (arith, common_steps)
-
-abbrev err_or : {A E : Type 0} → E → Result A E → E
-err_or d (Ok a) = d
-err_or d (Err e) = e
-
-pub same-err : {A E : Type 0} (r : Result A E) (x y : E) → r ≡ Err x → r ≡ Err y → x ≡ y
-same-err r x y ex ey = sym (ap (err_or x) ex) ∙ ap (err_or x) ey
+      AreTotals-more xs entered rows row t
+      (λ m. grind (arith, common_steps, shown-more (λ _. 1) m, t.once m, absent))
+      (λ m. (λ h. omega (arith, shown-more (λ _. 1) m, h), λ h. omega (arith, shown-more (λ _. 1) m, h)))
+      (λ part e m. shown-more part m)

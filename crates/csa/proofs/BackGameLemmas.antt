@@ -1,6 +1,6 @@
 -- The statements of a game's text.
 use Rattle.std.proofs.Common.{◌≡◌, ℕ, zero, suc, ◌+◌, List, [], ◌∷◌, ◌++◌, length, Option, Some, None, true, false}
-use Rattle.std.proofs.Common.{refl, sym, ap, subst, ◌∙◌, append_assoc, append-nil, arith}
+use Rattle.std.proofs.Common.{refl, sym, ap, subst, ◌∙◌, append_assoc, arith}
 use Rattle.std.proofs.lemmas.Bool.Decides.{nat_tests}
 use Rattle.std.proofs.lemmas.List.Splits.{slice_split_none}
 use Rattle.std.proofs.lemmas.Option.{slice_get_within}
@@ -20,7 +20,6 @@ use Rattle.csa.specs.declared.end_words.EndWord.TheVariants as word
 use Rattle.csa.specs.declared.head.CsaEnd.{CsaEnd}
 use Rattle.csa.specs.declared.lines.Placed.{Placed}
 use Rattle.csa.specs.declared.order.Place.TheVariants as place
-use Rattle.csa.specs.declared.statements.Statement.{Statement}
 use Rattle.csa.specs.declared.statements.Statement.TheVariants as statement
 use Rattle.csa.specs.declared.statements.WrittenMove.{WrittenMove}
 use Rattle.csa.specs.EndWords.{word_text}
@@ -30,12 +29,10 @@ use Rattle.csa.specs.Order.{first_stray}
 use Rattle.csa.specs.Reading.{is_parting, records_of, without_bare_last, AreOrdered}
 use Rattle.csa.specs.Records.{begins_even, end_in}
 use Rattle.csa.specs.Replays.{written_moves}
-use Rattle.csa.specs.Statements.{statement_of}
 use Rattle.csa.specs.Writing.{line_of, date_text, head_text, move_text, entry_text, entries_text, word_of, end_text}
 use Rattle.csa.specs.WrittenGame.{IsGameText}
 use Rattle.csa.specs.BackLaws.{IsKept, moves_of}
-use Rattle.csa.proofs.BackLineLemmas.{Every, every-all, IsOfLine, IsWithin, one-line, line-then, first-then, alone-then}
-use Rattle.csa.proofs.BackLineLemmas.{dollar-line, player-line}
+use Rattle.csa.proofs.BackLineLemmas.{Every, every-all, IsOfLine, one-line, statement-then, alone-then, header-line}
 use Rattle.csa.proofs.BackMoveLemmas.{move-read, decimal-digits, seconds-read}
 
 -- ---- the moves and the end
@@ -48,25 +45,6 @@ record Continues (p : ShogiPosition) (ms : List SMove) (word : EndWord) (ss : Li
   even : begins_even ss ≡ true
   end : end_in ss ≡ Some word
   whole : Every (λ each. is_parting each.statement ≡ false) ss
-
-at-end : (n : ℕ) (p : ShogiPosition) (word : EndWord)
-    → Continues p [] word (record { line = n; statement = statement.End (Some word) } ∷ [])
-at-end n p word = record { mean = tt; sided = refl; moved = refl; even = refl; end = refl; whole = (refl, tt) }
-
-at-move : (n k : ℕ) (p : ShogiPosition) (m : SMove) (ms : List SMove) (w : WrittenMove) (word : EndWord)
-    (ss : List Placed) → Means p w m → Continues (play p m) ms word ss →
-    Continues p (m ∷ ms) word (record { line = n; statement = statement.Move w }
-    ∷ record { line = k; statement = statement.Seconds } ∷ ss)
-at-move n k p m ms w word ss means c =
-    record {
-      mean = (means, c.mean);
-      sided = c.moved;
-      moved = c.moved;
-      even = c.even;
-      end = c.end;
-      whole =
-          (refl, (refl, c.whole));
-    }
 
 -- each move of a line is legal in its position
 abbrev AreLegal : ShogiPosition → List SMove → Type 0
@@ -88,29 +66,19 @@ IsEnd word text = (n : ℕ) → statements_from n (lines text) ≡ record { line
 
 end-read : (word : EndWord) → IsEnd word (line_of (word_text word) [])
 end-read word.Resigned = λ n. refl
-end-read word.TimeUp = λ n. refl
-end-read word.IllegalMove = λ n. refl
-end-read word.Mate = λ n. refl
-end-read word.Declared = λ n. refl
-end-read word.Repetition = λ n. refl
-end-read word.Impasse = λ n. refl
-end-read word.Draw = λ n. refl
-end-read word.BlackIllegal = λ n. refl
-end-read word.WhiteIllegal = λ n. refl
-end-read word.Interrupted = λ n. refl
+end-read _ = λ n. refl
 
 time-header : (l : List ℕ) → is_header (84 ∷ l) ≡ false
 time-header [] = refl
 time-header (c ∷ l) = refl
 
 seconds-then : (n seconds : ℕ) (rest : List ℕ)
-    → statements_from n (lines (line_of (codes "T") (decimal seconds) ++ rest))
+    → statements_from n (lines (84 ∷ (decimal seconds ++ 10 ∷ rest)))
     ≡ record { line = n; statement = statement.Seconds } ∷ statements_from (suc n) (lines rest)
 seconds-then n seconds rest =
-    let within : Every IsWithin (84 ∷ decimal seconds) = ((refl, refl, refl), (decimal-digits seconds).within) in
-    alone-then n (codes "T") (decimal seconds) 84 (decimal seconds) rest refl within refl
-    (time-header (decimal seconds))
-    ∙ ap (λ s. record { line = n; statement = s } ∷ statements_from (suc n) (lines rest)) (seconds-read seconds)
+    alone-then n 84 (decimal seconds) rest statement.Seconds _
+    ((refl, refl, refl), (decimal-digits seconds).within) refl (time-header (decimal seconds)) (seconds-read seconds)
+    refl
 
 -- the lines of a move, and what follows them
 entry-then : (n : ℕ) (p : ShogiPosition) (m : SMove) (seconds : ℕ) (rest : List ℕ) → Legal p m →
@@ -120,33 +88,39 @@ entry-then : (n : ℕ) (p : ShogiPosition) (m : SMove) (seconds : ℕ) (rest : L
     ∷ record { line = suc n; statement = statement.Seconds } ∷ statements_from (suc (suc n)) (lines rest))
 entry-then n p m seconds rest legal =
     let r = move-read p m legal in
-    let first : List ℕ = line_of (move_text p m) [] in
     let second : List ℕ = line_of (codes "T") (decimal seconds) in
-    let here : Statement → List Placed = λ s. record { line = n; statement = s }
-    ∷ record { line = suc n; statement = statement.Seconds } ∷ statements_from (suc (suc n)) (lines rest) in (
+    let time : List ℕ = 84 ∷ (decimal seconds ++ 10 ∷ rest) in
+    let joined : entry_text p m seconds ++ rest ≡ r.sign ∷ (r.more ++ 10 ∷ time) =
+    append_assoc (line_of (move_text p m) []) second rest ∙ append_assoc (move_text p m) (10 ∷ []) (second ++ rest)
+    ∙ (λ i. r.is i ++ 10 ∷ append_assoc (84 ∷ decimal seconds) (10 ∷ []) rest i) in (
       r.written,
       r.means,
-      ap (λ l. statements_from n (lines l)) (append_assoc first second rest)
-          ∙ alone-then n (move_text p m) [] r.sign r.more (second ++ rest) (append-nil (move_text p m) ∙ r.is) r.within
-          r.comment r.header
-          ∙ ap (λ l. record { line = n; statement = statement_of (r.sign ∷ r.more) } ∷ l)
-          (seconds-then (suc n) seconds rest)
-          ∙ ap here r.reads,
+      ap (λ l. statements_from n (lines l)) joined
+          ∙ alone-then n r.sign r.more time (statement.Move r.written) _ r.within r.comment r.header r.reads
+          (seconds-then (suc n) seconds rest),
     )
 
 entries-read : (p : ShogiPosition) (es : List (SMove × ℕ)) (n : ℕ) (word : EndWord) (last : List ℕ)
     → AreLegal p (moves_of es) → IsEnd word last
     → Continues p (moves_of es) word (statements_from n (lines (entries_text p es ++ last)))
-entries-read p [] n word last legal end = subst (Continues p [] word) (sym (end n)) (at-end n p word)
+entries-read p [] n word last legal end =
+    subst (Continues p [] word) (sym (end n))
+    (record { mean = tt; sided = refl; moved = refl; even = refl; end = refl; whole = (refl, tt) })
 entries-read p (e ∷ es) n word last legal end =
     let next : ShogiPosition = play p e.0 in
-    let rest : List ℕ = entries_text next es ++ last in
-    let here = entry-then n p e.0 e.1 rest legal.0 in
+    let here = entry-then n p e.0 e.1 (entries_text next es ++ last) legal.0 in
     let later = entries-read next es (suc (suc n)) word last legal.1 end in
-    let is = ap (λ l. statements_from n (lines l)) (append_assoc (entry_text p e.0 e.1) (entries_text next es) last)
-    ∙ here.2 in
-    subst (Continues p (e.0 ∷ moves_of es) word) (sym is)
-    (at-move n (suc n) p e.0 (moves_of es) here.0 word (statements_from (suc (suc n)) (lines rest)) here.1 later)
+    subst (Continues p (e.0 ∷ moves_of es) word)
+    (sym
+    (ap (λ l. statements_from n (lines l)) (append_assoc (entry_text p e.0 e.1) (entries_text next es) last) ∙ here.2))
+    (record {
+      mean = (here.1, later.mean);
+      sided = later.moved;
+      moved = later.moved;
+      even = later.even;
+      end = later.end;
+      whole = (refl, (refl, later.whole));
+    })
 
 -- ---- the head
 
@@ -163,78 +137,34 @@ digit-line : (k : ℕ) → IsOfLine (48 + k)
 digit-line k = grind (arith, nat_tests)
 
 date-line : (at : CivilTime) → Every IsOfLine (date_text at)
-date-line at = (
-  digit-line _,
-  (
-    digit-line _,
-    (
-      digit-line _,
-      (
-        digit-line _,
-        (
-          refl,
-          (
-            digit-line _,
-            (
-              digit-line _,
-              (
-                refl,
-                (
-                  digit-line _,
-                  (
-                    digit-line _,
-                    (
-                      refl,
-                      (
-                        digit-line _,
-                        (
-                          digit-line _,
-                          (refl, (digit-line _, (digit-line _, (refl, (digit-line _, (digit-line _, tt)))))),
-                        ),
-                      ),
-                    ),
-                  ),
-                ),
-              ),
-            ),
-          ),
-        ),
-      ),
-    ),
-  ),
-)
+date-line at = search digit-line
 
 head-then : (event black white : List ℕ) (at : CivilTime) (rest : List ℕ) → Every IsOfLine event → Every IsOfLine black
     → Every IsOfLine white →
     statements_from 1 (lines (head_text event black white at ++ rest)) ≡ with_head (statements_from 8 (lines rest))
 head-then event black white at rest event_in black_in white_in =
     let date : List ℕ = date_text at in
-    let side : List ℕ = line_of (codes "+") [] in
-    let start : List ℕ = line_of (codes "PI") [] ++ side in
-    let time : List ℕ = line_of (codes "$START_TIME:") date ++ start in
-    let name : List ℕ = line_of (codes "$EVENT:") event ++ time in
-    let second : List ℕ = line_of (codes "N-") white ++ name in
-    let first : List ℕ = line_of (codes "N+") black ++ second in
-    let v : Placed = record { line = 1; statement = statement.Version } in
-    let h : ℕ → Placed = λ n. record { line = n; statement = statement.Header } in
-    let o : Placed = record { line = 6; statement = statement.Opening true } in
-    let t : Placed = record { line = 7; statement = statement.Turn First } in
-    first-then 1 (codes "V2.2") [] first rest (v ∷ []) (refl, (refl, (refl, (refl, tt)))) refl
-    ∙ ap (λ l. v ∷ l)
-    (first-then 2 (codes "N+") black second rest (h 2 ∷ []) (refl, (refl, black_in))
-    (player-line 2 43 black refl refl)
-    ∙ ap (λ l. h 2 ∷ l)
-    (first-then 3 (codes "N-") white name rest (h 3 ∷ []) (refl, (refl, white_in))
-    (player-line 3 45 white refl refl)
-    ∙ ap (λ l. h 3 ∷ l)
-    (first-then 4 (codes "$EVENT:") event time rest (h 4 ∷ [])
-    (refl, (refl, (refl, (refl, (refl, (refl, (refl, event_in))))))) (dollar-line 4 (codes "EVENT:" ++ event))
-    ∙ ap (λ l. h 4 ∷ l)
-    (first-then 5 (codes "$START_TIME:") date start rest (h 5 ∷ [])
+    let side : List ℕ = codes "+\n" ++ rest in
+    let start : List ℕ = codes "PI\n" ++ side in
+    let time : List ℕ = codes "$START_TIME:" ++ (date ++ 10 ∷ start) in
+    let name : List ℕ = codes "$EVENT:" ++ (event ++ 10 ∷ time) in
+    let second : List ℕ = codes "N-" ++ (white ++ 10 ∷ name) in
+    let first : List ℕ = codes "N+" ++ (black ++ 10 ∷ second) in
+    let joined : head_text event black white at ++ rest ≡ codes "V2.2\n" ++ first = simp append_assoc in
+    ap (λ l. statements_from 1 (lines l)) joined
+    ∙ statement-then 1 (codes "V2.2") first statement.Version _ (refl, (refl, (refl, (refl, tt)))) refl
+    (statement-then 2 (codes "N+" ++ black) second statement.Header _ (refl, (refl, black_in))
+    (header-line 2 78 43 black refl (λ l. refl))
+    (statement-then 3 (codes "N-" ++ white) name statement.Header _ (refl, (refl, white_in))
+    (header-line 3 78 45 white refl (λ l. refl))
+    (statement-then 4 (codes "$EVENT:" ++ event) time statement.Header _
+    (refl, (refl, (refl, (refl, (refl, (refl, (refl, event_in)))))))
+    (header-line 4 36 69 (codes "VENT:" ++ event) refl (λ l. refl))
+    (statement-then 5 (codes "$START_TIME:" ++ date) start statement.Header _
     (refl, (refl, (refl, (refl, (refl, (refl, (refl, (refl, (refl, (refl, (refl, (refl, date-line at))))))))))))
-    (dollar-line 5 (codes "START_TIME:" ++ date))
-    ∙ ap (λ l. h 5 ∷ l) (first-then 6 (codes "PI") [] side rest (o ∷ []) (refl, (refl, tt)) refl
-    ∙ ap (λ l. o ∷ l) (line-then 7 (codes "+") [] rest (t ∷ []) (refl, tt) refl))))))
+    (header-line 5 36 83 (codes "TART_TIME:" ++ date) refl (λ l. refl))
+    (statement-then 6 (codes "PI") side (statement.Opening true) _ (refl, (refl, tt)) refl
+    (statement-then 7 (codes "+") rest (statement.Turn First) _ (refl, tt) refl refl))))))
 
 -- ---- the whole
 

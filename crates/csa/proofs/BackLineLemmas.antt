@@ -1,16 +1,16 @@
 -- Lines that are written are read as their statements.
 use Rattle.std.proofs.Common.{◌≡◌, ℕ, zero, suc, ◌-◌, ◌<◌, List, [], ◌∷◌, ◌++◌, length, take, get_or, true, false, cond}
-use Rattle.std.proofs.Common.{refl, sym, ap, subst, ◌∙◌, append_assoc, arith}
+use Rattle.std.proofs.Common.{refl, ap, ◌∙◌, arith}
 use Rattle.std.proofs.lemmas.Bool.Decides.{nat_tests}
 use Rattle.std.proofs.lemmas.List.Splits.{slice_split_at, slice_split_none, length-slice_split}
-use Rattle.std.specs.Prelude.{◌==◌, ◌||◌}
+use Rattle.std.specs.Prelude.{◌==◌}
 use Rattle.std.specs.List.{All, slice_split}
 use Rattle.std.specs.Str.Lines.{lines, lines_of_parts, strip_carriage_return}
 use Rattle.csa.specs.declared.lines.Placed.{Placed}
+use Rattle.csa.specs.declared.statements.Statement.{Statement}
 use Rattle.csa.specs.declared.statements.Statement.TheVariants as statement
 use Rattle.csa.specs.Statements.{statement_of}
 use Rattle.csa.specs.Lines.{is_comment, is_header, placed_all, statements_on, statements_from}
-use Rattle.csa.specs.Writing.{line_of}
 use Rattle.csa.specs.BackLaws.{IsOneLine}
 
 abbrev pub Every : {X : Type 0} → (X → Type 0) → List X → Type 0
@@ -21,10 +21,6 @@ pub every-all : {X : Type 0} (P : X → Type 0) (xs : List X) → Every P xs →
 every-all P [] e k d h = absurd (omega (arith, h))
 every-all P (x ∷ xs) e zero d h = e.0
 every-all P (x ∷ xs) e (suc k) d h = every-all P xs e.1 k d (omega (arith, h))
-
-pub every-both : {X : Type 0} (P : X → Type 0) (xs ys : List X) → Every P xs → Every P ys → Every P (xs ++ ys)
-every-both P [] ys a b = b
-every-both P (x ∷ xs) ys a b = (a.0, every-both P xs ys a.1 b)
 
 pub every-goes : {X : Type 0} (P Q : X → Type 0) → ((x : X) → P x → Q x) → (xs : List X) → Every P xs → Every Q xs
 every-goes P Q goes [] e = tt
@@ -55,20 +51,13 @@ lines-then x rest within =
     ap lines_of_parts (slice_split_at (λ b. b == 10) x 10 rest (every-all IsOfLine x within) refl)
     ∙ first-of x (slice_split (λ b. b == 10) rest) (omega (arith, parts))
 
-pub statements-then : (n : ℕ) (x rest : List ℕ) (here : List Placed) → Every IsOfLine x
-    → statements_on n (strip_carriage_return x) ≡ here
-    → statements_from n (lines (x ++ 10 ∷ rest)) ≡ here ++ statements_from (suc n) (lines rest)
-statements-then n x rest here within is = ap (λ l. statements_from n l) (lines-then x rest within)
-    ∙ ap (λ l. l ++ statements_from (suc n) (lines rest)) is
-
--- the same of a line of two parts
-pub line-then : (n : ℕ) (name value rest : List ℕ) (here : List Placed) → Every IsOfLine (name ++ value)
-    → statements_on n (strip_carriage_return (name ++ value)) ≡ here
-    → statements_from n (lines (line_of name value ++ rest)) ≡ here ++ statements_from (suc n) (lines rest)
-line-then n name value rest here within is =
-    ap (λ l. statements_from n (lines l)) (append_assoc name (value ++ 10 ∷ []) rest
-    ∙ ap (λ l. name ++ l) (append_assoc value (10 ∷ []) rest) ∙ sym (append_assoc name value (10 ∷ rest)))
-    ∙ statements-then n (name ++ value) rest here within is
+-- a line of one statement, and those after it
+pub statement-then : (n : ℕ) (x rest : List ℕ) (said : Statement) (after : List Placed) → Every IsOfLine x
+    → statements_on n (strip_carriage_return x) ≡ record { line = n; statement = said } ∷ []
+    → statements_from (suc n) (lines rest) ≡ after
+    → statements_from n (lines (x ++ 10 ∷ rest)) ≡ record { line = n; statement = said } ∷ after
+statement-then n x rest said after within is more =
+    ap (statements_from n) (lines-then x rest within) ∙ (λ i. is i ++ more i)
 
 -- ---- lines of one statement
 
@@ -102,62 +91,29 @@ alone n c x e comment header =
 abbrev header_at : ℕ → List Placed
 header_at n = record { line = n; statement = statement.Header } ∷ []
 
-dollar : (n : ℕ) (l : List ℕ) → statements_on n (36 ∷ l) ≡ header_at n
-dollar n [] = refl
-dollar n (c ∷ l) = refl
-
 less-one : (k : ℕ) → suc k - 1 ≡ k
 less-one k = omega arith
 
--- a line that begins with `$`, with the carriage return at its end or without
-pub dollar-line : (n : ℕ) (l : List ℕ) → statements_on n (strip_carriage_return (36 ∷ l)) ≡ header_at n
-dollar-line n [] = refl
-dollar-line n (c ∷ l) =
-    let text : List ℕ = 36 ∷ c ∷ l in
-    let short : take (length text - 1) text ≡ 36 ∷ take (length l) (c ∷ l) =
-    ap (λ k. take k text) (less-one (length (c ∷ l))) in
+-- a line that begins with what makes it a header, with the carriage return at its end or without
+pub header-line : (n c d : ℕ) (l : List ℕ) → (d == 13) ≡ false
+    → ((l : List ℕ) → statements_on n (c ∷ d ∷ l) ≡ header_at n)
+    → statements_on n (strip_carriage_return (c ∷ d ∷ l)) ≡ header_at n
+header-line n c d [] other is = ap (λ b. statements_on n (cond b (c ∷ []) (c ∷ d ∷ []))) other ∙ is []
+header-line n c d (e ∷ l) other is =
+    let text : List ℕ = c ∷ d ∷ e ∷ l in
+    let short : take (length text - 1) text ≡ c ∷ d ∷ take (length l) (e ∷ l) =
+    ap (λ k. take k text) (less-one (length (d ∷ e ∷ l))) in
     elim (get_or text (length text - 1) 0 == 13) as (λ b. statements_on n (cond b (take (length text - 1) text) text)
     ≡ header_at n) [
-      | true ↦ ap (statements_on n) short ∙ dollar n (take (length l) (c ∷ l))
-      | false ↦ refl
+      | true ↦ ap (statements_on n) short ∙ is (take (length l) (e ∷ l))
+      | false ↦ is (e ∷ l)
     ]
 
-player : (n sign : ℕ) (l : List ℕ) → ((sign == 43) || (sign == 45)) ≡ true
-    → statements_on n (78 ∷ sign ∷ l) ≡ header_at n
-player n sign l is = ap (λ b. cond b (header_at n) (placed_all n (slice_split (λ b. b == 44) (78 ∷ sign ∷ l)))) is
-
--- the same of a line that begins with `N+` or `N-`
-pub player-line : (n sign : ℕ) (name : List ℕ) → ((sign == 43) || (sign == 45)) ≡ true → ((sign == 13) ≡ false)
-    → statements_on n (strip_carriage_return (78 ∷ sign ∷ name)) ≡ header_at n
-player-line n sign [] is other = ap (λ b. statements_on n (cond b (78 ∷ []) (78 ∷ sign ∷ []))) other
-    ∙ player n sign [] is
-player-line n sign (c ∷ name) is other =
-    let text : List ℕ = 78 ∷ sign ∷ c ∷ name in
-    let short : take (length text - 1) text ≡ 78 ∷ sign ∷ take (length name) (c ∷ name) =
-    ap (λ k. take k text) (less-one (length (sign ∷ c ∷ name))) in
-    elim (get_or text (length text - 1) 0 == 13) as (λ b. statements_on n (cond b (take (length text - 1) text) text)
-    ≡ header_at n) [
-      | true ↦ ap (statements_on n) short ∙ player n sign (take (length name) (c ∷ name)) is
-      | false ↦ player n sign (c ∷ name) is
-    ]
-
--- ---- lines after one another
-
--- a statement alone, on a line of two parts
-pub alone-then : (n : ℕ) (name value : List ℕ) (c : ℕ) (x rest : List ℕ) → name ++ value ≡ c ∷ x
-    → Every IsWithin (c ∷ x) → is_comment (c ∷ x) ≡ false → is_header (c ∷ x) ≡ false
-    → statements_from n (lines (line_of name value ++ rest)) ≡ record { line = n; statement = statement_of (c ∷ x) }
-    ∷ statements_from (suc n) (lines rest)
-alone-then n name value c x rest is e comment header =
-    line-then n name value rest (record { line = n; statement = statement_of (c ∷ x) } ∷ [])
-    (subst (Every IsOfLine) (sym is) (every-goes IsWithin IsOfLine (λ c w. w.0) (c ∷ x) e))
-    (ap (λ l. statements_on n (strip_carriage_return l)) is ∙ alone n c x e comment header)
-
--- the first of several lines, before a rest
-pub first-then : (n : ℕ) (name value more rest : List ℕ) (here : List Placed) → Every IsOfLine (name ++ value)
-    → statements_on n (strip_carriage_return (name ++ value)) ≡ here
-    → statements_from n (lines (line_of name value ++ more ++ rest)) ≡ here
-    ++ statements_from (suc n) (lines (more ++ rest))
-first-then n name value more rest here within is =
-    ap (λ l. statements_from n (lines l)) (append_assoc (line_of name value) more rest)
-    ∙ line-then n name value (more ++ rest) here within is
+-- a statement alone on its line, and the lines after it
+pub alone-then : (n c : ℕ) (x rest : List ℕ) (said : Statement) (after : List Placed) → Every IsWithin (c ∷ x)
+    → is_comment (c ∷ x) ≡ false → is_header (c ∷ x) ≡ false → statement_of (c ∷ x) ≡ said
+    → statements_from (suc n) (lines rest) ≡ after
+    → statements_from n (lines (c ∷ (x ++ 10 ∷ rest))) ≡ record { line = n; statement = said } ∷ after
+alone-then n c x rest said after e comment header reads =
+    statement-then n (c ∷ x) rest said after (every-goes IsWithin IsOfLine (λ c w. w.0) (c ∷ x) e)
+    (alone n c x e comment header ∙ ap (λ s. record { line = n; statement = s } ∷ []) reads)

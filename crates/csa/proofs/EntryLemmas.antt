@@ -1,5 +1,5 @@
 -- Moves with their seconds, one after another.
-use Rattle.std.proofs.Common.{◌≡◌, ℕ, suc, ◌+◌, ◌<◌, List, [], ◌∷◌, ◌++◌, length, take, drop, get_or, map, Some, sym}
+use Rattle.std.proofs.Common.{◌≡◌, ℕ, suc, ◌+◌, ◌<◌, List, [], ◌∷◌, ◌++◌, length, take, drop, get_or, Some, sym}
 use Rattle.std.proofs.Common.{ap, ◌∙◌, add-one, arith}
 use Rattle.std.proofs.lemmas.List.{append_assoc, take_more, length-map, get_or-map}
 use Rattle.std.proofs.lemmas.Option.{slice_get-get_or}
@@ -11,10 +11,8 @@ use Rattle.squares.specs.ShogiOpening.{opening}
 use Rattle.shogi_moves.specs.Rules.{Legal, play}
 use Rattle.shogi_repetition.specs.Line.{last_position}
 use Rattle.shogi_repetition.specs.Faults.{IsPlayed}
+use Rattle.csa.specs.BackLaws.{moves_of}
 use Rattle.csa.specs.Writing.{entry_text, entries_text}
-
-abbrev moves_of : List (SMove × ℕ) → List SMove
-moves_of es = map (λ e. e.0) es
 
 move-at : (es : List (SMove × ℕ)) (i : ℕ) (e : SMove × ℕ) → i < length es → e ≡ get_or es i e
     → get_or (moves_of es) i e.0 ≡ e.0
@@ -24,17 +22,15 @@ move-at es i e h is = get_or-map (λ x. x.0) es i e e.0 h ∙ ap (λ x. x.0) (sy
 pub next-legal : (es : List (SMove × ℕ)) (i : ℕ) (e : SMove × ℕ) → i < length es → e ≡ get_or es i e
     → IsPlayed opening (moves_of es) (length es) → Legal (last_position opening (take i (moves_of es))) e.0
 next-legal es i e h is played =
-    let same = length-map es (λ x. x.0) in
-    (played i h).legal e.0 (slice_get-get_or (moves_of es) i e.0 (omega (arith, same))
+    (played i h).legal e.0 (slice_get-get_or (moves_of es) i e.0 (omega (arith, length-map es (λ x. x.0)))
     ∙ ap (λ m. Some m) (move-at es i e h is))
 
 -- the position after one move more
 pub next-position : (es : List (SMove × ℕ)) (i : ℕ) (e : SMove × ℕ) → i < length es → e ≡ get_or es i e
     → last_position opening (take (i + 1) (moves_of es)) ≡ play (last_position opening (take i (moves_of es))) e.0
 next-position es i e h is =
-    let same = length-map es (λ x. x.0) in
     let longer : take (i + 1) (moves_of es) ≡ take i (moves_of es) ++ e.0 ∷ [] =
-    take_more (moves_of es) i e.0 (omega (arith, same))
+    take_more (moves_of es) i e.0 (omega (arith, length-map es (λ x. x.0)))
     ∙ ap (λ m. take i (moves_of es) ++ m ∷ []) (move-at es i e h is) in
     ap (last_position opening) longer ∙ last_position-append play opening (take i (moves_of es)) e.0
 

@@ -1,10 +1,8 @@
 pub mod ReplayLemmas
 pub mod LineLemmas
 pub mod RecordLemmas
-pub mod EndingLemmas
 pub mod OneReadingLemmas
 pub mod EntryLemmas
-pub mod OneTextLemmas
 pub mod WriterLemmas
 pub mod BackLineLemmas
 pub mod BackMoveLemmas

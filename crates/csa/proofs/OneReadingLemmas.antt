@@ -1,6 +1,6 @@
--- A text is read in one way.
+-- A text is read in one way, as one list of games, or refused.
 use Rattle.std.proofs.Common.{◌≡◌, inl, inr, List, [], ◌∷◌, ◌++◌, length, take, Bool, true, false, Some, None, refl}
-use Rattle.std.proofs.Common.{sym, ap, subst, ◌∙◌, arith}
+use Rattle.std.proofs.Common.{sym, ap, subst, ◌∙◌, arith, ◌⊎◌, ℕ, Option, Result, Ok, Err}
 use Rattle.std.specs.Prelude.{slice_get}
 use Rattle.std.specs.FinMap as map
 use Rattle.std.proofs.lemmas.List.{length-append}
@@ -25,8 +25,19 @@ use Rattle.csa.specs.declared.faults.CsaFault.{CsaFault}
 use Rattle.csa.specs.declared.faults.CsaFault.TheVariants as fault
 use Rattle.csa.specs.declared.statements.WrittenMove.{WrittenMove}
 use Rattle.csa.specs.Moves.{CodedAs, Means, MeanAll}
-use Rattle.csa.specs.Replays.{AreMoves, RefusesNext, RefusesMove}
+use Rattle.csa.specs.Replays.{AreMoves, RefusesNext, RefusesMove, written_moves}
 use Rattle.csa.proofs.ReplayLemmas.{legal-unbroken}
+use Rattle.squares.specs.declared.sides.Score.{Score}
+use Rattle.shogi_repetition.specs.declared.ends.SEnd.{SEnd}
+use Rattle.csa.specs.declared.game.CsaGame.{CsaGame}
+use Rattle.csa.specs.declared.lines.Placed.{Placed}
+use Rattle.csa.specs.declared.statements.Statement.TheVariants as statement
+use Rattle.csa.specs.Lines.{text_statements}
+use Rattle.csa.specs.Records.{Plays, score_in, IsRecordOf, RecordFails}
+use Rattle.csa.specs.Reading.{records_of, AreOrdered, AreRecordsOf, FailsAfter, IsTextOf, Refuses, IsRefused}
+use Rattle.csa.specs.ReadingLaws.{SameGame, SameGames}
+
+-- ---- the moves
 
 promotes-one : (q : SPiece) (b d : Bool) (code : Role) → CodedAs q b code → CodedAs q d code → b ≡ d
 promotes-one q false false code x y = refl
@@ -36,12 +47,7 @@ promotes-one q true false code x y = absurd (x.own refl y.after)
 
 kind-back : (k : HandKind) → hand_kind (kind_of (dropped_role k)) ≡ Some k
 kind-back in_hand.Rook = refl
-kind-back in_hand.Bishop = refl
-kind-back in_hand.Gold = refl
-kind-back in_hand.Silver = refl
-kind-back in_hand.Knight = refl
-kind-back in_hand.Lance = refl
-kind-back in_hand.Pawn = refl
+kind-back _ = refl
 
 kind-one : (k l : HandKind) → dropped_role k ≡ dropped_role l → k ≡ l
 kind-one k l same = let both : Some k ≡ Some l = sym (kind-back k) ∙ ap (λ r. hand_kind (kind_of r)) same
@@ -65,32 +71,27 @@ means-one p w (Drop k t) (Drop l u) (s, t_is, none, x) (r, u_is, none_too, y) =
     cc
 
 -- written moves mean one line
-pub mean-one : (p : ShogiPosition) (ws : List WrittenMove) (ms ns : List SMove) → MeanAll p ws ms → MeanAll p ws ns
+mean-one : (p : ShogiPosition) (ws : List WrittenMove) (ms ns : List SMove) → MeanAll p ws ms → MeanAll p ws ns
     → ms ≡ ns
 mean-one p [] [] [] a b = refl
-mean-one p [] [] (n ∷ ns) a b = absurd b
-mean-one p [] (m ∷ ms) ns a b = absurd a
-mean-one p (w ∷ ws) [] ns a b = absurd a
-mean-one p (w ∷ ws) (m ∷ ms) [] a b = absurd b
 mean-one p (w ∷ ws) (m ∷ ms) (n ∷ ns) a b =
     let head : m ≡ n = means-one p w m n a.0 b.0 in
     let tail : ms ≡ ns = mean-one (play p m) ws ms ns a.1 (subst (λ x. MeanAll (play p x) ws ns) (sym head) b.1) in
     cc
+mean-one p _ _ _ a b = search
 
 -- the moves up to a written move, and the one that it means
-pub record Parted (p : ShogiPosition) (before : List WrittenMove) (w : WrittenMove) (ms : List SMove) : Type 0 where
-  pub front : List SMove
-  pub made : SMove
-  pub back : List SMove
-  pub parts : ms ≡ front ++ made ∷ back
-  pub mean : MeanAll p before front
-  pub means : Means (last_position p front) w made
+record Parted (p : ShogiPosition) (before : List WrittenMove) (w : WrittenMove) (ms : List SMove) : Type 0 where
+  front : List SMove
+  made : SMove
+  back : List SMove
+  parts : ms ≡ front ++ made ∷ back
+  mean : MeanAll p before front
+  means : Means (last_position p front) w made
 
-pub parted : (p : ShogiPosition) (before after : List WrittenMove) (w : WrittenMove) (ms : List SMove)
+parted : (p : ShogiPosition) (before after : List WrittenMove) (w : WrittenMove) (ms : List SMove)
     → MeanAll p (before ++ w ∷ after) ms → Parted p before w ms
-parted p [] after w [] a = absurd a
 parted p [] after w (m ∷ ms) a = record { front = []; made = m; back = ms; parts = refl; mean = tt; means = a.0 }
-parted p (v ∷ before) after w [] a = absurd a
 parted p (v ∷ before) after w (m ∷ ms) a =
     let rest = parted (play p m) before after w ms a.1 in
     record {
@@ -102,6 +103,7 @@ parted p (v ∷ before) after w (m ∷ ms) a =
           (a.0, rest.mean);
       means = rest.means;
     }
+parted p _ after w _ a = absurd a
 
 -- a move that goes on is not refused
 goes-on-unrefused : CheckIs → NoLineHasTwoEnds → (front : List SMove) (m : SMove) (w : WrittenMove) (f : CsaFault)
@@ -116,15 +118,10 @@ goes-on-unrefused laws one front m w (fault.Illegal ply cause) means on legal h 
           (means-one (last_position opening front) w m broken.0 means broken.1) legal) broken.2
       | inr nothing ↦ nothing.1 m means
     ]
-goes-on-unrefused laws one front m w fault.Memory means on legal h = h
-goes-on-unrefused laws one front m w (fault.BadText line) means on legal h = h
-goes-on-unrefused laws one front m w fault.Version means on legal h = h
-goes-on-unrefused laws one front m w fault.OtherOpening means on legal h = h
-goes-on-unrefused laws one front m w fault.Unfinished means on legal h = h
-goes-on-unrefused laws one front m w fault.ResultDiffers means on legal h = h
+goes-on-unrefused laws one front m w _ means on legal h = h
 
 -- written moves of a game are not refused
-pub moves-unrefused : CheckIs → NoLineHasTwoEnds → (ws : List WrittenMove) (ms : List SMove) (f : CsaFault)
+moves-unrefused : CheckIs → NoLineHasTwoEnds → (ws : List WrittenMove) (ms : List SMove) (f : CsaFault)
     → AreMoves ws ms → RefusesMove ws f → ⊥
 moves-unrefused laws one ws ms f are r =
     let all : MeanAll opening (r.before ++ r.refused ∷ r.after) ms =
@@ -144,3 +141,81 @@ moves-unrefused laws one ws ms f are r =
     (subst (λ l. EndsSo opening l None) seam here.unended)
     (subst (λ l. Legal (last_position opening l) at.made) seam (here.legal at.made there))
     (subst (λ l. RefusesNext l r.refused f) (sym front) r.refuses)
+
+-- ---- the games
+
+-- what a record comes to is one: its moves, and what its end says
+pub same-score : NoLineHasTwoEnds → (placed : List Placed) (ms ns : List SMove) (d e : Option SEnd) → Plays placed ms d
+    → Plays placed ns e → (ms ≡ ns) × (score_in placed ms d ≡ score_in placed ns e)
+same-score one placed ms ns d e a b =
+    let moves : ms ≡ ns = mean-one opening (written_moves placed) ms ns a.moves.mean b.moves.mean in
+    let ends : d ≡ e = one opening ns d e (subst (λ l. EndsSo opening l d) moves a.ends) b.ends in
+    (moves, ap (λ l. score_in placed l d) moves ∙ ap (λ x. score_in placed ns x) ends)
+
+record-one : NoLineHasTwoEnds → (placed : List Placed) (g h : CsaGame) → IsRecordOf placed g → IsRecordOf placed h
+    → SameGame g h
+record-one one placed g h a b =
+    let same = same-score one placed g.moves.items h.moves.items a.end b.end a.plays b.plays in
+    let scores : ◌≡◌ {A = Result Score CsaFault} (Ok g.score) (Ok h.score) = sym a.score ∙ same.1 ∙ b.score in
+    let score : g.score ≡ h.score = cc in
+    (same.0, score, a.declared ∙ sym b.declared)
+
+pub records-one : NoLineHasTwoEnds → (rs : List (List Placed)) (gs hs : List CsaGame) → AreRecordsOf rs gs
+    → AreRecordsOf rs hs → SameGames gs hs
+records-one one [] [] [] a b = tt
+records-one one (r ∷ rs) (g ∷ gs) (h ∷ hs) a b = (record-one one r g h a.0 b.0, records-one one rs gs hs a.1 b.1)
+records-one one _ _ _ a b = search
+
+-- the faults of a record whose moves are played: memory, or that of its end
+pub record-refuses : CheckIs → NoLineHasTwoEnds → (placed : List Placed) (ms : List SMove) (end : Option SEnd)
+    (f : CsaFault) → Plays placed ms end → RecordFails placed f
+    → (f ≡ fault.Memory) ⊎ (score_in placed ms end ≡ Err f)
+record-refuses laws one placed ms end fault.Memory p h = inl refl
+record-refuses laws one placed ms end fault.OtherOpening p h = let never : true ≡ false = sym p.even ∙ h in absurd (cc)
+record-refuses laws one placed ms end (fault.Illegal ply cause) p h =
+    absurd (moves-unrefused laws one (written_moves placed) ms (fault.Illegal ply cause) p.moves h.1)
+record-refuses laws one placed ms end (fault.AfterEnd ply) p h =
+    absurd (moves-unrefused laws one (written_moves placed) ms (fault.AfterEnd ply) p.moves h.1)
+record-refuses laws one placed ms end fault.Unfinished p h =
+    inr ((same-score one placed ms h.moves end h.end p h.plays).1 ∙ h.score)
+record-refuses laws one placed ms end fault.ResultDiffers p h =
+    inr ((same-score one placed ms h.moves end h.end p h.plays).1 ∙ h.score)
+record-refuses laws one placed ms end (fault.BadText line) p h = absurd h
+record-refuses laws one placed ms end fault.Version p h = absurd h
+
+record-unrefused : CheckIs → NoLineHasTwoEnds → (placed : List Placed) (g : CsaGame) (f : CsaFault)
+    → IsRecordOf placed g → RecordFails placed f → f ≡ fault.Memory
+record-unrefused laws one placed g f a h = elim (record-refuses laws one placed g.moves.items a.end f a.plays h) [
+  | inl memory ↦ memory
+  | inr bad ↦ let never : ◌≡◌ {A = Result Score CsaFault} (Ok g.score) (Err f) = sym a.score ∙ bad in absurd (cc)
+]
+
+game-at : (before after : List (List Placed)) (r : List Placed) (gs : List CsaGame)
+    → AreRecordsOf (before ++ r ∷ after) gs → (g : CsaGame) × IsRecordOf r g
+game-at [] after r (g ∷ gs) a = (g, a.0)
+game-at (b ∷ before) after r (g ∷ gs) a = game-at before after r gs a.1
+game-at _ after r _ a = absurd a
+
+-- the faults of an ordered text: memory, or that of a record
+pub text-refuses : (ss : List Placed) (f : CsaFault) → AreOrdered ss → Refuses ss f
+    → (f ≡ fault.Memory) ⊎ FailsAfter (records_of ss) f
+text-refuses ss fault.Memory o h = inl refl
+text-refuses ss (fault.BadText line) o (inl empty) =
+    let never : Some statement.Version ≡ None = sym o.version ∙ empty.0 in absurd (cc)
+text-refuses ss (fault.BadText line) o (inr stray) =
+    let never : None ≡ Some line = sym o.order ∙ stray.1 in absurd (cc)
+text-refuses ss fault.Version o h =
+    let both : Some statement.Version ≡ Some h.0 = sym o.version ∙ h.1 in
+    let is : h.0 ≡ statement.Version = cc in
+    absurd (h.2 is)
+text-refuses ss _ o h = inr h.1
+
+pub text-unrefused : CheckIs → NoLineHasTwoEnds → (text : List ℕ) (gs : List CsaGame) (f : CsaFault) → IsTextOf text gs
+    → IsRefused text f → f ≡ fault.Memory
+text-unrefused laws one text gs f a h = elim (text-refuses (text_statements text) f a.ordered h) [
+  | inl memory ↦ memory
+  | inr fails ↦
+      let all = subst (λ rs. AreRecordsOf rs gs) fails.parts a.records in
+      let at = game-at fails.before fails.after fails.failing gs all in
+      record-unrefused laws one fails.failing at.0 f at.1 fails.fails
+]

@@ -1,13 +1,12 @@
 -- The moves of a record, statement by statement, and the records of a text, one after another.
 use Rattle.std.proofs.Common.{◌≡◌, ℕ, suc, zero, ◌+◌, ◌<◌, inl, inr, List, [], ◌∷◌, ◌++◌, length, take, drop, get_or}
-use Rattle.std.proofs.Common.{true, false, cond, refl, sym, ap, ◌∙◌, arith}
-use Rattle.std.proofs.lemmas.List.{take-append-drop, append_assoc as assoc}
+use Rattle.std.proofs.Common.{map, Bool, true, false, cond, refl, sym, ap, ◌∙◌, append-nil, arith}
+use Rattle.std.proofs.lemmas.List.{take-append-drop, take_more, length-map, get_or-map, append_assoc as assoc}
 use Rattle.std.proofs.Math.Seq.{drop-cons}
 use Rattle.squares.specs.declared.shogi.moves.SMove.{SMove}
 use Rattle.csa.specs.declared.faults.CsaFault.{CsaFault}
 use Rattle.csa.specs.declared.game.CsaGame.{CsaGame}
 use Rattle.csa.specs.declared.lines.Placed.{Placed}
-use Rattle.csa.specs.declared.statements.WrittenMove.{WrittenMove}
 use Rattle.csa.specs.Replays.{written_in, written_moves, AreMoves, RefusesMoves}
 use Rattle.csa.specs.Replaying.{RefusesIn}
 use Rattle.csa.specs.Records.{IsRecordOf, RecordFails}
@@ -34,11 +33,7 @@ pub written-more : (placed : List Placed) (k : ℕ) (each : Placed) → k < leng
     → written_moves (take (k + 1) placed) ≡ written_moves (take k placed) ++ written_in each.statement
 written-more placed k each h longer =
     ap written_moves longer ∙ written_moves-append (take k placed) (each ∷ [])
-    ∙ ap (λ l. written_moves (take k placed) ++ l) (no-more (written_in each.statement))
-  where
-    no-more : (l : List WrittenMove) → l ++ [] ≡ l
-    no-more [] = refl
-    no-more (w ∷ l) = ap (λ rest. w ∷ rest) (no-more l)
+    ∙ ap (λ l. written_moves (take k placed) ++ l) (append-nil (written_in each.statement))
 
 -- what refuses a statement after those before it refuses the record
 pub refuses-record : (placed : List Placed) (k : ℕ) (each : Placed) (ms : List SMove) (f : CsaFault) → k < length placed
@@ -57,46 +52,65 @@ refuses-record placed k each ms f h is played (inr refused) =
       refuses = refused.2;
     })
 
--- a last part with a statement is a record
-pub whole-parts : (parts : List (List Placed)) (n : ℕ) → length parts ≡ n + 1 → has_statement (get_or parts n []) ≡ true
-    → without_bare_last parts ≡ parts
-whole-parts [] n long some_there = refl
-whole-parts (part ∷ []) zero long some_there = ap (λ b. cond b (part ∷ []) []) some_there
-whole-parts (part ∷ []) (suc n) long some_there = absurd (omega (arith, long))
-whole-parts (part ∷ next ∷ more) zero long some_there = absurd (omega (arith, long))
-whole-parts (part ∷ next ∷ more) (suc n) long some_there =
-    ap (λ l. part ∷ l) (whole-parts (next ∷ more) n (omega (arith, long)) some_there)
+-- a last part with a statement is a record, and one without is none
+last-part : (parts : List (List Placed)) (n : ℕ) (b : Bool) → length parts ≡ suc n
+    → has_statement (get_or parts n []) ≡ b → without_bare_last parts ≡ take (cond b (suc n) n) parts
+last-part [] n b long is = absurd (omega (arith, long))
+last-part (part ∷ []) zero true long is = ap (λ b. cond b (part ∷ []) []) is
+last-part (part ∷ []) zero false long is = ap (λ b. cond b (part ∷ []) []) is
+last-part (part ∷ []) (suc n) b long is = absurd (omega (arith, long))
+last-part (part ∷ next ∷ more) zero b long is = absurd (omega (arith, long))
+last-part (part ∷ next ∷ more) (suc n) true long is =
+    ap (λ l. part ∷ l) (last-part (next ∷ more) n true (omega (arith, long)) is)
+last-part (part ∷ next ∷ more) (suc n) false long is =
+    ap (λ l. part ∷ l) (last-part (next ∷ more) n false (omega (arith, long)) is)
 
--- a last part without a statement is none
-pub parts-but-last : (parts : List (List Placed)) (n : ℕ) → length parts ≡ n + 1
-    → has_statement (get_or parts n []) ≡ false → without_bare_last parts ≡ take n parts
-parts-but-last [] n long none_there = absurd (omega (arith, long))
-parts-but-last (part ∷ []) zero long none_there = ap (λ b. cond b (part ∷ []) []) none_there
-parts-but-last (part ∷ []) (suc n) long none_there = absurd (omega (arith, long))
-parts-but-last (part ∷ next ∷ more) zero long none_there = absurd (omega (arith, long))
-parts-but-last (part ∷ next ∷ more) (suc n) long none_there =
-    ap (λ l. part ∷ l) (parts-but-last (next ∷ more) n (omega (arith, long)) none_there)
+-- what stands at a place of a list to which a function was applied
+mapped-at : {A B : Type 0} (xs : List A) (f : A → B) (i : ℕ) (x : A) (d : B) → i < length xs → x ≡ get_or xs i x
+    → get_or (map f xs) i d ≡ f x
+mapped-at xs f i x d h is = get_or-map f xs i x d h ∙ ap f (sym is)
 
--- one record more
-pub records-more : (records : List (List Placed)) (games : List CsaGame) (placed : List Placed) (game : CsaGame)
-    → AreRecordsOf records games → IsRecordOf placed game → AreRecordsOf (records ++ placed ∷ []) (games ++ game ∷ [])
-records-more [] [] placed game all one = (one, tt)
-records-more [] (g ∷ games) placed game all one = absurd all
-records-more (r ∷ records) [] placed game all one = absurd all
-records-more (r ∷ records) (g ∷ games) placed game all one = (all.0, records-more records games placed game all.1 one)
+-- The records of parts that are given in some form.
+module _ {A : Type 0} (given : List A) (at : A → List Placed) where
+  abbrev all : List (List Placed)
+  all = map at given
 
--- a record that fails after those that are read
-pub fails-record : (records : List (List Placed)) (i : ℕ) (placed : List Placed) (games : List CsaGame) (f : CsaFault)
-    → i < length records → get_or records i placed ≡ placed → AreRecordsOf (take i records) games → RecordFails placed f
-    → FailsOrMemory records f
-fails-record records i placed games f h is read fails =
-    inr (record {
-      before = take i records;
-      failing = placed;
-      after = drop (suc i) records;
-      parts = sym (take-append-drop i records)
-          ∙ ap (λ l. take i records ++ l) (drop-cons records i placed h ∙ ap (λ r. r ∷ drop (suc i) records) is);
-      games = games;
-      read = read;
-      fails = fails;
-    })
+  -- the records are the parts, or all but the last
+  pub records-are : (n : ℕ) (x : A) (b : Bool) → length given ≡ suc n → x ≡ get_or given n x → has_statement (at x) ≡ b
+      → take (cond b (suc n) n) all ≡ without_bare_last all
+  records-are n x b long is says =
+      sym (last-part all n b (length-map given at ∙ long)
+      (ap has_statement (mapped-at given at n x [] (omega (arith, long)) is) ∙ says))
+
+  module _ (i : ℕ) (x : A) (games : List CsaGame) (h : i < length given) (is : x ≡ get_or given i x)
+      (read : AreRecordsOf (take i all) games) where
+    here : get_or all i (at x) ≡ at x
+    here = mapped-at given at i x (at x) h is
+
+    inside : i < length all
+    inside = omega (arith, h, length-map given at)
+
+    -- one record more
+    pub records-more : (game : CsaGame) → IsRecordOf (at x) game → AreRecordsOf (take (i + 1) all) (games ++ game ∷ [])
+    records-more game one =
+        rw (take_more all i (at x) inside, here) (more (take i all) games read)
+      where
+        more : (records : List (List Placed)) (games : List CsaGame) → AreRecordsOf records games
+            → AreRecordsOf (records ++ at x ∷ []) (games ++ game ∷ [])
+        more [] [] all = (one, tt)
+        more (r ∷ records) (g ∷ games) all = (all.0, more records games all.1)
+        more _ _ all = absurd all
+
+    -- a record that fails after those that are read
+    pub fails-record : (f : CsaFault) → RecordFails (at x) f → FailsOrMemory all f
+    fails-record f fails =
+        inr (record {
+          before = take i all;
+          failing = at x;
+          after = drop (suc i) all;
+          parts = sym (take-append-drop i all)
+              ∙ ap (λ l. take i all ++ l) (drop-cons all i (at x) inside ∙ ap (λ r. r ∷ drop (suc i) all) here);
+          games = games;
+          read = read;
+          fails = fails;
+        })

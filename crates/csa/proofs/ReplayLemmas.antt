@@ -46,6 +46,5 @@ made-fault laws one ms m f played h =
 pub mean-more : (p : ShogiPosition) (ws : List WrittenMove) (ms : List SMove) (w : WrittenMove) (m : SMove)
     → MeanAll p ws ms → Means (last_position p ms) w m → MeanAll p (ws ++ w ∷ []) (ms ++ m ∷ [])
 mean-more p [] [] w m all one = (one, tt)
-mean-more p [] (n ∷ ms) w m all one = absurd all
-mean-more p (v ∷ ws) [] w m all one = absurd all
 mean-more p (v ∷ ws) (n ∷ ms) w m all one = (all.0, mean-more (play p n) ws ms w m all.1 one)
+mean-more p _ _ w m all one = absurd all

@@ -1,5 +1,5 @@
 -- A game that is written move by move.
-use Rattle.std.proofs.Common.{◌≡◌, ℕ, ◌+◌, ◌<◌, List, [], ◌∷◌, ◌++◌, length, map, take, drop, get_or, Option}
+use Rattle.std.proofs.Common.{◌≡◌, ℕ, ◌+◌, ◌<◌, List, [], ◌∷◌, ◌++◌, length, take, drop, get_or, Option}
 use Rattle.std.proofs.Common.{append_assoc, append-nil, refl, sym, ap, ap₂, subst, ◌∙◌, take-append-drop}
 use Rattle.std.specs.Io.KnownBytes.{Appends}
 use Rattle.std.proofs.KnownBytes.{Appends-trans}
@@ -7,7 +7,6 @@ use Rattle.std.proofs.lemmas.List.{map-append, take_more}
 use Rattle.record_writer.specs.Pieces.{AppendsSome}
 use Rattle.record_writer.specs.PieceLaws.{begun-next, begun-longer}
 use Rattle.game_lines.proofs.Proved.{last_position-append}
-use Rattle.squares.specs.declared.sides.Side.{Side}
 use Rattle.squares.specs.declared.shogi.moves.SMove.{SMove}
 use Rattle.squares.specs.ShogiSets.{ShogiPosition}
 use Rattle.squares.specs.ShogiOpening.{opening}
@@ -15,12 +14,11 @@ use Rattle.shogi_moves.specs.Rules.{play}
 use Rattle.shogi_repetition.specs.Line.{last_position}
 use Rattle.csa.specs.declared.head.CsaHead.{CsaHead}
 use Rattle.csa.specs.declared.game_writer.GameWriter.{GameWriter}
+use Rattle.csa.specs.BackLaws.{moves_of}
 use Rattle.csa.specs.Writing.{entry_text, entries_text, end_text}
 use Rattle.csa.specs.Writer.{lines_text, text_up_to, HasBegun, HasWritten, AddsEntry, BeginsEntry, Finishes, BeginsEnd}
 use Rattle.csa.specs.Writer.{BeginsGame, LinesBeginGames, MovesBeginGames}
-
-abbrev moves_of : List (SMove × ℕ) → List SMove
-moves_of es = map (λ e. e.0) es
+use Rattle.csa.specs.WrittenGame.{IsGameText}
 
 -- the text of moves that go on
 pub entries-append : (p : ShogiPosition) (es more : List (SMove × ℕ))
@@ -84,38 +82,30 @@ begins-entry e game held now some = λ head before es h. record {
 abbrev pub last_of : GameWriter → List ℕ
 last_of game = end_text game.end game.position.turn
 
--- a line that was cleared, and to which the end was added, is the end
-pub end-line : (game : GameWriter) (turn : Side) (cleared line bytes : List ℕ) → cleared ≡ []
-    → line ≡ cleared ++ end_text game.end turn → turn ≡ game.position.turn → bytes ≡ line → bytes ≡ last_of game
-end-line game turn cleared line bytes empty added side same = same ∙ added ∙ ap (λ l. l ++ end_text game.end turn) empty
-    ∙ ap (end_text game.end) side
-
--- the same, as the whole text has it
-last-is : (head : CsaHead) (es : List (SMove × ℕ)) (before held : Option (List ℕ)) (game : GameWriter)
-    → HasWritten head es before held game → last_of game ≡ end_text head.end (last_position opening (moves_of es)).turn
-last-is head es before held game h = ap₂ end_text h.end (ap (λ p. p.turn) h.position)
+-- with it the text is that of the whole game
+whole : (head : CsaHead) (es : List (SMove × ℕ)) (before held : Option (List ℕ)) (game : GameWriter)
+    (h : HasWritten head es before held game)
+    → IsGameText head.event.now head.black.now head.white.now head.start head.end es
+    (text_up_to head es h.at ++ last_of game)
+unfolding lines_text
+whole head es before held game h =
+    record {
+      at = h.at;
+      shown = h.shown;
+      written = ap (λ l. text_up_to head es h.at ++ l) (ap₂ end_text h.end (ap (λ p. p.turn) h.position));
+    }
 
 -- the end was written
 pub adds-end : (game : GameWriter) (held now : Option (List ℕ)) → Appends held now (last_of game)
     → Finishes game held now
-unfolding lines_text
 adds-end game held now added = λ head before es h.
-    let front : List ℕ = text_up_to head es h.at in (
-      front ++ last_of game,
-      record { at = h.at; shown = h.shown; written = ap (λ l. front ++ l) (last-is head es before held game h) },
-      Appends-trans before held now front (last_of game) h.written added,
-    )
+    (_, whole head es before held game h, Appends-trans before held now _ (last_of game) h.written added)
 
 -- a beginning of it was
 pub begins-end : (game : GameWriter) (held now : Option (List ℕ)) → AppendsSome held now (last_of game)
     → BeginsEnd game held now
-unfolding lines_text
 begins-end game held now some = λ head before es h.
-    let front : List ℕ = text_up_to head es h.at in (
-      front ++ last_of game,
-      record { at = h.at; shown = h.shown; written = ap (λ l. front ++ l) (last-is head es before held game h) },
-      begun-next before held now front (last_of game) h.written some,
-    )
+    (_, whole head es before held game h, begun-next before held now _ (last_of game) h.written some)
 
 -- ---- beginnings of the whole
 
@@ -128,9 +118,7 @@ moves-begin = λ head es more before now h.
     let next : List ℕ = entries_text (last_position opening (moves_of es)) more in
     let last : List ℕ = end_text head.end (last_position opening (moves_of all)).turn in
     let goes_on : (lines ++ front) ++ (next ++ last) ≡ (lines ++ entries_text opening all) ++ last =
-    sym (append_assoc (lines ++ front) next last)
-    ∙ ap (λ l. l ++ last) (append_assoc lines front next
-    ∙ ap (λ l. lines ++ l) (sym (entries-append opening es more))) in (
+    simp (entries-append, append_assoc) in (
       (lines ++ entries_text opening all) ++ last,
       record { at = h.at; shown = h.shown; written = refl },
       subst (AppendsSome before now) goes_on (begun-longer before now (lines ++ front) (next ++ last) h.begun),

@@ -8,45 +8,31 @@ use Rattle.std.proofs.lemmas.List.FromFn.{get_or-map-range_with_len}
 use Rattle.squares.specs.declared.shogi.piece.HandKind.{HandKind}
 use Rattle.squares.specs.declared.shogi.piece.HandKind.TheVariants as in_hand
 use Rattle.squares.specs.declared.shogi.hand.Hand.{Hand}
-use Rattle.diagrams.specs.BodNames.{ten, wide_blank, nothing, count_name}
+use Rattle.squares.specs.DraughtsMarks.{nat_eq_same}
+use Rattle.squares.specs.ShogiPieces.{on_board, demoted}
+use Rattle.diagrams.specs.BodNames.{role_name, ten, wide_blank, nothing, count_name}
 use Rattle.diagrams.specs.BodDiagram.{held_text, hand_text}
 use Rattle.diagrams.specs.ShogiLines.{hand_kinds}
 use Rattle.diagrams.proofs.HandLemmas as hands
-use Rattle.diagrams.proofs.HandLemmas.{not-same, IsFew, NamesTell, AreApart, IsOther}
+use Rattle.diagrams.proofs.HandLemmas.{IsFew, NamesTell, AreApart, IsOther}
 
 -- the first three bytes of a text as one number
 abbrev pub value : List ℕ → ℕ
 value text = 65536 * get_or text 0 0 + 256 * get_or text 1 0 + get_or text 2 0
 
 abbrev kind_value : HandKind → ℕ
-kind_value in_hand.Rook = 15311771
-kind_value in_hand.Bishop = 15247250
-kind_value in_hand.Gold = 15304593
-kind_value in_hand.Silver = 15305344
-kind_value in_hand.Knight = 15114626
-kind_value in_hand.Lance = 15312537
-kind_value in_hand.Pawn = 15117737
+kind_value kind = value (role_name (demoted (on_board kind)))
 
 held-value : (kind : HandKind) (n : ℕ) (r : List ℕ) → value (held_text kind (suc n) ++ r) ≡ kind_value kind
 unfolding encode
 held-value in_hand.Rook n r = refl
-held-value in_hand.Bishop n r = refl
-held-value in_hand.Gold n r = refl
-held-value in_hand.Silver n r = refl
-held-value in_hand.Knight n r = refl
-held-value in_hand.Lance n r = refl
-held-value in_hand.Pawn n r = refl
+held-value _ n r = refl
 
 held-drop : (kind : HandKind) (n : ℕ) (r : List ℕ)
     → drop 3 (held_text kind (suc n) ++ r) ≡ (count_name (suc n) ++ wide_blank) ++ r
 unfolding encode
 held-drop in_hand.Rook n r = refl
-held-drop in_hand.Bishop n r = refl
-held-drop in_hand.Gold n r = refl
-held-drop in_hand.Silver n r = refl
-held-drop in_hand.Knight n r = refl
-held-drop in_hand.Lance n r = refl
-held-drop in_hand.Pawn n r = refl
+held-drop _ n r = refl
 
 abbrev read_digit : ℕ → ℕ
 read_digit v =
@@ -72,47 +58,36 @@ after_count text =
     if value text == 14909568 then drop 3 text else
     if value (drop 3 text) == 14909568 then drop 6 text else drop 9 text
 
+-- a count, and what stands behind it
+abbrev read_on : List ℕ → ℕ × List ℕ
+read_on text = (read_count text, after_count text)
+
 abbrev counted : ℕ → List ℕ → List ℕ
 counted n r = (count_name n ++ wide_blank) ++ r
 
 counts-table : (r : List ℕ)
-    → list_map (λ n. read_count (counted n r)) (range_with_len 1 18) ≡ list_map (λ n. n) (range_with_len 1 18)
+    → list_map (λ n. read_on (counted n r)) (range_with_len 1 18) ≡ list_map (λ n. (n, r)) (range_with_len 1 18)
 unfolding encode ten wide_blank
 counts-table r = refl
 
-rests-table : (r : List ℕ)
-    → list_map (λ n. after_count (counted n r)) (range_with_len 1 18) ≡ list_map (λ n. r) (range_with_len 1 18)
-unfolding encode ten wide_blank
-rests-table r = refl
-
-count-read : (k : ℕ) (r : List ℕ) → suc k ≤ 18 → read_count (counted (suc k) r) ≡ suc k
+count-read : (k : ℕ) (r : List ℕ) → suc k ≤ 18 → read_on (counted (suc k) r) ≡ (suc k, r)
 count-read k r h =
-    sym (get_or-map-range_with_len (λ n. read_count (counted n r)) 1 18 k (suc k) 0 (omega (arith, h)) (omega arith))
-    ∙ ap (λ l. get_or l k 0) (counts-table r)
-    ∙ get_or-map-range_with_len (λ n. n) 1 18 k (suc k) 0 (omega (arith, h)) (omega arith)
-
-count-rest : (k : ℕ) (r : List ℕ) → suc k ≤ 18 → after_count (counted (suc k) r) ≡ r
-count-rest k r h =
-    sym (get_or-map-range_with_len (λ n. after_count (counted n r)) 1 18 k (suc k) [] (omega (arith, h)) (omega arith))
-    ∙ ap (λ l. get_or l k []) (rests-table r)
-    ∙ get_or-map-range_with_len (λ n. r) 1 18 k (suc k) [] (omega (arith, h)) (omega arith)
+    sym (get_or-map-range_with_len (λ n. read_on (counted n r)) 1 18 k (suc k) (0, []) (omega (arith, h)) (omega arith))
+    ∙ ap (λ l. get_or l k (0, [])) (counts-table r)
+    ∙ get_or-map-range_with_len (λ n. (n, r)) 1 18 k (suc k) (0, []) (omega (arith, h)) (omega arith)
 
 -- a text that does not begin with the name of that value
 abbrev pub Ends : ℕ → List ℕ → Type 0
 Ends name text = nat_eq (value text) name ≡ false
 
-held-apart : (kind : HandKind) (n m : ℕ) (r s : List ℕ) → n ≤ 18 → m ≤ 18 → Ends (kind_value kind) r
-    → Ends (kind_value kind) s → held_text kind n ++ r ≡ held_text kind m ++ s → (n ≡ m) × (r ≡ s)
-held-apart kind zero zero r s few small on_r on_s e = (refl, e)
-held-apart kind zero (suc m) r s few small on_r on_s e =
-    absurd (not-same (kind_value kind) (value r) (ap (λ t. value t) e ∙ held-value kind m s) on_r)
-held-apart kind (suc n) zero r s few small on_r on_s e =
-    absurd (not-same (kind_value kind) (value s) (sym (ap (λ t. value t) e) ∙ held-value kind n r) on_s)
-held-apart kind (suc n) (suc m) r s few small on_r on_s e =
-    let is : counted (suc n) r ≡ counted (suc m) s = sym (held-drop kind n r) ∙ ap (drop 3) e ∙ held-drop kind m s in (
-      sym (count-read n r few) ∙ ap (λ t. read_count t) is ∙ count-read m s small,
-      sym (count-rest n r few) ∙ ap (λ t. after_count t) is ∙ count-rest m s small,
-    )
+abbrev read : HandKind → List ℕ → ℕ × List ℕ
+read kind text = cond (nat_eq (value text) (kind_value kind)) (read_on (drop 3 text)) (0, text)
+
+held-read : (kind : HandKind) (n : ℕ) (rest : List ℕ) → n ≤ 18 → Ends (kind_value kind) rest
+    → read kind (held_text kind n ++ rest) ≡ (n, rest)
+held-read kind zero rest few ends = rw ends
+held-read kind (suc n) rest few ends =
+    rw (nat_eq_same _ _ (held-value kind n rest), held-drop kind n rest) (count-read n rest few)
 
 held-ends : (name : ℕ) (kind : HandKind) (n : ℕ) (rest : List ℕ) → nat_eq (kind_value kind) name ≡ false
     → Ends name rest → Ends name (held_text kind n ++ rest)
@@ -122,7 +97,7 @@ held-ends name kind (suc n) rest other ends = ap (λ (v : ℕ). nat_eq v name) (
 -- ---- a line
 
 tell : NamesTell kind_value held_text Ends
-tell = record { goes_on = held-ends; apart = held-apart }
+tell = record { goes_on = held-ends; read = read; reads = held-read }
 
 -- a line without its word for nothing
 abbrev without_nothing : List ℕ → List ℕ
@@ -133,18 +108,12 @@ unfolding nothing encode
 no-nothing rest = refl
 
 apart : AreApart kind_value held_text Ends hand_kinds
-unfolding hand_kinds
-apart = (
-  (refl, (refl, (refl, (refl, (refl, (refl, tt)))))),
-  (
-    (refl, (refl, (refl, (refl, (refl, tt))))),
-    ((refl, (refl, (refl, (refl, tt)))), ((refl, (refl, (refl, tt))), ((refl, (refl, tt)), ((refl, tt), (tt, tt))))),
-  ),
-)
+unfolding hand_kinds encode
+apart = search
 
 other : IsOther kind_value held_text Ends 14909866 hand_kinds
-unfolding hand_kinds
-other = (refl, (refl, (refl, (refl, (refl, (refl, (refl, tt)))))))
+unfolding hand_kinds encode
+other = search
 
 -- a line's end, and no name of a kind and no word for nothing with it
 abbrev pub IsLineEnd : List ℕ → Type 0

@@ -11,10 +11,10 @@ use Rattle.std.proofs.lemmas.List.FromFn.{get_or-map-range_with_len}
 use Rattle.squares.specs.declared.draughts.piece.DPiece.{DPiece}
 use Rattle.squares.specs.declared.sides.Side.{Side}
 use Rattle.squares.specs.declared.sides.Side.TheVariants.{First, Second}
-use Rattle.squares.specs.DraughtsBoard.{Board, Position}
+use Rattle.squares.specs.DraughtsBoard.{Board}
 use Rattle.squares.specs.DraughtsGeometry.{row_of, column_of}
 use Rattle.diagrams.specs.DraughtsDiagram.{piece_letter, cell_sign, row_text, diagram_text}
-use Rattle.diagrams.specs.Laws.{KeepsToSquares}
+use Rattle.diagrams.specs.Laws.{KeepsToSquares, TellsDraughts}
 
 -- what a sign stands for
 abbrev read_sign : ℕ → Option DPiece
@@ -27,9 +27,8 @@ read_sign c =
 read_letter : (side : Side) (king : Bool)
     → read_sign (piece_letter side king) ≡ Some (record { side = side; king = king })
 read_letter First false = refl
-read_letter First true = refl
 read_letter Second false = refl
-read_letter Second true = refl
+read_letter _ _ = refl
 
 read_cell : (cell : Option DPiece) → read_sign (cell_sign cell) ≡ cell
 read_cell None = refl
@@ -74,8 +73,7 @@ module _ (a b : Board) (same : diagram_text a ≡ diagram_text b) where
     pub board-same : a ≡ b
     board-same = map.same_map nat_cmp_total nat_cmp-IsAntisymmetric a b each
 
-pub position-same : (p q : Position) → KeepsToSquares p.board → KeepsToSquares q.board
-    → diagram_text p.board ≡ diagram_text q.board → p.turn ≡ q.turn → p ≡ q
+pub position-same : TellsDraughts
 position-same p q on_p on_q same turn =
     let board = board-same p.board q.board same on_p on_q in
     λ i. record { board = board i; turn = turn i }

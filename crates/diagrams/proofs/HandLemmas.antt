@@ -1,16 +1,12 @@
 -- What the line of a hand tells, where some pieces of a kind are a text that begins with the kind's name.
-use Rattle.std.proofs.Common.{◌≡◌, ℕ, ◌≤◌, List, [], ◌∷◌, ◌++◌, nat_eq, false, true≢false, subst, sym, ap, ◌∙◌}
+use Rattle.std.proofs.Common.{◌≡◌, ℕ, ◌≤◌, List, [], ◌∷◌, ◌++◌, nat_eq, false, subst, sym, ap, ◌∙◌}
 use Rattle.std.proofs.Common.{append_assoc, arith}
 use Rattle.squares.specs.declared.shogi.piece.HandKind.{HandKind}
 use Rattle.squares.specs.declared.shogi.piece.HandKind.TheVariants as in_hand
 use Rattle.squares.specs.declared.shogi.hand.Hand.{Hand}
-use Rattle.squares.specs.DraughtsMarks.{nat_eq_same}
 use Rattle.squares.specs.ShogiHands.{count_of}
 use Rattle.squares.specs.ShogiSets.{ShogiPosition, IsShogiPosition, set_size}
 use Rattle.diagrams.specs.ShogiLines.{kinds_text, hand_kinds, or_else}
-
-pub not-same : (c n : ℕ) → n ≡ c → nat_eq n c ≡ false → ⊥
-not-same c n e h = true≢false (sym (nat_eq_same n c e) ∙ h)
 
 -- ---- hands of a position hold few of each kind
 
@@ -19,12 +15,7 @@ IsFew hand = (kind : HandKind) → count_of kind hand ≤ 18
 
 set-small : (kind : HandKind) → set_size kind ≤ 18
 set-small in_hand.Rook = omega arith
-set-small in_hand.Bishop = omega arith
-set-small in_hand.Gold = omega arith
-set-small in_hand.Silver = omega arith
-set-small in_hand.Knight = omega arith
-set-small in_hand.Lance = omega arith
-set-small in_hand.Pawn = omega arith
+set-small _ = omega arith
 
 pub few-first : (p : ShogiPosition) → IsShogiPosition p.board p.hands → IsFew p.hands.first
 few-first p sound kind = omega (arith, sound.sets kind, set-small kind)
@@ -70,12 +61,13 @@ module _ (name : HandKind → ℕ) (held : HandKind → ℕ → List ℕ) (Ends 
   abbrev pub IsLineEnd : ℕ → List ℕ → Type 0
   IsLineEnd none text = Ends none text × EndsAll hand_kinds text
 
-  -- names tell how many pieces of a kind there are
+  -- names tell how many pieces of a kind there are, which are read, with what stands behind them
   pub record NamesTell : Type 0 where
     pub goes_on : (c : ℕ) (kind : HandKind) (n : ℕ) (rest : List ℕ) → nat_eq (name kind) c ≡ false → Ends c rest
         → Ends c (held kind n ++ rest)
-    pub apart : (kind : HandKind) (n m : ℕ) (r s : List ℕ) → n ≤ 18 → m ≤ 18 → Ends (name kind) r
-        → Ends (name kind) s → held kind n ++ r ≡ held kind m ++ s → (n ≡ m) × (r ≡ s)
+    pub read : HandKind → List ℕ → ℕ × List ℕ
+    pub reads : (kind : HandKind) (n : ℕ) (rest : List ℕ) → n ≤ 18 → Ends (name kind) rest
+        → read kind (held kind n ++ rest) ≡ (n, rest)
 
   module _ (tell : NamesTell) where
     kinds-end : (c : ℕ) (hand : Hand) (kinds : List HandKind) (rest : List ℕ) → IsOther c kinds → Ends c rest
@@ -91,13 +83,14 @@ module _ (name : HandKind → ℕ) (held : HandKind → ℕ → List ℕ) (Ends 
         → AreSame a b kinds × (r ≡ s)
     kinds-apart [] a b r s apart few small on_r on_s e = (tt, e)
     kinds-apart (kind ∷ kinds) a b r s apart few small on_r on_s e =
-        let one = tell.apart kind (count_of kind a) (count_of kind b) (kinds_text held a kinds ++ r)
-        (kinds_text held b kinds ++ s) (few kind) (small kind) (kinds-end (name kind) a kinds r apart.0 on_r.0)
-        (kinds-end (name kind) b kinds s apart.0 on_s.0)
-        (sym (append_assoc (held kind (count_of kind a)) (kinds_text held a kinds) r) ∙ e
-        ∙ append_assoc (held kind (count_of kind b)) (kinds_text held b kinds) s) in
-        let more = kinds-apart kinds a b r s apart.1 few small on_r.1 on_s.1 one.1 in
-        ((one.0, more.0), more.1)
+        let ra : List ℕ = kinds_text held a kinds ++ r in
+        let rb : List ℕ = kinds_text held b kinds ++ s in
+        let one = sym (tell.reads kind (count_of kind a) ra (few kind) (kinds-end (name kind) a kinds r apart.0 on_r.0))
+        ∙ ap (tell.read kind) (sym (append_assoc (held kind (count_of kind a)) (kinds_text held a kinds) r) ∙ e
+        ∙ append_assoc (held kind (count_of kind b)) (kinds_text held b kinds) s)
+        ∙ tell.reads kind (count_of kind b) rb (small kind) (kinds-end (name kind) b kinds s apart.0 on_s.0) in
+        let more = kinds-apart kinds a b r s apart.1 few small on_r.1 on_s.1 (ap (λ t. t.1) one) in
+        ((ap (λ t. t.0) one, more.0), more.1)
 
     -- The word for nothing has a name of its own, and is taken away from a line that begins with it.
     module _ (nothing : List ℕ) (none : ℕ) (without : List ℕ → List ℕ)

@@ -1,20 +1,16 @@
--- Parts of a text, one after another.
-use Rattle.std.proofs.Common.{◌≡◌, ℕ, List, ◌++◌, ap, ◌∙◌, append_assoc}
+-- A text to which parts are added, so many from a number on.
+use Rattle.std.proofs.Common.{◌≡◌, ℕ, suc, ◌+◌, ◌-◌, ◌<◌, List, ◌++◌, sym, ap, ◌∙◌, append_assoc, add-one, arith}
 
--- three parts, one after another
-pub three-joined : (text a b c t1 t2 t3 : List ℕ) → t1 ≡ text ++ a → t2 ≡ t1 ++ b → t3 ≡ t2 ++ c
-    → t3 ≡ text ++ (a ++ (b ++ c))
-three-joined text a b c t1 t2 t3 e1 e2 e3 =
-    e3 ∙ ap (λ t. t ++ c) e2 ∙ append_assoc t1 b c ∙ ap (λ t. t ++ (b ++ c)) e1 ∙ append_assoc text a (b ++ c)
-
--- four parts
-pub four-joined : (text a b c d t1 t2 t3 t4 : List ℕ) → t1 ≡ text ++ a → t2 ≡ t1 ++ b → t3 ≡ t2 ++ c → t4 ≡ t3 ++ d
-    → t4 ≡ text ++ (a ++ (b ++ (c ++ d)))
-four-joined text a b c d t1 t2 t3 t4 e1 e2 e3 e4 =
-    three-joined text a b (c ++ d) t1 t2 t4 e1 e2 (e4 ∙ ap (λ t. t ++ d) e3 ∙ append_assoc t2 c d)
-
--- five parts
-pub five-joined : (text a b c d e t1 t2 t3 t4 t5 : List ℕ) → t1 ≡ text ++ a → t2 ≡ t1 ++ b → t3 ≡ t2 ++ c
-    → t4 ≡ t3 ++ d → t5 ≡ t4 ++ e → t5 ≡ text ++ (a ++ (b ++ (c ++ (d ++ e))))
-five-joined text a b c d e t1 t2 t3 t4 t5 e1 e2 e3 e4 e5 =
-    four-joined text a b c (d ++ e) t1 t2 t3 t5 e1 e2 e3 (e5 ∙ ap (λ t. t ++ e) e4 ∙ append_assoc t3 d e)
+-- a part more
+pub parts-more : (parts : ℕ → ℕ → List ℕ) (many k : ℕ) (part whole text new : List ℕ)
+    → ((left : ℕ) → many - k ≡ suc left → parts k (suc left) ≡ part ++ parts (suc k) left) → k < many
+    → text ++ parts k (many - k) ≡ whole → new ≡ text ++ part → new ++ parts (k + 1) (many - (k + 1)) ≡ whole
+parts-more parts many k part whole text new step h before is =
+    let e : many - k ≡ suc (many - (k + 1)) = omega arith in
+    let left : List ℕ = parts (k + 1) (many - (k + 1)) in
+    ap (λ t. t ++ left) is
+    ∙ append_assoc text part left
+    ∙ ap (λ n. text ++ (part ++ parts n (many - (k + 1)))) (add-one k)
+    ∙ ap (λ t. text ++ t) (sym (step (many - (k + 1)) e))
+    ∙ sym (ap (λ n. text ++ parts k n) e)
+    ∙ before

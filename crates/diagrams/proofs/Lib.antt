@@ -1,11 +1,11 @@
 pub mod BodCells
 pub mod BodHands
 pub mod BodLemmas
-pub mod BodWriting
+pub mod BoardLemmas
 pub mod DraughtsLemmas
-pub mod DraughtsWriting
 pub mod HandLemmas
 pub mod Joined
 pub mod LetterHands
+pub mod PositionLemmas
 pub mod ShogiLemmas
 pub mod ShogiWriting

@@ -6,7 +6,7 @@ use Rattle.squares.specs.declared.draughts.moves.DMove.{DMove}
 use Rattle.pdn_games.specs.declared.faults.PdnFault.{PdnFault}
 use Rattle.pdn_games.specs.declared.faults.PdnFault.TheVariants as fault
 use Rattle.pdn_games.specs.Tokens.{Placed}
-use Rattle.pdn_games.specs.Reading.{agrees, settled, score_in, Plays, Fails}
+use Rattle.pdn_games.specs.Reading.{agrees, settled, score_in, Plays, EndFails, Fails}
 
 checked-fault : (b : Bool) (claim : Score) (f : PdnFault)
     → ◌≡◌ {A = Result Score PdnFault} (cond b (Ok claim) (Err fault.ResultDiffers)) (Err f) → f ≡ fault.ResultDiffers
@@ -22,9 +22,8 @@ settled-fault (Some claim) rule tag f e = inr (checked-fault (agrees claim rule 
 pub end-fails : (tokens : List Placed) (ms : List DMove) (f : PdnFault) → Plays tokens ms → score_in tokens ms ≡ Err f
     → Fails tokens f
 end-fails tokens ms f plays e =
+    let fails : EndFails tokens f = record { moves = ms; plays = plays; score = e } in
     elim (settled-fault _ _ _ f e) [
-      | inl is ↦ subst (Fails tokens) (sym is)
-          (record { moves = ms; plays = plays; score = subst (λ g. score_in tokens ms ≡ Err g) is e })
-      | inr is ↦ subst (Fails tokens) (sym is)
-          (record { moves = ms; plays = plays; score = subst (λ g. score_in tokens ms ≡ Err g) is e })
+      | inl is ↦ subst (Fails tokens) (sym is) (subst (EndFails tokens) is fails)
+      | inr is ↦ subst (Fails tokens) (sym is) (subst (EndFails tokens) is fails)
     ]

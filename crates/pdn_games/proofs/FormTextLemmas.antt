@@ -1,52 +1,56 @@
--- A move's text is ASCII.
-use Rattle.std.proofs.Common.{◌≡◌, ℕ, ◌+◌, ◌/◌, ◌%◌, ◌<◌, inl, inr, List, [], ◌∷◌, ◌++◌, true, false, cond, nat_lt}
-use Rattle.std.proofs.Common.{refl, sym, subst, arith}
+-- A move's text is ASCII, without blanks and without lines' ends.
+use Rattle.std.proofs.Common.{◌≡◌, ℕ, ◌<◌, inl, inr, List, [], ◌∷◌, ◌++◌, Bool, true, ◌&&◌, nat_lt, refl, sym, subst}
+use Rattle.std.proofs.Common.{arith}
 use Rattle.std.specs.Str.{IsAscii, IsUtf8}
-use Rattle.std.proofs.lemmas.Str.{IsAscii-append, IsUtf8-from_ascii}
+use Rattle.std.proofs.lemmas.Bool.Decides.{nat_tests}
+use Rattle.std.proofs.lemmas.Str.{IsUtf8-from_ascii}
 use Rattle.std.proofs.lemmas.Str.Ascii.{IsAscii-nil, IsAscii-cons}
-use Rattle.squares.specs.DraughtsGeometry.{OnBoard}
-use Rattle.pdn.specs.SquareText.{square_text}
+use Rattle.pdn.specs.SquareText.{is_digit}
 use Rattle.pdn.specs.Forms.{Form, quiet, capture}
 use Rattle.pdn.specs.Grammar.{IsSquareText, IsCross, AreLandings, HasForm}
+use Rattle.pdn_games.specs.SkipGrammar.{All}
+use Rattle.pdn_games.proofs.DigitLemmas.{square-is, all-append}
 
-number-ascii : (n : ℕ) → OnBoard n → IsAscii (square_text n)
-number-ascii n on =
-    elim (nat_lt n 10) as (λ b. nat_lt n 10 ≡ b
-    → IsAscii (cond b ((48 + n) ∷ []) ((48 + n / 10) ∷ (48 + n % 10) ∷ []))) [
-      | true ↦ λ is. IsAscii-cons (48 + n) [] (let high = on.1 in omega (arith, high)) IsAscii-nil
-      | false ↦ λ is.
-          let high = on.1 in
-          IsAscii-cons (48 + n / 10) ((48 + n % 10) ∷ []) (omega (arith, high))
-          (IsAscii-cons (48 + n % 10) [] (omega arith) IsAscii-nil)
-    ] refl
+-- a byte of ASCII that is seen
+abbrev pub is_visible : ℕ → Bool
+is_visible c = nat_lt 32 c && nat_lt c 128
+
+visible-ascii : (text : List ℕ) → All is_visible text → IsAscii text
+visible-ascii [] all = IsAscii-nil
+visible-ascii (c ∷ text) all = let seen = all.0 in
+    let low : c < 128 = grind (arith, nat_tests, seen) in IsAscii-cons c text low (visible-ascii text all.1)
+
+digits-visible : (text : List ℕ) → All is_digit text → All is_visible text
+digits-visible [] all = tt
+digits-visible (c ∷ text) all = let digit = all.0 in (grind (arith, nat_tests, digit), digits-visible text all.1)
+
+square-visible : (n : ℕ) (text : List ℕ) → IsSquareText n text → All is_visible text
+square-visible n text is = digits-visible text (square-is n text is).digits
 
 pub square-ascii : (n : ℕ) (text : List ℕ) → IsSquareText n text → IsAscii text
-square-ascii n text (on, inl is) = subst IsAscii (sym is) (number-ascii n on)
-square-ascii n text (on, inr is) = subst IsAscii (sym is)
-    (IsAscii-cons 48 (square_text n) (omega arith) (number-ascii n on))
+square-ascii n text is = visible-ascii text (square-visible n text is)
 
-cross-ascii : (c : ℕ) → IsCross c → c < 128
-cross-ascii c (inl is) = omega (arith, is)
-cross-ascii c (inr is) = omega (arith, is)
+cross-visible : (c : ℕ) → IsCross c → is_visible c ≡ true
+cross-visible c (inl is) = subst (λ x. is_visible x ≡ true) (sym is) refl
+cross-visible c (inr is) = subst (λ x. is_visible x ≡ true) (sym is) refl
 
-landings-ascii : (squares : List ℕ) (text : List ℕ) → AreLandings squares text → IsAscii text
-landings-ascii [] text none = subst IsAscii (sym none) IsAscii-nil
-landings-ascii (n ∷ squares) text (landing, rest, (cross, square, crosses, is, landing_is), rest_are, split) =
-    subst IsAscii (sym split)
-    (IsAscii-append landing rest
-    (subst IsAscii (sym landing_is)
-    (IsAscii-cons cross square (cross-ascii cross crosses) (square-ascii n square is)))
-    (landings-ascii squares rest rest_are))
+landings-visible : (squares : List ℕ) (text : List ℕ) → AreLandings squares text → All is_visible text
+landings-visible [] text none = subst (All is_visible) (sym none) tt
+landings-visible (n ∷ squares) text (landing, rest, (cross, square, crosses, is, landing_is), rest_are, split) =
+    subst (All is_visible) (sym split)
+    (all-append is_visible landing rest
+    (subst (All is_visible) (sym landing_is) (cross-visible cross crosses, square-visible n square is))
+    (landings-visible squares rest rest_are))
 
-form-ascii : (text : List ℕ) (form : Form) → HasForm text form → IsAscii text
-form-ascii text (quiet from to) (first, second, from_is, to_is, split) =
-    subst IsAscii (sym split)
-    (IsAscii-append first (45 ∷ second) (square-ascii from first from_is)
-    (IsAscii-cons 45 second (omega arith) (square-ascii to second to_is)))
-form-ascii text (capture from middle to) (first, landings, from_is, are, split) =
-    subst IsAscii (sym split)
-    (IsAscii-append first landings (square-ascii from first from_is)
-    (landings-ascii (middle ++ to ∷ []) landings are))
+pub form-visible : (text : List ℕ) (form : Form) → HasForm text form → All is_visible text
+form-visible text (quiet from to) (first, second, from_is, to_is, split) =
+    subst (All is_visible) (sym split)
+    (all-append is_visible first (45 ∷ second) (square-visible from first from_is)
+    (refl, square-visible to second to_is))
+form-visible text (capture from middle to) (first, landings, from_is, are, split) =
+    subst (All is_visible) (sym split)
+    (all-append is_visible first landings (square-visible from first from_is)
+    (landings-visible (middle ++ to ∷ []) landings are))
 
 pub form-utf8 : (text : List ℕ) (form : Form) → HasForm text form → IsUtf8 text
-form-utf8 text form h = IsUtf8-from_ascii text (form-ascii text form h)
+form-utf8 text form h = IsUtf8-from_ascii text (visible-ascii text (form-visible text form h))

@@ -9,7 +9,6 @@ pub mod LengthLemmas
 pub mod LexLemmas
 pub mod LongestLemmas
 pub mod MoveLemmas
-pub mod MoveLenLemmas
 pub mod OneMoveLemmas
 pub mod OneTextLemmas
 pub mod OneTokenLemmas

@@ -1,175 +1,157 @@
 -- No beginning of a text that is a move is longer than the one that is taken.
-use Rattle.std.proofs.Common.{◌≡◌, ℕ, zero, suc, ◌+◌, ◌-◌, ◌*◌, ◌/◌, ◌%◌, ◌<◌, ◌≤◌, inl, inr, List, [], ◌∷◌, ◌++◌}
-use Rattle.std.proofs.Common.{append_assoc, length, take, drop, true, false, cond, nat_eq, nat_lt, nat_le, ◌&&◌, refl}
-use Rattle.std.proofs.Common.{sym, ap, subst, ◌∙◌, arith}
+use Rattle.std.proofs.Common.{◌≡◌, ℕ, zero, suc, ◌+◌, ◌<◌, ◌≤◌, inl, inr, List, [], ◌∷◌, ◌++◌, append_assoc, length}
+use Rattle.std.proofs.Common.{take, drop, true, false, cond, nat_eq, refl, sym, ap, subst, ◌∙◌, arith}
 use Rattle.std.proofs.lemmas.Bool.Decides.{nat_tests}
 use Rattle.std.proofs.lemmas.List.{length-append, take-append-drop, length-take-le}
 use Rattle.std.proofs.Math.Seq.{drop-append_seam}
-use Rattle.squares.specs.DraughtsGeometry.{OnBoard}
-use Rattle.pdn.specs.SquareText.{is_digit, square_text}
-use Rattle.pdn.specs.Forms.{Form, quiet, capture}
-use Rattle.pdn.specs.Grammar.{IsSquareText, IsLanding, AreLandings, HasForm}
-use Rattle.pdn_games.specs.Lengths.{both, either, with_second, plain_len, square_len, step_len, landing_len}
-use Rattle.pdn_games.specs.Lengths.{landings_within, landings_len, tail_len, move_len}
+use Rattle.pdn.specs.SquareText.{is_digit}
+use Rattle.pdn.specs.Forms.{Form, quiet, capture, is_cross}
+use Rattle.pdn.specs.Grammar.{IsSquareText, IsCross, IsLanding, AreLandings, HasForm}
+use Rattle.pdn_games.specs.Lengths.{both, either, square_len, step_len, landing_len, landings_within, landings_len}
+use Rattle.pdn_games.specs.Lengths.{tail_len, move_len}
 use Rattle.pdn_games.proofs.LengthLemmas.{within-more}
-use Rattle.pdn_games.proofs.DigitLemmas.{both-sum, square-exact, square-some, two-len}
-use Rattle.pdn_games.proofs.MoveLenLemmas.{GoesOn, cross-is, cross-other, landing-exact, landing-some, either-first}
-use Rattle.pdn_games.proofs.MoveLenLemmas.{landings-some}
+use Rattle.pdn_games.proofs.DigitLemmas.{both-sum, square-is, stops-within}
+use Rattle.pdn_games.proofs.TokenFormLemmas.{square-of}
 
-second-least : (d : ℕ) (rest : List ℕ) → 1 ≤ with_second d rest
-second-least d [] = omega arith
-second-least d (c ∷ rest) = elim (is_digit c && nat_le (10 * d + (c - 48)) 50) as (λ b. 1 ≤ cond b 2 1)
-    [ true ↦ omega arith | false ↦ omega arith ]
+-- a square before a byte that is no digit is passed whole
+square-exact : (n : ℕ) (text : List ℕ) (c : ℕ) (rest : List ℕ) → IsSquareText n text → is_digit c ≡ false
+    → square_len (text ++ c ∷ rest) ≡ length text
+square-exact n text c rest is none =
+    let square = square-is n text is in
+    let some = square.some in
+    let least = square.least (c ∷ rest) in
+    let taken = square-of (text ++ c ∷ rest) (omega (arith, some, least)) in
+    let most = stops-within is_digit (square_len (text ++ c ∷ rest)) text c rest
+    (square-is taken.0 _ taken.1).digits none in
+    omega (arith, least, most)
 
-plain-least : (n : ℕ) (rest : List ℕ) → OnBoard n → length (square_text n) ≤ plain_len (square_text n ++ rest)
-plain-least n rest on =
-    elim (nat_lt n 10) as (λ b. nat_lt n 10 ≡ b
-    → length (cond b ((48 + n) ∷ []) ((48 + n / 10) ∷ (48 + n % 10) ∷ []))
-    ≤ plain_len (cond b ((48 + n) ∷ []) ((48 + n / 10) ∷ (48 + n % 10) ∷ []) ++ rest)) [
-      | true ↦ λ is.
-          let low = on.0 in
-          let high : n < 10 = grind (arith, nat_tests, is) in
-          let first : (nat_le 49 (48 + n) && nat_le (48 + n) 57) ≡ true = grind (arith, nat_tests) in
-          let whole : plain_len ((48 + n) ∷ rest) ≡ with_second (48 + n - 48) rest =
-          ap (λ b. cond b (with_second (48 + n - 48) rest) 0) first in
-          let some = second-least (48 + n - 48) rest in
-          omega (arith, whole, some)
-      | false ↦ λ is. let whole = two-len n rest (grind (arith, nat_tests, is)) on.1 in omega (arith, whole)
-    ] refl
+-- a byte that begins a landing is none of the others
+abbrev pub Crosses : ℕ → Type 0
+Crosses c = (is_cross c ≡ true) × (is_digit c ≡ false) × (nat_eq c 45 ≡ false) × (nat_eq c 46 ≡ false)
 
-no-zero-at : (n : ℕ) (rest : List ℕ) → OnBoard n
-    → square_len (square_text n ++ rest) ≡ plain_len (square_text n ++ rest)
-no-zero-at n rest on =
-    elim (nat_lt n 10) as (λ b. nat_lt n 10 ≡ b
-    → square_len (cond b ((48 + n) ∷ []) ((48 + n / 10) ∷ (48 + n % 10) ∷ []) ++ rest)
-    ≡ plain_len (cond b ((48 + n) ∷ []) ((48 + n / 10) ∷ (48 + n % 10) ∷ []) ++ rest)) [
-      | true ↦ λ is.
-          let low = on.0 in
-          let other : nat_eq (48 + n) 48 ≡ false = grind (arith, nat_tests) in
-          ap (λ b. cond b (both 1 (plain_len rest)) (plain_len ((48 + n) ∷ rest))) other
-      | false ↦ λ is.
-          let great : 10 ≤ n = grind (arith, nat_tests, is) in
-          let other : nat_eq (48 + n / 10) 48 ≡ false = grind (arith, nat_tests) in
-          ap
-          (λ b. cond b (both 1 (plain_len ((48 + n % 10) ∷ rest)))
-          (plain_len ((48 + n / 10) ∷ (48 + n % 10) ∷ rest))) other
-    ] refl
+cross-is : (c : ℕ) → IsCross c → Crosses c
+cross-is c (inl e) = subst Crosses (sym e) (refl, refl, refl, refl)
+cross-is c (inr e) = subst Crosses (sym e) (refl, refl, refl, refl)
 
-square-least : (n : ℕ) (text rest : List ℕ) → IsSquareText n text → length text ≤ square_len (text ++ rest)
-square-least n text rest (on, inl is) =
-    let same = no-zero-at n rest on in
-    let least = plain-least n rest on in
-    subst (λ t. length t ≤ square_len (t ++ rest)) (sym is) (omega (arith, same, least))
-square-least n text rest (on, inr is) =
-    let least = plain-least n rest on in
-    let some = square-some n (square_text n) (on, inl refl) in
-    let whole = both-sum 1 (plain_len (square_text n ++ rest)) (omega arith) (omega (arith, least, some)) in
-    subst (λ t. length t ≤ square_len (t ++ rest)) (sym is) (omega (arith, whole, least))
+-- landings begin with such a byte
+abbrev pub BeginsCrossed : List ℕ → Type 0
+BeginsCrossed text = (c : ℕ) × (rest : List ℕ) × (text ≡ c ∷ rest) × Crosses c
 
-landing-least : (n : ℕ) (landing rest : List ℕ) → IsLanding n landing → length landing ≤ landing_len (landing ++ rest)
-landing-least n landing rest (cross, square, crosses, is, landing_is) =
-    let least = square-least n square rest is in
-    let some = square-some n square is in
+landings-begin : (n : ℕ) (squares text : List ℕ) → AreLandings (n ∷ squares) text → BeginsCrossed text
+landings-begin n squares text (landing, more, (cross, square, crosses, is, landing_is), are, split) =
+    (cross, square ++ more, split ∙ ap (λ l. l ++ more) landing_is, cross-is cross crosses)
+
+pub captures-begin : (middle : List ℕ) (to : ℕ) (text : List ℕ) → AreLandings (middle ++ to ∷ []) text
+    → BeginsCrossed text
+captures-begin [] to text are = landings-begin to [] text are
+captures-begin (n ∷ middle) to text are = landings-begin n (middle ++ to ∷ []) text are
+
+-- a landing is passed, whatever follows, and passed whole before another
+landing-most : (n : ℕ) (landing rest : List ℕ) → IsLanding n landing
+    → (0 < length landing) × (length landing ≤ landing_len (landing ++ rest))
+    × (BeginsCrossed rest → landing_len (landing ++ rest) ≡ length landing)
+landing-most n landing rest (cross, square, crosses, is, landing_is) =
+    let w = square-is n square is in
+    let least = w.least rest in
+    let some = w.some in
     let whole : landing_len (cross ∷ square ++ rest) ≡ 1 + square_len (square ++ rest) =
-    ap (λ b. cond b (both 1 (square_len (square ++ rest))) 0) (cross-is cross crosses)
+    ap (λ b. cond b (both 1 (square_len (square ++ rest))) 0) (cross-is cross crosses).0
     ∙ both-sum 1 (square_len (square ++ rest)) (omega arith) (omega (arith, least, some)) in
-    subst (λ t. length t ≤ landing_len (t ++ rest)) (sym landing_is) (omega (arith, whole, least))
+    subst (λ t. (0 < length t) × (length t ≤ landing_len (t ++ rest))
+    × (BeginsCrossed rest → landing_len (t ++ rest) ≡ length t)) (sym landing_is) (
+      omega arith,
+      omega (arith, whole, least),
+      λ begins.
+          let exact = ap (λ r. square_len (square ++ r)) begins.2
+          ∙ square-exact n square begins.0 begins.1 is begins.3.1 in
+          omega (arith, whole, exact),
+    )
 
+-- landings from one on, and those after it
+landing-passed : (n : ℕ) (landing more rest text : List ℕ) (fuel : ℕ) → IsLanding n landing → text ≡ landing ++ more
+    →
+    landings_within (suc fuel) (text ++ rest) ≡ landing_len (landing ++ (more ++ rest))
+    + landings_within fuel (drop (landing_len (landing ++ (more ++ rest))) (landing ++ (more ++ rest)))
+landing-passed n landing more rest text fuel is split =
+    let first = landing-most n landing (more ++ rest) is in
+    let some = first.0 in
+    let least = first.1 in
+    ap (λ t. landings_within (suc fuel) (t ++ rest)) split
+    ∙ ap (landings_within (suc fuel)) (append_assoc landing more rest)
+    ∙ within-more fuel (landing_len (landing ++ (more ++ rest))) (landing ++ (more ++ rest)) refl
+    (omega (arith, least, some))
+
+-- whatever follows landings, no less is passed
 landings-least : (squares : List ℕ) (text rest : List ℕ) (fuel : ℕ) → AreLandings squares text → length text ≤ fuel
     → length text ≤ landings_within fuel (text ++ rest)
 landings-least [] text rest fuel none enough = let short = ap length none in omega (arith, short)
 landings-least (n ∷ squares) text rest zero (landing, more, is, are, split) enough =
-    let some = landing-some n landing is in
+    let some = (landing-most n landing rest is).0 in
     let long = ap length split ∙ length-append landing more in
     absurd (omega (arith, enough, some, long))
 landings-least (n ∷ []) text rest (suc fuel) (landing, more, is, none, split) enough =
-    let some = landing-some n landing is in
     let long = ap length split ∙ length-append landing more in
     let short = ap length none in
-    let whole : text ++ rest ≡ landing ++ (more ++ rest) = ap (λ t. t ++ rest) split ∙ append_assoc landing more rest in
-    let least = landing-least n landing (more ++ rest) is in
-    let passed = ap (landings_within (suc fuel)) whole
-    ∙ within-more fuel (landing_len (landing ++ (more ++ rest))) (landing ++ (more ++ rest)) refl
-    (omega (arith, least, some)) in
+    let least = (landing-most n landing (more ++ rest) is).1 in
+    let passed = landing-passed n landing more rest text fuel is split in
     omega (arith, passed, least, long, short)
 landings-least (n ∷ m ∷ squares) text rest (suc fuel) (landing, more, is, are, split) enough =
-    let some = landing-some n landing is in
     let long = ap length split ∙ length-append landing more in
-    let whole : text ++ rest ≡ landing ++ (more ++ rest) = ap (λ t. t ++ rest) split ∙ append_assoc landing more rest in
-    let first : landing_len (landing ++ (more ++ rest)) ≡ length landing =
-    landing-exact n landing (more ++ rest) is (goes m squares more rest are) in
+    let begins = landings-begin m squares more are in
+    let first = landing-most n landing (more ++ rest) is in
+    let some = first.0 in
+    let exact = first.2 (begins.0, begins.1 ++ rest, ap (λ t. t ++ rest) begins.2, begins.3) in
     let later = landings-least (m ∷ squares) more rest fuel are (omega (arith, enough, some, long)) in
-    let passed = ap (landings_within (suc fuel)) whole
-    ∙ within-more fuel (length landing) (landing ++ (more ++ rest)) first some
+    let passed = landing-passed n landing more rest text fuel is split
+    ∙ (λ i. exact i + landings_within fuel (drop (exact i) (landing ++ (more ++ rest))))
     ∙ ap (λ l. length landing + landings_within fuel l) (drop-append_seam landing (more ++ rest)) in
     omega (arith, passed, later, long)
-  where
-    goes : (m : ℕ) (squares : List ℕ) (more rest : List ℕ) → AreLandings (m ∷ squares) more → GoesOn (more ++ rest)
-    goes m squares more rest (landing, after, (cross, square, crosses, is, landing_is), are, split) = (
-      cross,
-      (square ++ after) ++ rest,
-      ap (λ t. t ++ rest) (split ∙ ap (λ l. l ++ after) landing_is),
-      (cross-other cross crosses).0,
-    )
+
+-- a move's first square, before a byte that is no digit, and what follows it
+move-sum : (n : ℕ) (first back : List ℕ) (c : ℕ) (rest : List ℕ) → IsSquareText n first → back ≡ c ∷ rest
+    → is_digit c ≡ false → 0 < tail_len back → move_len (first ++ back) ≡ length first + tail_len back
+unfolding move_len
+move-sum n first back c rest is split none some =
+    let front : square_len (first ++ back) ≡ length first = ap (λ t. square_len (first ++ t)) split
+    ∙ square-exact n first c rest is none in
+    ap (λ k. both k (tail_len (drop k (first ++ back)))) front
+    ∙ ap (λ t. both (length first) (tail_len t)) (drop-append_seam first back)
+    ∙ both-sum (length first) (tail_len back) (square-is n first is).some some
+
+either-first : (a b : ℕ) → 0 < a → either a b ≡ a
+either-first a b some = let one : nat_eq a 0 ≡ false = grind (arith, nat_tests) in ap (λ c. cond c b a) one
 
 -- whatever follows a move's text, no less is taken
 pub move-least : (text : List ℕ) (form : Form) (rest : List ℕ) → HasForm text form
     → length text ≤ move_len (text ++ rest)
-unfolding move_len landings_len
+unfolding landings_len
 move-least text (quiet from to) rest (first, second, from_is, to_is, split) =
     let back : List ℕ = second ++ rest in
-    let whole : text ++ rest ≡ first ++ 45 ∷ back = ap (λ t. t ++ rest) split ∙ append_assoc first (45 ∷ second) rest in
-    let front : square_len (first ++ 45 ∷ back) ≡ length first = square-exact from first 45 back from_is refl in
-    let left : drop (square_len (first ++ 45 ∷ back)) (first ++ 45 ∷ back) ≡ 45 ∷ back =
-    ap (λ k. drop k (first ++ 45 ∷ back)) front ∙ drop-append_seam first (45 ∷ back) in
-    let least = square-least to second rest to_is in
-    let some = square-some from first from_is in
-    let some_more = square-some to second to_is in
-    let step : both 1 (square_len back) ≡ 1 + square_len back =
-    both-sum 1 (square_len back) (omega arith) (omega (arith, least, some_more)) in
-    let tail : tail_len (45 ∷ back) ≡ 1 + square_len back =
-    either-first (both 1 (square_len back)) (landings_within (length (45 ∷ back)) (45 ∷ back)) (omega (arith, step))
-    ∙ step in
+    let square = square-is to second to_is in
+    let least = square.least rest in
+    let some = square.some in
+    let step : step_len (45 ∷ back) ≡ 1 + square_len back =
+    both-sum 1 (square_len back) (omega arith) (omega (arith, least, some)) in
+    let tail = either-first (step_len (45 ∷ back)) (landings_len (45 ∷ back)) (omega (arith, step)) ∙ step in
+    let sum = move-sum from first (45 ∷ back) 45 back from_is refl refl (omega (arith, tail)) in
+    let whole = ap (λ t. move_len (t ++ rest)) split ∙ ap move_len (append_assoc first (45 ∷ second) rest) in
     let long = ap length split ∙ length-append first (45 ∷ second) in
-    let sum = ap (λ t. both (square_len t) (tail_len (drop (square_len t) t))) whole
-    ∙ (λ i. both (front i) (tail_len (left i))) ∙ ap (both (length first)) tail
-    ∙ both-sum (length first) (1 + square_len back) some (omega arith) in
-    omega (arith, sum, least, long)
+    omega (arith, whole, sum, tail, least, long)
 move-least text (capture from middle to) rest (first, landings, from_is, are, split) =
     let back : List ℕ = landings ++ rest in
-    let go = landings-go-on middle to landings rest are in
-    let whole : text ++ rest ≡ first ++ back = ap (λ t. t ++ rest) split ∙ append_assoc first landings rest in
-    let front : square_len (first ++ back) ≡ length first = ap (λ t. square_len (first ++ t)) go.2
-    ∙ square-exact from first go.0 go.1 from_is go.3.0 in
-    let left : drop (square_len (first ++ back)) (first ++ back) ≡ back = ap (λ k. drop k (first ++ back)) front
-    ∙ drop-append_seam first back in
-    let fuel : length landings ≤ length back = let sum = length-append landings rest in omega (arith, sum) in
-    let least = landings-least (middle ++ to ∷ []) landings rest (length back) are fuel in
-    let some = square-some from first from_is in
-    let some_more = landings-some middle to landings are in
-    let none : step_len back ≡ 0 = ap step_len go.2 ∙ ap (λ b. cond b (both 1 (square_len go.1)) 0) go.3.1 in
-    let tail : tail_len back ≡ landings_within (length back) back =
-    ap (λ k. either k (landings_within (length back) back)) none in
+    let begins = captures-begin middle to landings are in
+    let begun : back ≡ begins.0 ∷ begins.1 ++ rest = ap (λ t. t ++ rest) begins.2 in
+    let size = length-append landings rest in
+    let least = landings-least (middle ++ to ∷ []) landings rest (length back) are (omega (arith, size)) in
+    let some = ap length begins.2 in
+    let none : step_len back ≡ 0 = ap step_len begun
+    ∙ ap (λ b. cond b (both 1 (square_len (begins.1 ++ rest))) 0) begins.3.2 in
+    let tail : tail_len back ≡ landings_len back = ap (λ k. either k (landings_len back)) none in
+    let sum = move-sum from first back begins.0 (begins.1 ++ rest) from_is begun begins.3.1
+    (omega (arith, tail, least, some)) in
+    let whole = ap (λ t. move_len (t ++ rest)) split ∙ ap move_len (append_assoc first landings rest) in
     let long = ap length split ∙ length-append first landings in
-    let sum = ap (λ t. both (square_len t) (tail_len (drop (square_len t) t))) whole
-    ∙ (λ i. both (front i) (tail_len (left i))) ∙ ap (both (length first)) tail
-    ∙ both-sum (length first) (landings_within (length back) back) some (omega (arith, least, some_more)) in
-    omega (arith, sum, least, long)
-  where
-    begun : (n : ℕ) (landing more landings rest : List ℕ) → IsLanding n landing → landings ≡ landing ++ more → (x : ℕ)
-        × (y : List ℕ) × (landings ++ rest ≡ x ∷ y) × ((is_digit x ≡ false) × (nat_eq x 45 ≡ false))
-    begun n landing more landings rest (cross, square, crosses, is, landing_is) split = (
-      cross,
-      (square ++ more) ++ rest,
-      ap (λ t. t ++ rest) (split ∙ ap (λ l. l ++ more) landing_is),
-      cross-other cross crosses,
-    )
-
-    landings-go-on : (middle : List ℕ) (to : ℕ) (landings rest : List ℕ) → AreLandings (middle ++ to ∷ []) landings
-        → (x : ℕ) × (y : List ℕ) × (landings ++ rest ≡ x ∷ y) × ((is_digit x ≡ false) × (nat_eq x 45 ≡ false))
-    landings-go-on [] to landings rest (landing, more, is, are, split) = begun to landing more landings rest is split
-    landings-go-on (n ∷ middle) to landings rest (landing, more, is, are, split) =
-        begun n landing more landings rest is split
+    omega (arith, whole, sum, tail, least, long)
 
 pub move-longest : (text : List ℕ) (k : ℕ) (form : Form) → k ≤ length text → HasForm (take k text) form
     → k ≤ move_len text

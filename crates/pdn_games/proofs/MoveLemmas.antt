@@ -1,7 +1,7 @@
 -- A line of moves that grows by one, and texts that grow by one.
-use Rattle.std.proofs.Common.{◌≡◌, ℕ, List, [], ◌∷◌, ◌++◌, length, Some, None, true, false, Err}
+use Rattle.std.proofs.Common.{◌≡◌, ℕ, List, [], ◌∷◌, ◌++◌, length, Some, None, true, false, Result, Ok, Err}
 use Rattle.std.proofs.Common.{refl, sym, ap, ◌∙◌}
-use Rattle.std.specs.Prelude.{is_ok}
+use Rattle.std.specs.Prelude.{is_ok, OnOk}
 use Rattle.game_lines.specs.declared.faults.LineFault.{LineFault}
 use Rattle.game_lines.specs.declared.faults.LineFault.TheVariants.{Memory as memory, AfterEnd, Illegal as illegal}
 use Rattle.game_lines.proofs.Proved.{IsFaultOfLast, fault-of-last}
@@ -38,6 +38,11 @@ only-memory laws ms m f played unended legal h =
       | AfterEnd ply ↦ λ is. absurd (one-end opening ms is.1 unended is.2)
       | illegal ply cause ↦ λ is. absurd (legal-unbroken laws (last_position opening ms) m cause legal is.2)
     ] (fault-of-last draughts_lines opening ms m (one-end opening) (legal-unbroken laws) played f h)
+
+-- what follows of a value, if there is one
+pub on-ok : {A E X Y : Type 0} (r : Result A E) → (X → Y) → OnOk r X → OnOk r Y
+on-ok (Ok v) f h = f h
+on-ok (Err e) f h = tt
 
 -- texts and the moves that they mean, with one more each
 pub mean-more : (p : Position) (texts : List (List ℕ)) (ms : List DMove) (text : List ℕ) (m : DMove)

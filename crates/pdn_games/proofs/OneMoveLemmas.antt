@@ -70,12 +70,7 @@ goes-on-unrefused one front m text (fault.Ambiguous ply) means on h =
     let never : move_fault.Ambiguous ≡ move_fault.Memory = no-fault one _ text m _ means h.2 in cc
 goes-on-unrefused one front m text (fault.Illegal ply cause) means on h =
     let never : move_fault.Illegal cause ≡ move_fault.Memory = no-fault one _ text m _ means h.2 in cc
-goes-on-unrefused one front m text fault.Memory means on h = h
-goes-on-unrefused one front m text (fault.BadText offset) means on h = h
-goes-on-unrefused one front m text fault.OtherType means on h = h
-goes-on-unrefused one front m text fault.OtherOpening means on h = h
-goes-on-unrefused one front m text fault.Unfinished means on h = h
-goes-on-unrefused one front m text fault.ResultDiffers means on h = h
+goes-on-unrefused one front m text _ means on h = h
 
 pub moves-unrefused : ReadsOneMove → (texts : List (List ℕ)) (ms : List DMove) (f : PdnFault) → AreMoves texts ms
     → RefusesMove texts f → ⊥

@@ -19,14 +19,13 @@ same-tokens : (text : List ℕ) (ts us : List Placed) (s r : Option ℕ) → Tex
     → SameTokens ts us s r
 same-tokens text ts us s r a b = tokens-one (length text) true true text ts us s r a b
 
-same-score : (s t : Score) → ◌≡◌ {A = Result Score PdnFault} (Ok s) (Ok t) → s ≡ t
-same-score s t e = cc
-
 games-one : ReadsOneMove → (tokens : List Placed) (g h : PdnGame) → IsGameOf tokens g → IsGameOf tokens h → SameGame g h
 games-one one tokens g h a b =
     let moves : g.moves.items ≡ h.moves.items =
     mean-one one opening (move_texts tokens) g.moves.items h.moves.items a.plays.moves.mean b.plays.moves.mean in
-    (moves, same-score g.score h.score (sym a.score ∙ ap (score_in tokens) moves ∙ b.score))
+    let scores : ◌≡◌ {A = Result Score PdnFault} (Ok g.score) (Ok h.score) = sym a.score ∙ ap (score_in tokens) moves
+    ∙ b.score in
+    (moves, (cc))
 
 pub texts-one : ReadsOneMove → (text : List ℕ) (g h : PdnGame) → IsTextOf text g → IsTextOf text h → SameGame g h
 texts-one one text g h (ts, are, is) (us, are_too, is_too) =
@@ -47,17 +46,13 @@ game-unrefused : ReadsOneMove → (tokens : List Placed) (g : PdnGame) (f : PdnF
     → f ≡ fault.Memory
 game-unrefused one tokens g fault.Memory is h = refl
 game-unrefused one tokens g (fault.BadText offset) is h = absurd h
-game-unrefused one tokens g (fault.Ambiguous ply) is h =
-    absurd (moves-unrefused one (move_texts tokens) g.moves.items _ is.plays.moves h.refused)
-game-unrefused one tokens g (fault.Illegal ply cause) is h =
-    absurd (moves-unrefused one (move_texts tokens) g.moves.items _ is.plays.moves h.refused)
-game-unrefused one tokens g (fault.AfterEnd ply) is h =
-    absurd (moves-unrefused one (move_texts tokens) g.moves.items _ is.plays.moves h.refused)
 game-unrefused one tokens g fault.OtherType is h =
     absurd (let never : false ≡ true = sym is.plays.of_club.kind ∙ h in cc)
 game-unrefused one tokens g fault.OtherOpening is h = absurd (h.1 is.plays.of_club.opening)
 game-unrefused one tokens g fault.Unfinished is h = absurd (end-unrefused one tokens g _ is h)
 game-unrefused one tokens g fault.ResultDiffers is h = absurd (end-unrefused one tokens g _ is h)
+game-unrefused one tokens g f is h =
+    absurd (moves-unrefused one (move_texts tokens) g.moves.items _ is.plays.moves h.refused)
 
 fails-unrefused : ReadsOneMove → (text : List ℕ) (g : PdnGame) (f : PdnFault) → IsTextOf text g → TextFails text f
     → f ≡ fault.Memory
@@ -77,10 +72,4 @@ pub text-unrefused : ReadsOneMove → (text : List ℕ) (g : PdnGame) (f : PdnFa
 text-unrefused one text g fault.Memory is h = refl
 text-unrefused one text g (fault.BadText offset) (ts, are, is) (us, stop, other, bad) =
     absurd (form-unrefused text ts us stop offset are other bad)
-text-unrefused one text g (fault.Ambiguous ply) is h = fails-unrefused one text g _ is h
-text-unrefused one text g (fault.Illegal ply cause) is h = fails-unrefused one text g _ is h
-text-unrefused one text g fault.OtherType is h = fails-unrefused one text g _ is h
-text-unrefused one text g fault.OtherOpening is h = fails-unrefused one text g _ is h
-text-unrefused one text g fault.Unfinished is h = fails-unrefused one text g _ is h
-text-unrefused one text g (fault.AfterEnd ply) is h = fails-unrefused one text g _ is h
-text-unrefused one text g fault.ResultDiffers is h = fails-unrefused one text g _ is h
+text-unrefused one text g f is h = fails-unrefused one text g f is h

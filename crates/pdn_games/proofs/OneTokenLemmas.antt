@@ -1,65 +1,40 @@
 -- A text has its tokens in one way.
-use Rattle.std.proofs.Common.{◌≡◌, ℕ, ◌-◌, List, ◌∷◌, length, Option, Bool, true, false, refl, sym, ap, subst, ◌∙◌}
-use Rattle.pdn_games.specs.Tokens.{Token, Front, ended, skipped, found, stuck, begins_feed, lets_follow, Placed, Lexes}
-use Rattle.pdn_games.specs.Tokens.{at_end, stops, skips, takes}
-
--- the four fronts are told apart
-kind : Front → ℕ
-kind ended = 0
-kind (skipped rest) = 1
-kind (found token rest) = 2
-kind stuck = 3
-
-apart : {A : Type 0} (f g h : Front) → f ≡ g → f ≡ h → (kind g ≡ kind h → ⊥) → A
-apart f g h a b differ = absurd (differ (ap kind (sym a ∙ b)))
-
-skipped-one : (xs ys : List ℕ) → skipped xs ≡ skipped ys → xs ≡ ys
-skipped-one xs ys e = cc
-
-found-rest : (t u : Token) (xs ys : List ℕ) → found t xs ≡ found u ys → xs ≡ ys
-found-rest t u xs ys e = cc
-
-found-token : (t u : Token) (xs ys : List ℕ) → found t xs ≡ found u ys → t ≡ u
-found-token t u xs ys e = cc
+use Rattle.std.proofs.Common.{◌≡◌, ℕ, ◌-◌, List, [], ◌∷◌, length, Option, Some, None, Bool, true, false, refl, sym, ap}
+use Rattle.std.proofs.Common.{subst, ◌∙◌}
+use Rattle.pdn_games.specs.Tokens.{Front, ended, skipped, found, stuck, front_at, begins_feed, lets_follow, Placed}
+use Rattle.pdn_games.specs.Tokens.{Lexes, at_end, stops, skips, takes}
 
 -- one list of tokens, and one place where they stop
 abbrev pub SameTokens : List Placed → List Placed → Option ℕ → Option ℕ → Type 0
 SameTokens ts us s r = (ts ≡ us) × (s ≡ r)
 
-grown-same : (p q : Placed) (ts us : List Placed) (s r : Option ℕ) → p ≡ q → SameTokens ts us s r
-    → SameTokens (p ∷ ts) (q ∷ us) s r
-grown-same p q ts us s r e (same, stop) = ((λ i. e i ∷ same i), stop)
+-- what a front says of the tokens from there on
+abbrev Follows : ℕ → Bool → Bool → List ℕ → List Placed → Option ℕ → Front → Type 0
+Follows total line free text ts s ended = SameTokens [] ts None s
+Follows total line free text ts s stuck = SameTokens [] ts (Some (total - length text)) s
+Follows total line free text ts s (skipped rest) = Lexes total (begins_feed text) true rest ts s
+Follows total line free text ts s (found token rest) = (later : List Placed)
+    × (record { at = total - length text; token = token } ∷ later ≡ ts)
+    × Lexes total false (lets_follow token) rest later s
+
+follows : (total : ℕ) (line free : Bool) (text : List ℕ) (ts : List Placed) (s : Option ℕ) (f : Front)
+    → Lexes total line free text ts s → front_at line free text ≡ f → Follows total line free text ts s f
+follows total line free text ts s f (at_end l g t is) e =
+    subst (Follows total l g t ts s) (sym is ∙ e) (refl, refl)
+follows total line free text ts s f (stops l g t is) e =
+    subst (Follows total l g t ts s) (sym is ∙ e) (refl, refl)
+follows total line free text ts s f (skips l g t rest w z is more) e =
+    subst (Follows total l g t ts s) (sym is ∙ e) more
+follows total line free text ts s f (takes l g t rest token w z is more) e =
+    subst (Follows total l g t ts s) (sym is ∙ e) (w, refl, more)
 
 pub tokens-one : (total : ℕ) (line free : Bool) (text : List ℕ) (ts us : List Placed) (s r : Option ℕ)
     → Lexes total line free text ts s → Lexes total line free text us r → SameTokens ts us s r
-tokens-one total line free text ts us s r (at_end l f t a) (at_end k g v b) = (refl, refl)
-tokens-one total line free text ts us s r (at_end l f t a) (stops k g v b) = apart _ _ _ a b (λ e. cc)
-tokens-one total line free text ts us s r (at_end l f t a) (skips k g v rest w z b more) = apart _ _ _ a b (λ e. cc)
-tokens-one total line free text ts us s r (at_end l f t a) (takes k g v rest token w z b more) =
-    apart _ _ _ a b (λ e. cc)
-tokens-one total line free text ts us s r (stops l f t a) (at_end k g v b) = apart _ _ _ a b (λ e. cc)
-tokens-one total line free text ts us s r (stops l f t a) (stops k g v b) = (refl, refl)
-tokens-one total line free text ts us s r (stops l f t a) (skips k g v rest w z b more) = apart _ _ _ a b (λ e. cc)
-tokens-one total line free text ts us s r (stops l f t a) (takes k g v rest token w z b more) =
-    apart _ _ _ a b (λ e. cc)
-tokens-one total line free text ts us s r (skips l f t rest w z a more) (at_end k g v b) = apart _ _ _ a b (λ e. cc)
-tokens-one total line free text ts us s r (skips l f t rest w z a more) (stops k g v b) = apart _ _ _ a b (λ e. cc)
-tokens-one total line free text ts us s r (skips l f t rest w z a more) (skips k g v rest' w' z' b more') =
-    let same : rest' ≡ rest = skipped-one rest' rest (sym b ∙ a) in
-    tokens-one total _ true rest _ _ _ _ more (subst (λ x. Lexes total (begins_feed t) true x w' z') same more')
-tokens-one total line free text ts us s r (skips l f t rest w z a more) (takes k g v rest' token w' z' b more') =
-    apart _ _ _ a b (λ e. cc)
-tokens-one total line free text ts us s r (takes l f t rest token w z a more) (at_end k g v b) =
-    apart _ _ _ a b (λ e. cc)
-tokens-one total line free text ts us s r (takes l f t rest token w z a more) (stops k g v b) =
-    apart _ _ _ a b (λ e. cc)
-tokens-one total line free text ts us s r (takes l f t rest token w z a more) (skips k g v rest' w' z' b more') =
-    apart _ _ _ a b (λ e. cc)
-tokens-one total line free text ts us s r (takes l f t rest token w z a more) (takes k g v rest' token' w' z' b more') =
-    let here = sym b ∙ a in
-    let same : rest' ≡ rest = found-rest token' token rest' rest here in
-    let one : token' ≡ token = found-token token' token rest' rest here in
-    let later = tokens-one total false (lets_follow token) rest w w' z z' more
-    (subst (λ x. Lexes total false (lets_follow token) x w' z') same
-    (subst (λ x. Lexes total false (lets_follow x) rest' w' z') one more')) in
-    grown-same _ _ w w' z z' (ap (λ x. record { at = total - length t; token = x }) (sym one)) later
+tokens-one total line free text ts us s r (at_end l f t a) b = follows total l f t us r ended b a
+tokens-one total line free text ts us s r (stops l f t a) b = follows total l f t us r stuck b a
+tokens-one total line free text ts us s r (skips l f t rest w z a more) b =
+    tokens-one total (begins_feed t) true rest w us z r more (follows total l f t us r (skipped rest) b a)
+tokens-one total line free text ts us s r (takes l f t rest token w z a more) b =
+    let (later, whole, lexes) = follows total l f t us r (found token rest) b a in
+    let same = tokens-one total false (lets_follow token) rest w later z r more lexes in
+    (ap (λ l. record { at = total - length t; token = token } ∷ l) same.0 ∙ whole, same.1)

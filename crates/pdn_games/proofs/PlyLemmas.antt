@@ -45,37 +45,16 @@ no-step p m is (inl c) =
 -- no legal move is written as a result
 no-word : (p : Position) (m : DMove) (w : ResultWord) → Legal p m → IsRead p (word_text w) m → ⊥
 unfolding read_form read_landings read_up_to
-no-word p m word.TwoNil legal (form, read, stands) = cc
 no-word p m word.OneOne legal (form, read, stands) =
     let is : quiet 1 1 ≡ form = cc in
     no-step p m (subst (λ f. StandsFor p f m) (sym is) stands).0 legal
-no-word p m word.NilTwo legal (form, read, stands) = cc
-no-word p m word.OneNil legal (form, read, stands) = cc
-no-word p m word.Halves legal (form, read, stands) = cc
-no-word p m word.NilOne legal (form, read, stands) = cc
-no-word p m word.Star legal (form, read, stands) = cc
+no-word p m _ legal (form, read, stands) = cc
 
-legal-front : (line : Bool) (p : Position) (m : DMove) (c : ℕ) (rest : List ℕ) → Legal p m → (c ≡ 32) ⊎ (c ≡ 10)
-    → front_at line true (move_text p m ++ c ∷ rest) ≡ found (move_by (move_text p m)) (c ∷ rest)
-legal-front line p m c rest legal ends =
-    let read = written-read p m legal in
-    move-front line (move_text p m) read.0 c rest (read_form-text (move_text p m) read.0 read.1)
-    (λ w is. no-word p m w legal (subst (λ t. IsRead p t m) is read)) ends
-
--- a blank and a line feed are skipped
+-- a line feed is skipped
 pub past-feed : (total : ℕ) (line free : Bool) (rest : List ℕ) (tokens : List Placed) (stop : Option ℕ)
     → Lexes total true true rest tokens stop → Lexes total line free (10 ∷ rest) tokens stop
 unfolding front_at past_skipped
 past-feed total line free rest tokens stop h = skips line free (10 ∷ rest) rest tokens stop refl h
-
-past-blank : (total : ℕ) (line free : Bool) (rest : List ℕ) (tokens : List Placed) (stop : Option ℕ)
-    → Lexes total false true rest tokens stop → Lexes total line free (32 ∷ rest) tokens stop
-unfolding front_at past_skipped
-past-blank total line free rest tokens stop h = skips line free (32 ∷ rest) rest tokens stop refl h
-
-at-nothing : (total : ℕ) (line free : Bool) → Lexes total line free [] [] None
-unfolding front_at
-at-nothing total line free = at_end line free [] refl
 
 -- the result of a score
 abbrev pub word_for : Score → ResultWord
@@ -87,11 +66,8 @@ score-front : (line : Bool) (s : Score) → front_at line true (score_text s ++ 
     ≡ found (result (word_for s)) (10 ∷ [])
 unfolding front_at past_skipped token_front number_len move_len landings_len landings_within result_at
 score-front true score.FirstWins = refl
-score-front true score.Draw = refl
-score-front true score.SecondWins = refl
 score-front false score.FirstWins = refl
-score-front false score.Draw = refl
-score-front false score.SecondWins = refl
+score-front _ _ = refl
 
 -- the texts of moves
 abbrev pub texts_of : Position → List DMove → List (List ℕ)
@@ -118,10 +94,11 @@ Found total line free text texts w = (tokens : List Placed) × Lexes total line 
 
 pub score-found : (total : ℕ) (line : Bool) (s : Score)
     → Found total line true (score_text s ++ 10 ∷ []) [] (word_for s)
+unfolding front_at
 score-found total line s = (
   record { at = _; token = result (word_for s) } ∷ [],
   takes line true (score_text s ++ 10 ∷ []) (10 ∷ []) (result (word_for s)) [] None (score-front line s)
-      (past-feed total false false [] [] None (at-nothing total true true)),
+      (past-feed total false false [] [] None (at_end true true [] refl)),
   record { first = refl; later = refl; moves = refl; ends = refl; untagged = λ name. refl },
 )
 
@@ -132,8 +109,9 @@ feed-found total line free rest texts w (tokens, lexes, are) =
 
 pub blank-found : (total : ℕ) (line free : Bool) (rest : List ℕ) (texts : List (List ℕ)) (w : ResultWord)
     → Found total false true rest texts w → Found total line free (32 ∷ rest) texts w
+unfolding front_at past_skipped
 blank-found total line free rest texts w (tokens, lexes, are) =
-    (tokens, past-blank total line free rest tokens None lexes, are)
+    (tokens, skips line free (32 ∷ rest) rest tokens None refl lexes, are)
 
 pub number-found : (total : ℕ) (line : Bool) (n : ℕ) (rest : List ℕ) (texts : List (List ℕ)) (w : ResultWord)
     → n < 2 ^ 64 → Found total false true (32 ∷ rest) texts w
@@ -147,16 +125,18 @@ number-found total line n rest texts w fits (tokens, lexes, are) = (
 pub move-found : (total : ℕ) (line : Bool) (p : Position) (m : DMove) (c : ℕ) (rest : List ℕ) (texts : List (List ℕ))
     (w : ResultWord) → Legal p m → (c ≡ 32) ⊎ (c ≡ 10) → Found total false false (c ∷ rest) texts w
     → Found total line true (move_text p m ++ c ∷ rest) (move_text p m ∷ texts) w
-move-found total line p m c rest texts w legal ends (tokens, lexes, are) = (
-  record { at = _; token = move_by (move_text p m) } ∷ tokens,
-  takes line true (move_text p m ++ c ∷ rest) (c ∷ rest) (move_by (move_text p m)) tokens None
-      (legal-front line p m c rest legal ends) lexes,
-  record {
-    first = are.later;
-    later = are.later;
-    moves = ap (λ l. move_text p m ∷ l) are.moves;
-    ends =
-        are.ends;
-    untagged = are.untagged;
-  },
-)
+move-found total line p m c rest texts w legal ends (tokens, lexes, are) =
+    let text : List ℕ = move_text p m in
+    let read = written-read p m legal in
+    let front = move-front line text read.0 c rest (read_form-text text read.0 read.1)
+    (λ w is. no-word p m w legal (subst (λ t. IsRead p t m) is read)) ends in (
+      record { at = _; token = move_by text } ∷ tokens,
+      takes line true (text ++ c ∷ rest) (c ∷ rest) (move_by text) tokens None front lexes,
+      record {
+        first = are.later;
+        later = are.later;
+        moves = ap (λ l. text ∷ l) are.moves;
+        ends = are.ends;
+        untagged = are.untagged;
+      },
+    )

@@ -26,9 +26,7 @@ use Rattle.pdn_games.specs.Writer.{Finishes, BeginsEnd, TagsBeginGames, MovesBeg
 -- the text of moves that go on
 pub plies-append : (p : Position) (n : ℕ) (ms more : List DMove)
     → plies_text p n (ms ++ more) ≡ plies_text p n ms ++ plies_text (last_position p ms) (n + length ms) more
-plies-append p n [] more =
-    let same : n ≡ n + 0 = omega arith in
-    ap (λ i. plies_text p i more) same
+plies-append p n [] more = ap (λ i. plies_text p i more) (let same : n ≡ n + 0 = omega arith in same)
 plies-append p n (k ∷ ms) more =
     let next : Position = play p k in
     let last : Position = last_position next ms in
@@ -48,6 +46,11 @@ plies-then p ms m =
 
 -- ---- what a writer has
 
+-- what is put into an emptied text is all of it
+pub put-alone : {old text bytes : List ℕ} (line : List ℕ) → bytes ≡ text → text ≡ old ++ line → old ≡ []
+    → bytes ≡ line
+put-alone line value grown empty = value ∙ grown ∙ ap (λ l. l ++ line) empty
+
 -- the line of the next move
 abbrev pub line_of : GameWriter → DMove → List ℕ
 line_of game m = ply_text game.plies (move_text game.position m)
@@ -58,8 +61,7 @@ pub text-then : (head : PdnHead) (ms : List DMove) (m : DMove) (before held : Op
 text-then head ms m before held game h =
     let front : List ℕ = plies_text opening 0 ms in
     let there : line_of game m ≡ ply_text (length ms) (move_text (last_position opening ms) m) =
-    ap (λ n. ply_text n (move_text game.position m)) h.plies
-    ∙ ap (λ p. ply_text (length ms) (move_text p m)) h.position in
+    (λ i. ply_text (h.plies i) (move_text (h.position i) m)) in
     append_assoc (tags_text head) front (line_of game m)
     ∙ ap (λ l. tags_text head ++ l) (ap (λ l. front ++ l) there ∙ sym (plies-then opening ms m))
 

@@ -1,74 +1,60 @@
 -- The computed test whether a piece reaches a square is the relation.
-use Rattle.std.proofs.Common.{◌≡◌, ℕ, zero, suc, ◌<◌, Bool, true, false, cond, ◌&&◌, ◌||◌, nat_eq, nat_lt, Option, Some}
-use Rattle.std.proofs.Common.{None, List, [], ◌∷◌, ◌++◌, inl, inr, refl, sym, ap, ◌∙◌, subst, arith}
+use Rattle.std.proofs.Common.{◌≡◌, ℕ, ◌<◌, Bool, true, false, cond, ◌&&◌, ◌||◌, nat_eq, Option, Some, None, List, []}
+use Rattle.std.proofs.Common.{◌∷◌, ◌++◌, inl, inr, refl, sym, ap, ◌∙◌, subst, rules, ◌≤◌, length, arith}
 use Rattle.std.specs.Prelude.{is_none}
-use Rattle.std.specs.Option.{option_map_or}
 use Rattle.std.specs.FinMap as map
+use Rattle.std.proofs.Math.Bool.{or-true}
+use Rattle.std.proofs.lemmas.Bool.{cases_lt, le-ltb, and_parts, eqb-true, eq-eqb}
 use Rattle.squares.specs.declared.sides.Side.{Side}
 use Rattle.squares.specs.declared.shogi.piece.SPiece.{SPiece}
 use Rattle.squares.specs.ShogiBoard.{ShogiBoard}
-use Rattle.squares.specs.ShogiGeometry.{OnShogiBoard, file_of, rank_of, shogi_number}
-use Rattle.squares.specs.In.{In, In-right, list_any-found, list_any-finds}
+use Rattle.squares.specs.ShogiGeometry.{file_of, rank_of}
+use Rattle.squares.specs.In.{In, list_any-found, list_any-finds}
 use Rattle.shogi_moves.specs.declared.heading.Heading.{Heading}
-use Rattle.shogi_moves.specs.declared.heading.Heading.TheVariants.{Forward, ForwardLeft, ForwardRight, Left, Right}
-use Rattle.shogi_moves.specs.declared.heading.Heading.TheVariants.{Back, BackLeft, BackRight, JumpLeft, JumpRight}
+use Rattle.shogi_moves.specs.declared.heading.Heading.TheVariants.{Forward}
 use Rattle.shogi_moves.specs.Reach.{next_file, next_rank, square_at, step, line, range, AllClear, Reach}
 use Rattle.shogi_moves.specs.Search.{all_headings, comes_to, piece_reaches}
-use Rattle.shogi_moves.proofs.HeadingLemmas.{is_on, is_on-on}
-use Rattle.shogi_moves.proofs.TruthLemmas.{and_true, nat_eq-same, same-nat_eq, nat_lt-less}
+use Rattle.shogi_moves.proofs.LineLemmas.{line-edge, HasAt, line-moved}
 
 pub In-all_headings : (heading : Heading) → In heading all_headings
 In-all_headings Forward = inl refl
-In-all_headings ForwardLeft = inr (inl refl)
-In-all_headings ForwardRight = inr (inr (inl refl))
-In-all_headings Left = inr (inr (inr (inl refl)))
-In-all_headings Right = inr (inr (inr (inr (inl refl))))
-In-all_headings Back = inr (inr (inr (inr (inr (inl refl)))))
-In-all_headings BackLeft = inr (inr (inr (inr (inr (inr (inl refl))))))
-In-all_headings BackRight = inr (inr (inr (inr (inr (inr (inr (inl refl)))))))
-In-all_headings JumpLeft = inr (inr (inr (inr (inr (inr (inr (inr (inl refl))))))))
-In-all_headings JumpRight = inr (inr (inr (inr (inr (inr (inr (inr (inr (inl refl)))))))))
+In-all_headings _ = search (rules, inl, inr) depth 14
 
 -- y stands on the line, and the squares before it are empty
-pub record Comes (board : ShogiBoard) (y : ℕ) (squares : List ℕ) : Type 0 where
-  pub before : List ℕ
-  pub after : List ℕ
-  pub along : squares ≡ before ++ y ∷ after
-  pub clear : AllClear board before
+record Comes (board : ShogiBoard) (y : ℕ) (squares : List ℕ) : Type 0 where
+  before : List ℕ
+  after : List ℕ
+  along : squares ≡ before ++ y ∷ after
+  clear : AllClear board before
 
 pub is_none-none : {A : Type 0} (o : Option A) → is_none o ≡ true → o ≡ None
 is_none-none None e = refl
 is_none-none (Some a) e = cc
-
-Comes-one : (board : ShogiBoard) (y n : ℕ) (ns : List ℕ) → n ≡ y → Comes board y (n ∷ ns)
-Comes-one board y n ns e = record { before = []; after = ns; along = ap (λ m. m ∷ ns) e; clear = tt }
-
-Comes-more : (board : ShogiBoard) (y n : ℕ) (ns : List ℕ) → map.get board n ≡ None → Comes board y ns
-    → Comes board y (n ∷ ns)
-Comes-more board y n ns none c =
-    record { before = n ∷ c.before; after = c.after; along = ap (λ ms. n ∷ ms) c.along; clear = (none, c.clear) }
 
 comes_to-sound : (board : ShogiBoard) (y : ℕ) (ns : List ℕ) → comes_to board y ns ≡ true → Comes board y ns
 comes_to-sound board y [] e = cc
 comes_to-sound board y (n ∷ ns) e =
     elim (nat_eq n y) as (λ c. nat_eq n y ≡ c → (c || (is_none (map.get board n) && comes_to board y ns)) ≡ true
     → Comes board y (n ∷ ns)) [
-      | true ↦ λ here _. Comes-one board y n ns (nat_eq-same n y here)
+      | true ↦ λ here _.
+          record { before = []; after = ns; along = ap (λ m. m ∷ ns) (eqb-true n y here); clear = tt }
       | false ↦ λ _ e.
-          let w = and_true (is_none (map.get board n)) (comes_to board y ns) e in
-          Comes-more board y n ns (is_none-none (map.get board n) w.0) (comes_to-sound board y ns w.1)
+          let w = and_parts (is_none (map.get board n)) (comes_to board y ns) e in
+          let c = comes_to-sound board y ns w.1 in
+          record {
+            before = n ∷ c.before;
+            after = c.after;
+            along = ap (λ ms. n ∷ ms) c.along;
+            clear = (is_none-none (map.get board n) w.0, c.clear);
+          }
     ] refl e
-
-or_true : (a : Bool) → (a || true) ≡ true
-or_true true = refl
-or_true false = refl
 
 comes_to-split : (board : ShogiBoard) (y : ℕ) (before after : List ℕ) → AllClear board before
     → comes_to board y (before ++ y ∷ after) ≡ true
 comes_to-split board y [] after clear = ap (λ c. c || (is_none (map.get board y) && comes_to board y after))
-    (same-nat_eq y)
+    (eq-eqb y y refl)
 comes_to-split board y (n ∷ before) after clear =
-    (λ i. nat_eq n y || (is_none (clear.0 i) && comes_to-split board y before after clear.1 i)) ∙ or_true (nat_eq n y)
+    (λ i. nat_eq n y || (is_none (clear.0 i) && comes_to-split board y before after clear.1 i)) ∙ or-true (nat_eq n y)
 
 module _ (board : ShogiBoard) (piece : SPiece) (x y : ℕ) where
   abbrev goes : Heading → Bool
@@ -88,41 +74,25 @@ module _ (board : ShogiBoard) (piece : SPiece) (x y : ℕ) where
       (ap (comes_to board y) r.along ∙ comes_to-split board y r.before r.after r.clear)
 
 -- lines stay on the board, and begin on it
-number-on : (f r : ℕ) → OnShogiBoard f r → shogi_number f r < 81
-number-on f r on = omega (arith, on.0.0, on.0.1, on.1.0, on.1.1)
+has-split : (before after : List ℕ) (y : ℕ) → HasAt (before ++ y ∷ after) (length before) y
+has-split [] after y = (omega arith, refl)
+has-split (x ∷ before) after y = let w = has-split before after y in (omega (arith, w.0), w.1)
 
-square_at-on : (f r m : ℕ) → square_at f r ≡ Some m → m < 81
-square_at-on f r m e =
-    elim (is_on f r) as (λ c. is_on f r ≡ c → cond c (Some (shogi_number f r)) None ≡ Some m → m < 81) [
-      | true ↦ λ on e. let is : shogi_number f r ≡ m = cc in subst (λ k. k < 81) is (number-on f r (is_on-on f r on))
-      | false ↦ λ _ e. cc
-    ] refl e
-
-step-on : (side : Side) (heading : Heading) (n m : ℕ) → step side heading n ≡ Some m → (n < 81) × (m < 81)
+step-none : (side : Side) (heading : Heading) (n : ℕ) → 81 ≤ n → step side heading n ≡ None
 unfolding step
-step-on side heading n m e =
-    elim (nat_lt n 81) as (λ c. nat_lt n 81 ≡ c
-    → cond c (square_at (next_file heading (file_of n)) (next_rank side heading (rank_of n))) None ≡ Some m
-    → (n < 81) × (m < 81)) [
-      | true ↦
-          λ on e.
-          (nat_lt-less n 81 on, square_at-on (next_file heading (file_of n)) (next_rank side heading (rank_of n)) m e)
-      | false ↦ λ _ e. cc
-    ] refl e
-
-line-on : (k : ℕ) (side : Side) (heading : Heading) (n y : ℕ) → In y (line k side heading n) → (n < 81) × (y < 81)
-unfolding line
-line-on zero side heading n y h = absurd h
-line-on (suc k) side heading n y h =
-    elim (step side heading n) as (λ o. step side heading n ≡ o
-    → In y (option_map_or (λ m. m ∷ line k side heading m) o []) → (n < 81) × (y < 81)) [
-      | None ↦ λ _ h. absurd h
-      | Some m ↦ λ e h.
-          let w = step-on side heading n m e in
-          (w.0, elim h [ inl is ↦ subst (λ j. j < 81) is w.1 | inr more ↦ (line-on k side heading m y more).1 ])
-    ] refl h
+step-none side heading n off =
+    ap (λ c. cond c (square_at (next_file heading (file_of n)) (next_rank side heading (rank_of n))) None)
+    (le-ltb n 81 off)
 
 pub Reach-on : (board : ShogiBoard) (piece : SPiece) (x y : ℕ) → Reach board piece x y → (x < 81) × (y < 81)
 Reach-on board piece x y r =
-    line-on (range piece.role r.heading) piece.side r.heading x y
-    (subst (λ ms. In y ms) (sym r.along) (In-right y r.before (y ∷ r.after) (inl refl)))
+    let far = range piece.role r.heading in
+    let split = has-split r.before r.after y in
+    elim (cases_lt x 81) [
+      | inl on ↦
+          let at = subst (λ ms. HasAt ms (length r.before) y) (sym r.along) split in
+          (on, (line-moved piece.side r.heading far x (length r.before) y on at).1)
+      | inr off ↦
+          let none = line-edge far piece.side r.heading x (step-none piece.side r.heading x off) in
+          absurd (omega (arith, ap length (sym none ∙ r.along), split.0))
+    ]

@@ -1,13 +1,13 @@
 -- The computed end of a line is its only end.
-use Rattle.std.proofs.Common.{◌≡◌, ℕ, suc, ◌+◌, ◌-◌, ◌<◌, ◌≤◌, nat_eq, nat_lt, Bool, true, false, not, ◌||◌}
+use Rattle.std.proofs.Common.{◌≡◌, ℕ, suc, ◌+◌, ◌-◌, ◌<◌, ◌≤◌, nat_eq, Bool, true, false, not, ◌||◌}
 use Rattle.std.proofs.Common.{cond, List, length, drop, get_or, Option, Some, None, refl, sym, ap, ◌∙◌, subst, arith}
-use Rattle.std.proofs.Common.{leb-true, le-leb, lt-ltb, eqb-true, eq-eqb, inl, inr}
+use Rattle.std.proofs.Common.{true≢false, leb-true, le-leb, lt-ltb, eqb-true, eq-eqb, inl, inr}
 use Rattle.std.specs.Prelude.{IsTrue, ◌↔◌, if◌then◌else◌}
-use Rattle.std.specs.List.{count_by}
+use Rattle.std.specs.List.{count_by, position_or_len}
 use Rattle.std.specs.Option.{option_map_or}
 use Rattle.std.proofs.lemmas.List.{get_or-drop, length-drop, take_all}
+use Rattle.std.proofs.lemmas.List.Sums.{fails_before_first, passes_at_first}
 use Rattle.std.proofs.lemmas.Bool.{cases_lt}
-use Rattle.std.proofs.Math.Nat.{eq-or-lt_of_le}
 use Rattle.game_lines.proofs.Proved.{length-positions, get-positions}
 use Rattle.squares.specs.declared.sides.Side.{Side}
 use Rattle.squares.specs.declared.sides.Side.TheVariants.{First, Second}
@@ -25,15 +25,14 @@ use Rattle.shogi_repetition.specs.Ends.{StandsAfter, StandsFourTimes, FirstStand
 use Rattle.shogi_repetition.specs.Ends.{ChecksAlone, EndsSo}
 use Rattle.shogi_repetition.specs.Computed.{is_in_check, keeps_checking, checks_throughout, stands_four_times}
 use Rattle.shogi_repetition.specs.Computed.{since_first, end_by_checks, repetition, first_end, end_of}
-use Rattle.shogi_repetition.proofs.PlaceLemmas.{next, counted, FirstPlace, first, steps, stepped}
+use Rattle.shogi_repetition.proofs.PlaceLemmas.{next, counted, steps, stepped}
 
 -- a move of the side, with or without check
 step-is : {P : Type 0} (side turn : Side) (b : Bool) → (IsTrue b ↔ P)
     → ((same_side turn (other side) || b) ≡ true) ↔ (turn ≡ side → P)
 step-is First First b h = (λ e _. h.0 e, λ f. h.1 (f refl))
-step-is First Second b h = (λ _ e. cc, λ _. refl)
-step-is Second First b h = (λ _ e. cc, λ _. refl)
 step-is Second Second b h = (λ e _. h.0 e, λ f. h.1 (f refl))
+step-is _ _ b h = (λ _ e. cc, λ _. refl)
 
 module _ (start : ShogiPosition) (ms : List SMove) where
   abbrev pub last : ShogiPosition
@@ -67,23 +66,16 @@ module _ (start : ShogiPosition) (ms : List SMove) where
   found-four : 4 ≤ count_by is_last all → StandsFourTimes start ms
   found-four h =
       let a = next is_last last all 0 (omega (arith, h)) in
-      let counted_a = a.4 in
-      let b = next is_last last all (suc a.0) (omega (arith, h, counted_a)) in
-      let counted_b = b.4 in
-      let c = next is_last last all (suc b.0) (omega (arith, h, counted_a, counted_b)) in
-      let counted_c = c.4 in
-      let e = next is_last last all (suc c.0) (omega (arith, h, counted_a, counted_b, counted_c)) in
-      let later_b = b.1 in
-      let later_c = c.1 in
-      let later_e = e.1 in
-      let end = below e.0 e.2 in
+      let b = next is_last last all (suc a.0) (omega (arith, h, a.4)) in
+      let c = next is_last last all (suc b.0) (omega (arith, h, a.4, b.4)) in
+      let e = next is_last last all (suc c.0) (omega (arith, h, a.4, b.4, c.4)) in
       record {
         first = a.0;
         second = b.0;
         third = c.0;
-        second_later = omega (arith, later_b);
-        third_later = omega (arith, later_c);
-        last_later = omega (arith, later_e, end);
+        second_later = omega (arith, b.1);
+        third_later = omega (arith, c.1);
+        last_later = omega (arith, e.1, below e.0 e.2);
         at_first = stands a.0 (below a.0 a.2) a.3;
         at_second = stands b.0 (below b.0 b.2) b.3;
         at_third = stands c.0 (below c.0 c.2) c.3;
@@ -91,61 +83,56 @@ module _ (start : ShogiPosition) (ms : List SMove) where
 
   four-found : StandsFourTimes start ms → 4 ≤ count_by is_last all
   four-found s =
-      let first = s.first in
-      let second = s.second in
-      let third = s.third in
       let ab = s.second_later in
       let bc = s.third_later in
       let cn = s.last_later in
-      let at_a : first ≤ length ms = omega (arith, ab, bc, cn) in
-      let at_b : second ≤ length ms = omega (arith, bc, cn) in
-      let at_c : third ≤ length ms = omega (arith, cn) in
-      let at_n : length ms ≤ length ms = omega arith in
-      let a = counted is_last last all 0 first (omega arith) (within first at_a) (passes first at_a s.at_first) in
-      let b = counted is_last last all (suc first) second (omega (arith, ab)) (within second at_b)
-      (passes second at_b s.at_second) in
-      let c = counted is_last last all (suc second) third (omega (arith, bc)) (within third at_c)
-      (passes third at_c s.at_third) in
-      let n = counted is_last last all (suc third) (length ms) (omega (arith, cn)) (within (length ms) at_n)
-      (passes (length ms) at_n stands-last) in
-      omega (arith, a, b, c, n)
+      let more = λ (from k : ℕ) (low : from ≤ k) (high : k ≤ length ms) (at : StandsAfter start ms k).
+      counted is_last last all from k low (within k high) (passes k high at) in
+      omega (
+        arith,
+        more 0 s.first (omega arith) (omega (arith, ab, bc, cn)) s.at_first,
+        more (suc s.first) s.second (omega (arith, ab)) (omega (arith, bc, cn)) s.at_second,
+        more (suc s.second) s.third (omega (arith, bc)) (omega (arith, cn)) s.at_third,
+        more (suc s.third) (length ms) (omega (arith, cn)) (omega arith) stands-last,
+      )
 
   four-is : IsTrue (stands_four_times last all) ↔ StandsFourTimes start ms
   unfolding stands_four_times
   four-is = (λ e. found-four (leb-true 4 (count_by is_last all) e), λ s. le-leb 4 (count_by is_last all) (four-found s))
 
-  pub place : FirstPlace is_last last all (length ms)
-  place = let at_n : length ms ≤ length ms = omega arith in
-      first is_last last all (length ms) (within (length ms) at_n) (passes (length ms) at_n stands-last)
+  -- after how many plies the last position stood first
+  abbrev pub place : ℕ
+  place = position_or_len is_last all
 
-  pub first-stands : FirstStands start ms place.place
+  none-before : (k : ℕ) → k < place → Passes k → ⊥
+  none-before k h e = true≢false (sym e ∙ fails_before_first is_last all k last h)
+
+  no-later : place ≤ length ms
+  no-later = elim (cases_lt (length ms) place) [
+    | inl less ↦ absurd (none-before (length ms) less (passes (length ms) (omega arith) stands-last))
+    | inr least ↦ least
+  ]
+
+  pub first-stands : FirstStands start ms place
   first-stands =
-      let no_later = place.no_later in
       record {
-        within = no_later;
-        stands = stands place.place no_later place.passes;
-        earliest = λ k h s. place.earliest k h (passes k (omega (arith, h, no_later)) s);
+        within = no-later;
+        stands = stands place no-later (passes_at_first is_last all last (within place no-later));
+        earliest = λ k h s. none-before k h (passes k (omega (arith, h, no-later)) s);
       }
 
-  pub since_first-is : since_first last all ≡ drop place.place all
+  pub since_first-is : since_first last all ≡ drop place all
   unfolding since_first
   since_first-is =
-      let below_all : nat_lt place.place (length all) ≡ true =
-      lt-ltb place.place (length all) (within place.place place.no_later) in
-      ap (λ n. option_map_or (λ f. drop f all) (cond (nat_lt n (length all)) (Some n) None) all) place.is
-      ∙ ap (λ b. option_map_or (λ f. drop f all) (cond b (Some place.place) None) all) below_all
-
-  checks-is : (p : ShogiPosition) → IsTrue (is_in_check p) ↔ InCheck p
-  checks-is p = king_attacked-is p.board p.turn
+      ap (λ b. option_map_or (λ f. drop f all) (cond b (Some place) None) all)
+      (lt-ltb place (length all) (within place no-later))
 
   module _ (side : Side) (f : ℕ) where
     abbrev rest : List ShogiPosition
     rest = drop f all
 
-    abbrev Kept : ℕ → Type 0
-    Kept k = keeps_checking side (get_or rest k last) (get_or rest (suc k) last) ≡ true
-
-    one : (k : ℕ) → f + suc k ≤ length ms → Kept k
+    one : (k : ℕ) → f + suc k ≤ length ms
+        → (keeps_checking side (get_or rest k last) (get_or rest (suc k) last) ≡ true)
         ↔ ((position_after start ms (f + k)).turn ≡ side → InCheck (position_after start ms (f + suc k)))
     one k h =
         let before : get_or rest k last ≡ position_after start ms (f + k) = get_or-drop f all k last
@@ -156,7 +143,7 @@ module _ (start : ShogiPosition) (ms : List SMove) where
         let q = position_after start ms (f + suc k) in
         let same : keeps_checking side (get_or rest k last) (get_or rest (suc k) last) ≡ keeps_checking side p q = λ i.
         keeps_checking side (before i) (after i) in
-        let step = step-is side p.turn (is_in_check q) (checks-is q) in
+        let step = step-is side p.turn (is_in_check q) (king_attacked-is q.board q.turn) in
         (λ e. step.0 (sym same ∙ e), λ g. same ∙ step.1 g)
 
     length-rest : length rest ≡ length ms + 1 - f
@@ -167,106 +154,64 @@ module _ (start : ShogiPosition) (ms : List SMove) where
     throughout-is = (
       λ e k from below own.
           let j : ℕ = k - f in
-          let room = length-rest in
-          let kept = steps (keeps_checking side) last rest e j (omega (arith, from, below, room)) in
+          let kept = steps (keeps_checking side) last rest e j (omega (arith, from, below, length-rest)) in
           let at : f + j ≡ k = omega (arith, from) in
           let next_at : f + suc j ≡ k + 1 = omega (arith, from) in
-          subst (λ n. InCheck (position_after start ms n)) next_at
-          ((one j (omega (arith, from, below))).0 kept (ap (λ n. (position_after start ms n).turn) at ∙ own)),
+          rw next_at at ((one j (omega (arith, from, below))).0 kept (rw at own)),
       λ gave. stepped (keeps_checking side) last rest (λ k h.
-          let room = length-rest in
-          let bound : f + suc k ≤ length ms = omega (arith, h, room) in
+          let bound : f + suc k ≤ length ms = omega (arith, h, length-rest) in
           let next_at : f + k + 1 ≡ f + suc k = omega arith in
-          (one k bound).1
-          (λ own. subst (λ n. InCheck (position_after start ms n)) next_at
-          (gave (f + k) (omega arith) (omega (arith, bound)) own))),
+          (one k bound).1 (λ own. rw next_at at (gave (f + k) (omega arith) (omega (arith, bound)) own))),
     )
 
   -- the last position stood first at one place
   pub one-first : (f g : ℕ) → FirstStands start ms f → FirstStands start ms g → f ≡ g
   one-first f g a b =
-      elim (cases_lt f g) [
-        | inl less ↦ absurd (b.earliest f less a.stands)
-        | inr least ↦ elim (eq-or-lt_of_le least) [
-          | inl same ↦ sym same
-          | inr more ↦ absurd (a.earliest g more b.stands)
-        ]
-      ]
+      let low : f < g → ⊥ = λ less. b.earliest f less a.stands in
+      let high : g < f → ⊥ = λ more. a.earliest g more b.stands in
+      omega (arith, low, high)
 
-  opposite : (side : Side) → other (other side) ≡ side
-  opposite First = refl
-  opposite Second = refl
+  abbrev Throughout : Side → Type 0
+  Throughout side = GaveCheckThroughout start ms side place
+
+  here : (side : Side) → ChecksAlone start ms side → Throughout side × (Throughout (other side) → ⊥)
+  here side x =
+      let same : x.since ≡ place = one-first x.since place x.first first-stands in (
+        subst (λ f. GaveCheckThroughout start ms side f) same x.checks,
+        λ gave. x.alone (subst (λ f. GaveCheckThroughout start ms (other side) f) (sym same) gave),
+      )
 
   -- at most one side gave check alone
   one-alone : (a b : Side) → ChecksAlone start ms a → ChecksAlone start ms b → a ≡ b
   one-alone First First x y = refl
   one-alone Second Second x y = refl
-  one-alone First Second x y =
-      absurd
-      (x.alone
-      (subst (λ f. GaveCheckThroughout start ms Second f) (one-first y.since x.since y.first x.first) y.checks))
-  one-alone Second First x y =
-      absurd
-      (x.alone (subst (λ f. GaveCheckThroughout start ms First f) (one-first y.since x.since y.first x.first) y.checks))
+  one-alone First Second x y = absurd ((here First x).1 (here Second y).0)
+  one-alone Second First x y = absurd ((here Second x).1 (here First y).0)
 
-  abbrev Throughout : Side → Type 0
-  Throughout side = GaveCheckThroughout start ms side place.place
+  alone : (side : Side) → Throughout side → (Throughout (other side) → ⊥) → ChecksAlone start ms side
+  alone side gave none = record { since = place; first = first-stands; checks = gave; alone = none }
 
-  here : (side : Side) → ChecksAlone start ms side → Throughout side × (Throughout (other side) → ⊥)
-  here side x =
-      let same : x.since ≡ place.place = one-first x.since place.place x.first first-stands in (
-        subst (λ f. GaveCheckThroughout start ms side f) same x.checks,
-        λ gave. x.alone (subst (λ f. GaveCheckThroughout start ms (other side) f) (sym same) gave),
-      )
+  none-alone : (b : Bool) → (IsTrue b ↔ Throughout First) → (IsTrue b ↔ Throughout Second) → (side : Side)
+      → ChecksAlone start ms side → ⊥
+  none-alone b first second First x = let at = here First x in at.1 (second.0 (first.1 at.0))
+  none-alone b first second Second x = let at = here Second x in at.1 (first.0 (second.1 at.0))
 
   -- the end by which sides gave check throughout
   by_checks : (a b : Bool) → (IsTrue a ↔ Throughout First) → (IsTrue b ↔ Throughout Second) → HasMove last
       → StandsFourTimes start ms → EndsSo start ms (Some (end_by_checks a b))
-  by_checks true false first second has stands = (
-    has,
-    stands,
-    record {
-      since = place.place;
-      first = first-stands;
-      checks = first.0 refl;
-      alone = λ gave. let e = second.1 gave in cc;
-    },
-  )
-  by_checks false true first second has stands = (
-    has,
-    stands,
-    record {
-      since = place.place;
-      first = first-stands;
-      checks = second.0 refl;
-      alone = λ gave. let e = first.1 gave in cc;
-    },
-  )
-  by_checks true true first second has stands = (
-    has,
-    stands,
-    λ side. elim side as (λ s. ChecksAlone start ms s → ⊥) [
-      | First ↦ λ x. (here First x).1 (second.0 refl)
-      | Second ↦ λ x. (here Second x).1 (first.0 refl)
-    ],
-  )
-  by_checks false false first second has stands = (
-    has,
-    stands,
-    λ side. elim side as (λ s. ChecksAlone start ms s → ⊥) [
-      | First ↦ λ x. let e = first.1 (here First x).0 in cc
-      | Second ↦ λ x. let e = second.1 (here Second x).0 in cc
-    ],
-  )
-
-  checked : (side : Side) → IsTrue (checks_throughout side (since_first last all)) ↔ Throughout side
-  checked side = subst (λ (ps : List ShogiPosition). IsTrue (checks_throughout side ps) ↔ Throughout side)
-      (sym since_first-is) (throughout-is side place.place)
+  by_checks true false first second has stands =
+      (has, stands, alone First (first.0 refl) (λ gave. let e = second.1 gave in cc))
+  by_checks false true first second has stands =
+      (has, stands, alone Second (second.0 refl) (λ gave. let e = first.1 gave in cc))
+  by_checks true true first second has stands = (has, stands, none-alone true first second)
+  by_checks false false first second has stands = (has, stands, none-alone false first second)
 
   by_repetition : HasMove last → StandsFourTimes start ms → EndsSo start ms (Some (repetition last all))
   unfolding repetition
-  by_repetition has stands = by_checks (checks_throughout First (since_first last all))
-      (checks_throughout Second (since_first last all)) (checked First) (checked Second) has stands
+  by_repetition =
+      rw since_first-is (by_checks (checks_throughout First (drop place all))
+      (checks_throughout Second (drop place all)) (throughout-is First place)
+      (throughout-is Second place))
 
   by_tests : (can four_times at_limit : Bool) (repeated : SEnd) → (IsTrue can ↔ HasMove last)
       → (IsTrue four_times ↔ StandsFourTimes start ms) → (IsTrue at_limit ↔ (length ms ≡ 600))
@@ -287,28 +232,17 @@ module _ (start : ShogiPosition) (ms : List SMove) where
 
   pub one-end : (one two : Option SEnd) → EndsSo start ms one → EndsSo start ms two → one ≡ two
   one-end None None x y = refl
-  one-end None (Some NoMove) x y = absurd (y x.0)
-  one-end None (Some (PerpetualCheck b)) x y = absurd (x.1 y.1)
-  one-end None (Some Fourfold) x y = absurd (x.1 y.1)
-  one-end None (Some PlyLimit) x y = absurd (x.2 y.2)
-  one-end (Some NoMove) None x y = absurd (x y.0)
   one-end (Some NoMove) (Some NoMove) x y = refl
-  one-end (Some NoMove) (Some (PerpetualCheck b)) x y = absurd (x y.0)
-  one-end (Some NoMove) (Some Fourfold) x y = absurd (x y.0)
-  one-end (Some NoMove) (Some PlyLimit) x y = absurd (x y.0)
-  one-end (Some (PerpetualCheck a)) None x y = absurd (y.1 x.1)
-  one-end (Some (PerpetualCheck a)) (Some NoMove) x y = absurd (y x.0)
   one-end (Some (PerpetualCheck a)) (Some (PerpetualCheck b)) x y =
       ap (λ side. Some (PerpetualCheck side)) (one-alone a b x.2 y.2)
   one-end (Some (PerpetualCheck a)) (Some Fourfold) x y = absurd (y.2 a x.2)
-  one-end (Some (PerpetualCheck a)) (Some PlyLimit) x y = absurd (y.1 x.1)
-  one-end (Some Fourfold) None x y = absurd (y.1 x.1)
-  one-end (Some Fourfold) (Some NoMove) x y = absurd (y x.0)
   one-end (Some Fourfold) (Some (PerpetualCheck b)) x y = absurd (x.2 b y.2)
   one-end (Some Fourfold) (Some Fourfold) x y = refl
-  one-end (Some Fourfold) (Some PlyLimit) x y = absurd (y.1 x.1)
-  one-end (Some PlyLimit) None x y = absurd (y.2 x.2)
-  one-end (Some PlyLimit) (Some NoMove) x y = absurd (y x.0)
-  one-end (Some PlyLimit) (Some (PerpetualCheck b)) x y = absurd (x.1 y.1)
-  one-end (Some PlyLimit) (Some Fourfold) x y = absurd (x.1 y.1)
   one-end (Some PlyLimit) (Some PlyLimit) x y = refl
+  one-end None (Some PlyLimit) x y = absurd (x.2 y.2)
+  one-end (Some PlyLimit) None x y = absurd (y.2 x.2)
+  one-end (Some NoMove) _ x y = absurd (x y.0)
+  one-end _ (Some NoMove) x y = absurd (y x.0)
+  one-end None _ x y = absurd (x.1 y.1)
+  one-end (Some PlyLimit) _ x y = absurd (x.1 y.1)
+  one-end _ _ x y = absurd (y.1 x.1)

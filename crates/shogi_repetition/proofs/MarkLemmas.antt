@@ -1,8 +1,8 @@
 -- What follows of marks that are those of a line.
-use Rattle.std.proofs.Common.{◌≡◌, ℕ, ◌+◌, ◌-◌, ◌≤◌, Bool, true, false, not, cond, nat_eq}
+use Rattle.std.proofs.Common.{◌≡◌, ℕ, ◌+◌, ◌-◌, ◌≤◌, Bool, true, false, not, cond}
 use Rattle.std.proofs.Common.{nat_le, List, [], ◌∷◌, ◌++◌, length, get_or, Option, Some, None, refl, sym}
 use Rattle.std.proofs.Common.{ap, subst, ◌∙◌, arith, length-append}
-use Rattle.std.specs.Prelude.{min, if◌then◌else◌}
+use Rattle.std.specs.Prelude.{if◌then◌else◌}
 use Rattle.std.specs.BTreeMap.{get}
 use Rattle.std.specs.Ordering.{eq_by_cmp}
 use Rattle.std.proofs.Math.Seq.{take-length}
@@ -25,7 +25,7 @@ use Rattle.shogi_repetition.specs.declared.marks.Stood.{Stood}
 use Rattle.shogi_repetition.specs.declared.tails.Tail.{Tail}
 use Rattle.shogi_repetition.specs.Line.{last_position, positions}
 use Rattle.shogi_repetition.specs.Ends.{FirstStands, EndsSo}
-use Rattle.shogi_repetition.specs.Computed.{is_in_check, end_of}
+use Rattle.shogi_repetition.specs.Computed.{is_in_check}
 use Rattle.shogi_repetition.specs.Faults.{shogi_lines, HasFault}
 use Rattle.shogi_repetition.specs.Tails.{no_checks, count_on, tail_after, next_tail, repetition_by, end_by}
 use Rattle.shogi_repetition.specs.Counting.{HasStood, Follows, stood_again}
@@ -46,29 +46,19 @@ pub unlimited : (tail : Tail) (last : ShogiPosition) (plies times first : ℕ) �
     → plies ≡ 600 → ⊥
 unfolding end_by
 unlimited tail last plies times first e limit =
-    at-limit (has_move last) (nat_le 4 times) (repetition_by tail (plies - first))
-    (ap
-    (λ n. if not (has_move last) then Some NoMove else if nat_le 4 times then Some
-    (repetition_by tail (plies - first)) else if nat_eq n 600 then Some PlyLimit else None) (sym limit) ∙ e)
+    at-limit (has_move last) (nat_le 4 times) (repetition_by tail (600 - first)) (rw limit at e)
 
 count-bound : (b : Bool) (n k : ℕ) → n ≤ k → count_on n b ≤ k + 1
 count-bound true n k h = omega (arith, h)
 count-bound false n k h = omega arith
 
-pub next-first_checks : (tail : Tail) (after : ShogiPosition) (k : ℕ) → tail.first_checks ≤ k
-    → (next_tail tail after).first_checks ≤ k + 1
-next-first_checks tail after k h =
-    elim after.turn as (λ t. (tail_after tail (is_in_check after) t).first_checks ≤ k + 1) [
-      | First ↦ omega (arith, h)
-      | Second ↦ count-bound (is_in_check after) tail.first_checks k h
-    ]
-
-pub next-second_checks : (tail : Tail) (after : ShogiPosition) (k : ℕ) → tail.second_checks ≤ k
-    → (next_tail tail after).second_checks ≤ k + 1
-next-second_checks tail after k h =
-    elim after.turn as (λ t. (tail_after tail (is_in_check after) t).second_checks ≤ k + 1) [
-      | First ↦ count-bound (is_in_check after) tail.second_checks k h
-      | Second ↦ omega (arith, h)
+pub next-checks : (tail : Tail) (after : ShogiPosition) (k : ℕ) → tail.first_checks ≤ k → tail.second_checks ≤ k
+    → ((next_tail tail after).first_checks ≤ k + 1) × ((next_tail tail after).second_checks ≤ k + 1)
+next-checks tail after k one two =
+    elim after.turn as (λ t. ((tail_after tail (is_in_check after) t).first_checks ≤ k + 1)
+    × ((tail_after tail (is_in_check after) t).second_checks ≤ k + 1)) [
+      | First ↦ (omega (arith, one), count-bound (is_in_check after) tail.second_checks k two)
+      | Second ↦ (count-bound (is_in_check after) tail.first_checks k one, omega (arith, two))
     ]
 
 -- ---- how often a position stood
@@ -108,16 +98,12 @@ start-follows p marks last plies stood tail seen =
           (begins-so p q (same_shogi_position p q) refl);
     }
 
-pub end-is : (start : ShogiPosition) (ms : List SMove) (marks : Marks) → Follows start ms marks
-    → end_by marks.tail marks.last marks.plies marks.stood.times marks.stood.first ≡ end_of start ms
-end-is start ms marks follows =
-    (λ i. end_by (follows.tail i) (follows.last i) (follows.plies i) (follows.times i) marks.stood.first)
-    ∙ ends-by-tail start ms marks.stood.first follows.first
-
 pub tells-end : (start : ShogiPosition) (ms : List SMove) (marks : Marks) (end : Option SEnd) → Follows start ms marks
     → end ≡ end_by marks.tail marks.last marks.plies marks.stood.times marks.stood.first → EndsSo start ms end
 tells-end start ms marks end follows e =
-    subst (EndsSo start ms) (sym (e ∙ end-is start ms marks follows)) (end_of-is start ms)
+    subst (EndsSo start ms) (sym (e
+    ∙ (λ i. end_by (follows.tail i) (follows.last i) (follows.plies i) (follows.times i) marks.stood.first)
+    ∙ ends-by-tail start ms marks.stood.first follows.first)) (end_of-is start ms)
 
 -- ---- a line that goes on
 
@@ -159,46 +145,35 @@ module _ (start : ShogiPosition) (ms : List SMove) (m : SMove) (marks : Marks) (
     -- a position that did not stand before stands after the last ply for the first time
     none-before : times start ms next ≡ 0 → line.FirstAt play start more next (marks.plies + 1)
     none-before none =
-        let plies = follows.plies in
-        let long = longer in
-        let at : length more ≡ marks.plies + 1 = omega (arith, plies, long) in
+        let at : length more ≡ marks.plies + 1 = omega (arith, follows.plies, longer) in
         subst (line.FirstAt play start more next) at (record {
           within = omega arith;
           stands = ap (last_position start) (take-length more) ∙ after;
           earliest = λ k h e.
-              let within : k ≤ length ms = omega (arith, h, long) in
-              let many = lines.length-positions play start ms in
+              let within : k ≤ length ms = omega (arith, h, longer) in
               let there : get_or (positions start ms) k next ≡ next = lines.get-positions play start ms k next within
               ∙ sym (lines.after-longer play start ms (m ∷ []) k within) ∙ e in
-              let passes : same_shogi_position (get_or (positions start ms) k next) next ≡ true =
-              ap (λ p. same_shogi_position p next) there ∙ same_shogi_position-itself next in
               let one = counted (λ p. same_shogi_position p next) next (positions start ms) 0 k (omega arith)
-              (omega (arith, within, many)) passes in
+              (omega (arith, within, lines.length-positions play start ms))
+              (ap (λ p. same_shogi_position p next) there ∙ same_shogi_position-itself next) in
               omega (arith, one, none);
         })
-
-    small : (n : ℕ) → n ≤ 601 → min (n + 1) 4294967295 ≡ n + 1
-    small n h = omega (arith, h)
 
     again : marks.plies ≤ 600 → (o : Option Stood) → HasStood start ms next o
         → HasStood start more next (Some (stood_again (marks.plies + 1) o))
     again within None none =
-        let grown = once-more next true (same_shogi_position-itself next) in
-        (omega (arith, grown, none), none-before none)
+        (omega (arith, once-more next true (same_shogi_position-itself next), none), none-before none)
     again within (Some s) (stood, first) =
         let grown = once-more next true (same_shogi_position-itself next) in
         let few = lines.few-times play same_shogi_position start ms next in
-        let plies = follows.plies in (
-          small s.times (omega (arith, stood, few, plies, within)) ∙ omega (arith, grown, stood),
-          lines.first-longer play start ms (m ∷ []) next s.first first,
-        )
+        let small : s.times ≤ 601 = omega (arith, stood, few, follows.plies, within) in
+        (omega (arith, grown, stood, small), lines.first-longer play start ms (m ∷ []) next s.first first)
 
     as-before : (q : ShogiPosition) (o : Option Stood) → same_shogi_position next q ≡ false → HasStood start ms q o
         → HasStood start more q o
-    as-before q None e none = let grown = once-more q false e in omega (arith, grown, none)
+    as-before q None e none = omega (arith, once-more q false e, none)
     as-before q (Some s) e (stood, first) =
-        let grown = once-more q false e in
-        (omega (arith, grown, stood), lines.first-longer play start ms (m ∷ []) q s.first first)
+        (omega (arith, once-more q false e, stood), lines.first-longer play start ms (m ∷ []) q s.first first)
 
     stood-so : marks.plies ≤ 600 → (q : ShogiPosition) (b : Bool) → same_shogi_position next q ≡ b
         →

@@ -1,6 +1,6 @@
 use Rattle.csa.specs.Lines.{text_statements}
 use Rattle.csa.specs.Reading.{records_of}
-use Rattle.csa.proofs.OneTextLemmas.{records-one, text-unrefused}
+use Rattle.csa.proofs.OneReadingLemmas.{records-one, text-unrefused}
 use Rattle.csa.proofs.laws.texts_are_read_in_one_way.Goals as goal
 
 pub returns-clause-one : goal.returns-clause-one

@@ -7,16 +7,13 @@ use Rattle.shogi_moves.specs.Rules.{Legal, play}
 use Rattle.shogi_repetition.specs.Line.{last_position}
 use Rattle.shogi_repetition.specs.Counting.{Follows}
 use Rattle.shogi_repetition.specs.Faults.{shogi_lines}
-use Rattle.csa.specs.Replaying.{RefusesMade}
 use Rattle.csa.proofs.ReplayLemmas.{made-fault}
 use Rattle.csa.proofs.replay.push_move.Goals as goal
 
 pub returns-in-Err-clause-fault : goal.returns-in-Err-clause-fault
 returns-in-Err-clause-fault c =
-    let ms : List SMove = c.args.replay.now.moves.items in
-    subst (λ f. RefusesMade ms c.args.played f) (sym c.fault_of.ensures)
-    (made-fault c.check_is.ensures c.each_line_has_one_end.ensures.one ms c.args.played c.in-Err.fault
-    c.requires.follows.played (c.in-Err.ensures.fault opening ms c.requires.follows))
+    rw c.fault_of.ensures (made-fault c.check_is.ensures c.each_line_has_one_end.ensures.one _ c.args.played
+    c.in-Err.fault c.requires.follows.played (c.in-Err.ensures.fault opening _ c.requires.follows))
 
 pub play-next-requires : goal.play-next-requires
 play-next-requires c =

@@ -1,12 +1,8 @@
-use Rattle.std.proofs.Common.{◌≡◌, ℕ, List, [], ◌∷◌, ◌++◌, codes, append_assoc, ap, ◌∙◌}
+use Rattle.std.proofs.Common.{◌≡◌, ℕ, List, [], ◌∷◌, ◌++◌, codes, append_assoc}
 use Rattle.std.specs.Prelude.{string_bytes}
 use Rattle.csa.specs.Writing.{line_of, date_text}
 use Rattle.csa.specs.Writer.{lines_text}
 use Rattle.csa.proofs.writing.push_head.Goals as goal
-
-joined : (t a b c d s e n p x : List ℕ) → ((((((((t ++ a) ++ b) ++ c) ++ d) ++ s) ++ e) ++ n) ++ p) ++ x ≡ t
-    ++ (a ++ (b ++ (c ++ (d ++ ((s ++ (e ++ n)) ++ (p ++ x))))))
-joined t a b c d s e n p x = simp append_assoc
 
 -- nine texts added one after another
 chain : (t t1 t2 t3 t4 t5 t6 t7 t8 t9 a b c d s e n p x : List ℕ) →
@@ -14,16 +10,7 @@ chain : (t t1 t2 t3 t4 t5 t6 t7 t8 t9 a b c d s e n p x : List ℕ) →
     → t9 ≡ t8 ++ x →
     t9 ≡ t ++ (a ++ (b ++ (c ++ (d ++ ((s ++ (e ++ n)) ++ (p ++ x))))))
 chain t t1 t2 t3 t4 t5 t6 t7 t8 t9 a b c d s e n p x e1 e2 e3 e4 e5 e6 e7 e8 e9 =
-    e9
-    ∙ ap (λ l. l ++ x)
-    (e8
-    ∙ ap (λ l. l ++ p)
-    (e7
-    ∙ ap (λ l. l ++ n)
-    (e6
-    ∙ ap (λ l. l ++ e)
-    (e5 ∙ ap (λ l. l ++ s) (e4 ∙ ap (λ l. l ++ d) (e3 ∙ ap (λ l. l ++ c) (e2 ∙ ap (λ l. l ++ b) e1)))))))
-    ∙ joined t a b c d s e n p x
+    simp (e9, e8, e7, e6, e5, e4, e3, e2, e1, append_assoc)
 
 pub returns : goal.returns
 unfolding lines_text

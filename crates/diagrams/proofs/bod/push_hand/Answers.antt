@@ -1,7 +1,6 @@
-use Rattle.std.proofs.Common.{ℕ, List, ◌++◌, ap, ◌∙◌, string_bytes, arith}
+use Rattle.std.proofs.Common.{arith}
 use Rattle.diagrams.specs.BodNames.{nothing}
-use Rattle.diagrams.specs.BodDiagram.{kinds_text, hand_text}
-use Rattle.diagrams.specs.ShogiLines.{hand_kinds}
+use Rattle.diagrams.specs.BodDiagram.{hand_text}
 use Rattle.diagrams.proofs.ShogiWriting.{some-hand, no-hand}
 use Rattle.diagrams.proofs.bod.push_hand.Goals as goal
 
@@ -10,15 +9,14 @@ unfolding hand_text
 returns-in_ok-push_str c =
     let before = c.args.text.now.bytes.ok.0 in
     let after = c.push_kinds.new.text.bytes.ok.0 in
-    no-hand nothing (string_bytes c.args.text.now) (kinds_text c.args.hand hand_kinds) _ c.in_ok-push_kinds.ensures _
+    no-hand nothing _ _ _ _ c.in_ok-push_kinds.ensures
     (omega (arith, c.len.ensures, c.if-len-before.true, c.len-before.ensures, before, after))
-    (c.in_ok-push_str.ensures.bytes
-    ∙ ap (λ (name : List ℕ). string_bytes c.push_kinds.new.text ++ name) c.nothing.ensures)
+    (rw c.nothing.ensures at c.in_ok-push_str.ensures.bytes)
 
 pub returns-else-len-before : goal.returns-else-len-before
 unfolding hand_text
 returns-else-len-before c =
     let before = c.args.text.now.bytes.ok.0 in
     let after = c.push_kinds.new.text.bytes.ok.0 in
-    some-hand nothing (string_bytes c.args.text.now) (kinds_text c.args.hand hand_kinds) _ c.in_ok-push_kinds.ensures
+    some-hand nothing _ _ _ c.in_ok-push_kinds.ensures
     (λ same. c.if-len-before.false (omega (arith, c.len.ensures, same, c.len-before.ensures, before, after)))

@@ -1,19 +1,26 @@
-use Rattle.std.proofs.Common.{ℕ, List, ◌++◌, ap, ◌∙◌, string_bytes}
-use Rattle.squares.specs.declared.shogi.piece.Kind.{Kind}
-use Rattle.squares.specs.declared.shogi.piece.Role.{Role}
-use Rattle.squares.specs.ShogiPieces.{demoted}
-use Rattle.diagrams.specs.BodNames.{role_name}
-use Rattle.diagrams.proofs.BodWriting.{held-written}
+use Rattle.std.proofs.Common.{◌≡◌, ◌≢◌, ℕ, zero, suc, ◌++◌, refl, append_assoc}
+use Rattle.squares.specs.declared.shogi.piece.HandKind.{HandKind}
+use Rattle.squares.specs.ShogiPieces.{on_board, demoted}
+use Rattle.diagrams.specs.BodNames.{role_name, count_name, wide_blank}
+use Rattle.diagrams.specs.BodDiagram.{held_text}
 use Rattle.diagrams.proofs.bod.push_held.Goals as goal
+
+-- some pieces of a kind
+some : (kind : HandKind) (n : ℕ) → n ≢ 0
+    → role_name (demoted (on_board kind)) ++ (count_name n ++ wide_blank) ≡ held_text kind n
+some kind zero h = absurd (h refl)
+some kind (suc n) h = refl
 
 pub returns : goal.returns
 returns c =
-    let t0 : List ℕ = string_bytes c.args.text.now in
-    let t2 : List ℕ = string_bytes c.push_count.new.text in
-    held-written c.args.kind c.args.count t0 (string_bytes c.push_str.new.self) t2 (string_bytes c.push_str-2.new.self)
-    c.if-count-eq0.false
-    (c.in_ok-push_str.ensures.bytes ∙ ap (λ (name : List ℕ). t0 ++ name)
-    (c.role_name.ensures ∙ ap (λ (r : Role). role_name r)
-    (c.role.ensures ∙ ap (λ (k : Kind). demoted k) c.kind.ensures)))
-    c.in_ok-push_count.ensures
-    (c.in_ok-push_str-2.ensures.bytes ∙ ap (λ (name : List ℕ). t2 ++ name) c.wide_blank.ensures)
+    simp (
+      ← (some c.args.kind c.args.count c.if-count-eq0.false),
+      c.in_ok-push_str-2.ensures.bytes,
+      c.wide_blank.ensures,
+      c.in_ok-push_count.ensures,
+      c.in_ok-push_str.ensures.bytes,
+      c.role_name.ensures,
+      c.role.ensures,
+      c.kind.ensures,
+      append_assoc,
+    )

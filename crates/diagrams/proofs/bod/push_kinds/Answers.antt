@@ -1,27 +1,16 @@
-use Rattle.std.proofs.Common.{ℕ, List, ◌++◌, get_or, sym, ap, ◌∙◌, string_bytes, append-nil}
-use Rattle.std.proofs.lemmas.List.{drop_all}
-use Rattle.squares.specs.declared.shogi.piece.HandKind.{HandKind}
 use Rattle.squares.specs.declared.shogi.piece.HandKind.TheVariants.{Rook}
-use Rattle.diagrams.specs.BodDiagram.{held_text, kinds_text}
+use Rattle.diagrams.specs.BodDiagram.{held_text}
 use Rattle.diagrams.specs.ShogiLines.{hand_kinds}
-use Rattle.diagrams.proofs.ShogiWriting.{kinds-more}
+use Rattle.diagrams.proofs.ShogiWriting.{kinds-more, kinds-end}
 use Rattle.diagrams.proofs.bod.push_kinds.Goals as goal
 
 pub loop-kind-preserved : goal.loop-kind-preserved
 unfolding hand_kinds
 loop-kind-preserved c =
-    let text : List ℕ = string_bytes c.loop-kind.text in
-    let kind : HandKind = get_or hand_kinds c.loop-kind.kind-index Rook in
-    kinds-more held_text c.args.hand hand_kinds c.loop-kind.kind-index Rook
-    (string_bytes c.args.text.now ++ kinds_text c.args.hand hand_kinds) text (string_bytes c.push_held.new.text)
-    c.loop-kind-test.true c.loop-kind.invariant
-    (c.in_ok-push_held.ensures ∙ ap (λ (n : ℕ). text ++ held_text kind n) c.count.ensures)
+    kinds-more held_text c.args.hand hand_kinds c.loop-kind.kind-index Rook _ _ _ c.loop-kind-test.true
+    c.loop-kind.invariant (rw c.count.ensures at c.in_ok-push_held.ensures)
 
 pub returns : goal.returns
 unfolding hand_kinds
 returns c =
-    let text : List ℕ = string_bytes c.loop-kind.text in
-    sym (append-nil text)
-    ∙ sym
-    (ap (λ ks. text ++ kinds_text c.args.hand ks) (drop_all c.loop-kind.kind-index hand_kinds c.loop-kind-test.false))
-    ∙ c.loop-kind.invariant
+    kinds-end held_text c.args.hand hand_kinds c.loop-kind.kind-index _ _ c.loop-kind-test.false c.loop-kind.invariant

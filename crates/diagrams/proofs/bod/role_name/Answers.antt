@@ -3,57 +3,43 @@ use Rattle.std.proofs.Math.Utf8.{encode}
 use Rattle.diagrams.proofs.bod.role_name.Goals as goal
 
 pub returns-in-King : goal.returns-in-King
-unfolding encode
-returns-in-King c = search rules
+returns-in-King c = unfold encode in search rules
 
 pub returns-in-Rook : goal.returns-in-Rook
-unfolding encode
-returns-in-Rook c = search rules
+returns-in-Rook c = unfold encode in search rules
 
 pub returns-in-Bishop : goal.returns-in-Bishop
-unfolding encode
-returns-in-Bishop c = search rules
+returns-in-Bishop c = unfold encode in search rules
 
 pub returns-in-Gold : goal.returns-in-Gold
-unfolding encode
-returns-in-Gold c = search rules
+returns-in-Gold c = unfold encode in search rules
 
 pub returns-in-Silver : goal.returns-in-Silver
-unfolding encode
-returns-in-Silver c = search rules
+returns-in-Silver c = unfold encode in search rules
 
 pub returns-in-Knight : goal.returns-in-Knight
-unfolding encode
-returns-in-Knight c = search rules
+returns-in-Knight c = unfold encode in search rules
 
 pub returns-in-Lance : goal.returns-in-Lance
-unfolding encode
-returns-in-Lance c = search rules
+returns-in-Lance c = unfold encode in search rules
 
 pub returns-in-Pawn : goal.returns-in-Pawn
-unfolding encode
-returns-in-Pawn c = search rules
+returns-in-Pawn c = unfold encode in search rules
 
 pub returns-in-PromotedRook : goal.returns-in-PromotedRook
-unfolding encode
-returns-in-PromotedRook c = search rules
+returns-in-PromotedRook c = unfold encode in search rules
 
 pub returns-in-PromotedBishop : goal.returns-in-PromotedBishop
-unfolding encode
-returns-in-PromotedBishop c = search rules
+returns-in-PromotedBishop c = unfold encode in search rules
 
 pub returns-in-PromotedSilver : goal.returns-in-PromotedSilver
-unfolding encode
-returns-in-PromotedSilver c = search rules
+returns-in-PromotedSilver c = unfold encode in search rules
 
 pub returns-in-PromotedKnight : goal.returns-in-PromotedKnight
-unfolding encode
-returns-in-PromotedKnight c = search rules
+returns-in-PromotedKnight c = unfold encode in search rules
 
 pub returns-in-PromotedLance : goal.returns-in-PromotedLance
-unfolding encode
-returns-in-PromotedLance c = search rules
+returns-in-PromotedLance c = unfold encode in search rules
 
 pub returns-in-PromotedPawn : goal.returns-in-PromotedPawn
-unfolding encode
-returns-in-PromotedPawn c = search rules
+returns-in-PromotedPawn c = unfold encode in search rules

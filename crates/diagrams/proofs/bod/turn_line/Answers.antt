@@ -3,9 +3,7 @@ use Rattle.std.proofs.Math.Utf8.{encode}
 use Rattle.diagrams.proofs.bod.turn_line.Goals as goal
 
 pub returns-in-First : goal.returns-in-First
-unfolding encode
-returns-in-First c = search rules
+returns-in-First c = unfold encode in search rules
 
 pub returns-in-Second : goal.returns-in-Second
-unfolding encode
-returns-in-Second c = search rules
+returns-in-Second c = unfold encode in search rules

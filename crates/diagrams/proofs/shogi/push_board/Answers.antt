@@ -1,21 +1,18 @@
-use Rattle.std.proofs.Common.{◌++◌, ap, ◌∙◌, string_bytes, append_assoc, arith}
-use Rattle.squares.specs.ShogiBoard.{ShogiBoard}
-use Rattle.diagrams.specs.ShogiDiagram.{rank_text, ranks_text, heading, board_text}
-use Rattle.diagrams.proofs.ShogiWriting.{ranks-more, ranks-end}
+use Rattle.std.proofs.Common.{refl, ap, ◌∙◌, ◌++◌, append_assoc, arith}
+use Rattle.diagrams.specs.ShogiDiagram.{ranks_text, board_text}
+use Rattle.diagrams.proofs.Joined.{parts-more}
+use Rattle.diagrams.proofs.ShogiWriting.{ranks-end}
 use Rattle.diagrams.proofs.shogi.push_board.Goals as goal
 
 pub loop-rank-preserved : goal.loop-rank-preserved
 loop-rank-preserved c =
-    let board : ShogiBoard = c.args.board.now in
-    ranks-more (rank_text board) c.loop-rank.rank (string_bytes c.push_heading.new.text ++ ranks_text board 1 9)
-    (string_bytes c.loop-rank.text) c.loop-rank.invariant (string_bytes c.push_rank.new.text) c.loop-rank-test.true
-    c.in_ok-push_rank.ensures
+    parts-more (ranks_text c.args.board.now) 10 c.loop-rank.rank _ _ _ _ (λ left e. refl) c.loop-rank-test.true
+    c.loop-rank.invariant c.in_ok-push_rank.ensures
 
 pub returns : goal.returns
 unfolding board_text
 returns c =
-    let board : ShogiBoard = c.args.board.now in
-    ranks-end (rank_text board) c.loop-rank.rank _ (string_bytes c.loop-rank.text) c.loop-rank.invariant
-    (omega (arith, c.loop-rank-test.false))
-    ∙ ap (λ t. t ++ ranks_text board 1 9) c.in_ok-push_heading.ensures
-    ∙ append_assoc (string_bytes c.args.text.now) heading (ranks_text board 1 9)
+    ranks-end (ranks_text c.args.board.now) c.loop-rank.rank _ _ c.loop-rank.invariant
+    (omega (arith, c.loop-rank-test.false)) refl
+    ∙ ap (λ t. t ++ ranks_text c.args.board.now 1 9) c.in_ok-push_heading.ensures
+    ∙ append_assoc _ _ (ranks_text c.args.board.now 1 9)

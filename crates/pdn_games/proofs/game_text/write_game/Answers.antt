@@ -1,12 +1,11 @@
-use Rattle.std.proofs.Common.{◌≡◌, List, [], ℕ, ◌++◌, length, append_assoc, ap, ◌∙◌}
+use Rattle.std.proofs.Common.{◌≡◌, List, [], ℕ, ◌++◌, length, append_assoc}
 use Rattle.squares.specs.DraughtsOpening.{opening}
 use Rattle.pdn_games.specs.Writing.{plies_text, end_text}
 use Rattle.pdn_games.specs.Writer.{tags_text}
 use Rattle.pdn_games.proofs.game_text.write_game.Goals as goal
 
 joined : (t0 t1 t2 t3 a b c : List ℕ) → t0 ≡ [] → t1 ≡ t0 ++ a → t2 ≡ t1 ++ b → t3 ≡ t2 ++ c → t3 ≡ a ++ (b ++ c)
-joined t0 t1 t2 t3 a b c e0 e1 e2 e3 = e3 ∙ ap (λ l. l ++ c) (e2 ∙ ap (λ l. l ++ b) (e1 ∙ ap (λ l. l ++ a) e0))
-    ∙ append_assoc a b c
+joined t0 t1 t2 t3 a b c e0 e1 e2 e3 = rw (e3, e2, e1, e0) (append_assoc a b c)
 
 pub returns : goal.returns
 unfolding tags_text

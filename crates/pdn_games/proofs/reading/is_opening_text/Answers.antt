@@ -8,9 +8,6 @@ use Rattle.pdn.specs.Laws.{ReadsOnePosition}
 use Rattle.pdn_games.proofs.FenTextLemmas.{fen-utf8}
 use Rattle.pdn_games.proofs.reading.is_opening_text.Goals as goal
 
-never-true : {A : Type 0} → false ≡ true → A
-never-true e = absurd (cc)
-
 -- a text with such a fault is none of a position's
 no-fen : ReadsOnePosition → (text read : List ℕ) (f : FenFault) → read ≡ text → HasFenFault read f → IsFen text opening
     → f ≡ fault.Memory
@@ -18,7 +15,7 @@ no-fen laws text read f same h fen = (laws opening text fen).1 f (subst (λ t. H
 
 pub returns-in-Err : goal.returns-in-Err
 returns-in-Err c = (
-  never-true,
+  λ e. absurd (let never : false ≡ true = e in cc),
   λ fen. absurd (c.in-Err.ensures.cases.0 (fen-utf8 c.fen_forms_are_texts.ensures c.args.text.now opening fen)),
 )
 
@@ -33,7 +30,7 @@ returns-in-Ok-read_fen c =
 
 pub returns-in-Err-BadText : goal.returns-in-Err-BadText
 returns-in-Err-BadText c = (
-  never-true,
+  λ e. absurd (let never : false ≡ true = e in cc),
   λ fen.
       absurd (let memory : c.in-Err-BadText.field-0 ≡ fault.Memory =
       no-fen c.reads_one_position.ensures c.args.text.now c.in-Ok.text.now c.in-Err-BadText.field-0

@@ -4,20 +4,11 @@ use Rattle.pdn_games.specs.Writing.{tag_line, date_text, result_text}
 use Rattle.pdn_games.specs.Writer.{tags_text}
 use Rattle.pdn_games.proofs.writing.push_head.Goals as goal
 
-joined : (t a b c d s e n : List ℕ) → ((((((t ++ a) ++ b) ++ c) ++ d) ++ s) ++ e) ++ n ≡ t
-    ++ (a ++ (b ++ (c ++ (d ++ (s ++ (e ++ n))))))
-joined t a b c d s e n = simp append_assoc
-
 -- seven texts added one after another
 chain : (t t1 t2 t3 t4 t5 t6 t7 a b c d s e n : List ℕ) → t1 ≡ t ++ a → t2 ≡ t1 ++ b → t3 ≡ t2 ++ c → t4 ≡ t3 ++ d
     → t5 ≡ t4 ++ s → t6 ≡ t5 ++ e → t7 ≡ t6 ++ n → t7 ≡ t ++ (a ++ (b ++ (c ++ (d ++ (s ++ (e ++ n))))))
 chain t t1 t2 t3 t4 t5 t6 t7 a b c d s e n e1 e2 e3 e4 e5 e6 e7 =
-    e7
-    ∙ ap (λ l. l ++ n)
-    (e6
-    ∙ ap (λ l. l ++ e)
-    (e5 ∙ ap (λ l. l ++ s) (e4 ∙ ap (λ l. l ++ d) (e3 ∙ ap (λ l. l ++ c) (e2 ∙ ap (λ l. l ++ b) e1)))))
-    ∙ joined t a b c d s e n
+    rw (e7, e6, e5, e4, e3, e2, e1) (simp append_assoc)
 
 pub returns : goal.returns
 unfolding tags_text

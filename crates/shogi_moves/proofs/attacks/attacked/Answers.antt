@@ -5,8 +5,5 @@ use Rattle.shogi_moves.proofs.TruthLemmas.{holds-as}
 use Rattle.shogi_moves.proofs.attacks.attacked.Goals as goal
 
 pub returns : goal.returns
-returns c =
-    let a = c.args in
-    holds-as c.is_attacked.result (attacked a.position.now.board a.side a.square)
-    (c.is_attacked.ensures ∙ ap (λ b. attacked b a.side a.square) c.board.ensures.value)
-    (attacked-is a.position.now.board a.side a.square)
+returns c = holds-as _ _ (c.is_attacked.ensures ∙ ap (λ b. attacked b c.args.side c.args.square) c.board.ensures.value)
+    (attacked-is _ _ _)

@@ -6,7 +6,5 @@ use Rattle.shogi_moves.proofs.attacks.in_check.Goals as goal
 
 pub returns : goal.returns
 returns c =
-    let p = c.args.position.now in
-    holds-as c.is_king_attacked.result (king_attacked p.board p.turn)
-    (c.is_king_attacked.ensures ∙ (λ i. king_attacked (c.board.ensures.value i) (c.turn.ensures i)))
-    (king_attacked-is p.board p.turn)
+    holds-as _ _ (c.is_king_attacked.ensures ∙ (λ i. king_attacked (c.board.ensures.value i) (c.turn.ensures i)))
+    (king_attacked-is _ _)

@@ -5,6 +5,4 @@ use Rattle.shogi_moves.proofs.TruthLemmas.{holds-as}
 use Rattle.shogi_moves.proofs.checking.has_move.Goals as goal
 
 pub returns : goal.returns
-returns c =
-    let p = c.args.position.now in
-    holds-as c.has_move_on.result (has_move p) (c.has_move_on.ensures ∙ ap has_move c.of.ensures.value) (has_move-is p)
+returns c = holds-as _ _ (c.has_move_on.ensures ∙ ap has_move c.of.ensures.value) (has_move-is _)

@@ -2,7 +2,7 @@ use Rattle.std.proofs.Common.{◌&&◌, ap, sym, ◌∙◌}
 use Rattle.std.specs.Prelude.{not}
 use Rattle.shogi_moves.specs.Layouts.{position_of}
 use Rattle.shogi_moves.specs.Computed.{mates_by_pawn}
-use Rattle.shogi_moves.proofs.ReachedLemmas.{is_legal-pseudo}
+use Rattle.shogi_moves.proofs.SeekLemmas.{is_legal-pseudo}
 use Rattle.shogi_moves.proofs.checking.is_legal.Goals as goal
 
 pub returns-then-not-leaves_king : goal.returns-then-not-leaves_king

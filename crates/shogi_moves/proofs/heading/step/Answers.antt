@@ -1,6 +1,6 @@
 use Rattle.std.proofs.Common.{◌<◌, ◌∙◌, sym, rules}
 use Rattle.shogi_moves.specs.Reach.{next_file, next_rank, square_at}
-use Rattle.shogi_moves.proofs.HeadingLemmas.{square_at-is, step-square_at}
+use Rattle.shogi_moves.proofs.LineLemmas.{square_at-is, step-square_at}
 use Rattle.shogi_moves.proofs.heading.step.Goals as goal
 
 pub returns : goal.returns

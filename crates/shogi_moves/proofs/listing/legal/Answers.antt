@@ -6,7 +6,7 @@ use Rattle.squares.specs.declared.shogi.moves.SMove.{SMove}
 use Rattle.shogi_moves.specs.Rules.{Legal}
 use Rattle.shogi_moves.specs.Computed.{is_legal}
 use Rattle.shogi_moves.specs.Listing.{move_cmp, all_moves}
-use Rattle.shogi_moves.proofs.ListingLemmas.{moves-sorted, moves-members}
+use Rattle.shogi_moves.proofs.MateLemmas.{moves-sorted, moves-members}
 use Rattle.shogi_moves.proofs.listing.legal.Goals as goal
 
 listed : (c : goal.In_ok-seek) → c.listed.inside.moves.items ≡ all_moves (is_legal c.args.position.now)
@@ -16,7 +16,7 @@ listed c =
 
 pub returns-clause-in_order : goal.returns-clause-in_order
 returns-clause-in_order c = subst (λ ms. IsStrictlySortedBy move_cmp ms) (sym (listed c))
-    (moves-sorted (is_legal c.args.position.now))
+    (moves-sorted c.args.position.now)
 
 pub returns-clause-members : goal.returns-clause-members
 returns-clause-members c m =

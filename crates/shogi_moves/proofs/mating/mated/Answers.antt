@@ -5,6 +5,4 @@ use Rattle.shogi_moves.proofs.TruthLemmas.{holds-as}
 use Rattle.shogi_moves.proofs.mating.mated.Goals as goal
 
 pub returns : goal.returns
-returns c =
-    let p = c.args.position.now in
-    holds-as c.is_mate.result (is_mate p) (c.is_mate.ensures ∙ ap is_mate c.of.ensures.value) (is_mate-is p)
+returns c = holds-as _ _ (c.is_mate.ensures ∙ ap is_mate c.of.ensures.value) (is_mate-is _)

@@ -1,6 +1,6 @@
 use Rattle.std.proofs.Common.{◌∙◌}
 use Rattle.std.specs.FinMap as map
-use Rattle.shogi_moves.proofs.PawnLemmas.{pawn-cell}
+use Rattle.shogi_moves.proofs.KingLemmas.{pawn-cell}
 use Rattle.shogi_moves.proofs.pseudo.pawns_of.Goals as goal
 
 pub returns : goal.returns

@@ -1,54 +1,33 @@
-use Rattle.std.proofs.Common.{◌+◌, ◌-◌, ◌∙◌, sym, ap, arith}
-use Rattle.std.specs.Prelude.{is_some}
-use Rattle.std.specs.FinMap as map
-use Rattle.shogi_moves.proofs.HeadingLemmas.{walk-edge, walk-end, walk-here, walk-stopped, walk-on, some-is_none}
-use Rattle.shogi_moves.proofs.HeadingLemmas.{not_some-is_none}
+use Rattle.std.proofs.Common.{◌∙◌, sym, ap, arith}
+use Rattle.std.specs.Prelude.{not, is_some}
+use Rattle.shogi_moves.proofs.LineLemmas.{walk-edge, walk-end, walk-here, walk-stopped, walk-on}
 use Rattle.shogi_moves.proofs.reaching.comes_to.Goals as goal
 
 pub returns-in-None : goal.returns-in-None
-returns-in-None c =
-    let a = c.args in
-    let w = c.loop in
-    sym (walk-edge a.board.now a.to (a.distance - w.counter) a.side a.heading w.at (sym c.step.ensures ∙ c.in-None.is))
-    ∙ w.invariant
+returns-in-None c = sym (walk-edge _ _ _ _ _ _ (sym c.step.ensures ∙ c.in-None.is)) ∙ c.loop.invariant
 
 pub returns-then-eq : goal.returns-then-eq
 returns-then-eq c =
-    let a = c.args in
-    let w = c.loop in
     sym
-    (walk-here a.board.now a.to (a.distance - w.counter) a.side a.heading w.at (a.distance - (w.counter + 1))
-    c.in-Some.next (sym c.step.ensures ∙ c.in-Some.is) (omega (arith, c.loop-test.true))
+    (walk-here _ _ _ _ _ _ _ (sym c.step.ensures ∙ c.in-Some.is) (omega (arith, c.loop-test.true))
     (sym c.eq.ensures ∙ c.if-eq.true))
-    ∙ w.invariant
+    ∙ c.loop.invariant
 
 pub returns-then-is_some : goal.returns-then-is_some
 returns-then-is_some c =
-    let a = c.args in
-    let w = c.loop in
-    let taken = some-is_none (map.get a.board.now c.in-Some.next)
-    (ap is_some (sym c.at.ensures) ∙ sym c.is_some.ensures ∙ c.if-is_some.true) in
     sym
-    (walk-stopped a.board.now a.to (a.distance - w.counter) a.side a.heading w.at (a.distance - (w.counter + 1))
-    c.in-Some.next (sym c.step.ensures ∙ c.in-Some.is) (omega (arith, c.loop-test.true))
-    (sym c.eq.ensures ∙ c.if-eq.false) taken)
-    ∙ w.invariant
+    (walk-stopped _ _ _ _ _ _ _ (sym c.step.ensures ∙ c.in-Some.is) (omega (arith, c.loop-test.true))
+    (sym c.eq.ensures ∙ c.if-eq.false)
+    (ap (λ o. not (is_some o)) (sym c.at.ensures) ∙ ap not (sym c.is_some.ensures ∙ c.if-is_some.true)))
+    ∙ c.loop.invariant
 
 pub loop-preserved : goal.loop-preserved
 loop-preserved c =
-    let a = c.args in
-    let w = c.loop in
-    let clear = not_some-is_none (map.get a.board.now c.in-Some.next)
-    (ap is_some (sym c.at.ensures) ∙ sym c.is_some.ensures ∙ c.if-is_some.false) in
     sym
-    (walk-on a.board.now a.to (a.distance - w.counter) a.side a.heading w.at (a.distance - (w.counter + 1))
-    c.in-Some.next (sym c.step.ensures ∙ c.in-Some.is) (omega (arith, c.loop-test.true))
-    (sym c.eq.ensures ∙ c.if-eq.false) clear)
-    ∙ w.invariant
+    (walk-on _ _ _ _ _ _ _ (sym c.step.ensures ∙ c.in-Some.is) _ (omega (arith, c.loop-test.true))
+    (sym c.eq.ensures ∙ c.if-eq.false)
+    (ap (λ o. not (is_some o)) (sym c.at.ensures) ∙ ap not (sym c.is_some.ensures ∙ c.if-is_some.false)))
+    ∙ c.loop.invariant
 
 pub returns : goal.returns
-returns c =
-    let a = c.args in
-    let w = c.loop in
-    sym (walk-end a.board.now a.to (a.distance - w.counter) a.side a.heading w.at (omega (arith, c.loop-test.false)))
-    ∙ w.invariant
+returns c = sym (walk-end _ _ _ _ _ _ (omega (arith, c.loop-test.false))) ∙ c.loop.invariant

@@ -8,7 +8,7 @@ pub returns-clause-some : goal.returns-clause-some
 returns-clause-some c = λ start ms. (end_of start ms, end_of-is start ms)
 
 pub returns-clause-one : goal.returns-clause-one
-returns-clause-one c = λ start ms one two x y. one-end start ms one two x y
+returns-clause-one c = one-end
 
 pub returns-clause-computed : goal.returns-clause-computed
 returns-clause-computed c = λ start ms end. (

@@ -1,31 +1,22 @@
-use Rattle.std.proofs.Common.{◌≡◌, ◌∙◌, ◌+◌, ◌<◌, ◌≤◌, Err, get_or, ap, ℕ, List, length, take, sym, subst, arith}
-use Rattle.std.proofs.lemmas.Grind.{common_steps}
-use Rattle.std.proofs.lemmas.List.{take_more}
+use Rattle.std.proofs.Common.{◌≡◌, ◌+◌, ◌<◌, Err, ap, ℕ, List, length, take, sym, subst, arith}
+use Rattle.std.proofs.lemmas.List.{take_all, take_more}
 use Rattle.cross_tables.specs.declared.sums.Scored.{Scored}
 use Rattle.cross_tables.specs.Totals.{AreTotals, Fit, totals}
 use Rattle.cross_tables.specs.declared.standings.StandingsFault.TheVariants.{TooMany}
-use Rattle.cross_tables.proofs.Adding.{same-err}
 use Rattle.std.proofs.lemmas.Result.{err_from_is_err_and}
+use Rattle.cross_tables.proofs.Adding.{sums-at, Fit-take}
 use Rattle.cross_tables.proofs.Alike.{only-one}
-use Rattle.cross_tables.proofs.Showing.{sums-at, Fit-take}
 use Rattle.cross_tables.proofs.standings.Standings.of_rows.Goals as goal
-
-abbrev none : Scored
-none = record { member = 0; opponent = 0; sums = record { points = 0; wins = 0; draws = 0; losses = 0 } }
-
-whole : (rows : List Scored) (i : ℕ) → length rows ≤ i → take i rows ≡ rows
-whole rows i h = grind (arith, common_steps)
 
 pub returns-in_err-add-clause-too_many : goal.returns-in_err-add-clause-too_many
 returns-in_err-add-clause-too_many c = λ is.
     let rows : List Scored = c.args.rows.now in
     let i : ℕ = c.loop-row.row-index in
     let within : i < length rows = omega arith in
-    let p = err_from_is_err_and c.from_residual.result c.from_residual.ensures.1 in
-    let full : c.in_err-add.field-0.0 ≡ TooMany = sym p.2 ∙ same-err c.from_residual.result _ _ p.1 is in
+    let (fault, was, same) = err_from_is_err_and c.from_residual.result c.from_residual.ensures.1 in
+    let full : c.in_err-add.field-0.0 ≡ TooMany = cc in
     let never = c.in_err-add.ensures.too_many (ap Err full) (take i rows) c.loop-row.invariant in
-    let m : ℕ = (get_or rows i none).member in
-    (m, λ fit. never (subst (λ rs. Fit (totals m rs)) (take_more rows i none within) (Fit-take rows (i + 1) m fit)))
+    (_, λ fit. never (subst Fit (ap (totals _) (take_more rows i _ within)) (Fit-take rows (i + 1) _ fit)))
 
 pub loop-row-preserved : goal.loop-row-preserved
 loop-row-preserved c =
@@ -37,8 +28,8 @@ loop-row-preserved c =
 pub returns-clause-totals : goal.returns-clause-totals
 returns-clause-totals c =
     let rows : List Scored = c.args.rows.now in
-    let all : take c.loop-row.row-index rows ≡ rows = whole rows c.loop-row.row-index (omega arith) in
-    c.rank.ensures.totals rows (subst (λ rs. AreTotals c.loop-row.standings rs) all c.loop-row.invariant)
+    let all = take_all c.loop-row.row-index rows (omega (arith, c.loop-row-test.false)) in
+    c.rank.ensures.totals rows (subst (AreTotals c.loop-row.standings) all c.loop-row.invariant)
 
 pub returns-clause-only : goal.returns-clause-only
 returns-clause-only c = λ others t ranked.

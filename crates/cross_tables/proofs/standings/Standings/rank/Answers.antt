@@ -2,8 +2,8 @@ use Rattle.std.proofs.Common.{rules, sym, subst}
 use Rattle.std.proofs.lemmas.List.Sorted.{answers_always}
 use Rattle.cross_tables.specs.Totals.{AreTotals}
 use Rattle.cross_tables.specs.Places.{precedes}
-use Rattle.cross_tables.proofs.Orders.{precedes_is_order}
-use Rattle.cross_tables.proofs.Showing.{AreTotals-permutation}
+use Rattle.cross_tables.proofs.Alike.{precedes_is_order}
+use Rattle.cross_tables.proofs.Adding.{AreTotals-permutation}
 use Rattle.cross_tables.proofs.standings.Standings.rank.Goals as goal
 
 pub returns-clause-totals : goal.returns-clause-totals

@@ -1,8 +1,5 @@
-use Rattle.std.proofs.Common.{◌≡◌, subst}
-use Rattle.std.specs.Io.KnownBytes.{Appends}
-use Rattle.record_writer.specs.Pieces.{AppendsSome}
 use Rattle.record_writer.specs.PieceLaws.{begun-nothing}
-use Rattle.csa.proofs.WriterLemmas.{last_of, end-line, adds-end, begins-end}
+use Rattle.csa.proofs.WriterLemmas.{adds-end, begins-end}
 use Rattle.csa.proofs.game_writer.GameWriter.finish.Goals as goal
 
 pub returns-in_err-push_end-clause-begun : goal.returns-in_err-push_end-clause-begun
@@ -10,24 +7,18 @@ returns-in_err-push_end-clause-begun g c = begins-end c.args.self _ _ (begun-not
 
 pub returns-in_err-write_piece-clause-begun : goal.returns-in_err-write_piece-clause-begun
 returns-in_err-write_piece-clause-begun g c =
-    let game = c.args.self in
-    let line : c.as_bytes.result.now ≡ last_of game =
-    end-line game c.turn.result _ _ _ c.clear.ensures.bytes c.in_ok-push_end.ensures c.turn.ensures
-    c.as_bytes.ensures.value in
-    begins-end game _ _ (subst (AppendsSome _ _) line c.write_piece.ensures.begun)
+    begins-end c.args.self _ _
+    (rw (c.as_bytes.ensures.value, c.in_ok-push_end.ensures, c.clear.ensures.bytes, c.turn.ensures) at
+    c.write_piece.ensures.begun)
 
 pub returns-clause-written : goal.returns-clause-written
 returns-clause-written g c =
-    let game = c.args.self in
-    let line : c.as_bytes.result.now ≡ last_of game =
-    end-line game c.turn.result _ _ _ c.clear.ensures.bytes c.in_ok-push_end.ensures c.turn.ensures
-    c.as_bytes.ensures.value in
-    adds-end game _ _ (subst (Appends _ _) line c.in_ok-write_piece.ensures.whole)
+    adds-end c.args.self _ _
+    (rw (c.as_bytes.ensures.value, c.in_ok-push_end.ensures, c.clear.ensures.bytes, c.turn.ensures) at
+    c.in_ok-write_piece.ensures.whole)
 
 pub returns-clause-begun : goal.returns-clause-begun
 returns-clause-begun g c =
-    let game = c.args.self in
-    let line : c.as_bytes.result.now ≡ last_of game =
-    end-line game c.turn.result _ _ _ c.clear.ensures.bytes c.in_ok-push_end.ensures c.turn.ensures
-    c.as_bytes.ensures.value in
-    begins-end game _ _ (subst (AppendsSome _ _) line c.write_piece.ensures.begun)
+    begins-end c.args.self _ _
+    (rw (c.as_bytes.ensures.value, c.in_ok-push_end.ensures, c.clear.ensures.bytes, c.turn.ensures) at
+    c.write_piece.ensures.begun)

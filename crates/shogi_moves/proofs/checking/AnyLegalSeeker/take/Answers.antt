@@ -6,18 +6,10 @@ use Rattle.shogi_moves.proofs.checking.AnyLegalSeeker.take.Goals as goal
 
 pub returns-then-is_legal : goal.returns-then-is_legal
 returns-then-is_legal c =
-    let a = c.args in
-    λ i.
-    record {
-      found = found-passing (is_legal (position_of a.layout.now)) a.played a.self.now.found
-          (sym c.is_legal.ensures ∙ c.if-is_legal.true) i;
-    }
+    let test = is_legal (position_of c.args.layout.now) in
+    λ i. record { found = found-passing test _ c.args.self.now.found (sym c.is_legal.ensures ∙ c.if-is_legal.true) i }
 
 pub returns-else-is_legal : goal.returns-else-is_legal
 returns-else-is_legal c =
-    let a = c.args in
-    λ i.
-    record {
-      found = found-failing (is_legal (position_of a.layout.now)) a.played a.self.now.found
-          (sym c.is_legal.ensures ∙ c.if-is_legal.false) i;
-    }
+    let test = is_legal (position_of c.args.layout.now) in
+    λ i. record { found = found-failing test _ c.args.self.now.found (sym c.is_legal.ensures ∙ c.if-is_legal.false) i }

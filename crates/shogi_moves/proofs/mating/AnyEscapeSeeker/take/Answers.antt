@@ -2,8 +2,7 @@ use Rattle.std.proofs.Common.{ap, sym, ◌∙◌}
 use Rattle.std.specs.Prelude.{not}
 use Rattle.shogi_moves.specs.Layouts.{position_of}
 use Rattle.shogi_moves.specs.Computed.{escapes}
-use Rattle.shogi_moves.proofs.ReachedLemmas.{escapes-pseudo}
-use Rattle.shogi_moves.proofs.SeekLemmas.{found-passing, found-failing}
+use Rattle.shogi_moves.proofs.SeekLemmas.{escapes-pseudo, found-passing, found-failing}
 use Rattle.shogi_moves.proofs.mating.AnyEscapeSeeker.take.Goals as goal
 
 pub returns-then-not-leaves_king : goal.returns-then-not-leaves_king

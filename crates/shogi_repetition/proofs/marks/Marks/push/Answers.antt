@@ -1,10 +1,5 @@
 use Rattle.std.proofs.Common.{refl, sym, ◌∙◌, ap, is_ok, arith}
-use Rattle.std.specs.Prelude.{Some, cond}
-use Rattle.std.specs.BTreeMap.{get}
-use Rattle.std.specs.Ordering.{eq_by_cmp}
-use Rattle.squares.specs.ShogiOrder.{position_cmp}
-use Rattle.shogi_repetition.proofs.MarkLemmas.{unlimited, next-first_checks, next-second_checks, after-end, not-legal}
-use Rattle.shogi_repetition.proofs.MarkLemmas.{next-follows}
+use Rattle.shogi_repetition.proofs.MarkLemmas.{unlimited, next-checks, after-end, not-legal, next-follows}
 use Rattle.shogi_repetition.proofs.marks.Marks.push.Goals as goal
 
 pub returns-in-Some-clause-fault : goal.returns-in-Some-clause-fault
@@ -22,14 +17,12 @@ invariant_of-self-2 c =
     let self = c.args.self.now in
     let before = unlimited self.tail self.last self.plies self.stood.times self.stood.first
     (sym c.end_by_tail.ensures ∙ c.in-None.is) in
-    let within = self.within in
-    let first = next-first_checks self.tail c.play-next.result self.plies self.few_first_checks in
-    let second = next-second_checks self.tail c.play-next.result self.plies self.few_second_checks in
+    let checks = next-checks self.tail c.play-next.result self.plies self.few_first_checks self.few_second_checks in
     let tail = c.next-self.ensures in
     record {
-      within = omega (arith, before, within);
-      few_first_checks = rw tail first;
-      few_second_checks = rw tail second;
+      within = omega (arith, before, self.within);
+      few_first_checks = rw tail checks.0;
+      few_second_checks = rw tail checks.1;
     }
 
 pub returns-clause-follows : goal.returns-clause-follows
@@ -37,7 +30,4 @@ returns-clause-follows c = λ start moves follows.
     next-follows start moves c.args.played.now c.args.self.now follows c.play-next.result c.play-next.ensures _
     c.args.self.now.within (sym c.end_by_tail.ensures ∙ c.in-None.is)
     (c.check.ensures.legal.0 (ap is_ok c.in-Ok.is)) refl refl c.next-self.ensures c.stood_again-stood.ensures (λ q.
-    c.in_ok-insert.ensures.updates.0 q
-    ∙ ap
-    (λ p. cond (eq_by_cmp position_cmp p q) (Some c.stood_again-stood.result)
-    (get position_cmp c.args.self.now.seen q)) c.copied.ensures)
+    rw c.copied.ensures at (c.in_ok-insert.ensures.updates.0 q))
