@@ -1,99 +1,50 @@
--- The first of the tables that is wrong: one of them named, and the first of two.
-use Rattle.std.proofs.Common.{◌≡◌, ◌<◌, ℕ, Option, Some, None, refl, sym, subst, arith}
+-- The first of the tables that is wrong: those before it, one after another, and the first of two.
+use Rattle.std.proofs.Common.{◌≡◌, ◌<◌, ℕ, suc, Option, Some, None, refl, sym, subst, arith, inl, inr}
+use Rattle.std.proofs.lemmas.Bool.{cases_eq}
 use Rattle.store_tables.specs.declared.names.Table.{Table}
 use Rattle.store_tables.specs.declared.names.Table.TheVariants.{Members, Events, EventRules, Challenges, Moves, Games}
 use Rattle.store_tables.specs.declared.names.Table.TheVariants.{Seen, Scores, Meta}
 use Rattle.club_audit.specs.FirstWrong.{IsFirstWrong, Precedes, order}
 
--- ---- one table
+-- tables with one place in the order are one
+same-order : (t u : Table) → order t ≡ order u → t ≡ u
+same-order Members Members is = refl
+same-order Events Events is = refl
+same-order EventRules EventRules is = refl
+same-order Challenges Challenges is = refl
+same-order Moves Moves is = refl
+same-order Games Games is = refl
+same-order Seen Seen is = refl
+same-order Scores Scores is = refl
+same-order Meta Meta is = refl
+same-order _ _ is = absurd (omega arith)
+
+-- there are nine
+in-order : (t : Table) → order t < 9
+in-order Members = omega arith
+in-order _ = omega arith
 
 module _ (R : Table → Type 0) where
-  -- the tables before a place in the order, one by one
-  pub by-order : (n : ℕ) → (0 < n → R Members) → (1 < n → R Events) → (2 < n → R EventRules) → (3 < n
-      → R Challenges) → (4 < n → R Moves) → (5 < n → R Games) → (6 < n → R Seen) → (7 < n → R Scores) → (8 < n
-      → R Meta) → (t : Table) → order t < n → R t
-  by-order n a b c d e f g h i Members low = a low
-  by-order n a b c d e f g h i Events low = b low
-  by-order n a b c d e f g h i EventRules low = c low
-  by-order n a b c d e f g h i Challenges low = d low
-  by-order n a b c d e f g h i Moves low = e low
-  by-order n a b c d e f g h i Games low = f low
-  by-order n a b c d e f g h i Seen low = g low
-  by-order n a b c d e f g h i Scores low = h low
-  by-order n a b c d e f g h i Meta low = i low
+  -- each table before this place in the order is right
+  abbrev pub UpTo : ℕ → Type 0
+  UpTo n = (t : Table) → order t < n → R t
 
-  pub first-events : R Members → ¬ R Events → IsFirstWrong R (Some Events)
-  first-events a wrong = record {
-    before = by-order 1 (λ l. a) (λ l. absurd (omega (arith, l))) (λ l. absurd (omega (arith, l)))
-        (λ l. absurd (omega (arith, l))) (λ l. absurd (omega (arith, l))) (λ l. absurd (omega (arith, l)))
-        (λ l. absurd (omega (arith, l))) (λ l. absurd (omega (arith, l))) (λ l. absurd (omega (arith, l)));
-    named = wrong;
-  }
+  pub up-to-none : UpTo 0
+  up-to-none t low = absurd (omega arith)
 
-  pub first-rules : R Members → R Events → ¬ R EventRules → IsFirstWrong R (Some EventRules)
-  first-rules a b wrong = record {
-    before = by-order 2 (λ l. a) (λ l. b) (λ l. absurd (omega (arith, l))) (λ l. absurd (omega (arith, l)))
-        (λ l. absurd (omega (arith, l))) (λ l. absurd (omega (arith, l))) (λ l. absurd (omega (arith, l)))
-        (λ l. absurd (omega (arith, l))) (λ l. absurd (omega (arith, l)));
-    named = wrong;
-  }
+  -- and so is the one at this place
+  pub with-next : (t : Table) → UpTo (order t) → R t → UpTo (suc (order t))
+  with-next t before right u low = elim (cases_eq (order u) (order t)) [
+    | inl same ↦ subst R (same-order t u (sym same)) right
+    | inr other ↦ before u (omega (arith, low, other))
+  ]
 
-  pub first-challenges : R Members → R Events → R EventRules → ¬ R Challenges → IsFirstWrong R (Some Challenges)
-  first-challenges a b c wrong = record {
-    before = by-order 3 (λ l. a) (λ l. b) (λ l. c) (λ l. absurd (omega (arith, l)))
-        (λ l. absurd (omega (arith, l))) (λ l. absurd (omega (arith, l))) (λ l. absurd (omega (arith, l)))
-        (λ l. absurd (omega (arith, l))) (λ l. absurd (omega (arith, l)));
-    named = wrong;
-  }
+  pub up-to-moves : R Members → R Events → R EventRules → R Challenges → UpTo 4
+  up-to-moves a b c d =
+      with-next Challenges (with-next EventRules (with-next Events (with-next Members up-to-none a) b) c) d
 
-  pub first-moves : R Members → R Events → R EventRules → R Challenges → ¬ R Moves → IsFirstWrong R (Some Moves)
-  first-moves a b c d wrong = record {
-    before = by-order 4 (λ l. a) (λ l. b) (λ l. c) (λ l. d) (λ l. absurd (omega (arith, l)))
-        (λ l. absurd (omega (arith, l))) (λ l. absurd (omega (arith, l))) (λ l. absurd (omega (arith, l)))
-        (λ l. absurd (omega (arith, l)));
-    named = wrong;
-  }
-
-  pub first-games : R Members → R Events → R EventRules → R Challenges → R Moves → ¬ R Games
-      → IsFirstWrong R (Some Games)
-  first-games a b c d e wrong = record {
-    before = by-order 5 (λ l. a) (λ l. b) (λ l. c) (λ l. d) (λ l. e) (λ l. absurd (omega (arith, l)))
-        (λ l. absurd (omega (arith, l))) (λ l. absurd (omega (arith, l))) (λ l. absurd (omega (arith, l)));
-    named = wrong;
-  }
-
-  pub first-seen : R Members → R Events → R EventRules → R Challenges → R Moves → R Games → ¬ R Seen
-      → IsFirstWrong R (Some Seen)
-  first-seen a b c d e f wrong = record {
-    before = by-order 6 (λ l. a) (λ l. b) (λ l. c) (λ l. d) (λ l. e) (λ l. f) (λ l. absurd (omega (arith, l)))
-        (λ l. absurd (omega (arith, l))) (λ l. absurd (omega (arith, l)));
-    named = wrong;
-  }
-
-  pub first-meta : R Members → R Events → R EventRules → R Challenges → R Moves → R Games → R Seen → R Scores
-      → ¬ R Meta → IsFirstWrong R (Some Meta)
-  first-meta a b c d e f g h wrong = record {
-    before = by-order 8 (λ l. a) (λ l. b) (λ l. c) (λ l. d) (λ l. e) (λ l. f) (λ l. g) (λ l. h)
-        (λ l. absurd (omega (arith, l)));
-    named = wrong;
-  }
-
-  all-tables : R Members → R Events → R EventRules → R Challenges → R Moves → R Games → R Seen → R Scores
-      → R Meta → (t : Table)
-      → Precedes t None → R t
-  all-tables a b c d e f g h i Members low = a
-  all-tables a b c d e f g h i Events low = b
-  all-tables a b c d e f g h i EventRules low = c
-  all-tables a b c d e f g h i Challenges low = d
-  all-tables a b c d e f g h i Moves low = e
-  all-tables a b c d e f g h i Games low = f
-  all-tables a b c d e f g h i Seen low = g
-  all-tables a b c d e f g h i Scores low = h
-  all-tables a b c d e f g h i Meta low = i
-
-  pub none-wrong : R Members → R Events → R EventRules → R Challenges → R Moves → R Games → R Seen → R Scores → R Meta
-      → IsFirstWrong R None
-  none-wrong a b c d e f g h i = record { before = all-tables a b c d e f g h i; named = tt }
+  pub all-tables : UpTo 9 → (t : Table) → R t
+  all-tables right t = right t (in-order t)
 
 -- where no table is named, all are right
 pub all-right : (R : Table → Type 0) (wrong : Option Table) → IsFirstWrong R wrong → wrong ≡ None → (t : Table) → R t

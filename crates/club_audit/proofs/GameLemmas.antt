@@ -2,8 +2,8 @@
 use Rattle.std.proofs.Common.{◌≡◌, ℕ, zero, suc, pos, ◌+◌, ◌<◌, ◌≤◌, List, [], ◌∷◌, length, map, Option, Some, None}
 use Rattle.std.proofs.Common.{Bool, refl, ap, sym, subst, ◌∙◌, arith}
 use Rattle.std.specs.Prelude.{slice_get, IsSome}
-use Rattle.std.specs.Option.{option_map}
-use Rattle.std.proofs.lemmas.Option.{same_Some, slice_get-map}
+use Rattle.std.proofs.lemmas.Grind.{common_steps}
+use Rattle.std.proofs.lemmas.Option.{same_Some, slice_get_cases, slice_get_past}
 use Rattle.squares.specs.declared.sides.Side.{Side}
 use Rattle.squares.specs.declared.sides.Side.TheVariants.{First}
 use Rattle.squares.specs.Sides.{other}
@@ -13,29 +13,29 @@ use Rattle.club_core.specs.declared.rows.GameEnd.TheVariants.{Outside}
 use Rattle.club_core.specs.declared.rows.GameView.{GameView}
 use Rattle.club_requests.specs.declared.outside_end.OutsideEnd.{OutsideEnd}
 use Rattle.club_requests.specs.declared.outside_end.OutsideEnd.TheVariants.{Time}
-use Rattle.club_core.specs.Members.{Member}
 use Rattle.club_core.specs.Events.{Event, Terms}
 use Rattle.club_core.specs.Game.{Entry, Game, Clocks, clocks_of, end_with, left_of, moments_of, opening_clocks}
 use Rattle.club_core.specs.Game.{rule_end, spend, spend_all, turn_of}
 use Rattle.club_core.specs.Legal.{IsTimely, IsLegalGame}
-use Rattle.club_core.specs.LegalState.{Each, IsGameOf}
+use Rattle.club_core.specs.LegalState.{IsGameOf}
 use Rattle.club_core.specs.State.{draughts, shogi, place, kind_at, terms_at}
 use Rattle.club_core.specs.View.{IsRowOf, Shows, clocks_in, terms_of}
 use Rattle.store_tables.specs.Cells.{event_cells, event_rule_cells, seen_cells, member_cells}
 use Rattle.store_tables.specs.declared.rows.EventRow.{EventRow}
 use Rattle.store_tables.specs.declared.rows.EventRuleRow.{EventRuleRow}
 use Rattle.store_tables.specs.declared.rows.GameRecord.{GameRecord}
-use Rattle.store_tables.specs.declared.rows.MemberRow.{MemberRow}
 use Rattle.store_tables.specs.declared.rows.MoveRow.{MoveRow}
 use Rattle.store_tables.specs.declared.rows.Rows.{Rows}
-use Rattle.club_audit.specs.Audit.{AreAllOf, AreMembers, AreEvents, GivesTerms, HasPeople, NamesEvent, IsWithin, EndsBy}
-use Rattle.club_audit.specs.Audit.{AreRulesOf, HaveGame, IsGameAt, NamesRule, SaysDeclares, terms_told}
+use Rattle.club_audit.specs.Audit.{AreAllOf, AreEvents, GivesTerms, HasPeople, NamesEvent, IsWithin, EndsBy, AreRulesOf}
+use Rattle.club_audit.specs.Audit.{HaveGame, IsGameAt, NamesRule, SaysDeclares, terms_told}
+use Rattle.club_audit.specs.ChallengeAudit.{IsIdAmong}
 use Rattle.club_audit.specs.GameAudit.{HaveAll, StandsAt}
+use Rattle.club_laws.proofs.Proved.{map-at, map-got}
 use Rattle.club_rows.specs.EachOnce.{AreEachOnce}
 use Rattle.store_tables.specs.declared.rows.SeenRow.{SeenRow}
 use Rattle.club_rows.specs.Club.{ClubGame, ClubState, both_games}
 use Rattle.club_rows.specs.LegalRows.{AreRowsOf}
-use Rattle.club_rows.specs.Tables.{declares_number, rule_row, event_row, member_row, kind_number, game_row, move_rows}
+use Rattle.club_rows.specs.Tables.{rule_row, event_row, member_row, kind_number, game_row, move_rows}
 use Rattle.club_rows.specs.Tables.{rows_of_seen}
 use Rattle.club_rows.specs.Seen.{seen_rows}
 use Rattle.club_rows.proofs.Proved.{Kind, event_in, in_draughts, in_shogi, kinds-alike, IsToldBy, columns-told}
@@ -46,29 +46,20 @@ use Rattle.club_audit.proofs.PlacedLemmas.{numbered-at, numbered-back, numbered-
 -- ---- places
 
 some-within : {A : Type 0} (xs : List A) (n : ℕ) → IsSome (slice_get xs n) → n < length xs
-some-within [] n some = cc
-some-within (x ∷ xs) zero some = omega arith
-some-within (x ∷ xs) (suc n) some = let rest = some-within xs n some in omega arith
+some-within xs n some = grind (arith, common_steps, slice_get_past xs n)
 
 within-some : {A : Type 0} (xs : List A) (n : ℕ) → n < length xs → IsSome (slice_get xs n)
-within-some [] n within = absurd (omega arith)
-within-some (x ∷ xs) zero within = refl
-within-some (x ∷ xs) (suc n) within = within-some xs n (omega (arith, within))
+within-some xs n within = grind (arith, common_steps, slice_get_cases xs n)
 
-pub placed-some : {A : Type 0} (xs : List A) (id : ℕ) → 0 < id → id ≤ length xs → IsSome (place xs id)
-placed-some xs zero low high = absurd (omega arith)
-placed-some xs (suc n) low high = within-some xs n (omega (arith, high))
+-- an element of one list has its place where another, as long, has an id
+module _ {A B : Type 0} (xs : List A) (ys : List B) (same : length ys ≡ length xs) where
+  pub placed-some : (id : ℕ) → IsIdAmong ys id → IsSome (place xs id)
+  placed-some zero among = absurd (omega (arith, among.0))
+  placed-some (suc n) among = within-some xs n (omega (arith, among.1, same))
 
-pub some-placed : {A : Type 0} (xs : List A) (id : ℕ) → IsSome (place xs id) → (0 < id) × (id ≤ length xs)
-some-placed xs zero some = cc
-some-placed xs (suc n) some = (omega arith, let within = some-within xs n some in omega (arith, within))
-
-some-is : {A : Type 0} (o : Option A) (x : A) → o ≡ Some x → IsSome o
-some-is o x is = rw is refl
-
-module _ (members : List Member) (rows : List MemberRow) (are : AreMembers members rows) where
-  pub same-count : length rows ≡ length members
-  same-count = numbered-length member_cells member_row 1 rows members are.rows_are
+  pub some-placed : (id : ℕ) → IsSome (place xs id) → IsIdAmong ys id
+  some-placed zero some = cc
+  some-placed (suc n) some = (omega arith, let within = some-within xs n some in omega (arith, within, same))
 
 -- the event of whose rules the row tells has declarations as it says
 pub rule-known : (events : List Event) (rules : List EventRuleRow) → AreRulesOf events rules → (id : ℕ) (e : Event)
@@ -77,10 +68,8 @@ pub rule-known : (events : List Event) (rules : List EventRuleRow) → AreRulesO
 rule-known events rules are zero e rule declares at there says = cc
 rule-known events rules are (suc n) e rule declares at there says =
     let (known, stands, cells) = numbered-at event_rule_cells rule_row 1 rules events are n rule there in
-    let same : known ≡ e = same_Some known e (sym stands ∙ at) in
     let told = rule-parts _ known rule cells in
-    declares-alike e.terms.declares declares
-    (same-pos _ _ (ap (λ (x : Event). pos (declares_number x.terms.declares)) (sym same) ∙ (sym told.1 ∙ says)))
+    declares-alike e.terms.declares declares cc
 
 -- and each event has a row of its rules
 pub rule-back : (events : List Event) (rules : List EventRuleRow) → AreRulesOf events rules → (id : ℕ) (e : Event)
@@ -93,24 +82,18 @@ rule-back events rules are (suc n) e at =
 
 module _ (events : List Event) (rows : List EventRow) (are : AreEvents events rows) where
   pub event-at : (id : ℕ) (row : EventRow) → place rows id ≡ Some row → (e : Event) × (place events id ≡ Some e)
-      × EventParts id e row
+      × EventParts e row
   event-at zero row at = cc
   event-at (suc n) row at =
       let (e, stands, cells) = numbered-at event_cells event_row 1 rows events are.rows_are n row at in
-      (e, stands, event-parts (suc n) e row (cells ∙ ap (λ m. event_row m e) (one-more n)))
-    where
-      one-more : (n : ℕ) → 1 + n ≡ suc n
-      one-more n = omega arith
+      (e, stands, event-parts _ e row cells)
 
   pub event-back : (id : ℕ) (e : Event) → place events id ≡ Some e → (row : EventRow) × (place rows id ≡ Some row)
-      × EventParts id e row
+      × EventParts e row
   event-back zero e at = cc
   event-back (suc n) e at =
       let (row, stands, cells) = numbered-back event_cells event_row 1 rows events are.rows_are n e at in
-      (row, stands, event-parts (suc n) e row (cells ∙ ap (λ m. event_row m e) (one-more n)))
-    where
-      one-more : (n : ℕ) → 1 + n ≡ suc n
-      one-more n = omega arith
+      (row, stands, event-parts _ e row cells)
 
 -- ---- moments
 
@@ -134,12 +117,6 @@ since-within increment side (m ∷ ms) c last within each =
     since-within increment (other side) ms (spend increment side m c) last (omega (arith, here, first))
     (λ n x at. each (suc n) x at)
 
-moment-in : {M : Type 0} (es : List (Entry M)) (n m : ℕ) → slice_get (map (λ e. e.moment) es) n ≡ Some m → (e : Entry M)
-    × (slice_get es n ≡ Some e) × (e.moment ≡ m)
-moment-in [] n m at = cc
-moment-in (e ∷ es) zero m at = (e, refl, same_Some e.moment m at)
-moment-in (e ∷ es) (suc n) m at = moment-in es n m at
-
 -- ---- the end
 
 outside-end : {E : Type 0} (e : Option E) (o : Option OutsideEnd) (end : OutsideEnd) → e ≡ None → o ≡ Some end
@@ -148,9 +125,8 @@ outside-end e o end none some = rw (none, some) refl
 
 end-outside : {E : Type 0} (e : Option E) (o : Option OutsideEnd) (end : OutsideEnd) → end_with e o ≡ Some (Outside end)
     → o ≡ Some end
-end-outside (Some e) o end is = cc
 end-outside None (Some o) end is = cc
-end-outside None None end is = cc
+end-outside _ _ end is = cc
 
 -- ---- one game by its view
 
@@ -162,18 +138,6 @@ module _ {R P M E T : Type 0} (rules : GameRules P M E T) (terms : Terms) (game 
   since-is : view.row.since ≡ (clocks_of game terms).since
   since-is = ap (λ c. c.since) row-of.clocks
 
-  pub start-within : (last : ℕ) → IsLegalGame rules terms game → view.row.since ≤ last → game.start ≤ last
-  start-within last legal within =
-      let rises = since-rises terms.increment First (moments_of game) (opening_clocks game terms) legal.timely in
-      omega (arith, rises, since-is, within)
-
-  pub entries-within : (last : ℕ) → IsLegalGame rules terms game → view.row.since ≤ last
-      → Each (λ e. e.moment ≤ last) game.entries
-  entries-within last legal within n e at =
-      let below = moments-below terms.increment First (moments_of game) (opening_clocks game terms) legal.timely n
-      e.moment (slice_get-map (λ x. x.moment) game.entries n ∙ ap (option_map (λ x. x.moment)) at) in
-      omega (arith, below, since-is, within)
-
   left-is : left_of (rules.turn view.position) (clocks_in view.row)
       ≡ left_of (turn_of rules game) (clocks_of game terms)
   left-is = λ i. left_of (rules.turn (shows.position i)) (row-of.clocks i)
@@ -181,12 +145,16 @@ module _ {R P M E T : Type 0} (rules : GameRules P M E T) (terms : Terms) (game 
   -- a game whose view is within the last moment ends by it
   pub ends-by : (last : ℕ) → IsLegalGame rules terms game → IsWithin rules view last → EndsBy rules terms last game
   ends-by last legal within = record {
-    start = start-within last legal within.since;
-    entries = entries-within last legal within.since;
+    start =
+        let rises = since-rises terms.increment First (moments_of game) (opening_clocks game terms) legal.timely in
+        omega (arith, rises, since-is, within.since);
+    entries = λ n e at.
+        let below = moments-below terms.increment First (moments_of game) (opening_clocks game terms) legal.timely n
+        e.moment (map-at (λ (x : Entry M). x.moment) game.entries n e at) in
+        omega (arith, below, since-is, within.since);
     lost_by_time = λ lost.
         let late = within.lost_by_time (row-of.end
-        ∙ outside-end (rule_end rules game) game.outside Time (legal.outside_alone (some-is game.outside Time lost))
-        lost) in
+        ∙ outside-end (rule_end rules game) game.outside Time (legal.outside_alone (rw lost refl)) lost) in
         subst (λ n. n < last) (λ i. since-is i + left-is i) late;
   }
 
@@ -194,7 +162,7 @@ module _ {R P M E T : Type 0} (rules : GameRules P M E T) (terms : Terms) (game 
   view-within last ends = record {
     since =
         let most = since-within terms.increment First (moments_of game) (opening_clocks game terms) last ends.start
-        (λ n m at. let (e, stands, is) = moment-in game.entries n m at in
+        (λ n m at. let (e, stands, is) = map-got (λ (e : Entry M). e.moment) game.entries n m at in
         subst (λ k. k ≤ last) is (ends.entries n e stands)) in
         omega (arith, most, since-is);
     lost_by_time = λ end. subst (λ n. n < last) (λ i. sym since-is i + sym left-is i)
@@ -203,11 +171,11 @@ module _ {R P M E T : Type 0} (rules : GameRules P M E T) (terms : Terms) (game 
 
 -- ---- a game of the club
 
-terms-are : (e : Event) (row : EventRow) (id budget increment : ℕ) (declares : Bool) → EventParts id e row
+terms-are : (e : Event) (row : EventRow) (budget increment : ℕ) (declares : Bool) → EventParts e row
     → GivesTerms row budget increment → e.terms.declares ≡ declares → e.terms ≡ terms_told budget increment declares
-terms-are e row id budget increment declares parts gives rule =
-    let b : e.terms.budget ≡ budget = same-pos _ _ (sym parts.budget_is ∙ gives.budget_is) in
-    let i : e.terms.increment ≡ increment = same-pos _ _ (sym parts.increment_is ∙ gives.increment_is) in
+terms-are e row budget increment declares parts gives rule =
+    let b : e.terms.budget ≡ budget = cc in
+    let i : e.terms.increment ≡ increment = cc in
     λ j. record { budget = b j; increment = i j; declares = rule j }
 
 -- the row has the number of this kind
@@ -216,12 +184,15 @@ HasKind row kind = row.game ≡ pos (kind_number kind)
 
 module _ (s : ClubState) (rows : Rows) (people : HasPeople s rows) (index : ℕ) (row : GameRecord)
     (moves : List MoveRow) where
+  count : length rows.members.items ≡ length s.members
+  count = numbered-length member_cells member_row 1 rows.members.items s.members people.members.rows_are
+
   -- the rows of a game of one kind that is played in an event of this kind are those of a game of the club
   module _ {P M E T : Type 0} {rules : GameRules P M E T} {kind : GameKind} (k : Kind rules kind)
       (event : ℕ) (e : EventRow) (budget increment : ℕ) (declares : Bool) (named : NamesEvent rows row event e)
       (ruled : NamesRule rows row event declares) (gives : GivesTerms e budget increment) (has_kind : HasKind e kind)
       (stands_at : StandsAt rows index row) where
-    game-stands : (have : HaveGame rules (terms_told budget increment declares) s.last row moves)
+    pub game-stands : (have : HaveGame rules (terms_told budget increment declares) s.last row moves)
         → (have.id ≡ index + 1) × IsGameAt s (index + 1) row moves (k.into have.game)
     game-stands have =
         let terms = terms_told budget increment declares in
@@ -235,31 +206,23 @@ module _ (s : ClubState) (rows : Rows) (people : HasPeople s rows) (index : ℕ)
         let second_same : game.second ≡ stands_at.second = same-pos _ _ (sym told.numbers.second ∙ players.second_is) in
         let (known, at, parts) = event-at s.events rows.events.items people.events event e named.row_is in
         let stands : place s.events game.event ≡ Some known = ap (place s.events) event_same ∙ at in
-        let same : known.terms ≡ terms = terms-are known e event budget increment declares parts gives
+        let same : known.terms ≡ terms = terms-are known e budget increment declares parts gives
         (rule-known s.events rows.event_rules.items people.rules event known ruled.rule declares at ruled.rule_is
         ruled.says) in
-        let by : terms_at (place s.events game.event) ≡ terms = ap terms_at stands ∙ same in
-        let count = same-count s.members rows.members.items people.members in (
+        let by : terms_at (place s.events game.event) ≡ terms = ap terms_at stands ∙ same in (
           id_same,
           record {
             legal = k.is_legal s game (record {
               event = known;
               in_event = stands;
               of_kind = kinds-alike known.game kind (same-pos _ _ (sym parts.game_is ∙ has_kind));
-              legal = subst (λ t. IsLegalGame rules t game) (sym same) are.legal;
-              first = subst (λ n. IsSome (place s.members n)) (sym first_same)
-                  (placed-some s.members stands_at.first players.first_low
-                  (omega (arith, players.first_high, count)));
-              second = subst (λ n. IsSome (place s.members n)) (sym second_same)
-                  (placed-some s.members stands_at.second players.second_low
-                  (omega (arith, players.second_high, count)));
+              legal = rw same are.legal;
+              first = placed-some s.members rows.members.items count game.first (omega arith, omega arith);
+              second = placed-some s.members rows.members.items count game.second (omega arith, omega arith);
               key = are.fits.key;
               start = have.within.start;
               entries = have.within.entries;
-              lost_by_time =
-                  subst
-                  (λ t. game.outside ≡ Some Time → (clocks_of game t).since + left_of (turn_of rules game)
-                  (clocks_of game t) < s.last) (sym same) have.within.lost_by_time;
+              lost_by_time = rw same have.within.lost_by_time;
             });
             row_is = are.row
                 ∙ ((λ i. game_row rules (sym by i) (id_same i) game) ∙ sym (k.row s.events (index + 1) game));
@@ -267,10 +230,6 @@ module _ (s : ClubState) (rows : Rows) (people : HasPeople s rows) (index : ℕ)
                 ∙ ((λ i. move_rows rules (sym by i) (id_same i) game) ∙ sym (k.moves s.events (index + 1) game));
           },
         )
-
-    pub game-shown : HaveGame rules (terms_told budget increment declares) s.last row moves → (g : ClubGame)
-        × IsGameAt s (index + 1) row moves g
-    game-shown have = (k.into have.game, (game-stands have).1)
 
     -- and so are all its rows
     pub all-shown : (seen : List SeenRow) → HaveAll rules (terms_told budget increment declares) s.last row moves seen
@@ -307,9 +266,8 @@ module _ (s : ClubState) (rows : Rows) (people : HasPeople s rows) (index : ℕ)
     -- it has its place, and its players exist
     pub game-stands-at : index < 5000 → StandsAt rows index row
     game-stands-at low =
-        let count = same-count s.members rows.members.items people.members in
-        let one = some-placed s.members g.first of-game.first in
-        let two = some-placed s.members g.second of-game.second in
+        let one = some-placed s.members rows.members.items count g.first of-game.first in
+        let two = some-placed s.members rows.members.items count g.second of-game.second in
         record {
           low = low;
           id = told-at.numbers.id;
@@ -319,30 +277,29 @@ module _ (s : ClubState) (rows : Rows) (people : HasPeople s rows) (index : ℕ)
             first_is = told-at.numbers.first;
             second_is = told-at.numbers.second;
             first_low = one.0;
-            first_high = omega (arith, one.1, count);
+            first_high = one.1;
             second_low = two.0;
-            second_high = omega (arith, two.1, count);
+            second_high = two.1;
           };
         }
 
     module _ (event : ℕ) (e : EventRow) (named : NamesEvent rows row event e) where
+      same-id : event ≡ g.event
+      same-id = same-pos _ _ (sym named.event_is ∙ told-at.numbers.event)
+
       -- the row that is named is that of the game's event
-      named-parts : EventParts g.event of-game.event e
+      named-parts : EventParts of-game.event e
       named-parts =
-          let same : event ≡ g.event = same-pos _ _ (sym named.event_is ∙ told-at.numbers.event) in
-          let (known, at, parts) = event-at s.events rows.events.items people.events g.event e
-          (subst (λ n. place rows.events.items n ≡ Some e) same named.row_is) in
-          subst (λ x. EventParts g.event x e) (same_Some known of-game.event (sym at ∙ of-game.in_event)) parts
+          let (known, at, parts) = event-at s.events rows.events.items people.events g.event e (cc same-id) in
+          subst (λ x. EventParts x e) (cc of-game.in_event) parts
 
       module _ (budget increment : ℕ) (declares : Bool) (ruled : NamesRule rows row event declares)
           (gives : GivesTerms e budget increment) where
         known-terms : of-game.event.terms ≡ terms_told budget increment declares
         known-terms =
-            let same : event ≡ g.event = same-pos _ _ (sym named.event_is ∙ told-at.numbers.event) in
-            terms-are of-game.event e g.event budget increment declares named-parts gives
+            terms-are of-game.event e budget increment declares named-parts gives
             (rule-known s.events rows.event_rules.items people.rules g.event of-game.event ruled.rule declares
-            of-game.in_event (subst (λ n. place rows.event_rules.items n ≡ Some ruled.rule) same ruled.rule_is)
-            ruled.says)
+            of-game.in_event (cc same-id) ruled.says)
 
         by-terms : terms_at (place s.events g.event) ≡ terms_told budget increment declares
         by-terms = ap terms_at of-game.in_event ∙ known-terms
@@ -351,20 +308,18 @@ module _ (s : ClubState) (rows : Rows) (people : HasPeople s rows) (index : ℕ)
         pub rows-of : index < 5000 → s.last ≤ 253402300799
             → AreRowsOf rules (terms_told budget increment declares) (index + 1) row moves g
         rows-of low last =
-            let one = some-placed s.members g.first of-game.first in
-            let two = some-placed s.members g.second of-game.second in
-            let three = some-placed s.events g.event (some-is _ of-game.event of-game.in_event) in
-            let few = people.members.count in
-            let events = people.events.count in
+            let one = some-placed s.members s.members refl g.first of-game.first in
+            let two = some-placed s.members s.members refl g.second of-game.second in
+            let three = some-placed s.events s.events refl g.event (rw of-game.in_event refl) in
             record {
               budget = gives.has_budget;
               increment = gives.has_increment;
               legal = subst (λ t. IsLegalGame rules t g) known-terms of-game.legal;
               fits = record {
                 id = omega (arith, low);
-                event = omega (arith, three.1, events);
-                first = omega (arith, one.1, few);
-                second = omega (arith, two.1, few);
+                event = omega (arith, three.1, people.events.count);
+                first = omega (arith, one.1, people.members.count);
+                second = omega (arith, two.1, people.members.count);
                 key = of-game.key;
                 start = omega (arith, of-game.start, last);
                 entries = λ n x at. let most : x.moment ≤ s.last = of-game.entries n x at in omega (arith, most, last);
@@ -379,9 +334,7 @@ module _ (s : ClubState) (rows : Rows) (people : HasPeople s rows) (index : ℕ)
         in-time = record {
           start = of-game.start;
           entries = of-game.entries;
-          lost_by_time =
-              subst (λ t. g.outside ≡ Some Time → (clocks_of g t).since + left_of (turn_of rules g) (clocks_of g t)
-              < s.last) known-terms of-game.lost_by_time;
+          lost_by_time = rw known-terms at of-game.lost_by_time;
         }
 
   -- ---- a game of either kind
@@ -414,30 +367,32 @@ module _ (s : ClubState) (rows : Rows) (people : HasPeople s rows) (index : ℕ)
         (budget increment : ℕ) (declares : Bool) (ruled : NamesRule rows row event declares)
         (gives : GivesTerms e budget increment) (has_kind : HasKind e kind) (low : index < 5000)
         (last : s.last ≤ 253402300799) where
+      abbrev had : (game : Game M) → IsGameAt s (index + 1) row moves (k.into game)
+          → HaveGame rules (terms_told budget increment declares) s.last row moves
+      had game is = record {
+        id = index + 1;
+        game = game;
+        are = rows-of k game is event e named budget increment declares ruled gives low last;
+        within = in-time k game is event e named budget increment declares ruled gives;
+      }
+
       -- and its rows are those of a game of this kind
       pub game-had : (g : ClubGame) → IsGameAt s (index + 1) row moves g
           → HaveGame rules (terms_told budget increment declares) s.last row moves
       game-had g is =
-          let (game, same) = game-in k g is has_kind in
-          let one = subst (IsGameAt s (index + 1) row moves) same is in
-          record {
-            id = index + 1;
-            game = game;
-            are = rows-of k game one event e named budget increment declares ruled gives low last;
-            within = in-time k game one event e named budget increment declares ruled gives;
-          }
+          let (game, same) = game-in k g is has_kind in had game (subst (IsGameAt s (index + 1) row moves) same is)
 
       -- all of them
       pub all-had : (seen : List SeenRow) (g : ClubGame) → AreAllOf s (index + 1) row moves seen g
           → HaveAll rules (terms_told budget increment declares) s.last row moves seen
       all-had seen g is =
           let (game, same) = game-in k g is.at has_kind in
-          let one = subst (IsGameAt s (index + 1) row moves) same is.at in
+          let have = had game (subst (IsGameAt s (index + 1) row moves) same is.at) in
           record {
             id = index + 1;
             game = game;
-            are = rows-of k game one event e named budget increment declares ruled gives low last;
-            within = in-time k game one event e named budget increment declares ruled gives;
+            are = have.are;
+            within = have.within;
             seen_are =
                 subst (AreEachOnce (map seen_cells seen))
                 (ap (rows_of_seen both_games (index + 1)) same ∙ k.seen (index + 1) game) is.seen_are;

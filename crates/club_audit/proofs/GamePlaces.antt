@@ -1,32 +1,300 @@
--- Which table is the first wrong one, by all rows of a game at its place in a club.
-use Rattle.std.proofs.Common.{◌≡◌, ◌≢◌, ◌+◌, ◌<◌, ◌≤◌, ℕ, pos, List, Option, Some, None, Bool, true, false, refl, ap}
-use Rattle.std.proofs.Common.{sym, subst, ◌∙◌, arith, inl, inr, ◌⊎◌}
-use Rattle.std.proofs.lemmas.Bool.{cases_Bool}
+-- Which table is the first wrong one, by all rows of one game: by its rules, in its event, and at its place in a club.
+use Rattle.std.proofs.Common.{◌≡◌, ℕ, pos, List, map, Option, Some, None, refl, sym, subst, ◌∙◌, arith, inr, ◌≢◌, ◌≤◌}
+use Rattle.std.proofs.Common.{Bool, subst₂, ◌+◌, ◌<◌, true, false, inl, true≢false}
+use Rattle.std.specs.Prelude.{IfSome, IsSome, IfOk, Result}
 use Rattle.std.proofs.lemmas.Option.{same_Some}
-use Rattle.club_rules.specs.declared.names.GameKind.{GameKind}
-use Rattle.club_rules.specs.declared.names.GameKind.TheVariants.{Draughts, Shogi}
-use Rattle.club_core.specs.LegalState.{IsLegalIn}
-use Rattle.club_core.specs.State.{draughts, shogi, place}
-use Rattle.club_laws.proofs.Proved.{in-place}
-use Rattle.store_tables.specs.declared.rows.EventRow.{EventRow}
-use Rattle.store_tables.specs.declared.rows.EventRuleRow.{EventRuleRow}
+use Rattle.club_rules.specs.GameRules.{GameRules}
+use Rattle.club_core.specs.declared.rows.GameView.{GameView}
+use Rattle.club_core.specs.Events.{Terms}
+use Rattle.club_core.specs.Game.{Game}
+use Rattle.club_core.specs.View.{Shows, terms_of}
+use Rattle.store_tables.specs.Cells.{seen_cells}
 use Rattle.store_tables.specs.declared.rows.GameRecord.{GameRecord}
 use Rattle.store_tables.specs.declared.rows.MoveRow.{MoveRow}
-use Rattle.store_tables.specs.declared.rows.Rows.{Rows}
 use Rattle.store_tables.specs.declared.rows.SeenRow.{SeenRow}
 use Rattle.store_tables.specs.declared.names.Table.{Table}
-use Rattle.store_tables.specs.declared.names.Table.TheVariants.{Members, Events, EventRules, Challenges, Moves, Games}
-use Rattle.store_tables.specs.declared.names.Table.TheVariants.{Seen, Scores, Meta}
-use Rattle.club_rows.specs.Club.{ClubGame, ClubState, both_games}
+use Rattle.store_tables.specs.declared.names.Table.TheVariants.{Games, Meta, Moves, Scores, Seen, Members, Events}
+use Rattle.club_rows.specs.declared.view.CheckedRows.{CheckedRows}
+use Rattle.club_rows.specs.declared.view.Played.{Played}
+use Rattle.club_rows.specs.EachOnce.{AreEachOnce}
+use Rattle.club_rows.specs.Seen.{seen_rows}
+use Rattle.club_rows.specs.LegalRows.{AreMovesOf, AreRowsOf, IsSoundIfShown, ShowsGame}
+use Rattle.club_rows.proofs.Proved.{columns-told, same-pos, kinds-alike, Kind, declares-alike, in_draughts, in_shogi}
+use Rattle.club_audit.specs.Audit.{EndsBy, IsWithin, IsWithinGiven, GivesTerms, terms_told, AreAllOf, HasPeople}
+use Rattle.club_audit.specs.Audit.{IsGameAt, NamesEvent, NamesRule, until}
+use Rattle.club_audit.specs.FirstWrong.{IsFirstWrong, Precedes, order}
+use Rattle.club_audit.specs.GameAudit.{HaveAll, IsRightIn, AreOfEvent, GivesRules, HaveAllOf, IsRightInEvent, IsRightOf}
+use Rattle.club_audit.specs.GameAudit.{IsRightAt, IsRightBy, StandsAt}
+use Rattle.club_audit.proofs.FirstLemmas.{UpTo, all-tables, up-to-moves, with-next, all-right, first-as, none-named}
+use Rattle.club_audit.proofs.FirstLemmas.{up-to-none}
+use Rattle.club_audit.proofs.GameLemmas.{ends-by, view-within, HasKind, all-had, all-shown, any-names, any-stands}
+use Rattle.club_audit.proofs.GameLemmas.{event-at, game-had, game-stands, rule-back}
+use Rattle.std.proofs.lemmas.Result.{IfOk-weaker}
+use Rattle.club_rules.specs.declared.names.GameKind.{GameKind}
+use Rattle.club_rules.specs.declared.names.GameKind.TheVariants.{Draughts, Shogi}
+use Rattle.store_tables.specs.declared.rows.EventRow.{EventRow}
+use Rattle.club_rows.specs.Club.{both_games, ClubGame, ClubState}
 use Rattle.club_rows.specs.Tables.{kind_number}
-use Rattle.club_rows.proofs.Proved.{declares-alike, in_draughts, in_shogi, same-pos}
-use Rattle.club_audit.specs.Audit.{AreAllOf, GivesTerms, HasPeople, IsGameAt, NamesEvent, NamesRule, terms_told, until}
-use Rattle.club_audit.specs.FirstWrong.{IsFirstWrong, Precedes}
-use Rattle.club_audit.specs.GameAudit.{GivesRules, IsRightAt, IsRightBy, IsRightInEvent, IsRightOf, StandsAt}
-use Rattle.club_audit.proofs.FirstLemmas.{first-as, first-games, first-moves}
-use Rattle.club_audit.proofs.WrongLemmas.{moves-of}
-use Rattle.club_audit.proofs.GameLemmas.{all-had, all-shown, any-names, any-stands, event-at, game-had, game-shown}
-use Rattle.club_audit.proofs.GameLemmas.{rule-back}
+use Rattle.std.proofs.lemmas.Bool.{cases_Bool, cases_lt}
+use Rattle.club_laws.proofs.Proved.{in-place}
+use Rattle.store_tables.specs.declared.rows.Rows.{Rows}
+use Rattle.club_audit.proofs.AuditLemmas.{legal-later}
+use Rattle.club_rows.specs.declared.view.CheckedRows.TheVariants as checked
+
+module _ {P M E T : Type 0} (rules : GameRules P M E T) (terms : Terms) (row : GameRecord) (moves : List MoveRow) where
+  -- the moves of a legal game are right
+  pub moves-of : (id : ℕ) (game : Game M) → AreRowsOf rules terms id row moves game → AreMovesOf rules terms row moves
+  moves-of id game are =
+      let told = columns-told rules terms id game row are.row in
+      inr (record {
+        id = id;
+        start = game.start;
+        id_is = told.numbers.id;
+        start_is = told.numbers.start;
+        short = are.fits.id;
+        within = are.fits.start;
+        game = game;
+        played = record { legal = are.legal; start = refl; moments = are.fits.entries; moves = are.moves };
+      })
+
+  -- the view shows a game of these rows, by these terms, and each game whose rows they are
+  pub record IsShown {R : Type 0} (view : GameView R P M E T) : Type 0 where
+    pub id : ℕ
+    pub game : Game M
+    pub are : AreRowsOf rules terms id row moves game
+    pub terms_are : terms_of view ≡ terms
+    pub shows : Shows rules game view
+    pub complete : (n : ℕ) (g : Game M) → AreRowsOf rules terms n row moves g → Shows rules g view
+
+  -- rows that are shown are so
+  pub shown-by : {R : Type 0} (told : CheckedRows R P M E T) (played : Played R P M E T) → told ≡ checked.Game played
+      → IsSoundIfShown rules terms row moves told
+      → ((n : ℕ) (g : Game M) → AreRowsOf rules terms n row moves g → ShowsGame rules terms g told)
+      → IsShown played.view
+  shown-by told played is sound complete =
+      let (id, game, are, terms_are, shows, within, history) = subst (IsSoundIfShown rules terms row moves) is sound in
+      record {
+        id = id;
+        game = game;
+        are = are;
+        terms_are = terms_are;
+        shows = shows;
+        complete = λ n g of. let it = subst (ShowsGame rules terms g) is (complete n g of) in it.1;
+      }
+
+module _ {R P M E T : Type 0} {rules : GameRules P M E T} {terms : Terms} {row : GameRecord} {moves : List MoveRow}
+    {view : GameView R P M E T} (shown : IsShown rules terms row moves view) where
+  -- a game of these rows has the number of its row
+  numbered : (number n : ℕ) (game : Game M) → pos number ≡ row.id → AreRowsOf rules terms n row moves game → n ≡ number
+  numbered number n game is are =
+      let told = columns-told rules terms n game row are.row in
+      sym (same-pos number n (is ∙ told.numbers.id))
+
+  -- and the game that is shown is the one with this number
+  pub own-rows : (number : ℕ) → pos number ≡ row.id → AreRowsOf rules terms number row moves shown.game
+  own-rows number is = subst (λ n. AreRowsOf rules terms n row moves shown.game)
+      (numbered number shown.id shown.game is shown.are) shown.are
+
+  module _ (seen : List SeenRow) (last : Option ℕ) where
+    abbrev Right : Table → Type 0
+    Right = IsRightIn rules terms last row moves seen
+
+    -- the game ends by a moment exactly where its view is within it
+    ends : (n : ℕ) → IsWithin rules view n → EndsBy rules terms n shown.game
+    ends n = ends-by rules terms shown.game view shown.shows shown.terms_are n shown.are.legal
+
+    within-by : (n id : ℕ) (game : Game M) → AreRowsOf rules terms id row moves game → EndsBy rules terms n game
+        → IsWithin rules view n
+    within-by n id game are = view-within rules terms game view (shown.complete id game are) shown.terms_are n
+
+    -- the tables before the wrong one are right
+    up-to-games : UpTo Right 5
+    up-to-games = with-next Right Moves (up-to-moves Right tt tt tt tt)
+        (moves-of rules terms row moves shown.id shown.game shown.are)
+
+    pub late-game : ¬ IsWithin rules view 253402300799 → IsFirstWrong Right (Some Games)
+    late-game late = record {
+      before = up-to-games;
+      named = λ have. late (within-by 253402300799 have.id have.game have.are have.within);
+    }
+
+    module _ (within : IsWithin rules view 253402300799) where
+      up-to-seen : UpTo Right 6
+      up-to-seen = with-next Right Games up-to-games (record {
+        id = shown.id;
+        game = shown.game;
+        are = shown.are;
+        within = ends 253402300799 within;
+      })
+
+      pub wrong-seen : (number : ℕ) → pos number ≡ row.id → ((g : Game M) → AreRowsOf rules terms number row moves g
+          → ¬ AreEachOnce (map seen_cells seen) (seen_rows rules number g)) → IsFirstWrong Right (Some Seen)
+      wrong-seen number is other = record {
+        before = up-to-seen;
+        named = λ have.
+            let same = numbered number have.id have.game is have.are in
+            other have.game (subst (λ n. AreRowsOf rules terms n row moves have.game) same have.are)
+            (subst (λ n. AreEachOnce (map seen_cells seen) (seen_rows rules n have.game)) same have.seen_are);
+      }
+
+      module _ (number : ℕ) (is : pos number ≡ row.id)
+          (stand : AreEachOnce (map seen_cells seen) (seen_rows rules number shown.game)) where
+        all-until : (n : ℕ) → IsWithin rules view n → HaveAll rules terms n row moves seen
+        all-until n low = record {
+          id = number;
+          game = shown.game;
+          are = own-rows number is;
+          within = ends n low;
+          seen_are = stand;
+        }
+
+        up-to-meta : UpTo Right 8
+        up-to-meta = with-next Right Scores (with-next Right Seen up-to-seen (all-until 253402300799 within)) tt
+
+        pub late-end : ¬ IsWithinGiven rules view last → IsFirstWrong Right (Some Meta)
+        late-end late = record {
+          before = up-to-meta;
+          named = λ all. late (λ n last_is low. let have = all n last_is low in
+              within-by n have.id have.game have.are have.within);
+        }
+
+        pub none-late : IsWithinGiven rules view last → IsFirstWrong Right None
+        none-late in_time = record {
+          before = λ t low. all-tables Right
+              (with-next Right Meta up-to-meta (λ n last_is low. all-until n (in_time n last_is low))) t;
+          named = tt;
+        }
+
+-- ---- the last moment that there is, as one that is given
+
+module _ {R P M E T : Type 0} (rules : GameRules P M E T) (view : GameView R P M E T) where
+  pub given-last : (o : Option ℕ) → IfSome o (λ m. m ≡ 253402300799) → IsWithin rules view 253402300799
+      → IsWithinGiven rules view o
+  given-last None value within n is low = cc
+  given-last (Some m) value within n is low = subst (IsWithin rules view) (sym value ∙ same_Some m n is) within
+
+  pub last-given : (o : Option ℕ) → IsSome o → IfSome o (λ m. m ≡ 253402300799) → IsWithinGiven rules view o
+      → IsWithin rules view 253402300799
+  last-given None some value given = cc
+  last-given (Some m) some value given = subst (IsWithin rules view) value (given m refl (omega (arith, value)))
+
+-- a game that ends by a moment ends by a later one
+ends-later : {P M E T : Type 0} (rules : GameRules P M E T) (terms : Terms) (n m : ℕ) (game : Game M) → n ≤ m
+    → EndsBy rules terms n game → EndsBy rules terms m game
+ends-later rules terms n m game low ends = record {
+  start = omega arith;
+  entries = λ k e at. let most = ends.entries k e at in omega arith;
+  lost_by_time = λ lost. let late = ends.lost_by_time lost in omega (arith, late, low);
+}
+
+-- the tables before that of moves are right, of whatever game
+pub early-of : (last : Option ℕ) (row : GameRecord) (moves : List MoveRow) (seen : List SeenRow) (kind : GameKind)
+    (terms : Terms) → UpTo (IsRightOf kind terms last row moves seen) 4
+early-of last row moves seen Draughts terms = up-to-moves (IsRightOf Draughts terms last row moves seen) tt tt tt tt
+early-of last row moves seen Shogi terms = up-to-moves (IsRightOf Shogi terms last row moves seen) tt tt tt tt
+
+module _ (event : EventRow) (declares : Bool) (last : Option ℕ) (row : GameRecord) (moves : List MoveRow)
+    (seen : List SeenRow) where
+  abbrev InEvent : Table → Type 0
+  InEvent = IsRightInEvent event declares last row moves seen
+
+  no-events : ¬ GivesRules event → IsFirstWrong InEvent (Some Events)
+  no-events none = record {
+    before = with-next InEvent Members (up-to-none InEvent) (λ kind b i is gives. early-of last row moves seen kind
+        (terms_told b i declares) Members (omega arith));
+    named = none;
+  }
+
+  pub no-terms : ((b i : ℕ) → ¬ GivesTerms event b i) → IsFirstWrong InEvent (Some Events)
+  no-terms none = no-events (λ rules. none rules.budget rules.increment rules.terms)
+
+  pub no-kind : ((kind : GameKind) → event.game ≢ pos (kind_number kind)) → IsFirstWrong InEvent (Some Events)
+  no-kind none = no-events (λ rules. none rules.kind rules.kind_is)
+
+  -- ---- by the kind and the terms of the event
+
+  module _ (kind : GameKind) (budget increment : ℕ) (kind_is : event.game ≡ pos (kind_number kind))
+      (gives : GivesTerms event budget increment) where
+    abbrev Of : Table → Type 0
+    Of = IsRightOf kind (terms_told budget increment declares) last row moves seen
+
+    pub to-event : (t : Table) → Of t → InEvent t
+    to-event Events right = record {
+      kind = kind;
+      kind_is = kind_is;
+      budget = budget;
+      increment = increment;
+      terms = gives;
+    }
+    to-event t right = λ k b i is other.
+        let one : budget ≡ b = cc in
+        let two : increment ≡ i = cc in
+        subst₂ (λ x y. IsRightOf x y last row moves seen t) (kinds-alike kind k cc)
+        (λ j. terms_told (one j) (two j) declares) right
+
+    from-event : (t : Table) → InEvent t → Of t
+    from-event Events right =
+        early-of last row moves seen kind (terms_told budget increment declares) Events (omega arith)
+    from-event _ right = right kind budget increment kind_is gives
+
+    -- the first wrong table by its rules is the first of the event
+    pub event-first : {Fault : Type 0} (terms : Terms) → terms ≡ terms_told budget increment declares
+        → (told : Result (Option Table) Fault)
+        → IfOk told (IsFirstWrong (IsRightOf kind terms last row moves seen)) → IfOk told (IsFirstWrong InEvent)
+    event-first terms same told = IfOk-weaker told _ _ (λ wrong first. first-as Of InEvent wrong to-event from-event
+        (subst (λ t. IsFirstWrong (IsRightOf kind t last row moves seen) wrong) same first))
+
+-- ---- where a last moment is given
+
+module _ (event : EventRow) (declares : Bool) (last : ℕ) (low : last ≤ 253402300799) (row : GameRecord)
+    (moves : List MoveRow) (seen : List SeenRow) (wrong : Option Table)
+    (first : IsFirstWrong (IsRightInEvent event declares (Some last) row moves seen) wrong) where
+  abbrev ByEvent : Table → Type 0
+  ByEvent = IsRightInEvent event declares (Some last) row moves seen
+
+  all-of-kind : (kind : GameKind) (terms : Terms) → IsRightOf kind terms (Some last) row moves seen Meta
+      → HaveAllOf kind terms last row moves seen
+  all-of-kind Draughts terms right = right last refl low
+  all-of-kind Shogi terms right = right last refl low
+
+  pub event-sound : wrong ≡ None → AreOfEvent event declares last row moves seen
+  event-sound none =
+      let rules = all-right ByEvent wrong first none Events in
+      let right = all-right ByEvent wrong first none Meta in
+      record {
+        kind = rules.kind;
+        kind_is = rules.kind_is;
+        budget = rules.budget;
+        increment = rules.increment;
+        terms = rules.terms;
+        all = all-of-kind rules.kind (terms_told rules.budget rules.increment declares)
+            (right rules.kind rules.budget rules.increment rules.kind_is rules.terms);
+      }
+
+  module _ {P M E T : Type 0} (rules : GameRules P M E T) (terms : Terms)
+      (have : HaveAll rules terms last row moves seen) where
+    later : EndsBy rules terms 253402300799 have.game
+    later = ends-later rules terms last 253402300799 have.game low have.within
+
+    by-rules : (t : Table) → IsRightIn rules terms (Some last) row moves seen t
+    by-rules Moves = moves-of rules terms row moves have.id have.game have.are
+    by-rules Games = record { id = have.id; game = have.game; are = have.are; within = later }
+    by-rules Seen =
+        record { id = have.id; game = have.game; are = have.are; within = later; seen_are = have.seen_are }
+    by-rules Meta = λ n is most.
+        subst (λ k. HaveAll rules terms k row moves seen) (same_Some last n is) have
+    by-rules _ = tt
+
+  by-kind : (kind : GameKind) (terms : Terms) → HaveAllOf kind terms last row moves seen → (t : Table)
+      → IsRightOf kind terms (Some last) row moves seen t
+  by-kind Draughts terms have t = by-rules both_games.draughts terms have t
+  by-kind Shogi terms have t = by-rules both_games.shogi terms have t
+
+  pub event-complete : AreOfEvent event declares last row moves seen → wrong ≡ None
+  event-complete of =
+      none-named ByEvent wrong first
+      (λ t. to-event event declares (Some last) row moves seen of.kind of.budget of.increment of.kind_is of.terms t
+      (by-kind of.kind (terms_told of.budget of.increment declares) of.all t))
 
 module _ (s : ClubState) (rows : Rows) (people : HasPeople s rows) (index : ℕ) (row : GameRecord)
     (moves : List MoveRow) (seen : List SeenRow) (last : Option ℕ) where
@@ -38,11 +306,13 @@ module _ (s : ClubState) (rows : Rows) (people : HasPeople s rows) (index : ℕ)
 
   -- a game that names no event is wrong, and its moves are passed over
   pub no-event : ((id : ℕ) (e : EventRow) → ¬ NamesEvent rows row id e) → IsFirstWrong At (Some Games)
-  no-event none =
-      first-games At tt tt tt tt (λ id e declares named ruled. absurd (none id e named))
-      (λ it. let (low, g, is) = it in
-      let (id, e, named) = any-names (until 253402300799 s) rows (people-until 253402300799) index row moves g is in
-      none id e named)
+  no-event none = record {
+    before = with-next At Moves (up-to-moves At tt tt tt tt) (λ id e declares named ruled. absurd (none id e named));
+    named = λ it.
+        let (low, g, is) = it in
+        let (id, e, named) = any-names (until 253402300799 s) rows (people-until 253402300799) index row moves g is in
+        none id e named;
+  }
 
   module _ (id : ℕ) (e : EventRow) (declares : Bool) (named : NamesEvent rows row id e)
       (ruled : NamesRule rows row id declares) where
@@ -67,186 +337,110 @@ module _ (s : ClubState) (rows : Rows) (people : HasPeople s rows) (index : ℕ)
           };
         }
 
-    -- there is no other
-    same-event : (n : ℕ) (f : EventRow) → NamesEvent rows row n f → e ≡ f
-    same-event n f other =
-        let same : id ≡ n = same-pos _ _ (sym named.event_is ∙ other.event_is) in
-        same_Some e f (sym named.row_is ∙ (ap (place rows.events.items) same ∙ other.row_is))
-
-    -- nor another rule
-    same-rule : (n : ℕ) (d : Bool) → NamesRule rows row n d → declares ≡ d
-    same-rule n d other =
-        let same : id ≡ n = same-pos _ _ (sym ruled.event_is ∙ other.event_is) in
-        let rule : ruled.rule ≡ other.rule =
-        same_Some ruled.rule other.rule
-        (sym ruled.rule_is ∙ (ap (place rows.event_rules.items) same ∙ other.rule_is)) in
-        declares-alike declares d
-        (same-pos _ _ (sym ruled.says ∙ (ap (λ (r : EventRuleRow). r.declares) rule ∙ other.says)))
-
+    -- there is no other, nor another rule
     moves-at : In Moves → At Moves
-    moves-at right n f d other also = subst (λ x. IsRightBy x d last row moves seen Moves) (same-event n f other)
-        (subst (λ x. IsRightBy e x last row moves seen Moves) (same-rule n d also) right)
+    moves-at right n f d other also =
+        let event : e ≡ f = cc in
+        let rule : ruled.rule ≡ also.rule = cc in
+        subst₂ (λ x y. IsRightBy x y last row moves seen Moves) event (declares-alike declares d (cc)) right
 
-    members-in : In Members
-    members-in Draughts b i kind_is gives = tt
-    members-in Shogi b i kind_is gives = tt
-
-    rules-in : In EventRules
-    rules-in Draughts b i kind_is gives = tt
-    rules-in Shogi b i kind_is gives = tt
-
-    challenges-in : In Challenges
-    challenges-in Draughts b i kind_is gives = tt
-    challenges-in Shogi b i kind_is gives = tt
-
-    scores-in : In Scores
-    scores-in Draughts b i kind_is gives = tt
-    scores-in Shogi b i kind_is gives = tt
+    -- the tables before that of moves are right
+    early-in : UpTo In 4
+    early-in Events low = rules-of
+    early-in t low = λ kind b i kind_is gives.
+        early-of last row moves seen kind (terms_told b i declares) t low
 
     -- ---- by the kind of the event
 
     module _ (stands : StandsAt rows index row) where
-      game-of : (kind : GameKind) (budget increment : ℕ) → e.game ≡ pos (kind_number kind)
-          → GivesTerms e budget increment
-          → IsRightOf kind (terms_told budget increment declares) last row moves seen Games
-          → (g : ClubGame) × IsGameAt (until 253402300799 s) (index + 1) row moves g
-      game-of Draughts budget increment kind_is gives have =
-          game-shown (until 253402300799 s) rows (people-until 253402300799) index row moves in_draughts id e budget
-          increment declares named ruled gives kind_is stands have
-      game-of Shogi budget increment kind_is gives have =
-          game-shown (until 253402300799 s) rows (people-until 253402300799) index row moves in_shogi id e budget
-          increment declares named ruled gives kind_is stands have
+      module _ {P M E T : Type 0} {rules : GameRules P M E T} {kind : GameKind} (k : Kind rules kind)
+          (budget increment : ℕ) (kind_is : HasKind e kind) (gives : GivesTerms e budget increment) where
+        -- what is right by the rules of this kind is right at its place
+        to-place-in : (t : Table) → In t
+            → IsRightIn rules (terms_told budget increment declares) last row moves seen t → At t
+        to-place-in Moves event right = moves-at event
+        to-place-in Games event right =
+            let is =
+            game-stands _ _ (people-until 253402300799) _ _ _ k _ _ _ _ _ named ruled gives kind_is stands right in
+            (stands.low, k.into right.game, is.1)
+        to-place-in Seen event right =
+            all-shown _ _ (people-until 253402300799) _ _ _ k _ _ _ _ _ named ruled gives kind_is stands seen right
+        to-place-in Meta event right = λ n is low.
+            all-shown _ _ (people-until n) _ _ _ k _ _ _ _ _ named ruled gives kind_is stands seen (right n is low)
+        to-place-in _ event right = tt
 
-      all-of : (kind : GameKind) (budget increment : ℕ) → e.game ≡ pos (kind_number kind)
-          → GivesTerms e budget increment
-          → IsRightOf kind (terms_told budget increment declares) last row moves seen Seen
-          → (g : ClubGame) × AreAllOf (until 253402300799 s) (index + 1) row moves seen g
-      all-of Draughts budget increment kind_is gives have =
-          all-shown (until 253402300799 s) rows (people-until 253402300799) index row moves in_draughts id e budget
-          increment declares named ruled gives kind_is stands seen have
-      all-of Shogi budget increment kind_is gives have =
-          all-shown (until 253402300799 s) rows (people-until 253402300799) index row moves in_shogi id e budget
-          increment declares named ruled gives kind_is stands seen have
+        -- and what is right there, but for its moves, is right by these rules
+        from-place-in : (t : Table) → t ≢ Moves → At t
+            → IsRightIn rules (terms_told budget increment declares) last row moves seen t
+        from-place-in Moves other right = absurd (other refl)
+        from-place-in Games other right =
+            game-had _ _ (people-until 253402300799) _ _ _ _ _ named k _ _ _ ruled gives kind_is stands.low
+            (omega arith) right.1 right.2
+        from-place-in Seen other right =
+            all-had _ _ (people-until 253402300799) _ _ _ _ _ named k _ _ _ ruled gives kind_is stands.low (omega arith)
+            seen right.0 right.1
+        from-place-in Meta other right = λ n is low.
+            let (g, all) = right n is low in
+            all-had _ _ (people-until n) _ _ _ _ _ named k _ _ _ ruled gives kind_is stands.low low seen g all
+        from-place-in _ other right = tt
 
-      end-of : (kind : GameKind) (budget increment : ℕ) → e.game ≡ pos (kind_number kind)
-          → GivesTerms e budget increment
-          → IsRightOf kind (terms_told budget increment declares) last row moves seen Meta
-          → (n : ℕ) → last ≡ Some n → n ≤ 253402300799
-          → (g : ClubGame) × AreAllOf (until n s) (index + 1) row moves seen g
-      end-of Draughts budget increment kind_is gives have n is low =
-          all-shown (until n s) rows (people-until n) index row moves in_draughts id e budget increment declares
-          named ruled gives
-          kind_is stands seen (have n is low)
-      end-of Shogi budget increment kind_is gives have n is low =
-          all-shown (until n s) rows (people-until n) index row moves in_shogi id e budget increment declares named
-          ruled gives
-          kind_is stands seen (have n is low)
+      to-place-of : (kind : GameKind) (budget increment : ℕ) → HasKind e kind → GivesTerms e budget increment
+          → (t : Table) → In t → IsRightOf kind (terms_told budget increment declares) last row moves seen t → At t
+      to-place-of Draughts b i kind_is gives = to-place-in in_draughts b i kind_is gives
+      to-place-of Shogi b i kind_is gives = to-place-in in_shogi b i kind_is gives
 
-      game-in-kind : (g : ClubGame) → IsGameAt (until 253402300799 s) (index + 1) row moves g → (kind : GameKind)
-          (budget increment : ℕ) → e.game ≡ pos (kind_number kind) → GivesTerms e budget increment
-          → IsRightOf kind (terms_told budget increment declares) last row moves seen Games
-      game-in-kind g is Draughts budget increment kind_is gives =
-          game-had (until 253402300799 s) rows (people-until 253402300799) index row moves id e named in_draughts budget
-          increment declares ruled gives kind_is stands.low (omega arith) g is
-      game-in-kind g is Shogi budget increment kind_is gives =
-          game-had (until 253402300799 s) rows (people-until 253402300799) index row moves id e named in_shogi budget
-          increment declares ruled gives kind_is stands.low (omega arith) g is
-
-      all-in-kind : (g : ClubGame) → AreAllOf (until 253402300799 s) (index + 1) row moves seen g → (kind : GameKind)
-          (budget increment : ℕ) → e.game ≡ pos (kind_number kind) → GivesTerms e budget increment
-          → IsRightOf kind (terms_told budget increment declares) last row moves seen Seen
-      all-in-kind g is Draughts budget increment kind_is gives =
-          all-had (until 253402300799 s) rows (people-until 253402300799) index row moves id e named in_draughts budget
-          increment declares ruled gives kind_is stands.low (omega arith) seen g is
-      all-in-kind g is Shogi budget increment kind_is gives =
-          all-had (until 253402300799 s) rows (people-until 253402300799) index row moves id e named in_shogi budget
-          increment declares ruled gives kind_is stands.low (omega arith) seen g is
-
-      end-in-kind : At Meta → (kind : GameKind) (budget increment : ℕ) → e.game ≡ pos (kind_number kind)
-          → GivesTerms e budget increment
-          → IsRightOf kind (terms_told budget increment declares) last row moves seen Meta
-      end-in-kind right Draughts budget increment kind_is gives = λ n is low.
-          let (g, all) = right n is low in
-          all-had (until n s) rows (people-until n) index row moves id e named in_draughts budget increment declares
-          ruled gives
-          kind_is stands.low low seen g all
-      end-in-kind right Shogi budget increment kind_is gives = λ n is low.
-          let (g, all) = right n is low in
-          all-had (until n s) rows (people-until n) index row moves id e named in_shogi budget increment declares
-          ruled gives
-          kind_is stands.low low seen g all
-
-      -- ---- table by table
+      from-place-of : (kind : GameKind) (budget increment : ℕ) → HasKind e kind → GivesTerms e budget increment
+          → (t : Table) → t ≢ Moves → At t → IsRightOf kind (terms_told budget increment declares) last row moves seen t
+      from-place-of Draughts b i kind_is gives = from-place-in in_draughts b i kind_is gives
+      from-place-of Shogi b i kind_is gives = from-place-in in_shogi b i kind_is gives
 
       to-place : (t : Table) → In t → At t
-      to-place Moves right = moves-at right
-      to-place Games right =
+      to-place Events right = tt
+      to-place t right =
           let r = rules-of in
-          let (g, is) = game-of r.kind r.budget r.increment r.kind_is r.terms
-          (right r.kind r.budget r.increment r.kind_is r.terms) in
-          (stands.low, g, is)
-      to-place Seen right =
-          let r = rules-of in
-          all-of r.kind r.budget r.increment r.kind_is r.terms (right r.kind r.budget r.increment r.kind_is r.terms)
-      to-place Meta right =
-          let r = rules-of in
-          end-of r.kind r.budget r.increment r.kind_is r.terms (right r.kind r.budget r.increment r.kind_is r.terms)
-      to-place _ right = tt
+          to-place-of r.kind r.budget r.increment r.kind_is r.terms t right
+          (right r.kind r.budget r.increment r.kind_is r.terms)
 
       from-place : (t : Table) → At t → In t
-      from-place Members right = members-in
       from-place Events right = rules-of
-      from-place EventRules right = rules-in
-      from-place Challenges right = challenges-in
       from-place Moves right = right id e declares named ruled
-      from-place Games right = λ kind b i kind_is gives. game-in-kind right.1 right.2 kind b i kind_is gives
-      from-place Seen right = λ kind b i kind_is gives. all-in-kind right.0 right.1 kind b i kind_is gives
-      from-place Scores right = scores-in
-      from-place Meta right = λ kind b i kind_is gives. end-in-kind right kind b i kind_is gives
+      from-place t right = λ kind b i kind_is gives. from-place-of kind b i kind_is gives t (λ is. cc) right
 
       pub stands-first : (wrong : Option Table) → IsFirstWrong In wrong → IsFirstWrong At wrong
       stands-first wrong = first-as In At wrong to-place from-place
 
     -- where its moves are wrong, that is named whatever its place
     pub moves-first : IsFirstWrong In (Some Moves) → IsFirstWrong At (Some Moves)
-    moves-first first = first-moves At tt tt tt tt (λ right. first.named (right id e declares named ruled))
+    moves-first first = record {
+      before = up-to-moves At tt tt tt tt;
+      named = λ right. first.named (right id e declares named ruled);
+    }
 
     moves-come : (wrong : Option Table) → IsFirstWrong In wrong → wrong ≢ Some Moves → Precedes Moves wrong
     moves-come None first other = tt
-    moves-come (Some Members) first other = absurd (first.named members-in)
-    moves-come (Some Events) first other = absurd (first.named rules-of)
-    moves-come (Some EventRules) first other = absurd (first.named rules-in)
-    moves-come (Some Challenges) first other = absurd (first.named challenges-in)
     moves-come (Some Moves) first other = absurd (other refl)
-    moves-come (Some _) first other = omega arith
+    moves-come (Some t) first other = elim (cases_lt (order t) 4) [
+      | inl low ↦ absurd (first.named (early-in t low))
+      | inr high ↦ omega arith
+    ]
 
-    -- a game without its place is wrong, where its moves are not
-    pub misplaced : (wrong : Option Table) → IsFirstWrong In wrong → wrong ≢ Some Moves
-        → ¬ StandsAt rows index row → IsFirstWrong At (Some Games)
-    misplaced wrong first other none =
-        first-games At tt tt tt tt (moves-at (first.before Moves (moves-come wrong first other)))
-        (λ it. let (low, g, is) = it in
-        none (any-stands (until 253402300799 s) rows (people-until 253402300799) index row moves g is low))
-
-    moves-or-not : (wrong : Option Table) → (wrong ≡ Some Moves) ⊎ (wrong ≢ Some Moves)
-    moves-or-not (Some Moves) = inl refl
-    moves-or-not None = inr (λ is. cc)
-    moves-or-not (Some _) = inr (λ is. cc)
-
-    -- with or without its place
+    -- with or without its place; a game without it is wrong, where its moves are not
     pub placed-first : (wrong result : Option Table) (stands : Bool) → IsFirstWrong In wrong
         → (stands ≡ true → StandsAt rows index row) → (StandsAt rows index row → stands ≡ true)
         → (stands ≡ true → result ≡ wrong) → (wrong ≡ Some Moves → result ≡ Some Moves)
         → (stands ≡ false → wrong ≢ Some Moves → result ≡ Some Games) → IsFirstWrong At result
+    placed-first (Some Moves) result stands first sound complete kept has_moves has_games =
+        subst (IsFirstWrong At) (sym (has_moves refl)) (moves-first first)
     placed-first wrong result stands first sound complete kept has_moves has_games = elim (cases_Bool stands) [
       | inl is ↦ subst (IsFirstWrong At) (sym (kept is)) (stands-first (sound is) wrong first)
-      | inr not_it ↦ elim (moves-or-not wrong) [
-        | inl are ↦
-            subst (IsFirstWrong At) (sym (has_moves are)) (moves-first (subst (IsFirstWrong In) are first))
-        | inr other ↦
-            subst (IsFirstWrong At) (sym (has_games not_it other))
-            (misplaced wrong first other (λ it. let both = sym (complete it) ∙ not_it in absurd cc))
-      ]
+      | inr other ↦ subst (IsFirstWrong At) (sym (has_games other (λ is. cc))) (record {
+        before = with-next At Moves (up-to-moves At tt tt tt tt)
+            (moves-at (first.before Moves (moves-come wrong first (λ is. cc))));
+        named = λ it.
+            let (low, g, is) = it in
+            let stand = any-stands (until 253402300799 s) rows (people-until 253402300799) index row moves g is low in
+            true≢false (sym (complete stand) ∙ other);
+      })
     ]
 
 -- an event of a club has a row of its rules
@@ -260,38 +454,10 @@ no-rule s rows people row id e named none =
 
 -- ---- a club's own game
 
--- a game of a club is one of it as it would be later
-later-legal : (s : ClubState) (m : ℕ) → s.last ≤ m → (g : ClubGame) → IsLegalIn both_games s g
-    → IsLegalIn both_games (until m s) g
-later-legal s m low (draughts g) of = record {
-  event = of.event;
-  in_event = of.in_event;
-  of_kind = of.of_kind;
-  legal = of.legal;
-  first = of.first;
-  second = of.second;
-  key = of.key;
-  start = let start = of.start in omega (arith, start, low);
-  entries = λ n e at. let most : e.moment ≤ s.last = of.entries n e at in omega (arith, most, low);
-  lost_by_time = λ lost. let late = of.lost_by_time lost in omega (arith, late, low);
-}
-later-legal s m low (shogi g) of = record {
-  event = of.event;
-  in_event = of.in_event;
-  of_kind = of.of_kind;
-  legal = of.legal;
-  first = of.first;
-  second = of.second;
-  key = of.key;
-  start = let start = of.start in omega (arith, start, low);
-  entries = λ n e at. let most : e.moment ≤ s.last = of.entries n e at in omega (arith, most, low);
-  lost_by_time = λ lost. let late = of.lost_by_time lost in omega (arith, late, low);
-}
-
 pub later-game : (s : ClubState) (m : ℕ) → s.last ≤ m → (id : ℕ) (row : GameRecord) (moves : List MoveRow)
     (g : ClubGame) → IsGameAt s id row moves g → IsGameAt (until m s) id row moves g
 later-game s m low id row moves g is =
-    record { legal = later-legal s m low g is.legal; row_is = is.row_is; moves_are = is.moves_are }
+    record { legal = legal-later s s.games m low g is.legal; row_is = is.row_is; moves_are = is.moves_are }
 
 pub later-all : (s : ClubState) (m : ℕ) → s.last ≤ m → (id : ℕ) (row : GameRecord) (moves : List MoveRow)
     (seen : List SeenRow) (g : ClubGame) → AreAllOf s id row moves seen g → AreAllOf (until m s) id row moves seen g
@@ -300,25 +466,24 @@ later-all s m low id row moves seen g is =
 
 module _ (s : ClubState) (rows : Rows) (people : HasPeople s rows) (index : ℕ) (row : GameRecord)
     (moves : List MoveRow) (seen : List SeenRow) (last : Option ℕ) (within : s.last ≤ 253402300799) where
+  module _ (low : index < 5000) (g : ClubGame) (at : IsGameAt s (index + 1) row moves g) (id : ℕ) (e : EventRow)
+      (declares : Bool) (named : NamesEvent rows row id e) (ruled : NamesRule rows row id declares) where
+    moves-in : {P M E T : Type 0} {rules : GameRules P M E T} {kind : GameKind} (k : Kind rules kind)
+        (budget increment : ℕ) → HasKind e kind → GivesTerms e budget increment
+        → AreMovesOf rules (terms_told budget increment declares) row moves
+    moves-in {rules = rules} k b i kind_is gives =
+        let have =
+        game-had s rows people index row moves id e named k b i declares ruled gives kind_is low within g at in
+        moves-of rules (terms_told b i declares) row moves have.id have.game have.are
+
+    moves-right : IsRightBy e declares last row moves seen Moves
+    moves-right Draughts b i kind_is gives = moves-in in_draughts b i kind_is gives
+    moves-right Shogi b i kind_is gives = moves-in in_shogi b i kind_is gives
+
   -- all tables are right by the rows of a game of the club, up to its last moment
   pub club-right : index < 5000 → (g : ClubGame) → AreAllOf s (index + 1) row moves seen g
       → ((n : ℕ) → last ≡ Some n → s.last ≡ n) → (t : Table) → IsRightAt s rows index row moves seen last t
-  club-right low g all moment Moves = by-kind
-    where
-      by-kind : (id : ℕ) (e : EventRow) (declares : Bool) → NamesEvent rows row id e → NamesRule rows row id declares
-          → (kind : GameKind) (budget increment : ℕ) → e.game ≡ pos (kind_number kind) → GivesTerms e budget increment
-          → IsRightOf kind (terms_told budget increment declares) last row moves seen Moves
-      by-kind id e declares named ruled Draughts budget increment kind_is gives =
-          let have = game-had s rows people index row moves id e named in_draughts budget increment declares ruled
-          gives kind_is low
-          within g all.at in
-          moves-of both_games.draughts (terms_told budget increment declares) row moves have.id have.game have.are
-      by-kind id e declares named ruled Shogi budget increment kind_is gives =
-          let have = game-had s rows people index row moves id e named in_shogi budget increment declares ruled gives
-          kind_is low
-          within
-          g all.at in
-          moves-of both_games.shogi (terms_told budget increment declares) row moves have.id have.game have.are
+  club-right low g all moment Moves = moves-right low g all.at
   club-right low g all moment Games =
       (low, g, later-game s 253402300799 within (index + 1) row moves g all.at)
   club-right low g all moment Seen = (g, later-all s 253402300799 within (index + 1) row moves seen g all)
@@ -330,7 +495,4 @@ module _ (s : ClubState) (rows : Rows) (people : HasPeople s rows) (index : ℕ)
   -- and a club whose last moment is given has the game of rows by which all tables are right
   pub right-club : last ≡ Some s.last → IsRightAt s rows index row moves seen last Meta → (g : ClubGame)
       × AreAllOf s (index + 1) row moves seen g
-  right-club is right =
-      let (g, all) = right s.last is within in
-      let same : until s.last s ≡ s = refl in
-      (g, subst (λ x. AreAllOf x (index + 1) row moves seen g) same all)
+  right-club is right = right s.last is within

@@ -1,17 +1,11 @@
 pub mod AuditLemmas
 pub mod ChallengeLemmas
-pub mod EventRules
 pub mod FirstLemmas
 pub mod GameLemmas
 pub mod GamePlaces
 pub mod KeyLemmas
-pub mod MatchLemmas
-pub mod NumberLemmas
 pub mod PeopleLemmas
 pub mod PlacedLemmas
 pub mod Proved
 pub mod SeenCounts
-pub mod SeenMoves
 pub mod StandingLemmas
-pub mod StandingsTold
-pub mod WrongLemmas

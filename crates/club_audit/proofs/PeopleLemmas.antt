@@ -1,9 +1,9 @@
 -- The members and the events that rows show.
-use Rattle.std.proofs.Common.{◌≡◌, ◌≢◌, ℕ, zero, suc, pos, ◌+◌, ◌≤◌, List, [], ◌∷◌, length, map, Bool, Some, ap, sym}
-use Rattle.std.proofs.Common.{false, refl, subst, ◌∙◌, arith, inl, inr}
+use Rattle.std.proofs.Common.{◌≡◌, ◌≢◌, ℕ, suc, pos, ◌+◌, ◌≤◌, List, [], ◌∷◌, length, map, Bool, Some, ap, sym, false}
+use Rattle.std.proofs.Common.{refl, subst, ◌∙◌, arith, inl, inr}
 use Rattle.std.specs.Prelude.{ℤ, slice_get, string_bytes}
 use Rattle.std.proofs.lemmas.Bool.{cases_eq}
-use Rattle.std.proofs.lemmas.Option.{same_Some}
+use Rattle.sqlite.specs.Order.{Row}
 use Rattle.sqlite_value.specs.declared.value.Value.TheVariants.{Int, Text}
 use Rattle.club_rules.specs.declared.names.GameKind.{GameKind}
 use Rattle.club_core.specs.Members.{Member}
@@ -16,30 +16,55 @@ use Rattle.store_tables.specs.declared.rows.EventRuleRow.{EventRuleRow}
 use Rattle.club_audit.specs.Audit.{IsMemberAt, AreMembers, IsEventAt, AreEvents, AreRules, AreRulesOf, SaysDeclares}
 use Rattle.club_audit.specs.Audit.{terms_told}
 use Rattle.club_rows.specs.Tables.{member_row, event_row, rule_row, kind_number, numbered_from}
-use Rattle.club_audit.proofs.PlacedLemmas.{each-cons, numbered-of, numbered-at, numbered-back, numbered-length}
-
-same-by : (i j : ℕ) → (i ≢ j → ⊥) → i ≡ j
-same-by i j never = elim (cases_eq i j) [ inl same ↦ same | inr other ↦ absurd (never other) ]
-
--- ids that are places tell the places
-apart-ids : (i j : ℕ) (a b : ℤ) → a ≡ pos (suc i) → b ≡ pos (suc j) → i ≢ j → b ≢ a
-apart-ids i j a b one two apart same = apart (let e : pos (suc i) ≡ pos (suc j) = sym one ∙ (sym same ∙ two) in cc)
+use Rattle.club_laws.proofs.Proved.{map-at, map-got}
+use Rattle.club_audit.proofs.PlacedLemmas.{each-cons, here-is, numbered-at, numbered-back, numbered-length, numbered-of}
+use Rattle.club_audit.proofs.PlacedLemmas.{shifted}
 
 next-is : (k : ℕ) → k + 1 ≡ 1 + k
 next-is k = omega arith
 
-suc-is : (k : ℕ) → 1 + k ≡ suc k
-suc-is k = omega arith
+-- ---- texts that no two have
+
+-- rows of elements by their places, from 1, whose ids are the places, and a text that a row has of its element
+module _ {R A : Type 0} (cells : R → Row) (row : ℕ → A → Row) (id : R → ℤ) (text : R → List ℕ) (part : A → List ℕ)
+    (told : (n : ℕ) (x : A) (r : R) → cells r ≡ row n x → (id r ≡ pos n) × (text r ≡ part x)) (rows : List R)
+    (xs : List A) (rows_are : map cells rows ≡ numbered_from row 1 xs) where
+  -- where no other row has a row's text, no two elements have one
+  apart-from : ((i j : ℕ) (r q : R) → slice_get rows i ≡ Some r → slice_get rows j ≡ Some q → id q ≢ id r
+      → text q ≢ text r) → AreApart part xs
+  apart-from others i j x y one two same =
+      let (r, at, r_is) = numbered-back cells row 1 rows xs rows_are i x one in
+      let (q, there, q_is) = numbered-back cells row 1 rows xs rows_are j y two in
+      let (r_id, r_text) = told (1 + i) x r r_is in
+      let (q_id, q_text) = told (1 + j) y q q_is in
+      elim (cases_eq i j) [
+        | inl alike ↦ alike
+        | inr apart ↦
+            absurd (others i j r q at there (λ ids. let places : 1 + i ≡ 1 + j = cc in omega arith) (cc))
+      ]
+
+  -- and where no two have one, no other row has a row's text
+  others-from : AreApart part xs → (i j : ℕ) (r q : R) → slice_get rows i ≡ Some r → slice_get rows j ≡ Some q
+      → id q ≢ id r → text q ≢ text r
+  others-from apart i j r q at there other same =
+      let (x, one, r_is) = numbered-at cells row 1 rows xs rows_are i r at in
+      let (y, two, q_is) = numbered-at cells row 1 rows xs rows_are j q there in
+      let (r_id, r_text) = told (1 + i) x r r_is in
+      let (q_id, q_text) = told (1 + j) y q q_is in
+      let alike : part y ≡ part x = sym q_text ∙ (same ∙ r_text) in
+      other (q_id ∙ (ap (λ k. pos (1 + k)) (apart j i y x two one alike) ∙ sym r_id))
 
 -- ---- members
 
-pub record MemberParts (id : ℕ) (m : Member) (r : MemberRow) : Type 0 where
-  pub id_is : r.id ≡ pos id
-  pub name_is : string_bytes r.name ≡ m.name
-  pub key_is : string_bytes r.key ≡ m.key
+-- a member's row has its place and its name
+member-name : (n : ℕ) (m : Member) (r : MemberRow) → member_cells r ≡ member_row n m → (r.id ≡ pos n)
+    × (string_bytes r.name ≡ m.name)
+member-name n m r is = (cc, cc)
 
-pub member-parts : (id : ℕ) (m : Member) (r : MemberRow) → member_cells r ≡ member_row id m → MemberParts id m r
-member-parts id m r is = record { id_is = cc; name_is = cc; key_is = cc }
+-- and its key
+member-key : (n : ℕ) (m : Member) (r : MemberRow) → member_cells r ≡ member_row n m → (r.id ≡ pos n)
+    × (string_bytes r.key ≡ m.key)
+member-key n m r is = (cc, cc)
 
 pub member-cells : (id : ℕ) (r : MemberRow) → r.id ≡ pos id
     → member_cells r ≡ member_row id (record { name = string_bytes r.name; key = string_bytes r.key })
@@ -50,29 +75,15 @@ pub members-from : (rows : List MemberRow) → length rows ≤ 200
     × AreMembers ms rows
 members-from rows few each =
     let made = numbered-of member_cells member_row IsLegalMember 1 rows (λ k r at. let is = each k r at in
-    (is.member, subst (λ n. member_cells r ≡ member_row n is.member) (next-is k) is.cells, is.legal)) in
+    (is.member, cc (next-is k), is.legal)) in
     let ms = made.0 in (
       ms,
       record {
         rows_are = made.1;
         legal = made.2;
         count = omega (arith, numbered-length member_cells member_row 1 rows ms made.1, few);
-        names = λ i j x y one two same. same-by i j (λ apart.
-            let a = numbered-back member_cells member_row 1 rows ms made.1 i x one in
-            let b = numbered-back member_cells member_row 1 rows ms made.1 j y two in
-            let p = member-parts _ x a.0 a.2 in
-            let q = member-parts _ y b.0 b.2 in
-            ((each i a.0 a.1).others j b.0 b.1).name
-            (apart-ids i j a.0.id b.0.id (p.id_is ∙ ap pos (suc-is i)) (q.id_is ∙ ap pos (suc-is j)) apart)
-            (q.name_is ∙ (sym same ∙ sym p.name_is)));
-        keys = λ i j x y one two same. same-by i j (λ apart.
-            let a = numbered-back member_cells member_row 1 rows ms made.1 i x one in
-            let b = numbered-back member_cells member_row 1 rows ms made.1 j y two in
-            let p = member-parts _ x a.0 a.2 in
-            let q = member-parts _ y b.0 b.2 in
-            ((each i a.0 a.1).others j b.0 b.1).key
-            (apart-ids i j a.0.id b.0.id (p.id_is ∙ ap pos (suc-is i)) (q.id_is ∙ ap pos (suc-is j)) apart)
-            (q.key_is ∙ (sym same ∙ sym p.key_is)));
+        names = apart-from _ _ _ _ _ member-name rows ms made.1 (λ i j r q at h. ((each i r at).others j q h).name);
+        keys = apart-from _ _ _ _ _ member-key rows ms made.1 (λ i j r q at h. ((each i r at).others j q h).key);
       },
     )
 
@@ -83,40 +94,31 @@ pub members-at : (ms : List Member) (rows : List MemberRow) → AreMembers ms ro
     → slice_get rows k ≡ Some r → IsMemberAt rows k r
 members-at ms rows are k r at =
     let (m, stands, cells) = numbered-at member_cells member_row 1 rows ms are.rows_are k r at in
-    let p = member-parts _ m r cells in
-    let place = λ (j : ℕ) (o : MemberRow) (there : slice_get rows j ≡ Some o).
-    numbered-at member_cells member_row 1 rows ms are.rows_are j o there in
     record {
       member = m;
       cells = subst (λ n. member_cells r ≡ member_row n m) (sym (next-is k)) cells;
       legal = are.legal k m stands;
-      others = λ j o there. let (n, stands', cells') = place j o there in let q = member-parts _ n o cells' in record {
-        name =
-            λ other same.
-            other
-            (q.id_is
-            ∙ (ap (λ i. pos (1 + i)) (are.names j k n m stands' stands (sym q.name_is ∙ (same ∙ p.name_is)))
-            ∙ sym p.id_is));
-        key =
-            λ other same.
-            other
-            (q.id_is
-            ∙ (ap (λ i. pos (1 + i)) (are.keys j k n m stands' stands (sym q.key_is ∙ (same ∙ p.key_is)))
-            ∙ sym p.id_is));
+      others = λ j o there. record {
+        name = others-from _ _ _ _ _ member-name rows ms are.rows_are are.names k j r o at there;
+        key = others-from _ _ _ _ _ member-key rows ms are.rows_are are.keys k j r o at there;
       };
     }
 
 -- ---- events
 
-pub record EventParts (id : ℕ) (e : Event) (r : EventRow) : Type 0 where
-  pub id_is : r.id ≡ pos id
-  pub name_is : string_bytes r.name ≡ e.name
+-- the row has the event's kind and seconds
+pub record EventParts (e : Event) (r : EventRow) : Type 0 where
   pub game_is : r.game ≡ pos (kind_number e.game)
   pub budget_is : r.budget ≡ pos e.terms.budget
   pub increment_is : r.increment ≡ pos e.terms.increment
 
-pub event-parts : (id : ℕ) (e : Event) (r : EventRow) → event_cells r ≡ event_row id e → EventParts id e r
-event-parts id e r is = record { id_is = cc; name_is = cc; game_is = cc; budget_is = cc; increment_is = cc }
+pub event-parts : (id : ℕ) (e : Event) (r : EventRow) → event_cells r ≡ event_row id e → EventParts e r
+event-parts id e r is = record { game_is = cc; budget_is = cc; increment_is = cc }
+
+-- an event's row has its place and its name
+event-name : (n : ℕ) (e : Event) (r : EventRow) → event_cells r ≡ event_row n e → (r.id ≡ pos n)
+    × (string_bytes r.name ≡ e.name)
+event-name n e r is = (cc, cc)
 
 abbrev pub event_told : EventRow → GameKind → ℕ → ℕ → Event
 event_told r kind budget increment =
@@ -125,8 +127,7 @@ event_told r kind budget increment =
 pub event-cells : (id budget increment : ℕ) (kind : GameKind) (r : EventRow) → r.id ≡ pos id
     → r.game ≡ pos (kind_number kind) → r.budget ≡ pos budget → r.increment ≡ pos increment
     → event_cells r ≡ event_row id (event_told r kind budget increment)
-event-cells id budget increment kind r id_is game_is budget_is increment_is =
-    λ i. Int (id_is i) ∷ Text (string_bytes r.name) ∷ Int (game_is i) ∷ Int (budget_is i) ∷ Int (increment_is i) ∷ []
+event-cells id budget increment kind r id_is game_is budget_is increment_is = cc
 
 pub events-from : (rows : List EventRow) → length rows ≤ 50
     → ((k : ℕ) (r : EventRow) → slice_get rows k ≡ Some r → IsEventAt rows k r) → (es : List Event) × AreEvents es rows
@@ -139,14 +140,7 @@ events-from rows few each =
         rows_are = made.1;
         legal = made.2;
         count = omega (arith, numbered-length event_cells event_row 1 rows es made.1, few);
-        names = λ i j x y one two same. same-by i j (λ apart.
-            let a = numbered-back event_cells event_row 1 rows es made.1 i x one in
-            let b = numbered-back event_cells event_row 1 rows es made.1 j y two in
-            let p = event-parts _ x a.0 a.2 in
-            let q = event-parts _ y b.0 b.2 in
-            (each i a.0 a.1).others j b.0 b.1
-            (apart-ids i j a.0.id b.0.id (p.id_is ∙ ap pos (suc-is i)) (q.id_is ∙ ap pos (suc-is j)) apart)
-            (q.name_is ∙ (sym same ∙ sym p.name_is)));
+        names = apart-from _ _ _ _ _ event-name rows es made.1 (λ i j r q at h. (each i r at).others j q h);
       },
     )
 
@@ -157,20 +151,11 @@ pub events-at : (es : List Event) (rows : List EventRow) → AreEvents es rows �
     → slice_get rows k ≡ Some r → IsEventAt rows k r
 events-at es rows are k r at =
     let (e, stands, cells) = numbered-at event_cells event_row 1 rows es are.rows_are k r at in
-    let p = event-parts _ e r cells in
-    let place = λ (j : ℕ) (o : EventRow) (there : slice_get rows j ≡ Some o).
-    numbered-at event_cells event_row 1 rows es are.rows_are j o there in
     record {
       event = e;
       cells = subst (λ n. event_cells r ≡ event_row n e) (sym (next-is k)) cells;
       legal = are.legal k e stands;
-      others = λ j o there other same.
-          let (n, stands', cells') = place j o there in
-          let q = event-parts _ n o cells' in
-          other
-          (q.id_is
-          ∙ (ap (λ i. pos (1 + i)) (are.names j k n e stands' stands (sym q.name_is ∙ (same ∙ p.name_is)))
-          ∙ sym p.id_is));
+      others = λ j o there. others-from _ _ _ _ _ event-name rows es are.rows_are are.names k j r o at there;
     }
 
 -- ---- rules of events
@@ -178,10 +163,6 @@ events-at es rows are k r at =
 pub rule-parts : (id : ℕ) (e : Event) (r : EventRuleRow) → event_rule_cells r ≡ rule_row id e
     → (r.event ≡ pos id) × SaysDeclares r e.terms.declares
 rule-parts id e r is = (cc, cc)
-
-pub rule-cells : (id : ℕ) (e : Event) (r : EventRuleRow) → r.event ≡ pos id → SaysDeclares r e.terms.declares
-    → event_rule_cells r ≡ rule_row id e
-rule-cells id e r event_is says = λ i. Int (event_is i) ∷ Int (says i) ∷ []
 
 -- the events with declarations as their rules say
 abbrev with-declares : Event → Bool → Event
@@ -212,33 +193,21 @@ ruled-from n (e ∷ es) (r ∷ rules) long each =
     let here : r.event ≡ pos n = event_is ∙ ap pos (here-is n) in (
       f ∷ fs,
       ap (λ l. event_row n e ∷ l) events_are,
-      (λ i. rule-cells n f r here says i ∷ rules_are i),
+      cc,
       ap (λ l. e.name ∷ l) names_are,
       λ P keeps all. each-cons P f fs (keeps e d (all 0 e refl))
           (legal P keeps (λ k x at. all (suc k) x at)),
     )
-  where
-    shifted : (n k : ℕ) → n + suc k ≡ suc n + k
-    shifted n k = omega arith
-
-    here-is : (n : ℕ) → n + 0 ≡ n
-    here-is n = omega arith
 
 named-apart : (es fs : List Event) → map (λ e. e.name) fs ≡ map (λ e. e.name) es → AreApart (λ e. e.name) es
     → AreApart (λ e. e.name) fs
 named-apart es fs same apart i j x y one two is =
-    let (a, at_a, name_a) = name-at es fs i x same one in
-    let (b, at_b, name_b) = name-at es fs j y same two in
-    apart i j a b at_a at_b (sym name_a ∙ (is ∙ name_b))
+    let (a, at_a, name_a) = named i x one in
+    let (b, at_b, name_b) = named j y two in
+    apart i j a b at_a at_b (name_a ∙ (is ∙ sym name_b))
   where
-    name-at : (es fs : List Event) (i : ℕ) (x : Event) → map (λ e. e.name) fs ≡ map (λ e. e.name) es
-        → slice_get fs i ≡ Some x → (e : Event) × (slice_get es i ≡ Some e) × (x.name ≡ e.name)
-    name-at es [] i x same at = cc
-    name-at [] (f ∷ fs) i x same at = cc
-    name-at (e ∷ es) (f ∷ fs) zero x same at =
-        let head : f.name ≡ e.name = cc in (e, refl, ap (λ (z : Event). z.name) (sym (same_Some f x at)) ∙ head)
-    name-at (e ∷ es) (f ∷ fs) (suc i) x same at =
-        let rest : map (λ z. z.name) fs ≡ map (λ z. z.name) es = cc in name-at es fs i x rest at
+    named : (k : ℕ) (z : Event) → slice_get fs k ≡ Some z → (e : Event) × (slice_get es k ≡ Some e) × (e.name ≡ z.name)
+    named k z at = map-got (λ (e : Event). e.name) es k z.name (cc (map-at (λ (e : Event). e.name) fs k z at))
 
 -- where the rules are told, the rows are those of events with declarations as they say
 pub ruled-of : (es : List Event) (rows : List EventRow) (rules : List EventRuleRow) → AreEvents es rows
@@ -248,15 +217,14 @@ ruled-of es rows rules are ruled =
     let long : length rules ≡ length es = ruled.number ∙ count in
     let (fs, events_are, rules_are, names_are, legal) = ruled-from 1 es rules long (λ k r at.
     let is = ruled.rows_are k r at in (is.event_is ∙ ap pos (next-is k), (is.declares, is.says))) in
-    let fewer : length fs ≡ length es = sym (numbered-length event_cells event_row 1 rows fs
-    (are.rows_are ∙ sym events_are)) ∙ count in
+    let rows_are = are.rows_are ∙ sym events_are in
     record {
       ruled = fs;
       events_are = record {
-        rows_are = are.rows_are ∙ sym events_are;
+        rows_are = rows_are;
         legal = legal IsLegalEvent (λ e d is. record { name = is.name; budget = is.budget; increment = is.increment })
             are.legal;
-        count = omega (arith, fewer, are.count);
+        count = omega (arith, numbered-length event_cells event_row 1 rows fs rows_are, count, are.count);
         names = named-apart es fs names_are are.names;
       };
       rules_are = rules_are;

@@ -1,27 +1,87 @@
--- How often texts stand, counted one after another, and rows that are compared with the counts.
-use Rattle.std.proofs.Common.{◌≡◌, ℕ, zero, suc, ◌+◌, ◌<◌, ◌≤◌, ◌⊎◌, inl, inr, List, [], ◌∷◌, ◌++◌, length, map, Bool}
-use Rattle.std.proofs.Common.{true, false, cond, Option, Some, None, refl, ap, sym, subst, ◌∙◌, arith, true≢false}
+-- The texts of a game's positions, how often they stand, and rows that are compared with the counts.
+use Rattle.std.proofs.Common.{◌≡◌, ℕ, suc, ◌+◌, ◌≤◌, List, [], ◌∷◌, ◌++◌, length, map, take, Some, refl, ap, sym, ◌∙◌}
+use Rattle.std.proofs.Common.{arith, length-take-le, ◌<◌, ◌⊎◌, inl, inr, Bool, true, false, cond, Option, None, subst}
+use Rattle.std.proofs.Common.{true≢false}
 use Rattle.std.specs.Prelude.{slice_get, string_bytes}
-use Rattle.std.specs.Borrow.{Bor}
-use Rattle.std.specs.Map.{lookup}
+use Rattle.std.proofs.lemmas.List.{length-map}
+use Rattle.club_rules.specs.GameRules.{GameRules}
+use Rattle.club_rules.specs.Line.{position_after, positions}
+use Rattle.club_rules.proofs.Proved.{position_after-append}
+use Rattle.club_core.specs.Events.{Terms}
+use Rattle.club_core.specs.Game.{Entry, Game, moves_of, last_position}
+use Rattle.store_tables.specs.Cells.{move_cells, seen_cells}
+use Rattle.store_tables.specs.declared.rows.MoveRow.{MoveRow}
+use Rattle.club_rows.specs.Seen.{texts_of, FirstAt, times_in, seen_row, rows_of_texts}
+use Rattle.club_audit.specs.SeenAudit.{texts_in, AreCounted, IsCountOf, HasCounted}
+use Rattle.club_rows.specs.Tables.{with_entry, at_start, entry_rows, move_rows}
+use Rattle.club_rows.proofs.Proved.{map-more, take-got, times-none, Texts, row-had, row-has, one-row, one-first}
+use Rattle.club_rows.proofs.Proved.{times-new, times-other, first-more, first-new}
+use Rattle.club_audit.proofs.PlacedLemmas.{head-is, had-at, one-place}
 use Rattle.std.specs.Str.{bytes_eq}
+use Rattle.std.proofs.lemmas.Bool.{cases_Bool, cases_eq}
+use Rattle.std.proofs.lemmas.Grind.{common_steps}
 use Rattle.std.proofs.lemmas.Option.{same_Some, slice_get_within}
 use Rattle.std.proofs.lemmas.List.Sums.{count_by-le-length}
-use Rattle.sqlite_value.specs.declared.value.Value.{Value}
 use Rattle.sqlite_value.specs.declared.value.Value.TheVariants.{Text}
-use Rattle.sqlite.specs.Order.{Row, column}
+use Rattle.sqlite.specs.Order.{Row}
 use Rattle.sqlite_rules.specs.Lists.{Has}
-use Rattle.club_laws.proofs.Proved.{same-bytes_eq, bytes_eq-same, got-append}
-use Rattle.store_tables.specs.Cells.{seen_cells}
+use Rattle.sqlite_rules.proofs.ListLemmas.{has_got}
+use Rattle.club_laws.proofs.Proved.{bytes_eq-same, got-append, map-at, map-got, same-bytes_eq}
 use Rattle.store_tables.specs.declared.rows.SeenRow.{SeenRow}
-use Rattle.club_rows.specs.Seen.{FirstAt, times_in, seen_row, rows_of_texts}
 use Rattle.club_rows.specs.EachOnce.{AreEachOnce}
-use Rattle.club_audit.specs.SeenAudit.{AreCounted, IsCountOf, HasCounted}
 use Rattle.club_rows.specs.Tally.{stood_seldom, stood_then}
 use Rattle.club_rows.specs.declared.tally.Stood.{Stood}
-use Rattle.club_audit.proofs.MatchLemmas.{Took, took-more}
-use Rattle.club_rows.proofs.Proved.{times-none, Texts, row-had, row-has, one-row, one-first, times-new, times-other}
-use Rattle.club_rows.proofs.Proved.{first-more, first-new}
+
+abbrev text_in : MoveRow → List ℕ
+text_in row = string_bytes row.position
+
+-- the texts up to a row, and with it
+pub texts-step : (start : List ℕ) (moves : List MoveRow) (k : ℕ) (row : MoveRow) → slice_get moves k ≡ Some row
+    → texts_in start (take (k + 1) moves) ≡ texts_in start (take k moves) ++ string_bytes row.position ∷ []
+texts-step start moves k row at = ap (texts_in start) (take-got moves k row at)
+    ∙ ap (λ ts. start ∷ ts) (map-more text_in (take k moves) row)
+
+pub texts-length : (start : List ℕ) (moves : List MoveRow) (k : ℕ) → k ≤ length moves
+    → length (texts_in start (take k moves)) ≡ k + 1
+texts-length start moves k low = ap suc (length-map (take k moves) text_in ∙ length-take-le k moves low) ∙ omega arith
+
+module _ {P M E T : Type 0} (rules : GameRules P M E T) (terms : Terms) (id : ℕ) where
+  last-more : (game : Game M) (e : Entry M)
+      → last_position rules (with_entry game e) ≡ rules.play (last_position rules game) e.made
+  last-more game e = ap (position_after rules rules.start) (map-more (λ (x : Entry M). x.made) game.entries e)
+      ∙ position_after-append rules rules.start (moves_of game) e.made
+
+  rows-texts : (game : Game M) (es : List (Entry M)) (moves : List MoveRow)
+      → map move_cells moves ≡ entry_rows rules terms id game es
+      → texts_in (rules.write_position (last_position rules game)) moves
+      ≡ map rules.write_position (positions rules (last_position rules game) (map (λ x. x.made) es))
+  rows-texts game [] [] are = refl
+  rows-texts game [] (r ∷ rs) are = cc
+  rows-texts game (e ∷ es) [] are = cc
+  rows-texts game (e ∷ es) (r ∷ rs) are =
+      let (first, rest) = head-is _ _ _ _ are in
+      let text : string_bytes r.position ≡ rules.write_position (last_position rules (with_entry game e)) =
+      cc in
+      ap (λ ts. rules.write_position (last_position rules game) ∷ ts)
+      (ap (λ t. t ∷ map text_in rs) text
+      ∙ (rows-texts (with_entry game e) es rs rest
+      ∙ ap (λ p. map rules.write_position (positions rules p (map (λ (x : Entry M). x.made) es))) (last-more game e)))
+
+  -- the start's text and those of the rows of a game's moves are the texts of its positions
+  pub texts-told : (game : Game M) (moves : List MoveRow) (start : List ℕ)
+      → map move_cells moves ≡ move_rows rules terms id game → start ≡ rules.write_position rules.start
+      → texts_in start moves ≡ texts_of rules game
+  texts-told game moves start are is = ap (λ t. texts_in t moves) is ∙ rows-texts (at_start game) game.entries moves are
+
+  rows-length : (game : Game M) (es : List (Entry M)) → length (entry_rows rules terms id game es) ≡ length es
+  rows-length game [] = refl
+  rows-length game (e ∷ es) = ap suc (rows-length (with_entry game e) es)
+
+  -- there are as many rows as entries
+  pub moves-count : (game : Game M) (moves : List MoveRow) → map move_cells moves ≡ move_rows rules terms id game
+      → length moves ≡ length game.entries
+  moves-count game moves are = sym (length-map moves move_cells)
+      ∙ (ap length are ∙ rows-length (at_start game) game.entries)
 
 -- what is found of each text
 abbrev pub Found : Type 0
@@ -42,11 +102,7 @@ counted-few texts text (Some s) is few =
     omega (arith, most, times, few)
 
 differ-back : (a b : List ℕ) → bytes_eq a b ≡ false → bytes_eq b a ≡ false
-differ-back a b differ = by (bytes_eq b a) refl
-  where
-    by : (c : Bool) → bytes_eq b a ≡ c → bytes_eq b a ≡ false
-    by true same = absurd (true≢false (sym (bytes_eq-same a b (sym (same-bytes_eq b a same))) ∙ differ))
-    by false other = other
+differ-back a b differ = grind (arith, bytes_eq-same a b, same-bytes_eq b a)
 
 -- the new text stands once more
 once-more : (texts : Texts) (new : List ℕ) (stood : Option Stood) → IsCountOf texts new stood
@@ -63,11 +119,10 @@ once-more texts new (Some s) is =
 -- and each other one as often as before
 as-before : (texts : Texts) (new text : List ℕ) (stood : Option Stood) → bytes_eq new text ≡ false
     → IsCountOf texts text stood → IsCountOf (texts ++ new ∷ []) text stood
-as-before texts new text None differ never = λ k at. by k (got-append texts new k text at)
-  where
-    by : (k : ℕ) → (slice_get texts k ≡ Some text) ⊎ ((k ≡ length texts) × (new ≡ text)) → ⊥
-    by k (inl old) = never k old
-    by k (inr last) = true≢false (sym (bytes_eq-same new text last.1) ∙ differ)
+as-before texts new text None differ never = λ k at. elim (got-append texts new k text at) [
+  | inl old ↦ never k old
+  | inr last ↦ true≢false (sym (bytes_eq-same new text last.1) ∙ differ)
+]
 as-before texts new text (Some s) differ is =
     (is.0 ∙ sym (times-other texts new text (differ-back new text differ)), first-more texts new s.first_ply text is.1)
 
@@ -88,56 +143,93 @@ counted-more texts new old now counted after text =
 abbrev text_of : SeenRow → List ℕ
 text_of row = string_bytes row.position
 
-some-apart : (s : Stood) → Some s ≡ None → ⊥
-some-apart s is = cc
-
 never-none : (id : ℕ) (row : SeenRow) (stood : Option Stood) → HasCounted id row stood → stood ≡ None → ⊥
 never-none id row None has is = has
-never-none id row (Some s) has is = some-apart s is
-
-text_same : (a b : List ℕ) → ◌≡◌ {A = Value} (Text a) (Text b) → a ≡ b
-text_same a b is = cc
-
--- So many of the rows had what was counted for their texts, no two of them one text, and their texts are no longer
--- found.
-abbrev pub Matched : ℕ → Found → List SeenRow → ℕ → Found → Type 0
-Matched id counts rows index found = Took text_of (HasCounted id) counts rows index found
+never-none id row (Some s) has is = cc
 
 module _ (id : ℕ) (counts : Found) (rows : List SeenRow) where
-  -- a row more
-  pub matched-more : (index : ℕ) (row : SeenRow) (found : Found) → Matched id counts rows index found
-      → slice_get rows index ≡ Some row → (now : Found) → HasCounted id row (found (text_of row))
-      → ((text : List ℕ) → now text ≡ cond (bytes_eq (text_of row) text) None (found text))
-      → Matched id counts rows (index + 1) now
-  matched-more index row found is at now has after =
-      took-more text_of (HasCounted id) bytes_eq same-bytes_eq bytes_eq-same (never-none id) counts rows index row found
-      is at now has after
+  -- So many of the rows had what was counted for their texts, no two of them one text, and their texts are no longer
+  -- found.
+  pub record Matched (index : ℕ) (found : Found) : Type 0 where
+    pub had : (n : ℕ) (r : SeenRow) → n < index → slice_get rows n ≡ Some r → HasCounted id r (counts (text_of r))
+    pub apart : (i j : ℕ) (r q : SeenRow) → i < j → j < index → slice_get rows i ≡ Some r → slice_get rows j ≡ Some q
+        → text_of r ≡ text_of q → ⊥
+    pub gone : (k : List ℕ) → found k ≡ None → (counts k ≡ None)
+        ⊎ ((n : ℕ) × (r : SeenRow) × (n < index) × (slice_get rows n ≡ Some r) × (text_of r ≡ k))
+    pub taken : (n : ℕ) (r : SeenRow) → n < index → slice_get rows n ≡ Some r → found (text_of r) ≡ None
+    pub left : (k : List ℕ) → ((n : ℕ) (r : SeenRow) → n < index → slice_get rows n ≡ Some r → text_of r ≡ k → ⊥)
+        → found k ≡ counts k
+
+  -- a row, by the text that is looked for and what is found of it
+  module _ (index : ℕ) (row : SeenRow) (found : Found) (is : Matched index found) (at : slice_get rows index ≡ Some row)
+      (text : List ℕ) (text_is : text ≡ text_of row) (stood : Option Stood) (stood_is : stood ≡ found text)
+      (has : HasCounted id row stood) where
+    fits : HasCounted id row (found (text_of row))
+    fits = subst (HasCounted id row) (stood_is ∙ ap found text_is) has
+
+    -- no row before it has its text
+    new-text : (n : ℕ) (r : SeenRow) → n < index → slice_get rows n ≡ Some r → text_of r ≡ text_of row → ⊥
+    new-text n r low there alike =
+        never-none id row (found (text_of row)) fits (ap found (sym alike) ∙ is.taken n r low there)
+
+    here : (n : ℕ) (r : SeenRow) → n ≡ index → slice_get rows n ≡ Some r → row ≡ r
+    here n r place there = same_Some row r (sym at ∙ (ap (slice_get rows) (sym place) ∙ there))
+
+    -- a row more
+    pub matched-more : (now : Found) → ((k : List ℕ) → now k ≡ cond (bytes_eq text k) None (found k))
+        → Matched (index + 1) now
+    matched-more now after = record {
+      had = λ n r low there. elim (cases_eq n index) [
+        | inl place ↦ subst (λ x. HasCounted id x (counts (text_of x))) (here n r place there)
+            (subst (HasCounted id row) (is.left (text_of row) new-text) fits)
+        | inr other ↦ is.had n r (omega (arith, low, other)) there
+      ];
+      apart = λ i j r q less high there yonder alike. elim (cases_eq j index) [
+        | inl place ↦
+            new-text i r (omega (arith, less, place)) there (alike ∙ sym (ap text_of (here j q place yonder)))
+        | inr before ↦ is.apart i j r q less (omega (arith, high, before)) there yonder alike
+      ];
+      gone = λ k none. elim (cases_Bool (bytes_eq (text_of row) k)) [
+        | inl alike ↦ inr (index, row, omega arith, at, same-bytes_eq (text_of row) k alike)
+        | inr other ↦ elim (is.gone k (sym (kept k other) ∙ none)) [
+          | inl nowhere ↦ inl nowhere
+          | inr (n, r, low, there, alike) ↦ inr (n, r, omega (arith, low), there, alike)
+        ]
+      ];
+      taken = λ n r low there. grind (
+        arith,
+        common_steps,
+        takes (text_of r),
+        is.taken n r,
+        here n r,
+        there,
+        low,
+        bytes_eq-same (text_of row) (text_of r),
+      );
+      left = λ k none. elim (cases_Bool (bytes_eq (text_of row) k)) [
+        | inl alike ↦ absurd (none index row (omega arith) at (same-bytes_eq (text_of row) k alike))
+        | inr other ↦ kept k other ∙ is.left k (λ n r low there alike. none n r (omega (arith, low)) there alike)
+      ];
+    }
+      where
+        takes : (k : List ℕ) → now k ≡ cond (bytes_eq (text_of row) k) None (found k)
+        takes k = after k ∙ ap (λ t. cond (bytes_eq t k) None (found k)) text_is
+
+        kept : (k : List ℕ) → bytes_eq (text_of row) k ≡ false → now k ≡ found k
+        kept k other = takes k ∙ ap (λ b. cond b None (found k)) other
 
   -- ---- what was compared, and the rows of texts
 
-  pub cells-had : (rs : List SeenRow) (z : Row) → Has (map seen_cells rs) z → (n : ℕ) × (r : SeenRow)
-      × (slice_get rs n ≡ Some r) × (z ≡ seen_cells r)
-  cells-had [] z h = absurd h
-  cells-had (r ∷ rs) z (inl is) = (0, r, refl, is)
-  cells-had (r ∷ rs) z (inr h) = let (n, q, at, is) = cells-had rs z h in (suc n, q, at, is)
+  -- the rows, by their cells
+  cells-had : (z : Row) → Has (map seen_cells rows) z → (n : ℕ) × (r : SeenRow) × (slice_get rows n ≡ Some r)
+      × (seen_cells r ≡ z)
+  cells-had z has =
+      let (n, at) = had-at (map seen_cells rows) z has in
+      let (r, stands, is) = map-got seen_cells rows n z at in
+      (n, r, stands, is)
 
-  pub cells-has : (rs : List SeenRow) (n : ℕ) (r : SeenRow) → slice_get rs n ≡ Some r
-      → Has (map seen_cells rs) (seen_cells r)
-  cells-has [] n r at = cc
-  cells-has (q ∷ rs) zero r at = let e : q ≡ r = same_Some q r at in inl (ap seen_cells (sym e))
-  cells-has (q ∷ rs) (suc n) r at = inr (cells-has rs n r at)
-
-  pub cells-at : (rs : List SeenRow) (n : ℕ) (z : Row) → slice_get (map seen_cells rs) n ≡ Some z → (r : SeenRow)
-      × (slice_get rs n ≡ Some r) × (z ≡ seen_cells r)
-  cells-at [] n z at = cc
-  cells-at (r ∷ rs) zero z at = (r, refl, sym (same_Some (seen_cells r) z at))
-  cells-at (r ∷ rs) (suc n) z at = cells-at rs n z at
-
-  pub at-cells : (rs : List SeenRow) (n : ℕ) (r : SeenRow) → slice_get rs n ≡ Some r
-      → slice_get (map seen_cells rs) n ≡ Some (seen_cells r)
-  at-cells [] n r at = cc
-  at-cells (q ∷ rs) zero r at = ap (λ x. Some (seen_cells x)) (same_Some q r at)
-  at-cells (q ∷ rs) (suc n) r at = at-cells rs n r at
+  cells-has : (n : ℕ) (r : SeenRow) → slice_get rows n ≡ Some r → Has (map seen_cells rows) (seen_cells r)
+  cells-has n r at = has_got (map seen_cells rows) n (seen_cells r) (map-at seen_cells rows n r at)
 
   module _ (texts : Texts) (counted : AreCounted texts counts) where
     -- a row that has what was counted for its text is the row of its text
@@ -153,7 +245,7 @@ module _ (id : ℕ) (counts : Found) (rows : List SeenRow) where
         → Has (rows_of_texts id texts) (seen_cells row) → HasCounted id row stood
     row-counted row stood is h =
         let it = row-had id texts (seen_cells row) h in
-        let same : text_of row ≡ it.text = text_same _ _ (ap (λ r. column r 1) it.is) in
+        let same : text_of row ≡ it.text = cc in
         by stood it.ply (subst (FirstAt texts it.ply) (sym same) it.first)
         (it.is ∙ ap (λ t. seen_row id t (times_in texts t) it.ply) (sym same)) is
       where
@@ -164,26 +256,30 @@ module _ (id : ℕ) (counts : Found) (rows : List SeenRow) where
         by (Some s) ply first cells is =
             let same = one-first texts (text_of row) ply s.first_ply first is.1 in
             let times = is.0 in
-            cells ∙ (λ i. seen_row id (text_of row) (sym times i) (same i))
+            cc
 
     -- Where all rows had what was counted, and no text is left, the rows are those of the texts.
-    pub matched-sound : (found : Found) → Matched id counts rows (length rows) found
+    pub matched-sound : (found : Found) (index : ℕ) → length rows ≤ index → Matched index found
         → ((text : List ℕ) → found text ≡ None) → AreEachOnce (map seen_cells rows) (rows_of_texts id texts)
-    matched-sound found is none = record {
+    matched-sound found index past is none = record {
       same = record { there = there; back = back };
       once = λ i j z at yonder.
-          let (r, r_at, z_is) = cells-at rows i z at in
-          let (q, q_at, w_is) = cells-at rows j z yonder in
-          is.apart i j r q (slice_get_within rows i r r_at) (slice_get_within rows j q q_at) r_at q_at
-          (text_same _ _ (ap (λ x. column x 1) (sym z_is ∙ w_is)));
+          let (r, r_at, r_is) = map-got seen_cells rows i z at in
+          let (q, q_at, q_is) = map-got seen_cells rows j z yonder in
+          let alike : text_of r ≡ text_of q = cc in
+          one-place i j (λ less. is.apart i j r q less (below j q q_at) r_at q_at alike)
+          (λ more. is.apart j i q r more (below i r r_at) q_at r_at (sym alike));
     }
       where
+        below : (n : ℕ) (r : SeenRow) → slice_get rows n ≡ Some r → n < index
+        below n r at = let low = slice_get_within rows n r at in omega (arith, low, past)
+
         there : (z : Row) → Has (map seen_cells rows) z → Has (rows_of_texts id texts) z
         there z h =
-            let (n, r, at, same) = cells-had rows z h in
-            subst (Has (rows_of_texts id texts)) (sym same)
+            let (n, r, at, same) = cells-had z h in
+            subst (Has (rows_of_texts id texts)) same
             (counted-row r (counts (text_of r)) (counted (text_of r))
-            (is.had n r (slice_get_within rows n r at) at))
+            (is.had n r (below n r at) at))
 
         back : (z : Row) → Has (rows_of_texts id texts) z → Has (map seen_cells rows) z
         back z h =
@@ -192,49 +288,40 @@ module _ (id : ℕ) (counts : Found) (rows : List SeenRow) where
               | inl never ↦ absurd (subst (IsCountOf texts it.text) never (counted it.text) it.ply it.first.at)
               | inr (n, r, low, at, text) ↦
                   let mine = counted-row r (counts (text_of r)) (counted (text_of r)) (is.had n r low at) in
-                  let same = one-row id texts (seen_cells r) z mine h (ap Text text ∙ sym (ap (λ x. column x 1) it.is))
-                  in
-                  subst (Has (map seen_cells rows)) same (cells-has rows n r at)
+                  let same = one-row id texts (seen_cells r) z mine h (cc it.is) in
+                  subst (Has (map seen_cells rows)) same (cells-has n r at)
             ]
 
     module _ (are : AreEachOnce (map seen_cells rows) (rows_of_texts id texts)) where
       -- where the rows are those of the texts, the next one has what was counted for its text
-      pub matched-next : (index : ℕ) (row : SeenRow) (found : Found) → Matched id counts rows index found
-          → slice_get rows index ≡ Some row → HasCounted id row (found (text_of row))
-      matched-next index row found is at =
-          let mine = are.same.there (seen_cells row) (cells-has rows index row at) in
-          subst (HasCounted id row) (sym (is.left (text_of row) (λ n r low there same.
-          let its = are.same.there (seen_cells r) (cells-has rows n r there) in
+      pub matched-next : (index : ℕ) (row : SeenRow) (found : Found) → Matched index found
+          → slice_get rows index ≡ Some row → (text : List ℕ) → text ≡ text_of row → (stood : Option Stood)
+          → stood ≡ found text → HasCounted id row stood
+      matched-next index row found is at text text_is stood stood_is =
+          let mine = are.same.there (seen_cells row) (cells-has index row at) in
+          subst (HasCounted id row)
+          (sym (stood_is ∙ (ap found text_is ∙ is.left (text_of row) (λ n r low there same.
+          let its = are.same.there (seen_cells r) (cells-has n r there) in
           let one = one-row id texts (seen_cells r) (seen_cells row) its mine (ap Text same) in
-          let place = are.once n index (seen_cells row) (at-cells rows n r there ∙ ap Some one)
-          (at-cells rows index row at) in
-          omega (arith, low, place))))
+          let place = are.once n index (seen_cells row) (map-at seen_cells rows n r there ∙ ap Some one)
+          (map-at seen_cells rows index row at) in
+          omega (arith, low, place)))))
           (row-counted row (counts (text_of row)) (counted (text_of row)) mine)
 
       -- and no text is left after the last one
-      pub matched-all : (found : Found) → Matched id counts rows (length rows) found → (text : List ℕ)
-          → found text ≡ None
-      matched-all found is text = by (found text) refl
+      pub matched-all : (found : Found) (index : ℕ) → length rows ≤ index → Matched index found
+          → (text : List ℕ) → found text ≡ None
+      matched-all found index past is text = by (found text) refl
         where
           by : (o : Option Stood) → found text ≡ o → found text ≡ None
           by None is_none = is_none
           by (Some s) some =
-              let free : (n : ℕ) (r : SeenRow) → n < length rows → slice_get rows n ≡ Some r → text_of r ≡ text
-              → ⊥ = λ n r low at same. some-apart s (sym some ∙ (ap found (sym same) ∙ is.taken n r low at)) in
+              let free : (n : ℕ) (r : SeenRow) → n < index → slice_get rows n ≡ Some r → text_of r ≡ text
+              → ⊥ = λ n r low at same. let none = is.taken n r low at in cc in
               let count : IsCountOf texts text (Some s) =
               subst (IsCountOf texts text) (sym (is.left text free) ∙ some) (counted text) in
               let has = are.same.back (seen_row id text (times_in texts text) s.first_ply)
               (row-has id texts s.first_ply text count.1) in
-              let (n, r, at, same) = cells-had rows (seen_row id text (times_in texts text) s.first_ply) has in
-              absurd (free n r (slice_get_within rows n r at) at (text_same _ _ (sym (ap (λ x. column x 1) same))))
-
--- ---- maps
-
--- a map in which nothing is found has no entry
-pub entries-none : (entries : List (Bor (List ℕ) × Stood))
-    → ((text : List ℕ) → lookup (λ k. bytes_eq text k.now) entries ≡ None) → length entries ≡ 0
-entries-none [] none = refl
-entries-none (e ∷ es) none =
-    let here = ap (λ b. cond b (Some e.1) (lookup (λ (k : Bor (List ℕ)). bytes_eq e.0.now k.now) es))
-    (bytes_eq-same e.0.now e.0.now refl) in
-    absurd (some-apart e.1 (sym here ∙ none e.0.now))
+              let (n, r, at, same) = cells-had (seen_row id text (times_in texts text) s.first_ply) has in
+              let low = slice_get_within rows n r at in
+              absurd (free n r (omega (arith, low, past)) at (cc same))

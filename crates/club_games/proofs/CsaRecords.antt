@@ -1,7 +1,7 @@
 -- What the reader of CSA texts answers is what the functions compute.
 use Rattle.std.proofs.Common.{◌≡◌, ◌≢◌, inl, inr, ℕ, zero, suc, ◌+◌, ◌-◌, List, [], ◌∷◌, ◌++◌, length, take, map, true}
-use Rattle.std.proofs.Common.{false, Option, Some, None, Result, Ok, Err, IsOk, refl, sym, ap, subst, ◌∙◌, append-nil}
-use Rattle.std.proofs.Common.{append_assoc, arith}
+use Rattle.std.proofs.Common.{false, Bool, Option, Some, None, Result, Ok, Err, IsOk, refl, sym, ap, subst, ◌∙◌}
+use Rattle.std.proofs.Common.{append-nil, append_assoc, arith}
 use Rattle.std.specs.Prelude.{slice_get, if◌then◌else◌}
 use Rattle.std.proofs.lemmas.List.{length-append}
 use Rattle.std.proofs.lemmas.Option.{slice_get-get_or}
@@ -13,6 +13,7 @@ use Rattle.shogi_moves.specs.declared.checking.Illegal.{Illegal}
 use Rattle.shogi_moves.specs.Computed.{check_of}
 use Rattle.shogi_moves.specs.Rules.{Legal, play}
 use Rattle.shogi_moves.proofs.Proved.{check_of-legal, check_of-refused}
+use Rattle.shogi_repetition.specs.declared.ends.SEnd.{SEnd}
 use Rattle.shogi_repetition.specs.Computed.{end_of}
 use Rattle.shogi_repetition.specs.Ends.{EndsSo}
 use Rattle.shogi_repetition.specs.Faults.{GoesOn, IsPlayed}
@@ -31,8 +32,8 @@ use Rattle.csa.specs.Moves.{MeanAll}
 use Rattle.csa.specs.Order.{first_stray}
 use Rattle.csa.specs.Reading.{first_statement, records_of, AreRecordsOf, FailsAfter, SomeRecordFails, AreOrdered}
 use Rattle.csa.specs.Reading.{IsTextOf, Refuses, IsRefused}
-use Rattle.csa.specs.Records.{begins_even, end_in, score_in, IsRecordOf, EndFails, RecordFails}
-use Rattle.csa.specs.Replays.{written_moves, AreMoves, RefusesNext, RefusesMove}
+use Rattle.csa.specs.Records.{begins_even, end_in, score_in, IsRecordOf, EndFails, Plays, RecordFails}
+use Rattle.csa.specs.Replays.{written_moves, RefusesNext, RefusesMove}
 use Rattle.club_rules.specs.Records.{refused}
 use Rattle.club_games.specs.CsaReading.{meant, Replayed, go_on, replay_next, replayed, with_score, with_moves}
 use Rattle.club_games.specs.CsaReading.{record_reading, and_more, records_reading, is_version, ordered_reading}
@@ -44,12 +45,6 @@ use Rattle.club_games.proofs.ShogiFaults.{end-computed}
 go-ok : (ply : ℕ) (rest : Replayed) (answer : Result (Unit {0}) Illegal) → IsOk answer → go_on ply rest answer ≡ rest
 go-ok ply rest (Ok u) ok = refl
 go-ok ply rest (Err cause) ok = cc
-
-there : (front : List SMove) (m : SMove) (rest : List SMove) → slice_get (front ++ m ∷ rest) (length front) ≡ Some m
-there front m rest =
-    let long = length-append front (m ∷ rest) in
-    slice_get-get_or (front ++ m ∷ rest) (length front) m (omega (arith, long))
-    ∙ ap (λ x. Some x) (get_or-append_seam front m rest m)
 
 -- written moves that mean moves of a game are replayed as these
 replays-on : (front : List SMove) (ws more : List WrittenMove) (rest : List SMove)
@@ -65,8 +60,9 @@ replays-on front (w ∷ ws) more (m ∷ rest) mean played =
     let seam : take (length front) whole ≡ front = take-append_seam front (m ∷ rest) in
     let running : end_of opening front ≡ None =
     sym (end-computed opening front None (subst (λ l. EndsSo opening l None) seam here.unended)) in
-    let legal : Legal (last_position opening front) m =
-    subst (λ l. Legal (last_position opening l) m) seam (here.legal m (there front m rest)) in
+    let there : slice_get whole (length front) ≡ Some m =
+    slice_get-get_or whole (length front) m (omega (arith, long)) ∙ ap Some (get_or-append_seam front m rest m) in
+    let legal = subst (λ l. Legal (last_position opening l) m) seam (here.legal m there) in
     let next : SMove → Replayed = λ x. replayed (front ++ x ∷ []) (ws ++ more) in
     let grown : (front ++ m ∷ []) ++ rest ≡ whole = append_assoc front (m ∷ []) rest in
     (λ i. replay_next front next (running i) (means-meant (last_position opening front) w m mean.0 i))
@@ -76,9 +72,6 @@ replays-on front (w ∷ ws) more (m ∷ rest) mean played =
     (subst (λ p. MeanAll p ws rest) (sym (last_position-append play opening front m)) mean.1)
     (subst (λ l. IsPlayed opening l (length l)) (sym grown) played)
     ∙ ap (λ l. replayed l more) grown
-
-moves-replayed : (ws : List WrittenMove) (ms : List SMove) → AreMoves ws ms → replayed [] ws ≡ Ok ms
-moves-replayed ws ms are = ap (replayed []) (sym (append-nil ws)) ∙ replays-on [] ws [] ms are.mean are.played
 
 -- a move that is refused ends the replay
 refused-next : (ms : List SMove) (w : WrittenMove) (after : List WrittenMove) (f : CsaFault) → RefusesNext ms w f
@@ -97,58 +90,50 @@ refused-next ms w after (fault.Illegal ply cause) (is, unended, inr (none_is, no
     (λ i. replay_next ms (λ x. replayed (ms ++ x ∷ []) after) (sym (end-computed opening ms None unended) i)
     (none-meant (last_position opening ms) w none i))
     ∙ (λ i. Err (fault.Illegal (sym is i) (sym none_is i)))
-refused-next ms w after fault.Memory h = absurd h
-refused-next ms w after (fault.BadText line) h = absurd h
-refused-next ms w after fault.Version h = absurd h
-refused-next ms w after fault.OtherOpening h = absurd h
-refused-next ms w after fault.Unfinished h = absurd h
-refused-next ms w after fault.ResultDiffers h = absurd h
-
-move-refused : (ws : List WrittenMove) (f : CsaFault) → RefusesMove ws f → replayed [] ws ≡ Err f
-move-refused ws f r =
-    ap (replayed []) r.parts ∙ replays-on [] r.before (r.refused ∷ r.after) r.moves r.played.mean r.played.played
-    ∙ refused-next r.moves r.refused r.after f r.refuses
+refused-next ms w after _ h = absurd h
 
 -- a record
-even-reading : (placed : List Placed) → begins_even placed ≡ true
-    → record_reading placed ≡ with_moves placed (replayed [] (written_moves placed))
+even-reading : (placed : List Placed) (even : Bool) → begins_even placed ≡ even
+    → record_reading placed
+    ≡ (if even then with_moves placed (replayed [] (written_moves placed)) else Err fault.OtherOpening)
 even-reading placed even =
-    ap (λ b. if b then with_moves placed (replayed [] (written_moves placed)) else Err fault.OtherOpening) even
+    ap (λ b. if b then with_moves placed (replayed [] (written_moves placed)) else Err fault.OtherOpening)
+
+played-reading : (placed : List Placed) (ms : List SMove) (end : Option SEnd) → Plays placed ms end
+    → record_reading placed ≡ with_score (says_declared (end_in placed)) ms (score_in placed ms end)
+played-reading placed ms end plays =
+    let ws = written_moves placed in
+    even-reading placed true plays.even ∙ ap (with_moves placed)
+    (ap (replayed []) (sym (append-nil ws)) ∙ replays-on [] ws [] ms plays.moves.mean plays.moves.played)
+    ∙ ap (λ e. with_score (says_declared (end_in placed)) ms (score_in placed ms e))
+    (sym (end-computed opening ms end plays.ends))
 
 record-read : (placed : List Placed) (g : CsaGame) → IsRecordOf placed g → record_reading placed ≡ Ok (game_of g)
 record-read placed g is =
-    let ms : List SMove = g.moves.items in
-    even-reading placed is.plays.even ∙ ap (with_moves placed) (moves-replayed (written_moves placed) ms is.plays.moves)
-    ∙ ap (λ e. with_score (says_declared (end_in placed)) ms (score_in placed ms e))
-    (sym (end-computed opening ms is.end is.plays.ends))
-    ∙ (λ i. with_score (sym is.declared i) ms (is.score i))
+    played-reading placed g.moves.items is.end is.plays
+    ∙ (λ i. with_score (sym is.declared i) g.moves.items (is.score i))
 
 end-refused : (placed : List Placed) (f : CsaFault) → EndFails placed f → record_reading placed ≡ Err f
 end-refused placed f fails =
-    let ms : List SMove = fails.moves in
-    even-reading placed fails.plays.even ∙ ap (with_moves placed)
-    (moves-replayed (written_moves placed) ms fails.plays.moves)
-    ∙ ap (λ e. with_score (says_declared (end_in placed)) ms (score_in placed ms e))
-    (sym (end-computed opening ms fails.end fails.plays.ends))
-    ∙ ap (with_score (says_declared (end_in placed)) ms) fails.score
+    played-reading placed fails.moves fails.end fails.plays
+    ∙ ap (with_score (says_declared (end_in placed)) fails.moves) fails.score
 
 made-refused : (placed : List Placed) (f : CsaFault) → begins_even placed ≡ true → RefusesMove (written_moves placed) f
     → record_reading placed ≡ Err f
-made-refused placed f even r = even-reading placed even
-    ∙ ap (with_moves placed) (move-refused (written_moves placed) f r)
+made-refused placed f even r =
+    even-reading placed true even ∙ ap (with_moves placed) (ap (replayed []) r.parts
+    ∙ replays-on [] r.before (r.refused ∷ r.after) r.moves r.played.mean r.played.played
+    ∙ refused-next r.moves r.refused r.after f r.refuses)
 
 record-refused : (placed : List Placed) (f : CsaFault) → f ≢ fault.Memory → RecordFails placed f
     → record_reading placed ≡ Err f
 record-refused placed fault.Memory differs fails = absurd (differs refl)
-record-refused placed fault.OtherOpening differs fails =
-    ap (λ b. if b then with_moves placed (replayed [] (written_moves placed)) else Err fault.OtherOpening) fails
-record-refused placed (fault.Illegal ply cause) differs fails =
-    made-refused placed (fault.Illegal ply cause) fails.0 fails.1
-record-refused placed (fault.AfterEnd ply) differs fails = made-refused placed (fault.AfterEnd ply) fails.0 fails.1
-record-refused placed fault.Unfinished differs fails = end-refused placed fault.Unfinished fails
-record-refused placed fault.ResultDiffers differs fails = end-refused placed fault.ResultDiffers fails
-record-refused placed (fault.BadText line) differs fails = absurd fails
-record-refused placed fault.Version differs fails = absurd fails
+record-refused placed fault.OtherOpening differs fails = even-reading placed false fails
+record-refused placed (fault.Illegal ply cause) differs fails = made-refused placed _ fails.0 fails.1
+record-refused placed (fault.AfterEnd ply) differs fails = made-refused placed _ fails.0 fails.1
+record-refused placed fault.Unfinished differs fails = end-refused placed _ fails
+record-refused placed fault.ResultDiffers differs fails = end-refused placed _ fails
+record-refused placed _ differs fails = absurd fails
 
 -- records one after another
 records-read : (records : List (List Placed)) (games : List CsaGame) → AreRecordsOf records games
@@ -168,19 +153,10 @@ fails-after (placed ∷ before) failing after (g ∷ games) f read fails =
     λ i. and_more (record-read placed g read.0 i) (fails-after before failing after games f read.1 fails i)
 
 -- a text
-first-version : (placed : List Placed) (o : Option Statement) → o ≡ Some statement.Version
-    → statements_reading placed o ≡ ordered_reading placed (first_stray place.Start placed)
-first-version placed o is = ap (statements_reading placed) is
-
 ordered-reading : (placed : List Placed) → AreOrdered placed
     → statements_reading placed (first_statement placed) ≡ records_reading (records_of placed)
-ordered-reading placed ordered = first-version placed (first_statement placed) ordered.version
-    ∙ ap (ordered_reading placed) ordered.order
-
-pub text-read : (text : List ℕ) (games : List CsaGame) → IsTextOf text games → csa_reading text ≡ Ok (map game_of games)
-unfolding csa_reading
-text-read text games is = ordered-reading (text_statements text) is.ordered
-    ∙ records-read (records_of (text_statements text)) games is.records
+ordered-reading placed ordered =
+    ap (statements_reading placed) ordered.version ∙ ap (ordered_reading placed) ordered.order
 
 some-fails : (placed : List Placed) (f : CsaFault) → f ≢ fault.Memory → SomeRecordFails placed f
     → statements_reading placed (first_statement placed) ≡ Err f
@@ -192,16 +168,7 @@ some-fails placed f differs fails =
 
 not-version : (s : Statement) → s ≢ statement.Version → is_version s ≡ false
 not-version statement.Version differs = absurd (differs refl)
-not-version statement.Parting differs = refl
-not-version statement.Header differs = refl
-not-version (statement.Opening without_pieces) differs = refl
-not-version (statement.Row rank even) differs = refl
-not-version (statement.Pieces none) differs = refl
-not-version (statement.Turn side) differs = refl
-not-version (statement.Move w) differs = refl
-not-version statement.Seconds differs = refl
-not-version (statement.End word) differs = refl
-not-version statement.Formless differs = refl
+not-version _ differs = refl
 
 statements-refused : (placed : List Placed) (f : CsaFault) → f ≢ fault.Memory → Refuses placed f
     → statements_reading placed (first_statement placed) ≡ Err f
@@ -209,21 +176,12 @@ statements-refused placed fault.Memory differs refuses = absurd (differs refl)
 statements-refused placed (fault.BadText line) differs (inl (none, is)) = ap (statements_reading placed) none
     ∙ ap (λ n. Err (fault.BadText n)) (sym is)
 statements-refused placed (fault.BadText line) differs (inr (version, stray)) =
-    first-version placed (first_statement placed) version ∙ ap (ordered_reading placed) stray
+    ap (statements_reading placed) version ∙ ap (ordered_reading placed) stray
 statements-refused placed fault.Version differs (first, is, other) =
     ap (statements_reading placed) is
     ∙ ap (λ b. if b then ordered_reading placed (first_stray place.Start placed) else Err fault.Version)
     (not-version first other)
-statements-refused placed fault.OtherOpening differs refuses = some-fails placed fault.OtherOpening differs refuses
-statements-refused placed (fault.Illegal ply cause) differs refuses =
-    some-fails placed (fault.Illegal ply cause) differs refuses
-statements-refused placed fault.Unfinished differs refuses = some-fails placed fault.Unfinished differs refuses
-statements-refused placed (fault.AfterEnd ply) differs refuses = some-fails placed (fault.AfterEnd ply) differs refuses
-statements-refused placed fault.ResultDiffers differs refuses = some-fails placed fault.ResultDiffers differs refuses
-
-pub text-refused : (text : List ℕ) (f : CsaFault) → f ≢ fault.Memory → IsRefused text f → csa_reading text ≡ Err f
-unfolding csa_reading
-text-refused text f differs refuses = statements-refused (text_statements text) f differs refuses
+statements-refused placed f differs refuses = some-fails placed f differs refuses
 
 -- a part of a text
 from-one : (text : List ℕ) (part : ℕ) → (part ≡ 0 → ⊥) → csa_part text part ≡ part_of (part - 1) (csa_reading text)
@@ -232,9 +190,14 @@ from-one text (suc n) some = let before : n ≡ suc n - 1 = omega arith in ap (�
 
 pub part-read : (text : List ℕ) (part : ℕ) (games : List CsaGame) → (part ≡ 0 → ⊥) → IsTextOf text games
     → found_game (slice_get (map game_of games) (part - 1)) ≡ csa_part text part
-part-read text part games some is = sym (from-one text part some ∙ ap (part_of (part - 1)) (text-read text games is))
+unfolding csa_reading
+part-read text part games some is =
+    sym (from-one text part some ∙ ap (part_of (part - 1)) (ordered-reading (text_statements text) is.ordered
+    ∙ records-read (records_of (text_statements text)) games is.records))
 
 pub part-refused : (text : List ℕ) (part : ℕ) (f : CsaFault) → (part ≡ 0 → ⊥) → f ≢ fault.Memory → IsRefused text f
     → refused (csa_refusal f) ≡ csa_part text part
+unfolding csa_reading
 part-refused text part f some differs refuses =
-    sym (from-one text part some ∙ ap (part_of (part - 1)) (text-refused text f differs refuses))
+    sym (from-one text part some
+    ∙ ap (part_of (part - 1)) (statements-refused (text_statements text) f differs refuses))

@@ -31,10 +31,7 @@ pub refused-reading : (p : Position) (text : List ℕ) (f : MoveFault) → HasRe
     → Err (text_refusal f) ≡ move_read (move_reading p text)
 refused-reading p text f h differs = sym (ap move_read ((reading-err p text f).1 (h, differs)))
 
-not-memory : (offset : ℕ) → fen_fault.BadText offset ≢ fen_fault.Memory
-not-memory offset e = cc
-
 -- a text that is refused stands for no position
 pub no-position : (text : List ℕ) (offset : ℕ) (p : Position) → HasFenFault text (fen_fault.BadText offset)
     → IsFen text p → ⊥
-no-position text offset p h is = not-memory offset (fen-well text p (fen_fault.BadText offset) is h)
+no-position text offset p h is = let never = fen-well text p (fen_fault.BadText offset) is h in cc

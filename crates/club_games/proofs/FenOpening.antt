@@ -1,6 +1,6 @@
 -- The test of a text is true where the text stands for the opening, and nowhere else.
-use Rattle.std.proofs.Common.{◌≡◌, ◌↔◌, ℕ, zero, suc, ◌+◌, ◌≤◌, Bool, true, false, List, [], ◌∷◌, ◌++◌, length, Option}
-use Rattle.std.proofs.Common.{Some, None, Ok, Err, refl, sym, ap, subst, ◌∙◌, arith}
+use Rattle.std.proofs.Common.{◌≡◌, ◌↔◌, ℕ, zero, suc, ◌+◌, ◌≤◌, ◌<◌, Bool, true, false, List, [], ◌∷◌, ◌++◌, length}
+use Rattle.std.proofs.Common.{Option, Some, None, Result, Ok, Err, refl, sym, ap, subst, ◌∙◌, arith}
 use Rattle.std.specs.Prelude.{IsTrue, if◌then◌else◌}
 use Rattle.std.proofs.lemmas.List.{length-append}
 use Rattle.squares.specs.declared.sides.Side.{Side}
@@ -10,16 +10,22 @@ use Rattle.squares.specs.DraughtsSamePosition.{same_position, same_position-same
 use Rattle.pdn.specs.declared.items.Item.{Item}
 use Rattle.pdn.specs.FenItems.{past_byte, ItemReading, read_item, Items, ItemsReading, ReadsItems, bad_item, last_item}
 use Rattle.pdn.specs.FenItems.{more_items, ends_list, ReadsList, no_item, some_items}
-use Rattle.pdn.specs.FenForm.{Header, HeaderReading, read_header, RestReading, read_between, past_end, FenReading}
-use Rattle.pdn.specs.FenForm.{FenForm, ReadsRest, bad_second, bad_end, ended, ReadsLists, both, ReadsForm, lists}
+use Rattle.pdn.specs.FenForm.{Header, read_header, read_between, past_end, FenReading}
+use Rattle.pdn.specs.FenForm.{FenForm, ReadsRest, ended, ReadsLists, both, ReadsForm, lists}
 use Rattle.pdn.specs.FenGrammar.{AreItemsText, HasFenForm, FenFormsAreTexts}
-use Rattle.pdn.specs.FenText.{side_letter}
 use Rattle.pdn.specs.ReadFen.{repeated, position_of, IsFen}
 use Rattle.club_games.specs.FenReading.{after_item, with_item, items_reading, list_reading, ended_reading}
 use Rattle.club_games.specs.FenReading.{second_reading, between_reading, first_reading, header_reading, form_reading}
 use Rattle.club_games.specs.FenReading.{is_opening_unless, is_opening_form, is_opening}
 
 -- ---- what the function reads is read by the grammar's reader
+
+-- what is read on from a reading was read on from a good one
+read-on : {A B : Type 0} (r : Result A ℕ) (next : Result A ℕ → Result B ℕ) (value : B)
+    → ((offset : ℕ) → next (Err offset) ≡ Err offset) → next r ≡ Ok value
+    → (front : A) × (r ≡ Ok front) × (next (Ok front) ≡ Ok value)
+read-on (Ok front) next value stops is = (front, refl, is)
+read-on (Err offset) next value stops is = absurd (let no = sym (stops offset) ∙ is in cc)
 
 module _ (total : ℕ) (side : Side) where
   after-sound : (more : List Item → List ℕ → ItemsReading) (before : List Item) (text : List ℕ) (item : Item)
@@ -29,25 +35,18 @@ module _ (total : ℕ) (side : Side) where
       → ((items : List Item) (t : List ℕ) → more items t ≡ Ok list → ReadsItems total side items t (Ok list))
       → after_item more (before ++ item ∷ []) rest comma ≡ Ok list → ReadsItems total side before text (Ok list)
   after-sound more before text item rest None list read comma sound is =
-      let same : record { items = before ++ item ∷ []; rest = rest } ≡ list = cc in
-      subst (λ l. ReadsItems total side before text (Ok l)) same (last_item before text item rest read comma)
+      subst (ReadsItems total side before text) is (last_item before text item rest read comma)
   after-sound more before text item rest (Some next) list read comma sound is =
       more_items before text item rest next (Ok list) read comma (sound (before ++ item ∷ []) next is)
-
-  with-sound : (more : List Item → List ℕ → ItemsReading) (before : List Item) (text : List ℕ) (read : ItemReading)
-      (list : Items) → read_item total side text ≡ read
-      → ((items : List Item) (t : List ℕ) → more items t ≡ Ok list → ReadsItems total side items t (Ok list))
-      → with_item more before read ≡ Ok list → ReadsItems total side before text (Ok list)
-  with-sound more before text (Err offset) list read sound is = absurd (cc)
-  with-sound more before text (Ok front) list read sound is =
-      after-sound more before text front.item front.rest (past_byte 44 front.rest) list read refl sound is
 
   items-sound : (n : ℕ) (before : List Item) (text : List ℕ) (list : Items)
       → items_reading n total side before text ≡ Ok list → ReadsItems total side before text (Ok list)
   items-sound zero before text list is = absurd (cc)
   items-sound (suc n) before text list is =
-      with-sound (λ items rest. items_reading n total side items rest) before text (read_item total side text) list refl
-      (λ items t. items-sound n items t list) is
+      let more = λ (items : List Item) (rest : List ℕ). items_reading n total side items rest in
+      let (front, read, on) = read-on (read_item total side text) (with_item more before) list (λ offset. refl) is in
+      after-sound more before text front.item front.rest (past_byte 44 front.rest) list read refl
+      (λ items t. items-sound n items t list) on
 
   list-sound : (n : ℕ) (before : List Item) (text : List ℕ) (list : Items)
       → list_reading n total side before text ≡ Ok list → ReadsList total side before text (Ok list)
@@ -56,61 +55,38 @@ module _ (total : ℕ) (side : Side) where
       by : (b : Bool) → ends_list text ≡ b → ◌≡◌ {A = ItemsReading}
           (if b then Ok (record { items = before; rest = text }) else items_reading n total side before text) (Ok list)
           → ReadsList total side before text (Ok list)
-      by true ends is =
-          let same : record { items = before; rest = text } ≡ list = cc in
-          subst (λ l. ReadsList total side before text (Ok l)) same (no_item before text ends)
+      by true ends is = subst (ReadsList total side before text) is (no_item before text ends)
       by false ends is = some_items before text (Ok list) ends (items-sound n before text list is)
 
-module _ (n total : ℕ) (header : Header) (form : FenForm) where
-  ended-sound : (before : List Item) (text : List ℕ) (list : Items) (past : Option ℕ)
-      → ReadsList total (other header.first) before text (Ok list) → past_end total list.rest ≡ past
-      → ended_reading header.turn list.items past ≡ Ok form
-      → ReadsRest total header.turn (other header.first) before text (Ok form)
-  ended-sound before text list (Some offset) reads past is = absurd (cc)
-  ended-sound before text list None reads past is =
-      let same : record { turn = header.turn; items = list.items } ≡ form = cc in
-      subst (λ f. ReadsRest total header.turn (other header.first) before text (Ok f)) same (ended list reads past)
-
-  second-sound : (before : List Item) (text : List ℕ) (read : ItemsReading)
-      → list_reading n total (other header.first) before text ≡ read → second_reading total header.turn read ≡ Ok form
-      → ReadsRest total header.turn (other header.first) before text (Ok form)
-  second-sound before text (Err offset) read is = absurd (cc)
-  second-sound before text (Ok list) read is =
-      ended-sound before text list (past_end total list.rest)
-      (list-sound total (other header.first) n before text list read) refl is
-
-  between-sound : (list : Items) (read : RestReading) → ReadsList total header.first [] header.rest (Ok list)
-      → ◌≡◌ {A = RestReading} (read_between total header.first list.rest) read
-      → between_reading n total header list.items read ≡ Ok form → ReadsLists total header (Ok form)
-  between-sound list (Err offset) first read is = absurd (cc)
-  between-sound list (Ok rest) first read is =
-      both list rest (Ok form) first read
-      (second-sound list.items rest (list_reading n total (other header.first) list.items rest) refl is)
-
-  first-sound : (read : ItemsReading) → list_reading n total header.first [] header.rest ≡ read
-      → first_reading n total header read ≡ Ok form → ReadsLists total header (Ok form)
-  first-sound (Err offset) read is = absurd (cc)
-  first-sound (Ok list) read is =
-      between-sound list (read_between total header.first list.rest)
-      (list-sound total header.first n [] header.rest list read) refl is
+ended-sound : (total : ℕ) (turn side : Side) (before : List Item) (text : List ℕ) (form : FenForm) (list : Items)
+    → ReadsList total side before text (Ok list) → (past : Option ℕ) → past_end total list.rest ≡ past
+    → ended_reading turn list.items past ≡ Ok form → ReadsRest total turn side before text (Ok form)
+ended-sound total turn side before text form list reads (Some offset) past is = absurd (cc)
+ended-sound total turn side before text form list reads None past is =
+    subst (ReadsRest total turn side before text) is (ended list reads past)
 
 form-sound : (text : List ℕ) (form : FenForm) → form_reading text ≡ Ok form → ReadsForm text (Ok form)
 unfolding form_reading
-form-sound text form is = by (read_header text) refl is
-  where
-    by : (read : HeaderReading) → ◌≡◌ {A = HeaderReading} (read_header text) read
-        → header_reading (length text) (length text) read ≡ Ok form → ReadsForm text (Ok form)
-    by (Err offset) read is = absurd (cc)
-    by (Ok header) read is =
-        lists header (Ok form) read
-        (first-sound (length text) (length text) header form
-        (list_reading (length text) (length text) header.first [] header.rest) refl is)
+form-sound text form is =
+    let n = length text in
+    let (header, read, a) = read-on (read_header text) (header_reading n n) form (λ offset. refl) is in
+    let (list, first, b) = read-on (list_reading n n header.first [] header.rest) (first_reading n n header) form
+    (λ offset. refl) a in
+    let (rest, between, c) = read-on (read_between n header.first list.rest) (between_reading n n header list.items)
+    form (λ offset. refl) b in
+    let (more, second, d) = read-on (list_reading n n (other header.first) list.items rest)
+    (second_reading n header.turn) form (λ offset. refl) c in
+    let reads = list-sound n (other header.first) n list.items rest more second in
+    lists header (Ok form) read
+    (both list rest (Ok form) (list-sound n header.first n [] header.rest list first) between
+    (ended-sound n header.turn (other header.first) list.items rest form more reads (past_end n more.rest)
+    (refl {a = past_end n more.rest}) d))
 
 -- ---- what the grammar's reader reads, the function reads, where it may take so many items
 
--- a reading gives no fewer items than it begins with
+-- a reading gives an item more than it begins with
 abbrev Grows : List Item → ItemsReading → Type 0
-Grows before (Ok list) = length before ≤ length list.items
+Grows before (Ok list) = length before < length list.items
 Grows before (Err offset) = Unit {0}
 
 more-items : (before : List Item) (item : Item) → length (before ++ item ∷ []) ≡ length before + 1
@@ -128,10 +104,11 @@ module _ (total : ℕ) (side : Side) where
   items-grow before text r (more_items b t item rest more s read comma reads) =
       weaker b item s (items-grow (b ++ item ∷ []) more s reads)
 
-  list-grow : (before : List Item) (text : List ℕ) (r : ItemsReading) → ReadsList total side before text r
-      → Grows before r
-  list-grow before text r (no_item b t ends) = omega arith
-  list-grow before text r (some_items b t s ends reads) = items-grow b t s reads
+  list-grow : (before : List Item) (text : List ℕ) (list : Items) → ReadsList total side before text (Ok list)
+      → length before ≤ length list.items
+  list-grow before text list (no_item b t ends) = omega arith
+  list-grow before text list (some_items b t s ends reads) =
+      let grown = items-grow b t (Ok list) reads in omega (arith, grown)
 
   -- so many items may be taken
   abbrev MayTake : ℕ → List Item → ItemsReading → Type 0
@@ -140,17 +117,13 @@ module _ (total : ℕ) (side : Side) where
 
   items-complete : (n : ℕ) (before : List Item) (text : List ℕ) (r : ItemsReading) → ReadsItems total side before text r
       → MayTake n before r → items_reading n total side before text ≡ r
-  items-complete n before text r (bad_item b t offset read) few = absurd few
-  items-complete zero before text r (last_item b t item rest read comma) few = let more = more-items b item in
-      absurd (omega (arith, more, few))
+  items-complete zero before text (Err offset) reads few = absurd few
+  items-complete zero before text (Ok list) reads few =
+      let grown = items-grow before text (Ok list) reads in absurd (omega (arith, grown, few))
+  items-complete (suc n) before text r (bad_item b t offset read) few = absurd few
   items-complete (suc n) before text r (last_item b t item rest read comma) few =
       ap (λ x. with_item (λ items rest. items_reading n total side items rest) b x) read
       ∙ ap (λ x. after_item (λ items rest. items_reading n total side items rest) (b ++ item ∷ []) rest x) comma
-  items-complete zero before text (Err offset) (more_items b t item rest more s read comma reads) few = absurd few
-  items-complete zero before text (Ok list) (more_items b t item rest more s read comma reads) few =
-      let grown : length (b ++ item ∷ []) ≤ length list.items = items-grow (b ++ item ∷ []) more (Ok list) reads in
-      let one = more-items b item in
-      absurd (omega (arith, grown, one, few))
   items-complete (suc n) before text r (more_items b t item rest more s read comma reads) few =
       ap (λ x. with_item (λ items rest. items_reading n total side items rest) b x) read
       ∙ ap (λ x. after_item (λ items rest. items_reading n total side items rest) (b ++ item ∷ []) rest x) comma
@@ -183,50 +156,27 @@ module _ (text : List ℕ) (form : FenForm) (h : HasFenForm text form) where
   form-few =
       let first = items-few h.listed 3 h.first h.first_text h.first_is in
       let second = items-few (other h.listed) (3 + length h.first_text + 2) h.second h.second_text h.second_is in
-      let items : length form.items ≡ length h.first + length h.second = ap length h.items
-      ∙ length-append h.first h.second in
-      let ends : length (h.second_text ++ h.dot) ≡ length h.second_text + length h.dot =
-      length-append h.second_text h.dot in
-      let letter : List ℕ = side_letter (other h.listed) in
-      let back : length (letter ++ (h.second_text ++ h.dot)) ≡ length letter + length (h.second_text ++ h.dot) =
-      length-append letter (h.second_text ++ h.dot) in
-      let middle : length (h.first_text ++ (58 ∷ (letter ++ (h.second_text ++ h.dot))))
-      ≡ length h.first_text + suc (length (letter ++ (h.second_text ++ h.dot))) =
-      length-append h.first_text (58 ∷ (letter ++ (h.second_text ++ h.dot))) in
-      let listed : length (side_letter h.listed ++ (h.first_text ++ (58 ∷ (letter ++ (h.second_text ++ h.dot)))))
-      ≡ length (side_letter h.listed) + length (h.first_text ++ (58 ∷ (letter ++ (h.second_text ++ h.dot)))) =
-      length-append (side_letter h.listed) (h.first_text ++ (58 ∷ (letter ++ (h.second_text ++ h.dot)))) in
-      let whole : length text ≡ length (side_letter form.turn) + suc
-      (length (side_letter h.listed ++ (h.first_text ++ (58 ∷ (letter ++ (h.second_text ++ h.dot)))))) =
-      ap length h.text_is ∙ length-append (side_letter form.turn)
-      (58 ∷ (side_letter h.listed ++ (h.first_text ++ (58 ∷ (letter ++ (h.second_text ++ h.dot)))))) in
-      omega (arith, first, second, items, ends, back, middle, listed, whole)
+      let items = simp length-append at (ap length h.items) in
+      let whole = simp length-append at (ap length h.text_is) in
+      omega (arith, first, second, items, whole)
 
 module _ (n total : ℕ) (header : Header) where
   -- the second list and the end are read as the grammar's reader reads them, where so many items may be taken
-  abbrev IsRestRead : List Item → List ℕ → FenReading → Type 0
-  IsRestRead before text (Ok form) =
-      length form.items ≤ n →
-      (second_reading total header.turn (list_reading n total (other header.first) before text) ≡ Ok form)
+  rest-complete : (before : List Item) (text : List ℕ) (form : FenForm)
+      → ReadsRest total header.turn (other header.first) before text (Ok form) → length form.items ≤ n
+      → (second_reading total header.turn (list_reading n total (other header.first) before text) ≡ Ok form)
       × (length before ≤ length form.items)
-  IsRestRead before text (Err offset) = Unit {0}
-
-  rest-complete : (before : List Item) (text : List ℕ) (r : FenReading)
-      → ReadsRest total header.turn (other header.first) before text r → IsRestRead before text r
-  rest-complete before text r (bad_second offset reads) = tt
-  rest-complete before text r (bad_end list offset reads past) = tt
-  rest-complete before text r (ended list reads past) = λ few. (
+  rest-complete before text form (ended list reads past) few = (
     ap (second_reading total header.turn)
         (list-complete total (other header.first) n before text (Ok list) reads (omega (arith, few)))
         ∙ ap (ended_reading header.turn list.items) past,
-    list-grow total (other header.first) before text (Ok list) reads,
+    list-grow total (other header.first) before text list reads,
   )
 
-module _ (n total : ℕ) (header : Header) (form : FenForm) (few : length form.items ≤ n) where
-  lists-complete : ReadsLists total header (Ok form)
+  lists-complete : (form : FenForm) → length form.items ≤ n → ReadsLists total header (Ok form)
       → first_reading n total header (list_reading n total header.first [] header.rest) ≡ Ok form
-  lists-complete (both list rest r first between reads) =
-      let second = rest-complete n total header list.items rest (Ok form) reads few in
+  lists-complete form few (both list rest r first between reads) =
+      let second = rest-complete list.items rest form reads few in
       let fewer = second.1 in
       ap (first_reading n total header)
       (list-complete total header.first n [] header.rest (Ok list) first (omega (arith, few, fewer)))

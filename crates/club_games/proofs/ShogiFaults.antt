@@ -31,16 +31,14 @@ no-illegal start ms ply cause played h =
     (sym (ap (refused_by refusal_of) ((check_of-refused (position_after shogi start (take k ms)) m cause).1 h.6))
     ∙ legal)
 
-none_some : (o : Option SEnd) (end : SEnd) → o ≡ None → Some end ≡ o → ⊥
-none_some o end e f = let g = f ∙ e in cc
-
 -- and none comes after the end
 pub none-after : (start : ShogiPosition) (ms : List SMove) (ply : ℕ) → IsPlayedLine shogi start ms
     → HasFault start ms (line_fault.AfterEnd ply) → ⊥
 none-after start ms ply played h =
     let before = take h.0 ms in
-    none_some (end_of start before) h.1 (played.unended h.0 h.3)
-    (one-end start before (Some h.1) (end_of start before) h.5 (end_of-is start before))
+    let ends : Some h.1 ≡ None = one-end start before (Some h.1) (end_of start before) h.5 (end_of-is start before)
+    ∙ played.unended h.0 h.3 in
+    absurd (cc)
 
 -- the end of a line is the computed one
 pub end-computed : (start : ShogiPosition) (ms : List SMove) (end : Option SEnd) → EndsSo start ms end

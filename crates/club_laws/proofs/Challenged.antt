@@ -1,18 +1,20 @@
 -- What an accepted command on a challenge found, and what it leaves of the challenge.
-use Rattle.std.proofs.Common.{◌≡◌, ◌≢◌, ℕ, Option, Some, None, Bool, true, false, not, ◌&&◌, refl, ap, sym, ◌∙◌}
+use Rattle.std.proofs.Common.{◌≡◌, ◌≢◌, ℕ, ◌+◌, List, Option, Some, None, Bool, true, false, not, ◌&&◌}
+use Rattle.std.proofs.Common.{refl, ap, sym, ◌∙◌}
 use Rattle.std.specs.Prelude.{is_some, nat_le, ◌==◌}
 use Rattle.std.proofs.lemmas.Bool.{not-true, not-false, eqb-false}
 use Rattle.club_core.specs.declared.challenges.Challenge.{Challenge}
 use Rattle.club_core.specs.declared.challenges.ChallengeState.{ChallengeState}
-use Rattle.club_core.specs.declared.challenges.ChallengeState.TheVariants.{Open, Withdrawn}
+use Rattle.club_core.specs.declared.challenges.ChallengeState.TheVariants.{Open, Withdrawn, Refused, Accepted}
 use Rattle.club_requests.specs.declared.refusals.Refusal.TheVariants.{UnknownChallenge}
 use Rattle.club_requests.specs.Limits.{most_games, is_challenge_number}
-use Rattle.club_requests.specs.Outcome.{Reply, challenge_opened, challenge_withdrawn, accepted}
+use Rattle.club_requests.specs.Outcome.{Reply, challenge_opened, challenge_withdrawn, challenge_refused}
+use Rattle.club_requests.specs.Outcome.{challenge_accepted, accepted}
 use Rattle.club_core.specs.Seats.{are_two}
 use Rattle.club_core.specs.Challenges.{is_open, standing_as, repeat_of_opening, opening_tests, opening_refusal, opens}
 use Rattle.club_core.specs.Challenges.{opening_found, repeat_of_withdrawal, withdrawal_tests, withdrawal_refusal}
 use Rattle.club_core.specs.Challenges.{withdrawal_step, repeat_of_answer, answer_tests, answer_refusal, answers}
-use Rattle.club_core.specs.Challenges.{answer_step}
+use Rattle.club_core.specs.Challenges.{answer_step, challenge_under, challenge_by}
 use Rattle.club_laws.proofs.Lists.{both-true}
 use Rattle.club_core.proofs.Proved.{none-holds, not-some}
 use Rattle.club_laws.proofs.Accepts.{unless-accepted, accepted-same, if-accepted}
@@ -109,30 +111,60 @@ was-withdrawn (Some c) new reply is =
     let same = accepted-same (standing_as c Withdrawn) new (challenge_withdrawn c.number) reply parts.2 in
     record { old = c; found = refl; waited = not-false _ tests.0; stands = same.0; answer = same.1 }
 
+-- how a challenge stands after an answer
+abbrev pub answered_as : ℕ → Bool → ChallengeState
+answered_as games false = Refused
+answered_as games true = Accepted (games + 1)
+
 -- a challenge that was answered was open, and to the caller
-pub record WasAnswered (under : Option Challenge) (games caller : ℕ) (accept : Bool) (new : Challenge)
-    (reply : Reply) : Type 0 where
+pub record WasAnswered (cs : List Challenge) (by : Option ℕ) (number games caller : ℕ) (accept : Bool)
+    (new : Challenge) (reply : Reply) : Type 0 where
+  pub member : ℕ
   pub old : Challenge
-  pub found : under ≡ Some old
+  pub by_member : by ≡ Some member
+  pub found : challenge_under cs member number ≡ Some old
   pub waited : is_open old.standing ≡ true
   pub to_caller : (old.other == caller) ≡ true
   pub room : (accept && nat_le most_games games) ≡ false
-  pub gives : answers old games accept ≡ accepted new reply
+  pub stands : standing_as old (answered_as games accept) ≡ new
+  pub answer : repeat_of_answer old.number (answered_as games accept) accept ≡ Some reply
 
-pub was-answered : (under : Option Challenge) (games caller : ℕ) (accept : Bool) (new : Challenge) (reply : Reply)
-    → answer_step under games caller accept ≡ accepted new reply → WasAnswered under games caller accept new reply
-was-answered None games caller accept new reply is = cc
-was-answered (Some c) games caller accept new reply is =
-    let asked = if-accepted (c.other == caller) _ UnknownChallenge new reply is in
-    let parts = unless-accepted (repeat_of_answer c.number c.standing accept) (answer_refusal c.standing games accept)
-    (answers c games accept) new reply asked.1 in
-    let tests = none-holds (answer_tests c.standing games accept) parts.1 in
-    record {
-      old = c;
-      found = refl;
-      waited = not-false _ tests.0;
-      to_caller = asked.0;
-      room = tests.1.0;
-      gives =
-          parts.2;
-    }
+answers-as : (c : Challenge) (games : ℕ) (accept : Bool) (new : Challenge) (reply : Reply)
+    → answers c games accept ≡ accepted new reply → (standing_as c (answered_as games accept) ≡ new)
+    × (repeat_of_answer c.number (answered_as games accept) accept ≡ Some reply)
+answers-as c games false new reply is =
+    let same = accepted-same (standing_as c Refused) new (challenge_refused c.number) reply is in
+    (same.0, ap Some same.1)
+answers-as c games true new reply is =
+    let next = games + 1 in
+    let same = accepted-same (standing_as c (Accepted next)) new (challenge_accepted c.number next) reply is in
+    (same.0, ap Some same.1)
+
+pub was-answered : (cs : List Challenge) (by : Option ℕ) (number games caller : ℕ) (accept : Bool) (new : Challenge)
+    (reply : Reply) → answer_step (challenge_by cs by number) games caller accept ≡ accepted new reply
+    → WasAnswered cs by number games caller accept new reply
+was-answered cs None number games caller accept new reply is = cc
+was-answered cs (Some member) number games caller accept new reply is =
+    of-found (challenge_under cs member number) refl is
+  where
+    of-found : (under : Option Challenge) → challenge_under cs member number ≡ under
+        → answer_step under games caller accept ≡ accepted new reply
+        → WasAnswered cs (Some member) number games caller accept new reply
+    of-found None found step_is = cc
+    of-found (Some c) found step_is =
+        let asked = if-accepted (c.other == caller) _ UnknownChallenge new reply step_is in
+        let parts = unless-accepted (repeat_of_answer c.number c.standing accept)
+        (answer_refusal c.standing games accept) (answers c games accept) new reply asked.1 in
+        let tests = none-holds (answer_tests c.standing games accept) parts.1 in
+        let left = answers-as c games accept new reply parts.2 in
+        record {
+          member = member;
+          old = c;
+          by_member = refl;
+          found = found;
+          waited = not-false _ tests.0;
+          to_caller = asked.0;
+          room = tests.1.0;
+          stands = left.0;
+          answer = left.1;
+        }

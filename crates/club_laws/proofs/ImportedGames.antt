@@ -1,25 +1,23 @@
 -- The game of a record is legal, and its result is the record's.
 use Rattle.std.proofs.Common.{◌≡◌, ◌≢◌, ℕ, zero, suc, ◌<◌, ◌≤◌, List, [], ◌∷◌, length, map, take, Option, Some, None}
 use Rattle.std.proofs.Common.{Bool, true, false, not, ◌&&◌, refl, ap, sym, ◌∙◌, subst, arith}
-use Rattle.std.specs.Prelude.{IsSome, nat_le, slice_get, if◌then◌else◌}
-use Rattle.std.proofs.lemmas.Bool.Decides.{nat_tests}
+use Rattle.std.specs.Prelude.{IsSome, slice_get, if◌then◌else◌}
 use Rattle.std.proofs.lemmas.List.{length-map, length-take-le}
 use Rattle.squares.specs.declared.sides.Side.{Side}
 use Rattle.squares.specs.declared.sides.Side.TheVariants.{First, Second}
 use Rattle.squares.specs.declared.sides.Score.{Score}
-use Rattle.squares.specs.declared.sides.Score.TheVariants as score
-use Rattle.squares.specs.Sides.{other}
+use Rattle.squares.specs.Sides.{other, same_score-itself}
 use Rattle.club_rules.specs.declared.record_refusals.RecordRefusal.TheVariants.{ResultDiffers}
 use Rattle.club_rules.specs.declared.records.RecordFormat.{RecordFormat}
 use Rattle.club_rules.specs.GameRules.{GameRules, ply_limit}
 use Rattle.club_rules.specs.Line.{position_after, IsLegalLine, IsPlayedLine}
 use Rattle.club_rules.specs.Records as record_is
 use Rattle.club_rules.specs.Records.{Recorded, Reading, IsGameByRules}
-use Rattle.club_requests.specs.declared.outside_end.OutsideEnd.TheVariants.{Agreed, Time, Declared}
+use Rattle.club_requests.specs.declared.outside_end.OutsideEnd.{OutsideEnd}
+use Rattle.club_requests.specs.declared.outside_end.OutsideEnd.TheVariants.{Agreed, Declared, Recorded as by_record}
 use Rattle.club_core.specs.Events.{Terms}
 use Rattle.club_core.specs.declared.seats.Pairing.{Pairing}
 use Rattle.club_core.specs.Game.{Entry, Clocks, spend, end_with, score_with, result_of}
-use Rattle.squares.specs.Sides.{same_score-itself}
 use Rattle.club_core.specs.Imports.{recorded_end, has_score, same_moves, is_record_of, imported, read_in}
 use Rattle.club_core.specs.Legal.{IsTimely, IsLegalGame}
 use Rattle.club_core.proofs.Proved.{AreRules}
@@ -58,9 +56,11 @@ outside-only : {E : Type 0} (end : Option E) (result : Score) → IsSome (record
 outside-only None result is = refl
 outside-only (Some end) result is = cc
 
-not-agreed : {E : Type 0} (end : Option E) (result : Score) → recorded_end end result ≡ Some Agreed → ⊥
-not-agreed None result is = cc
-not-agreed (Some end) result is = cc
+-- the end of a record's game, where the rules gave none, is as recorded
+pub as-recorded : {E : Type 0} (end : Option E) (result : Score) (outside : OutsideEnd)
+    → recorded_end end result ≡ Some outside → by_record result ≡ outside
+as-recorded None result outside is = cc
+as-recorded (Some end) result outside is = cc
 
 -- a game that is read in an event was read
 pub read-game : {M : Type 0} (format : RecordFormat) (declares : Bool) (read : Reading M) (r : Recorded M)
@@ -74,14 +74,6 @@ read-game format declares (record_is.game g) r is = here (g.declared && not decl
     here false same = same
 read-game format declares record_is.no_part r is = cc
 read-game format declares (record_is.refused refusal) r is = cc
-
-not-declared : {E : Type 0} (end : Option E) (result : Score) → recorded_end end result ≡ Some Declared → ⊥
-not-declared None result is = cc
-not-declared (Some end) result is = cc
-
-pub not-timed : {E : Type 0} (end : Option E) (result : Score) → recorded_end end result ≡ Some Time → ⊥
-not-timed None result is = cc
-not-timed (Some end) result is = cc
 
 some-none : {A : Type 0} (o : Option A) → IsSome o → o ≡ None → ⊥
 some-none None some none = cc
@@ -111,16 +103,12 @@ module _ {P M E T : Type 0} (laws : GameRules P M E T) where
   module _ (are_rules : AreRules laws) where
     pub within-limit : (ms : List M) → IsPlayedLine laws laws.start ms → length ms ≤ ply_limit
     within-limit ms line =
-        elim (nat_le (length ms) ply_limit) as (λ b. nat_le (length ms) ply_limit ≡ b → length ms ≤ ply_limit) [
-          | true ↦ λ e. grind (arith, nat_tests, e)
-          | false ↦ λ e.
-              let more : ply_limit < length ms = grind (arith, nat_tests, e) in
-              let count : length (take ply_limit ms) ≡ ply_limit = length-take-le ply_limit ms (omega (arith, more)) in
-              absurd
-              (some-none (laws.judge laws.start (take ply_limit ms))
-              (are_rules.ends_at_limit (take ply_limit ms) (legal-take ply_limit laws.start ms line.legal) count)
-              (line.unended ply_limit more))
-        ] refl
+        let none_more : ply_limit < length ms → ⊥ = λ more.
+        let count : length (take ply_limit ms) ≡ ply_limit = length-take-le ply_limit ms (omega (arith, more)) in
+        some-none (laws.judge laws.start (take ply_limit ms))
+        (are_rules.ends_at_limit (take ply_limit ms) (legal-take ply_limit laws.start ms line.legal) count)
+        (line.unended ply_limit more) in
+        omega (arith, none_more)
 
     same_moves-itself : (ms : List M) → same_moves laws ms ms ≡ true
     same_moves-itself [] = refl
@@ -152,8 +140,8 @@ module _ {P M E T : Type 0} (laws : GameRules P M E T) where
               (record { left_first = terms.budget; left_second = terms.budget; since = moment }) refl;
           outside_alone = λ some. ap (laws.judge laws.start) moves ∙ outside-only end r.score some;
           offer = tt;
-          agreed = λ is. absurd (not-agreed end r.score is);
+          agreed = λ is. let same = as-recorded end r.score Agreed is in absurd cc;
           recorded = λ result is. record { keyed = refl; no_offer = refl; at_once = each-at moment r.moves };
-          declared = λ is. absurd (not-declared end r.score is);
+          declared = λ is. let same = as-recorded end r.score Declared is in absurd cc;
           players = apart;
         }

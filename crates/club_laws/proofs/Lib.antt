@@ -2,10 +2,10 @@ pub mod Accepts
 pub mod AddedSteps
 pub mod Challenged
 pub mod Folds
+pub mod GameSteps
 pub mod ImportRepeats
 pub mod ImportSteps
 pub mod ImportedGames
-pub mod Kept
 pub mod Later
 pub mod LegalSteps
 pub mod Lists
@@ -14,4 +14,5 @@ pub mod Proved
 pub mod PutChallenges
 pub mod Repeats
 pub mod Room
+pub mod SeatSteps
 pub mod Sound

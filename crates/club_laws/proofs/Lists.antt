@@ -1,5 +1,6 @@
 -- Elements of a list that grew at its end or was changed at a place, and those that a search finds.
-use Rattle.std.proofs.Common.{◌≡◌, ℕ, zero, suc, ◌+◌, List, [], ◌∷◌, ◌++◌, length, map, Option, Some, None, Bool, true}
+use Rattle.std.proofs.Common.{◌≡◌, ℕ, zero, suc, ◌+◌, ◌-◌, List, [], ◌∷◌, ◌++◌, length, map, Option, Some, None, Bool}
+use Rattle.std.proofs.Common.{true}
 use Rattle.std.proofs.Common.{false, refl, ap, sym, ◌∙◌, arith, ◌⊎◌, inl, inr, ◌&&◌, ◌||◌}
 use Rattle.std.specs.Prelude.{slice_get, slice_set, IsSome, if◌then◌else◌}
 use Rattle.std.specs.Option.{option_map}
@@ -20,6 +21,13 @@ none-rest : (o : Option ℕ) → option_map suc o ≡ None → o ≡ None
 none-rest None is = refl
 none-rest (Some k) is = cc
 
+-- what a search finds is the first, or is found in the rest
+pub find-cases : (b : Bool) (o : Option ℕ) (id : ℕ) → (if b then Some 1 else option_map suc o) ≡ Some id
+    → ((b ≡ true) × (1 ≡ id)) ⊎ ((k : ℕ) × (b ≡ false) × (o ≡ Some k) × (suc k ≡ id))
+find-cases true o id is = inl (refl, cc)
+find-cases false None id is = cc
+find-cases false (Some k) id is = inr (k, refl, refl, cc)
+
 more-later : (o p : Option ℕ) (id : ℕ) → ((k : ℕ) → o ≡ Some k → p ≡ Some k) → option_map suc o ≡ Some id
     → option_map suc p ≡ Some id
 more-later None p id rest is = cc
@@ -30,7 +38,10 @@ more-here : (b : Bool) (o p : Option ℕ) (id : ℕ) → ((k : ℕ) → o ≡ So
 more-here true o p id rest is = is
 more-here false o p id rest is = more-later o p id rest is
 
-or-false : (a b : Bool) → (a || b) ≡ false → (a ≡ false) × (b ≡ false)
+some-same : {A : Type 0} (x y : A) → Some x ≡ Some y → x ≡ y
+some-same x y is = cc
+
+pub or-false : (a b : Bool) → (a || b) ≡ false → (a ≡ false) × (b ≡ false)
 or-false true b is = cc
 or-false false b is = (refl, is)
 
@@ -68,43 +79,36 @@ module _ {A : Type 0} where
   place-append xs ys zero x at = cc
   place-append xs ys (suc n) x at = get-append xs ys n x at
 
-  some-append : (xs ys : List A) (id : ℕ) (o : Option A) → place xs id ≡ o → IsSome o → IsSome (place (xs ++ ys) id)
-  some-append xs ys id None at some = cc
-  some-append xs ys id (Some x) at some = rw (place-append xs ys id x at) refl
+  pub some-is : (o : Option A) → IsSome o → (x : A) × (o ≡ Some x)
+  some-is None some = cc
+  some-is (Some x) some = (x, refl)
 
   pub is_some-append : (xs ys : List A) (id : ℕ) → IsSome (place xs id) → IsSome (place (xs ++ ys) id)
-  is_some-append xs ys id = some-append xs ys id (place xs id) refl
+  is_some-append xs ys id some =
+      let (x, at) = some-is (place xs id) some in
+      rw (place-append xs ys id x at) refl
 
   pub each-append : (P : A → Type 0) (xs : List A) (y : A) → Each P xs → P y → Each P (xs ++ y ∷ [])
   each-append P xs y each new =
       λ n x at. elim (got-append xs y n x at) [ inl old ↦ each n x old | inr is ↦ rw (← is.1) new ]
 
-  pub each-set : (P : A → Type 0) (xs : List A) (i : ℕ) (y : A) → Each P xs → P y → Each P (slice_set xs i y)
-  each-set P xs i y each new =
-      λ n x at. elim (got-set xs i y n x at) [ inl old ↦ each n x old | inr is ↦ rw (← is.1) new ]
-
-  found-later : (test : A → Bool) (x : A) (xs : List A) (id : ℕ) (o : Option ℕ)
-      → ((k : ℕ) → o ≡ Some k → (y : A) × (place xs k ≡ Some y) × (test y ≡ true)) → option_map suc o ≡ Some id
-      → (y : A) × (place (x ∷ xs) id ≡ Some y) × (test y ≡ true)
-  found-later test x xs id None rest is = cc
-  found-later test x xs id (Some zero) rest is = let (y, stands, passes) = rest zero refl in cc
-  found-later test x xs id (Some (suc n)) rest is =
-      let (y, stands, passes) = rest (suc n) refl in
-      let e : suc (suc n) ≡ id = cc in
-      (y, rw (← e) stands, passes)
-
-  found-here : (test : A → Bool) (x : A) (xs : List A) (id : ℕ) (b : Bool) → test x ≡ b
-      → ((k : ℕ) → find_id test xs ≡ Some k → (y : A) × (place xs k ≡ Some y) × (test y ≡ true))
-      → (if b then Some 1 else option_map suc (find_id test xs)) ≡ Some id → (y : A) × (place (x ∷ xs) id ≡ Some y)
-      × (test y ≡ true)
-  found-here test x xs id true passes rest is = let e : 1 ≡ id = cc in (x, rw (← e) refl, passes)
-  found-here test x xs id false passes rest is = found-later test x xs id (find_id test xs) rest is
+  -- what has an id in a list has the next one behind one element more
+  pub place-more : (x y : A) (xs : List A) (id : ℕ) → place xs id ≡ Some y → place (x ∷ xs) (suc id) ≡ Some y
+  place-more x y xs zero at = cc
+  place-more x y xs (suc n) at = at
 
   -- what a search by an id finds stands there and passes
   pub find_id-found : (test : A → Bool) (xs : List A) (id : ℕ) → find_id test xs ≡ Some id → (x : A)
       × (place xs id ≡ Some x) × (test x ≡ true)
   find_id-found test [] id is = cc
-  find_id-found test (x ∷ xs) id is = found-here test x xs id (test x) refl (find_id-found test xs) is
+  find_id-found test (x ∷ xs) id is =
+      elim (find-cases (test x) (find_id test xs) id is) [
+        | inl first ↦ (x, rw (← first.1) refl, first.0)
+        | inr rest ↦
+            let (k, fails, found, next) = rest in
+            let (y, stands, passes) = find_id-found test xs k found in
+            (y, rw (← next) (place-more x y xs k stands), passes)
+      ]
 
   -- where no element passes, each fails
   pub list_any-false : (test : A → Bool) (xs : List A) → list_any test xs ≡ false → (n : ℕ) (x : A)
@@ -175,9 +179,12 @@ module _ {A : Type 0} where
   map-at f (z ∷ zs) zero x at = let e : z ≡ x = cc in rw e refl
   map-at f (z ∷ zs) (suc n) x at = map-at f zs n x at
 
-  pub put-at_same : (xs : List A) (i j : ℕ) (x y : A) → i ≡ j → slice_get xs j ≡ Some x
-      → slice_get (slice_set xs i y) j ≡ Some y
-  put-at_same xs i j x y same at = rw same (put-at xs j x y at)
+  -- what is put in the place of an id stands there
+  pub place-set : (xs : List A) (id : ℕ) (x y : A) → place xs id ≡ Some x → place (slice_set xs (id - 1) y) id ≡ Some y
+  place-set xs zero x y at = cc
+  place-set xs (suc k) x y at =
+      let before : suc k - 1 ≡ k = omega arith in
+      rw before (put-at xs k x y at)
 
   pub at-last : (xs : List A) (y : A) → slice_get (xs ++ y ∷ []) (length xs) ≡ Some y
   at-last [] y = refl
@@ -197,22 +204,6 @@ module _ {A : Type 0} where
       (more-here (test x) (find_id test xs) (find_id test ys) id
       (λ k. find_id-pointwise test xs ys k (λ n. same (suc n))) is)
 
-module _ {A B : Type 0} (part : A → B) where
-  pub are_apart-append : (xs : List A) (y : A) → AreApart part xs
-      → ((n : ℕ) (x : A) → slice_get xs n ≡ Some x → part x ≡ part y → ⊥) → AreApart part (xs ++ y ∷ [])
-  are_apart-append xs y apart new =
-      λ i j a b at_i at_j same.
-      elim (got-append xs y i a at_i) [
-        | inl old_i ↦ elim (got-append xs y j b at_j) [
-          | inl old_j ↦ apart i j a b old_i old_j same
-          | inr is_j ↦ absurd (new i a old_i (same ∙ ap part (sym is_j.1)))
-        ]
-        | inr is_i ↦ elim (got-append xs y j b at_j) [
-          | inl old_j ↦ absurd (new j b old_j (sym same ∙ ap part (sym is_i.1)))
-          | inr is_j ↦ is_i.0 ∙ sym is_j.0
-        ]
-      ]
-
 module _ {A B : Type 0} (part : A → Option B) where
   pub are_apart_if_any-append : (xs : List A) (y : A) → AreApartIfAny part xs
       → ((n : ℕ) (x : A) (b : B) → slice_get xs n ≡ Some x → part x ≡ Some b → part y ≡ Some b → ⊥)
@@ -230,17 +221,10 @@ module _ {A B : Type 0} (part : A → Option B) where
         ]
       ]
 
-  pub are_apart_if_any-set : (xs : List A) (k : ℕ) (y old : A) → slice_get xs k ≡ Some old → part y ≡ part old
-      → AreApartIfAny part xs → AreApartIfAny part (slice_set xs k y)
-  are_apart_if_any-set xs k y old at_k same apart =
-      λ i j a b key at_i at_j key_i key_j.
-      elim (got-set xs k y i a at_i) [
-        | inl old_i ↦ elim (got-set xs k y j b at_j) [
-          | inl old_j ↦ apart i j a b key old_i old_j key_i key_j
-          | inr is_j ↦ apart i k a old key old_i at_k key_i (sym same ∙ (ap part is_j.1 ∙ key_j)) ∙ sym is_j.0
-        ]
-        | inr is_i ↦ elim (got-set xs k y j b at_j) [
-          | inl old_j ↦ is_i.0 ∙ apart k j old b key at_k old_j (sym same ∙ (ap part is_i.1 ∙ key_i)) key_j
-          | inr is_j ↦ is_i.0 ∙ sym is_j.0
-        ]
-      ]
+pub are_apart-append : {A B : Type 0} (part : A → B) (xs : List A) (y : A) → AreApart part xs
+    → ((n : ℕ) (x : A) → slice_get xs n ≡ Some x → part x ≡ part y → ⊥) → AreApart part (xs ++ y ∷ [])
+are_apart-append part xs y apart new =
+    λ i j a b at_i at_j same.
+    are_apart_if_any-append (λ x. Some (part x)) xs y
+    (λ i j a b c at_i at_j is_a is_b. apart i j a b at_i at_j (some-same _ _ (is_a ∙ sym is_b)))
+    (λ n x c at is_x is_y. new n x at (some-same _ _ (is_x ∙ sym is_y))) i j a b (part b) at_i at_j (ap Some same) refl

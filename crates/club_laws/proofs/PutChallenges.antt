@@ -1,10 +1,10 @@
 -- Challenges of a list into which one was put: in its place, or at the end.
-use Rattle.std.proofs.Common.{◌≡◌, ℕ, zero, suc, List, [], ◌∷◌, Option, Some, None, Bool, true, false, ◌&&◌, refl, ap}
+use Rattle.std.proofs.Common.{◌≡◌, ℕ, zero, suc, List, [], ◌∷◌, Option, Some, Bool, true, false, ◌&&◌, refl, ap}
 use Rattle.std.proofs.Common.{sym, ◌∙◌, ◌⊎◌, inl, inr}
 use Rattle.std.specs.Prelude.{slice_get, ◌==◌, if◌then◌else◌}
 use Rattle.std.proofs.lemmas.Bool.{eqb-true, eq-eqb}
 use Rattle.club_core.specs.declared.challenges.Challenge.{Challenge}
-use Rattle.club_core.specs.Challenges.{goes_by, is_under, challenge_under, challenge_by, put_challenge}
+use Rattle.club_core.specs.Challenges.{goes_by, is_under, challenge_under, put_challenge}
 use Rattle.club_core.specs.LegalState.{Each, AreApart}
 use Rattle.club_laws.proofs.Lists.{both-true}
 
@@ -42,6 +42,21 @@ under-found (x ∷ xs) member number c is = here (is_under member number x) refl
     here true passes rest is = let e : x ≡ c = cc in rw (← e) passes
     here false passes rest is = rest is
 
+-- in a list no two elements have the same there where its first differs from the others, and these from each other
+apart-cons : {A B : Type 0} (part : A → B) (x : A) (xs : List A) → AreApart part xs
+    → ((n : ℕ) (y : A) → slice_get xs n ≡ Some y → part x ≡ part y → ⊥) → AreApart part (x ∷ xs)
+apart-cons part x xs apart fresh zero zero a b at_i at_j same = refl
+apart-cons part x xs apart fresh zero (suc j) a b at_i at_j same =
+    let e : x ≡ a = cc in absurd (fresh j b at_j (ap part e ∙ same))
+apart-cons part x xs apart fresh (suc i) zero a b at_i at_j same =
+    let e : x ≡ b = cc in absurd (fresh i a at_i (ap part e ∙ sym same))
+apart-cons part x xs apart fresh (suc i) (suc j) a b at_i at_j same = ap suc (apart i j a b at_i at_j same)
+
+apart-rest : {A B : Type 0} (part : A → B) (x : A) (xs : List A) → AreApart part (x ∷ xs) → AreApart part xs
+apart-rest part x xs apart i j a b at_i at_j same =
+    let next : suc i ≡ suc j = apart (suc i) (suc j) a b at_i at_j same in
+    cc
+
 -- A challenge is found under its member and its number wherever it stands in a list where no two go by the same. So the
 -- order of the list tells nothing.
 pub under-at : (cs : List Challenge) (n : ℕ) (c : Challenge) → AreApart goes_by cs → slice_get cs n ≡ Some c
@@ -50,19 +65,12 @@ under-at [] n c apart at = cc
 under-at (x ∷ xs) zero c apart at = let e : x ≡ c = cc in rw (e, key-under c.member c.number c refl refl) refl
 under-at (x ∷ xs) (suc n) c apart at =
     here (is_under c.member c.number x) refl
-    (under-at xs n c (λ i j y z at_i at_j same. let next : suc i ≡ suc j = apart (suc i) (suc j) y z at_i at_j same in
-    cc) at)
+    (under-at xs n c (apart-rest goes_by x xs apart) at)
   where
     here : (b : Bool) → is_under c.member c.number x ≡ b → challenge_under xs c.member c.number ≡ Some c
         → (if b then Some x else challenge_under xs c.member c.number) ≡ Some c
     here true passes rest = let first : 0 ≡ suc n = apart 0 (suc n) x c refl at (goes_by-same x c passes) in cc
     here false fails rest = rest
-
--- a challenge that is found is one of a member who was
-pub found-by : (cs : List Challenge) (by : Option ℕ) (number : ℕ) (c : Challenge) → challenge_by cs by number ≡ Some c
-    → (member : ℕ) × (by ≡ Some member) × (challenge_under cs member number ≡ Some c)
-found-by cs None number c is = cc
-found-by cs (Some member) number c is = (member, refl, is)
 
 -- what holds of each challenge holds of the one that is found
 pub under-each : (P : Challenge → Type 0) (cs : List Challenge) (member number : ℕ) (c : Challenge) → Each P cs
@@ -138,39 +146,21 @@ each-put P cs new each is_so =
 
 -- no two challenges have one member and one number, also after one was put
 pub apart-put : (cs : List Challenge) (new : Challenge) → AreApart goes_by cs → AreApart goes_by (put_challenge cs new)
-apart-put [] new apart zero zero x y at_i at_j same = refl
-apart-put [] new apart zero (suc j) x y at_i at_j same = cc
-apart-put [] new apart (suc i) j x y at_i at_j same = cc
-apart-put (c ∷ cs) new apart i j x y at_i at_j same =
-    here (is_under new.member new.number c) refl
-    (apart-put cs new (λ i j x y at_i at_j same. let next : suc i ≡ suc j = apart (suc i) (suc j) x y at_i at_j same in
-    cc))
-    i j at_i at_j
+apart-put [] new apart = apart-cons goes_by new [] apart (λ n y at same. cc)
+apart-put (c ∷ cs) new apart =
+    here (is_under new.member new.number c) refl (apart-put cs new (apart-rest goes_by c cs apart))
   where
-    not-under : is_under new.member new.number c ≡ false → goes_by c ≡ goes_by new → ⊥
-    not-under fails same = let both : true ≡ false = sym (same-goes_by c new same) ∙ fails in absurd cc
-
-    here : (b : Bool) → is_under new.member new.number c ≡ b → AreApart goes_by (put_challenge cs new) → (i j : ℕ)
-        → slice_get (if b then new ∷ cs else c ∷ put_challenge cs new) i ≡ Some x
-        → slice_get (if b then new ∷ cs else c ∷ put_challenge cs new) j ≡ Some y → i ≡ j
-    here b is rest zero zero at_i at_j = refl
-    here true is rest zero (suc j) at_i at_j =
-        let e : new ≡ x = cc in
-        apart 0 (suc j) c y refl at_j (goes_by-same c new is ∙ (ap goes_by e ∙ same))
-    here true is rest (suc i) zero at_i at_j =
-        let e : new ≡ y = cc in
-        apart (suc i) 0 x c at_i refl (same ∙ sym (goes_by-same c new is ∙ ap goes_by e))
-    here true is rest (suc i) (suc j) at_i at_j = apart (suc i) (suc j) x y at_i at_j same
-    here false is rest zero (suc j) at_i at_j =
-        let e : c ≡ x = cc in
-        elim (got-put cs new j y at_j) [
-          | inl old ↦ apart 0 (suc j) c y refl old (ap goes_by e ∙ same)
-          | inr put ↦ absurd (not-under is (ap goes_by e ∙ (same ∙ ap goes_by (sym put))))
-        ]
-    here false is rest (suc i) zero at_i at_j =
-        let e : c ≡ y = cc in
-        elim (got-put cs new i x at_i) [
-          | inl old ↦ apart (suc i) 0 x c old refl (same ∙ ap goes_by (sym e))
-          | inr put ↦ absurd (not-under is (ap goes_by e ∙ (sym same ∙ ap goes_by (sym put))))
-        ]
-    here false is rest (suc i) (suc j) at_i at_j = ap suc (rest i j x y at_i at_j same)
+    here : (b : Bool) → is_under new.member new.number c ≡ b → AreApart goes_by (put_challenge cs new)
+        → AreApart goes_by (if b then new ∷ cs else c ∷ put_challenge cs new)
+    here true is rest =
+        apart-cons goes_by new cs (apart-rest goes_by c cs apart)
+        (λ n y at same. let no : 0 ≡ suc n = apart 0 (suc n) c y refl at (goes_by-same c new is ∙ same) in cc)
+    here false is rest =
+        apart-cons goes_by c (put_challenge cs new) rest
+        (λ n y at same.
+        elim (got-put cs new n y at) [
+          | inl old ↦ let no : 0 ≡ suc n = apart 0 (suc n) c y refl old same in cc
+          | inr put ↦
+              let both : true ≡ false = sym (same-goes_by c new (same ∙ ap goes_by (sym put))) ∙ is in
+              absurd cc
+        ])

@@ -24,7 +24,5 @@ returns c = λ s people.
     subst (λ n. NamesRule c.args.rows.now c.args.game.now n c.in-Some-declares_in.declares)
     (same-pos _ _ (sym told.event_is ∙ named.event_is)) told in
     placed-first s c.args.rows.now people c.args.place c.args.game.now c.args.moves.now c.args.seen.now c.args.last id
-    c.in-Some.event.now c.in-Some-declares_in.declares named ruled c.in_ok-wrong.wrong c.with_place.result
-    c.stands_at.result c.in_ok-wrong.ensures
-    c.stands_at.ensures.sound c.stands_at.ensures.complete c.with_place.ensures.stands c.with_place.ensures.moves
-    c.with_place.ensures.games
+    _ _ named ruled _ _ _ c.in_ok-wrong.ensures c.stands_at.ensures.sound c.stands_at.ensures.complete
+    c.with_place.ensures.stands c.with_place.ensures.moves c.with_place.ensures.games

@@ -1,7 +1,7 @@
 use Rattle.std.specs.HashSet.{contains}
-use Rattle.club_audit.specs.ChallengeKeys.{key_in, same_number}
-use Rattle.club_audit.proofs.NumberLemmas.{AreNumbered}
+use Rattle.club_audit.specs.ChallengeKeys.{same_number}
+use Rattle.club_audit.proofs.KeyLemmas.{AreKept, as_it_is, some_key}
 use Rattle.club_audit.proofs.challenges.share_number.Given as goal
 
 abbrev pub invariant-loop-row : goal.invariant-loop-row
-invariant-loop-row l = AreNumbered key_in l.challenges l.row-index (contains same_number l.keys)
+invariant-loop-row l = AreKept some_key as_it_is l.challenges l.row-index (contains same_number l.keys)

@@ -1,4 +1,4 @@
-use Rattle.std.proofs.Common.{◌≡◌, ◌+◌, pos, true, ap, sym, ◌∙◌, arith, rules}
+use Rattle.std.proofs.Common.{◌≡◌, ◌+◌, pos, true, arith, rules}
 use Rattle.std.specs.Prelude.{string_bytes}
 use Rattle.std.proofs.lemmas.Bool.{not-true}
 use Rattle.std.proofs.lemmas.Int.{ints}
@@ -13,8 +13,7 @@ returns-in-Some-terms_of-clause-sound c = λ free.
     let row = c.args.event.now in
     let at = c.is_place.ensures.sound c.if-not-is_place.false in
     let id : row.id ≡ pos (c.args.place + 1) = omega (arith, ints) in
-    let name : is_name (string_bytes row.name) ≡ true = sym (ap is_name c.as_str.ensures.value)
-    ∙ (sym c.is_name.ensures ∙ c.if-not-is_name.false) in
+    let name : is_name (string_bytes row.name) ≡ true = cc in
     let kind = c.in-Some.field-0 in
     let game : row.game ≡ pos (kind_number kind) = search rules in
     let given = c.in-Some-terms_of.field-0 in

@@ -1,4 +1,4 @@
-use Rattle.std.proofs.Common.{◌≡◌, ◌+◌, pos, true, ap, sym, ◌∙◌, arith}
+use Rattle.std.proofs.Common.{◌≡◌, ◌+◌, pos, true, arith}
 use Rattle.std.specs.Prelude.{string_bytes}
 use Rattle.std.proofs.lemmas.Bool.{not-true}
 use Rattle.std.proofs.lemmas.Int.{ints}
@@ -11,10 +11,8 @@ returns-clause-sound c = λ free.
     let row = c.args.member.now in
     let at = c.is_place.ensures.sound c.if-not-is_place.false in
     let id : row.id ≡ pos (c.args.place + 1) = omega (arith, ints) in
-    let name : is_name (string_bytes row.name) ≡ true = sym (ap is_name c.as_str.ensures.value)
-    ∙ (sym c.is_name.ensures ∙ c.if-not-is_name.false) in
-    let key : is_member_key (string_bytes row.key) ≡ true = sym (ap is_member_key c.as_str-2.ensures.value)
-    ∙ (sym c.is_member_key.ensures ∙ c.if-not-is_member_key.false) in
+    let name : is_name (string_bytes row.name) ≡ true = cc in
+    let key : is_member_key (string_bytes row.key) ≡ true = cc in
     record {
       member = record { name = string_bytes row.name; key = string_bytes row.key };
       cells = member-cells (c.args.place + 1) row id;

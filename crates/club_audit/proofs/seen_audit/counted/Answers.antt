@@ -1,12 +1,10 @@
-use Rattle.std.proofs.Common.{◌≡◌, ◌++◌, ◌∷◌, [], length, take, Some, refl, ap, sym, subst, ◌∙◌, arith}
-use Rattle.std.specs.Prelude.{slice_get}
+use Rattle.std.proofs.Common.{◌++◌, ◌∷◌, [], length, take, refl, ap, sym, subst, ◌∙◌, arith}
 use Rattle.std.specs.Str.{bytes_eq}
 use Rattle.std.specs.Map.{lookup}
 use Rattle.std.proofs.lemmas.List.{take_all}
 use Rattle.std.proofs.lemmas.Option.{slice_get_read}
 use Rattle.club_audit.specs.SeenAudit.{AreCounted, found_in, texts_in}
-use Rattle.club_audit.proofs.SeenCounts.{counted-start}
-use Rattle.club_audit.proofs.SeenMoves.{texts-step, texts-length}
+use Rattle.club_audit.proofs.SeenCounts.{counted-start, texts-step, texts-length}
 use Rattle.club_audit.proofs.seen_audit.counted.Goals as goal
 
 pub loop-index-init : goal.loop-index-init
@@ -21,8 +19,7 @@ loop-index-preserved c = λ few.
     let start = c.args.start.now in
     let k = c.loop-index.index in
     let row = c.index-moves-index.result in
-    let at : slice_get moves k ≡ Some row = slice_get_read moves (length moves) k row refl c.loop-index-test.true
-    c.index-moves-index.is in
+    let at = slice_get_read moves (length moves) k row refl c.loop-index-test.true c.index-moves-index.is in
     let text = c.as_str.ensures.value in
     let long = texts-length start moves k (omega (arith, c.loop-index-test.true)) in
     let more = c.in_ok-count-2.ensures (texts_in start (take k moves)) (c.loop-index.invariant few) long

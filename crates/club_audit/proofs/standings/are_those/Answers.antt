@@ -6,12 +6,12 @@ pub returns-in-None-clause-complete : goal.returns-in-None-clause-complete
 returns-in-None-clause-complete c = λ all.
     absurd
     (left_none _ _ c.args.rows.now c.loop-row.row-index c.loop-row.invariant c.loop-row-test.true c.pair_in.result
-    c.pair_in.ensures (sym c.remove.ensures.value ∙ c.in-None.is) all)
+    _ c.pair_in.ensures (sym c.remove.ensures.value ∙ c.in-None.is) all)
 
 pub loop-row-preserved : goal.loop-row-preserved
 loop-row-preserved c =
     left_next _ _ c.args.rows.now c.loop-row.row-index c.loop-row.invariant c.loop-row-test.true c.pair_in.result
-    c.pair_in.ensures _ c.in-Some.sums
+    _ c.pair_in.ensures _ c.in-Some.sums
     (sym c.remove.ensures.value ∙ c.in-Some.is) (c.are_sums_of.ensures.sound c.if-not-are_sums_of.false)
     c.remove.ensures.updates.0
 

@@ -3,7 +3,7 @@ use Rattle.std.specs.List.{flat_map}
 use Rattle.club_rows.specs.Club.{both_games}
 use Rattle.club_rows.specs.Scores.{meetings_in}
 use Rattle.club_audit.proofs.StandingLemmas.{cleared, clearing, clears_alike}
-use Rattle.club_audit.proofs.StandingsTold.{club-told, club-few}
+use Rattle.club_audit.proofs.AuditLemmas.{club-told, club-few}
 use Rattle.club_audit.proofs.standings.scores_are.Goals as goal
 
 pub returns-clause-sound : goal.returns-clause-sound

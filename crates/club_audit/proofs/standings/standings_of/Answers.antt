@@ -1,5 +1,4 @@
-use Rattle.std.proofs.Common.{◌≡◌, length, Some, refl, arith}
-use Rattle.std.specs.Prelude.{slice_get}
+use Rattle.std.proofs.Common.{length, refl, arith}
 use Rattle.std.proofs.lemmas.Option.{slice_get_read}
 use Rattle.club_audit.proofs.StandingLemmas.{counted_next, counted_start, counted_all}
 use Rattle.club_audit.proofs.standings.standings_of.Goals as goal
@@ -11,9 +10,8 @@ pub loop-game-preserved : goal.loop-game-preserved
 loop-game-preserved c =
     let games = c.args.games.now in
     let k = c.loop-game.game-index in
-    let at : slice_get games k ≡ Some c.game-item.result =
-    slice_get_read games (length games) k c.game-item.result refl c.loop-game-test.true c.game-item.is in
-    λ ms told low. counted_next _ _ games k c.game-item.result ms at low c.in_ok-add_game.ensures
+    λ ms told low. counted_next _ _ games k c.game-item.result ms
+    (slice_get_read games (length games) k _ refl c.loop-game-test.true c.game-item.is) low c.in_ok-add_game.ensures
     (c.loop-game.invariant ms told low)
 
 pub returns : goal.returns

@@ -6,16 +6,9 @@ use Rattle.club_games.specs.ShogiLaws.{legal-check}
 use Rattle.club_games.proofs.shogi.ShogiRules.check.Goals as goal
 
 pub returns-in-Ok : goal.returns-in-Ok
-returns-in-Ok c =
-    let p = c.args.position.now in
-    let m = c.args.made.now in
-    sym (legal-check p m (c.check.ensures.legal.0 (subst IsOk (sym c.in-Ok.is) refl)))
+returns-in-Ok c = sym (legal-check _ _ (c.check.ensures.legal.0 (subst IsOk (sym c.in-Ok.is) refl)))
 
 pub returns-in-Err : goal.returns-in-Err
 returns-in-Err c =
-    let p = c.args.position.now in
-    let m = c.args.made.now in
-    let rule = c.in-Err.illegal in
-    ap Err c.refusal_of.ensures
-    ∙ sym
-    (ap (refused_by refusal_of) ((check_of-refused p m rule).1 ((c.check.ensures.refused rule).0 c.in-Err.is)))
+    let refused = (c.check.ensures.refused c.in-Err.illegal).0 c.in-Err.is in
+    ap Err c.refusal_of.ensures ∙ sym (ap (refused_by refusal_of) ((check_of-refused _ _ _).1 refused))
