@@ -1,5 +1,5 @@
 -- The rows of challenges: their types, and the challenge that is found by a member and the member's number for it.
-use Rattle.std.proofs.Common.{◌≡◌, ◌≤◌, ℕ, ℤ, pos, List, [], ◌∷◌, map, Option, Some, None, refl, ap, sym, subst, ◌∙◌}
+use Rattle.std.proofs.Common.{◌≡◌, ◌≤◌, ℕ, ℤ, pos, List, [], ◌∷◌, map, Option, Some, None, refl, ap, sym, ◌∙◌}
 use Rattle.std.proofs.Common.{arith, inl, inr, ◌⊎◌}
 use Rattle.std.specs.List.{AllByRecursion}
 use Rattle.std.proofs.lemmas.Bool.{and_parts}
@@ -55,8 +55,7 @@ module _ (s : ClubState) (is_club : IsClub s) (m n : ℕ) where
       → AreThose (0 ∷ 1 ∷ []) wanted (tables s 6) rows → Has rows (challenge_cells row)
       → challenge_cells row ≡ challenge_row c → Some c ≡ challenge_under s.challenges m n
   found_some wanted rows row c key those has is =
-      let shown = challenge-shown (tables s 6) rows m n row
-      (subst (λ w. AreThose (0 ∷ 1 ∷ []) w (tables s 6) rows) key those) has in
+      let shown = challenge-shown (tables s 6) rows m n row (rw key at those) has in
       let (known, under, cells) = challenge-told s.challenges m n row is_club.challenge_numbers shown in
       ap Some (challenges-alike c known (sym is ∙ cells)) ∙ sym under
 
@@ -65,10 +64,7 @@ module _ (s : ClubState) (is_club : IsClub s) (m n : ℕ) where
       → AreThose (0 ∷ 1 ∷ []) wanted (tables s 6) rows → rows ≡ []
       → ◌≡◌ {A = Option Challenge} None (challenge_under s.challenges m n)
   found_none wanted rows key those none =
-      let shown = challenge-not-shown (tables s 6) m n
-      (subst (λ l. AreThose (0 ∷ 1 ∷ []) (challenge_key m n) (tables s 6) l) none
-      (subst (λ w. AreThose (0 ∷ 1 ∷ []) w (tables s 6) rows) key those)) in
-      sym (no-challenge-told s.challenges m n shown)
+      sym (no-challenge-told s.challenges m n (challenge-not-shown (tables s 6) m n (rw (none, key) at those)))
 
 -- no challenge of a legal club has a number above the greatest
 pub past_numbers : (s : ClubState) → IsClub s → (m n : ℕ) → (n ≤ 9999 → ⊥)

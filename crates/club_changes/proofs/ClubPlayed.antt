@@ -1,6 +1,6 @@
 -- What is decided of a command on a game of the club, and the rows of a game that starts.
 use Rattle.std.proofs.Common.{◌≡◌, Bool, inl, inr, ℕ, zero, suc, ◌+◌, ◌-◌, ◌<◌, ◌≤◌, ◌^◌, List, [], ◌∷◌, ◌++◌, length}
-use Rattle.std.proofs.Common.{Option, Some, None, refl, ap, sym, subst, subst₂, pos, ◌∙◌, arith}
+use Rattle.std.proofs.Common.{Option, Some, None, refl, ap, sym, subst, ◌∙◌, arith}
 use Rattle.std.specs.Prelude.{slice_get, slice_set, IsTrue}
 use Rattle.squares.specs.declared.sides.Score.{Score}
 use Rattle.squares.specs.declared.sides.Side.TheVariants.{First}
@@ -24,7 +24,7 @@ use Rattle.club_core.specs.State.{on_game}
 use Rattle.club_core.specs.View.{IsRowOf}
 use Rattle.club_laws.proofs.Proved.{in-place}
 use Rattle.club_rows.specs.Made.{made_row}
-use Rattle.club_rows.specs.Scores.{Meeting, meetings, meetings_in, scores_in}
+use Rattle.club_rows.specs.Scores.{Meeting, meetings_in, scores_in}
 use Rattle.club_rows.specs.Tables.{game_row, move_rows, number, row_of_game, rows_of_moves, rows_of_seen}
 use Rattle.club_rows.proofs.Proved.{Kind, met_running, met_ended, scores_next, scores_stay, entry-alters, seen-stay}
 use Rattle.club_rows.proofs.Proved.{seen-table-set}
@@ -38,12 +38,12 @@ use Rattle.store_tables.specs.Changed.{changed}
 use Rattle.club_changes.specs.Steps.{caller_step, AreSame, HaveSame, Puts, PutsScoresOf, PutsMove, PutsRow, PutsGame}
 use Rattle.club_changes.specs.Steps.{no_rows, IsDecided, IsDecidedIn, changed_if, first_row, first_seen_rows, started}
 use Rattle.club_changes.specs.Steps.{started_seen}
-use Rattle.store_tables.specs.Changes.{Alters, put_rows}
+use Rattle.store_tables.specs.Changes.{put_rows}
 use Rattle.store_tables.proofs.Proved.{altered}
-use Rattle.club_changes.proofs.PutSame.{same_by}
-use Rattle.club_changes.proofs.NextRows.{AreFew, play_next, change_next}
-use Rattle.club_changes.proofs.OutcomeLemmas.{none_decided, answered_mapped, same_content}
-use Rattle.club_changes.proofs.ChangedLemmas.{puts_changed}
+use Rattle.club_changes.proofs.PutSame.{◌&◌, same_by, same_itself, one_row_more, row_replaced, rows_kept}
+use Rattle.club_changes.proofs.NextRows.{fresh, first_of_game}
+use Rattle.club_changes.proofs.OutcomeLemmas.{none_decided, answered_mapped, same_content, moment_put}
+use Rattle.club_changes.proofs.ChangedLemmas.{all_changed}
 use Rattle.club_changes.proofs.PlayedLemmas.{budget_most, since_within}
 
 -- ---- in a game of the club
@@ -69,11 +69,10 @@ module _ {P M E T : Type 0} {laws : GameRules P M E T} {kind : GameKind} (k : Ki
       let of : IsGameOf laws kind s g = k.legal s g
       (in-place (IsLegalIn both_games s) s.games id (k.into g) is_club.games at) in
       let event : IsLegalEvent of.event = in-place IsLegalEvent s.events g.event of.event is_club.events of.in_event in
-      let same : of.event.terms ≡ terms_at (place s.events g.event) = ap terms_at (sym of.in_event) in
       record {
-        budget = subst (λ t. IsTrue (is_budget t.budget)) same event.budget;
-        increment = subst (λ t. IsTrue (is_increment t.increment)) same event.increment;
-        legal = subst (λ t. IsLegalGame laws t g) same of.legal;
+        budget = rw of.in_event event.budget;
+        increment = rw of.in_event event.increment;
+        legal = rw of.in_event of.legal;
         of = of;
       }
 
@@ -96,97 +95,79 @@ module _ {P M E T : Type 0} {laws : GameRules P M E T} {kind : GameKind} (k : Ki
 
     scores_by_result : (result : Option Score) (rows : List Row) → result_of laws new ≡ result
         → PutsScoresOf (tables s 14) new.event new.first new.second result rows
-        → AreFew both_games rows × HaveSame (put_rows (0 ∷ 1 ∷ 2 ∷ []) rows (scores_in both_games s.games))
+        → HaveSame (put_rows (0 ∷ 1 ∷ 2 ∷ []) rows (scores_in both_games s.games))
         (scores_in both_games (slice_set s.games n (k.into new)))
     scores_by_result None rows is none =
-        let after : meets new ≡ [] = k.scores new ∙ met_running laws new is in (
-          inl none,
-          subst
-              (λ l. HaveSame (put_rows (0 ∷ 1 ∷ 2 ∷ []) l (scores_in both_games s.games))
-              (scores_in both_games (slice_set s.games n (k.into new)))) (sym none)
-              (same_by _ _
-              (sym (scores_stay both_games s.games n (k.into g) (k.into new) at (after ∙ sym none_before)))),
-        )
+        rw none (same_by _ _ (sym (scores_stay both_games s.games n (k.into g) (k.into new) at
+        (k.scores new ∙ (met_running laws new is ∙ sym none_before)))))
     scores_by_result (Some score) rows is put =
-        let after : meets new ≡ meetings (pos new.event) (pos new.first) (pos new.second) score = k.scores new
-        ∙ met_ended laws new score is in (
-          inr (_, _, put.rows_are),
-          subst
-              (λ l. HaveSame (put_rows (0 ∷ 1 ∷ 2 ∷ []) l (scores_in both_games s.games))
-              (scores_in both_games (slice_set s.games n (k.into new)))) (sym put.rows_are)
-              (altered (0 ∷ 1 ∷ 2 ∷ []) (score_cells put.pair.first ∷ score_cells put.pair.second ∷ []) _ _
-              (scores_next both_games s.games new.event new.first new.second score put.firsts put.seconds put.pair
-              put.firsts_are put.seconds_are put.next n (k.into g) (k.into new) at none_before after)),
-        )
+        let after = k.scores new ∙ met_ended laws new score is in
+        rw put.rows_are
+        (altered (0 ∷ 1 ∷ 2 ∷ []) (score_cells put.pair.first ∷ score_cells put.pair.second ∷ []) _ _
+        (scores_next both_games s.games new.event new.first new.second score put.firsts put.seconds put.pair
+        put.firsts_are put.seconds_are put.next n (k.into g) (k.into new) at none_before after))
+
+  -- the club with the game after a change
+  abbrev set_to : ℕ → ℕ → Game M → ClubState
+  set_to n moment new = record s { last = moment; games = slice_set s.games n (k.into new) }
+
+  -- the row of a game is that of its event's terms
+  row_is : (n : ℕ) (g new : Game M) → new.event ≡ g.event
+      → game_row laws (terms_at (place s.events g.event)) (1 + n) new
+      ≡ row_of_game both_games s.events (1 + n) (k.into new)
+  row_is n g new event = ap (λ e. game_row laws (terms_at (place s.events e)) (1 + n) new) (sym event)
+      ∙ sym (k.row s.events (1 + n) new)
+
+  moves_of_it : (n : ℕ) (g new : Game M) → new.event ≡ g.event
+      → rows_of_moves both_games s.events (1 + n) (k.into new)
+      ≡ move_rows laws (terms_at (place s.events g.event)) (1 + n) new
+  moves_of_it n g new event =
+      k.moves s.events (1 + n) new ∙ ap (λ e. move_rows laws (terms_at (place s.events e)) (1 + n) new) event
 
   -- the rows that are put make the tables of the club with the game after the move
   put_at : (n moment : ℕ) (g new : Game M) (c : Changes) → slice_get s.games n ≡ Some (k.into g)
       → PutsMove laws (terms_at (place s.events g.event)) (1 + n) moment (tables s 14) g new c
-      → AreSame (changed c (tables s)) (tables (with_game s moment (1 + n) (k.into new)))
+      → AreSame (changed c (tables s)) (tables (set_to n moment new))
   put_at n moment g new c at p =
       let made : Row = made_row (1 + n) p.reply moment in
-      let row : game_row laws (terms_at (place s.events g.event)) (1 + n) new
-      ≡ row_of_game both_games s.events (1 + n) (k.into new) =
-      ap (λ e. game_row laws (terms_at (place s.events e)) (1 + n) new) (sym p.event)
-      ∙ sym (k.row s.events (1 + n) new) in
-      let grown : rows_of_moves both_games s.events (1 + n) (k.into new)
-      ≡ rows_of_moves both_games s.events (1 + n) (k.into g) ++ made ∷ [] =
-      k.moves s.events (1 + n) new
-      ∙ (ap (λ e. move_rows laws (terms_at (place s.events e)) (1 + n) new) p.event
-      ∙ (p.grown ∙ ap (λ rs. rs ++ made ∷ []) (sym (k.moves s.events (1 + n) g)))) in
-      let alters = subst₂ (λ was now. Alters (0 ∷ 1 ∷ []) (p.seen ∷ []) was now) (sym (k.seen (1 + n) g))
-      (sym (k.seen (1 + n) new)) (entry-alters laws (1 + n) g new p.entry p.seen p.entries p.seen_is) in
-      let seen = altered (0 ∷ 1 ∷ []) (p.seen ∷ []) _ _
-      (seen-table-set both_games s n (k.into g) (k.into new) moment (p.seen ∷ []) at alters) in
-      let (few, scores) = scores_by_result n g new at p.running (result_of laws new) p.scores refl p.scores_are in
-      let puts_are =
-      subst
-      (λ r.
-      Puts c moment (record no_rows { games = r ∷ []; moves = made ∷ []; seen = p.seen ∷ []; scores = p.scores }))
-      row p.puts in
+      let row = row_is n g new p.event in
+      let grown = moves_of_it n g new p.event
+      ∙ (p.grown ∙ ap (λ rs. rs ++ made ∷ []) (sym (k.moves s.events (1 + n) g))) in
       let count = k.plies g in
-      let next = play_next both_games s n (k.into g) (k.into new) made (length g.entries + 1) at grown refl
-      (ap number p.ply) (omega (arith, count)) moment p.seen seen p.scores few scores in
-      let back : (1 + n) - 1 ≡ n = omega arith in
-      subst
-      (λ m.
-      AreSame (changed c (tables s))
-      (tables (record s { last = moment; games = slice_set s.games m (k.into new) }))) (sym back)
-      (subst
-      (λ content. AreSame content (tables (record s { last = moment; games = slice_set s.games n (k.into new) })))
-      (sym
-      (puts_changed c moment [] [] (row_of_game both_games s.events (1 + n) (k.into new) ∷ []) (made ∷ [])
-      (p.seen ∷ []) p.scores puts_are (tables s))) next)
+      all_changed c moment _ (tables s) (tables (set_to n moment new))
+      (subst (Puts c moment)
+      (λ j. record no_rows { games = row j ∷ []; moves = made ∷ []; seen = p.seen ∷ []; scores = p.scores }) p.puts)
+      (moment_put s moment
+      & same_itself _ & same_itself _ & same_itself _
+      & one_row_more (rows_of_moves both_games s.events) s.games n (k.into g) (k.into new) at made grown
+      (fresh both_games s n (k.into g) made (length g.entries + 1) at refl (ap number p.ply) (omega (arith, count)))
+      & row_replaced (row_of_game both_games s.events) (first_of_game both_games s.events) s.games n (k.into g)
+      (k.into new) at
+      & altered (0 ∷ 1 ∷ []) (p.seen ∷ []) _ _
+      (seen-table-set both_games s n (k.into g) (k.into new) moment (p.seen ∷ []) at
+      (rw (k.seen (1 + n) g, k.seen (1 + n) new)
+      (entry-alters laws (1 + n) g new p.entry p.seen p.entries p.seen_is)))
+      & scores_by_result n g new at p.running (result_of laws new) p.scores refl p.scores_are
+      & same_itself _ & tt)
 
   -- and so do those of a game that changes without a move
   change_at : (n moment : ℕ) (g new : Game M) (c : Changes) → slice_get s.games n ≡ Some (k.into g)
       → PutsRow laws (terms_at (place s.events g.event)) (1 + n) moment (tables s 14) g new c
-      → AreSame (changed c (tables s)) (tables (with_game s moment (1 + n) (k.into new)))
+      → AreSame (changed c (tables s)) (tables (set_to n moment new))
   change_at n moment g new c at p =
-      let row : game_row laws (terms_at (place s.events g.event)) (1 + n) new
-      ≡ row_of_game both_games s.events (1 + n) (k.into new) =
-      ap (λ e. game_row laws (terms_at (place s.events e)) (1 + n) new) (sym p.event)
-      ∙ sym (k.row s.events (1 + n) new) in
-      let stays : rows_of_moves both_games s.events (1 + n) (k.into new)
-      ≡ rows_of_moves both_games s.events (1 + n) (k.into g) =
-      k.moves s.events (1 + n) new
-      ∙ (ap (λ e. move_rows laws (terms_at (place s.events e)) (1 + n) new) p.event
-      ∙ (p.stays ∙ sym (k.moves s.events (1 + n) g))) in
-      let seen : rows_of_seen both_games (1 + n) (k.into new) ≡ rows_of_seen both_games (1 + n) (k.into g) =
-      k.seen (1 + n) new ∙ (seen-stay laws (1 + n) new g p.entries ∙ sym (k.seen (1 + n) g)) in
-      let (few, scores) = scores_by_result n g new at p.running (result_of laws new) p.scores refl p.scores_are in
-      let puts_are = subst (λ r. Puts c moment (record no_rows { games = r ∷ []; scores = p.scores })) row p.puts in
-      let next = change_next both_games s n (k.into g) (k.into new) moment p.scores at stays seen few scores in
-      let back : (1 + n) - 1 ≡ n = omega arith in
-      subst
-      (λ m.
-      AreSame (changed c (tables s))
-      (tables (record s { last = moment; games = slice_set s.games m (k.into new) }))) (sym back)
-      (subst
-      (λ content. AreSame content (tables (record s { last = moment; games = slice_set s.games n (k.into new) })))
-      (sym
-      (puts_changed c moment [] [] (row_of_game both_games s.events (1 + n) (k.into new) ∷ []) [] [] p.scores
-      puts_are (tables s))) next)
+      let row = row_is n g new p.event in
+      let stays = moves_of_it n g new p.event ∙ (p.stays ∙ sym (k.moves s.events (1 + n) g)) in
+      let seen = k.seen (1 + n) new ∙ (seen-stay laws (1 + n) new g p.entries ∙ sym (k.seen (1 + n) g)) in
+      all_changed c moment _ (tables s) (tables (set_to n moment new))
+      (subst (Puts c moment) (λ j. record no_rows { games = row j ∷ []; scores = p.scores }) p.puts)
+      (moment_put s moment
+      & same_itself _ & same_itself _ & same_itself _
+      & rows_kept (rows_of_moves both_games s.events) s.games n (k.into g) (k.into new) at stays
+      & row_replaced (row_of_game both_games s.events) (first_of_game both_games s.events) s.games n (k.into g)
+      (k.into new) at
+      & rows_kept (rows_of_seen both_games) s.games n (k.into g) (k.into new) at seen
+      & scores_by_result n g new at p.running (result_of laws new) p.scores refl p.scores_are
+      & same_itself _ & tt)
 
   put_game : (id moment : ℕ) (g : Game M) → place s.games id ≡ Some (k.into g)
       → (o : Outcome (Game M)) (c : Option Changes)
@@ -195,18 +176,17 @@ module _ {P M E T : Type 0} {laws : GameRules P M E T} {kind : GameKind} (k : Ki
       (tables (state_after s (map_outcome (λ new. with_game s moment id (k.into new)) o)))
   put_game id moment g at (accepted new reply) (Some c) p =
       let (n, id_is, stands) = place_at s.games id (k.into g) at in
-      subst (λ i. AreSame (changed c (tables s)) (tables (with_game s moment i (k.into new)))) (sym id_is)
-      (elim p [
-        | inl made ↦ put_at n moment g new c stands
-            (subst (λ i. PutsMove laws (terms_at (place s.events g.event)) i moment (tables s 14) g new c) id_is made)
-        | inr row ↦ change_at n moment g new c stands
-            (subst (λ i. PutsRow laws (terms_at (place s.events g.event)) i moment (tables s 14) g new c) id_is row)
+      let back : (1 + n) - 1 ≡ n = omega arith in
+      let there : n ≡ id - 1 = sym (ap (λ i. i - 1) id_is ∙ back) in
+      subst (λ m. AreSame (changed c (tables s)) (tables (set_to m moment new))) there
+      (elim (rw id_is at p) [
+        | inl made ↦ put_at n moment g new c stands made
+        | inr row ↦ change_at n moment g new c stands row
       ])
   put_game id moment g at (repeated reply) None p = same_content s
   put_game id moment g at (refused refusal) None p = same_content s
   put_game id moment g at (accepted new reply) None p = absurd p
-  put_game id moment g at (repeated reply) (Some c) p = absurd p
-  put_game id moment g at (refused refusal) (Some c) p = absurd p
+  put_game id moment g at _ (Some c) p = absurd p
 
   -- what was decided in the game was decided in the club
   pub decided_club : (id moment : ℕ) (who : Caller) (command : GameCommand) (g : Game M) (d : Decided)
@@ -217,8 +197,7 @@ module _ {P M E T : Type 0} {laws : GameRules P M E T} {kind : GameKind} (k : Ki
   decided_club id moment who command g d at decided =
       let f = λ (new : Game M). with_game s moment id (k.into new) in
       let o = game_step laws (terms_at (place s.events g.event)) g moment who command in
-      let step : caller_step s moment who (on_game id command) ≡ map_outcome f o =
-      ap (step_game both_games s moment id who command) at ∙ k.step s moment id who command g in
+      let step = ap (step_game both_games s moment id who command) at ∙ k.step s moment id who command g in
       record {
         answer = decided.answer ∙ (sym (answered_mapped s f o) ∙ ap answered (sym step));
         rows = subst (λ x. AreSame (changed_if d.changes (tables s)) (tables (state_after s x))) (sym step)
@@ -246,23 +225,17 @@ seated_cells {P} {M} laws r row terms p id key moment legal shows cells =
 pub started_first : (events : List Event) (p : Pairing) (id : ℕ) (key : Option (List ℕ)) (moment : ℕ) (kind : GameKind)
     → kind_at (place events p.event) ≡ kind → started events id key p moment
     ≡ first_row kind (terms_at (place events p.event)) id key p moment
-started_first events p id key moment kind is =
-    ap (λ k. row_of_game both_games events id (seated_as k key p moment)) is ∙ first kind
-  where
-    first : (k : GameKind) → row_of_game both_games events id (seated_as k key p moment)
-        ≡ first_row k (terms_at (place events p.event)) id key p moment
-    first Draughts = refl
-    first Shogi = refl
+started_first events p id key moment Draughts is =
+    ap (λ k. row_of_game both_games events id (seated_as k key p moment)) is
+started_first events p id key moment Shogi is = ap (λ k. row_of_game both_games events id (seated_as k key p moment)) is
 
 pub started_seen_first : (events : List Event) (p : Pairing) (id : ℕ) (key : Option (List ℕ)) (moment : ℕ)
     (kind : GameKind) → kind_at (place events p.event) ≡ kind
     → first_seen_rows kind id key p moment ≡ started_seen events id key p moment
-started_seen_first events p id key moment kind is = first kind
-    ∙ ap (λ k. rows_of_seen both_games id (seated_as k key p moment)) (sym is)
-  where
-    first : (k : GameKind) → first_seen_rows k id key p moment ≡ rows_of_seen both_games id (seated_as k key p moment)
-    first Draughts = refl
-    first Shogi = refl
+started_seen_first events p id key moment Draughts is =
+    ap (λ k. rows_of_seen both_games id (seated_as k key p moment)) (sym is)
+started_seen_first events p id key moment Shogi is =
+    ap (λ k. rows_of_seen both_games id (seated_as k key p moment)) (sym is)
 
 -- ---- a game that there is not
 

@@ -1,6 +1,7 @@
 -- How few the ended games of a legal club are.
-use Rattle.std.proofs.Common.{◌≡◌, ℕ, zero, suc, ◌+◌, ◌*◌, ◌≤◌, List, [], ◌∷◌, length, take, drop, pos, Option, Some}
-use Rattle.std.proofs.Common.{None, refl, arith, length-append}
+use Rattle.std.proofs.Common.{◌≡◌, ℕ, ◌+◌, ◌*◌, ◌≤◌, List, [], ◌∷◌, length, take, drop, pos, Option, Some, None}
+use Rattle.std.proofs.Common.{ap, sym, ◌∙◌, arith, length-append}
+use Rattle.std.proofs.lemmas.List.{take-append-drop}
 use Rattle.std.specs.Prelude.{ℤ}
 use Rattle.std.specs.List.{flat_map}
 use Rattle.squares.specs.declared.sides.Score.{Score}
@@ -27,6 +28,4 @@ meets_few (g ∷ games) =
 
 -- the first elements of a list, and those after them
 pub parts_length : {A : Type 0} (n : ℕ) (xs : List A) → length (take n xs) + length (drop n xs) ≡ length xs
-parts_length zero xs = omega arith
-parts_length (suc n) [] = refl
-parts_length (suc n) (x ∷ xs) = let rest = parts_length n xs in omega (arith, rest)
+parts_length n xs = sym (length-append (take n xs) (drop n xs)) ∙ ap length (take-append-drop n xs)

@@ -1,14 +1,16 @@
 -- The row of a ply, by the rows that are found for it.
-use Rattle.std.proofs.Common.{◌≡◌, ℕ, zero, suc, ◌+◌, ◌-◌, ◌<◌, ◌≤◌, List, [], ◌∷◌, length, pos, Option, Some, None}
-use Rattle.std.proofs.Common.{true, refl, ap, sym, subst, subst₂, ◌∙◌, arith, inl, inr}
+use Rattle.std.proofs.Common.{◌≡◌, ℕ, zero, suc, ◌+◌, ◌-◌, ◌<◌, List, [], ◌∷◌, length, Option, Some, None}
+use Rattle.std.proofs.Common.{true, refl, ap, sym, subst, subst₂, ◌∙◌, arith, inl}
 use Rattle.std.specs.Prelude.{slice_get}
 use Rattle.std.specs.Option.{option_map}
-use Rattle.std.proofs.lemmas.Bool.{and_parts, and_from}
+use Rattle.std.proofs.lemmas.Bool.{and_from}
 use Rattle.std.specs.Cmp.{tied_itself}
 use Rattle.sqlite_value.specs.Keys.{first_key}
 use Rattle.sqlite_value.proofs.OrderLemmas.{value_cmp_total}
 use Rattle.sqlite.specs.Order.{Row, column}
 use Rattle.sqlite_rules.specs.Lists.{Has}
+use Rattle.sqlite_rules.proofs.ListLemmas.{has_got}
+use Rattle.std.proofs.lemmas.Option.{same_Some, slice_get_past}
 use Rattle.club_rules.specs.declared.names.GameKind.{GameKind}
 use Rattle.club_rules.specs.GameRules.{GameRules}
 use Rattle.club_core.specs.Events.{Terms}
@@ -21,26 +23,14 @@ use Rattle.club_rows.specs.Tables.{number, move_rows, rows_of_moves, at_start}
 use Rattle.club_rows.proofs.Proved.{Kind, same-numbers, rows-count}
 use Rattle.store_tables.specs.Cells.{move_cells}
 use Rattle.store_tables.specs.Content.{same_key}
-use Rattle.store_tables.proofs.Proved.{equal_ints, equal_from}
+use Rattle.store_tables.proofs.Proved.{equal_from}
 use Rattle.club_changes.specs.Steps.{TellsMoves}
-use Rattle.club_changes.proofs.PutSame.{gathered_had, gathered_has, had_at}
+use Rattle.club_changes.proofs.PutSame.{gathered_had, gathered_has, had_at, number_same, numbers_same}
 use Rattle.club_changes.proofs.NextRows.{entry_rows_at, moves_had}
 use Rattle.club_changes.proofs.ClubPlayed.{place_at}
+use Rattle.club_changes.proofs.FoundPeople.{place_next}
 
 -- ---- keys of two numbers
-
-pos_same : (m n : ℕ) → pos m ≡ pos n → m ≡ n
-pos_same m n is = cc
-
-pub numbers_same : (a b : Row) (m n k j : ℕ) → column a 0 ≡ number m → column b 0 ≡ number n → column a 1 ≡ number k
-    → column b 1 ≡ number j → same_key (0 ∷ 1 ∷ []) a b ≡ true → (m ≡ n) × (k ≡ j)
-unfolding first_key
-numbers_same a b m n k j p q r t same =
-    let h = rw (p, q, r, t) at same in
-    let rest = (and_parts _ _ h).1 in (
-      pos_same m n (equal_ints (pos m) (pos n) (and_parts _ _ h).0),
-      pos_same k j (equal_ints (pos k) (pos j) (and_parts _ _ rest).0),
-    )
 
 numbers_alike : (a b : Row) (m k : ℕ) → column a 0 ≡ number m → column b 0 ≡ number m → column a 1 ≡ number k
     → column b 1 ≡ number k → same_key (0 ∷ 1 ∷ []) a b ≡ true
@@ -66,35 +56,21 @@ module _ {P M E T : Type 0} (laws : GameRules P M E T) (terms : Terms) (id : ℕ
   no_row zero none = refl
   no_row (suc n) none = nothing (slice_get rows n) refl
     where
-      has_at : (xs : List Row) (n : ℕ) (z : Row) → slice_get xs n ≡ Some z → Has xs z
-      has_at [] n z at = cc
-      has_at (x ∷ xs) zero z at = let e : z ≡ x = cc in inl e
-      has_at (x ∷ xs) (suc n) z at = inr (has_at xs n z at)
-
       nothing : (o : Option Row) → slice_get rows n ≡ o → o ≡ None
       nothing None at = refl
-      nothing (Some z) at = absurd (none z (has_at rows n z at) (ply_is n z at))
+      nothing (Some z) at = absurd (none z (has_got rows n z at) (ply_is n z at))
 
   -- no ply past the last one has a row
   pub past_row : (ply : ℕ) → length game.entries < ply → row_at laws terms id game ply ≡ None
   past_row zero past = refl
-  past_row (suc n) past = past_get rows n (omega (arith, past, rows-count laws terms id (at_start game) game.entries))
-    where
-      past_get : (xs : List Row) (n : ℕ) → length xs ≤ n → slice_get xs n ≡ None
-      past_get [] n past = refl
-      past_get (x ∷ xs) zero past = absurd (omega (arith, past))
-      past_get (x ∷ xs) (suc n) past = past_get xs n (omega (arith, past))
+  past_row (suc n) past =
+      slice_get_past rows n (omega (arith, past, rows-count laws terms id (at_start game) game.entries))
 
 -- ---- no rows
 
 module _ {P M E T : Type 0} (laws : GameRules P M E T) (terms : Terms) (id : ℕ) (game : Game M) (rows : PlyRows)
     (no_at : rows.at ≡ None) (no_before : rows.before ≡ None) where
-  -- there is no ply 0
-  pub first_none : (ply : ℕ) → ply ≡ 0 → AreRowsAt laws terms id game ply rows
-  first_none zero is = record { at = ap (option_map move_cells) no_at; before = ap (option_map move_cells) no_before }
-  first_none (suc n) is = absurd (omega (arith, is))
-
-  -- nor one past the last one
+  -- past the last ply there is none
   pub past_none : (ply : ℕ) → length game.entries + 1 < ply → AreRowsAt laws terms id game ply rows
   past_none ply past = record {
     at = ap (option_map move_cells) no_at ∙ sym (past_row laws terms id game ply (omega (arith, past)));
@@ -102,12 +78,6 @@ module _ {P M E T : Type 0} (laws : GameRules P M E T) (terms : Terms) (id : ℕ
   }
 
 -- ---- the rows that are found
-
-one_at : {A : Type 0} (o : Option A) (x y : A) → o ≡ Some x → o ≡ Some y → x ≡ y
-one_at o x y one two = let e = sym one ∙ two in cc
-
-number_same : (m n : ℕ) → number m ≡ number n → m ≡ n
-number_same m n is = cc
 
 module _ {P M E T : Type 0} {laws : GameRules P M E T} {kind : GameKind} (k : Kind laws kind) (s : ClubState) (id : ℕ)
     (g : Game M) (here : place s.games id ≡ Some (k.into g)) where
@@ -120,13 +90,11 @@ module _ {P M E T : Type 0} {laws : GameRules P M E T} {kind : GameKind} (k : Ki
   -- a row of the table that has the id is one of the game's
   pub of_game : (z : Row) → Has (tables s 8) z → column z 0 ≡ number id → Has (move_rows laws terms id g) z
   of_game z has is =
-      let (m, id_is, there) = place_at s.games id (k.into g) here in
       let (n, x, stands, in_rows) = gathered_had all 1 s.games z has in
       let same : 1 + n ≡ id = number_same (1 + n) id (sym (moves_had both_games s.events (1 + n) x z in_rows) ∙ is) in
-      let n_is : n ≡ m = omega (arith, same, id_is) in
-      let x_is : x ≡ k.into g = one_at (slice_get s.games m) x (k.into g)
-      (subst (λ i. slice_get s.games i ≡ Some x) n_is stands) there in
-      subst (λ l. Has l z) (k.moves s.events id g) (subst₂ (λ i y. Has (all i y) z) same x_is in_rows)
+      let one = sym stands ∙ (sym (place_next s.games n) ∙ (ap (place s.games) same ∙ here)) in
+      subst (λ l. Has l z) (k.moves s.events id g)
+      (subst₂ (λ i y. Has (all i y) z) same (same_Some x (k.into g) one) in_rows)
 
   -- and the game's are rows of the table
   pub in_table : (z : Row) → Has (move_rows laws terms id g) z → Has (tables s 8) z

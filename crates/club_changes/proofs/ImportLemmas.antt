@@ -1,6 +1,6 @@
 -- What is decided of an import, by the game under its key and the rows that are put.
-use Rattle.std.proofs.Common.{◌≡◌, ◌≢◌, ◌⊎◌, inl, inr, ℕ, ◌+◌, ◌<◌, List, [], ◌∷◌, length, map, drop, get_or, pos}
-use Rattle.std.proofs.Common.{Option, Some, None, Bool, true, false, refl, ap, sym, subst, subst₂, ◌∙◌, arith, add-one}
+use Rattle.std.proofs.Common.{◌≡◌, ◌≢◌, ◌⊎◌, inl, inr, ℕ, ◌+◌, ◌<◌, List, [], ◌∷◌, length, map, drop, get_or}
+use Rattle.std.proofs.Common.{Option, Some, None, Bool, true, refl, ap, sym, subst, subst₂, ◌∙◌, arith, add-one}
 use Rattle.std.specs.Prelude.{if◌then◌else◌}
 use Rattle.std.proofs.lemmas.Bool.{eq-eqb}
 use Rattle.sqlite.specs.Order.{Row}
@@ -28,8 +28,8 @@ use Rattle.club_core.specs.Imports.{import_tests, import_refusal, import_between
 use Rattle.club_core.specs.LegalState.{IsLegalIn}
 use Rattle.club_requests.specs.Limits.{is_name}
 use Rattle.club_core.specs.Members.{find_id}
-use Rattle.club_requests.specs.Outcome.{Reply, Outcome, accepted, repeated, refused, map_outcome, by_officer, unless}
-use Rattle.club_requests.specs.Outcome.{unless_repeat, game_seated}
+use Rattle.club_requests.specs.Outcome.{Outcome, accepted, repeated, refused, map_outcome, by_officer}
+use Rattle.club_requests.specs.Outcome.{game_seated}
 use Rattle.club_core.specs.declared.seats.KeyedGame.{KeyedGame}
 use Rattle.club_core.specs.Seats.{has_member_name, are_two}
 use Rattle.club_core.specs.State.{draughts, shogi, place, kind_at, terms_at, any_under, draughts_in, shogi_in}
@@ -37,10 +37,9 @@ use Rattle.club_core.specs.State.{state_after, with_imported, import_looked_up, 
 use Rattle.club_core.proofs.Proved.{none-holds}
 use Rattle.club_laws.proofs.Proved.{three-true, not-false, not-true, false-true, in-place}
 use Rattle.club_rows.specs.Club.{ClubGame, both_games, ClubState, IsClub, tables}
-use Rattle.club_rows.specs.Scores.{meetings, meetings_in}
 use Rattle.club_rows.specs.Seen.{seen_rows}
-use Rattle.club_rows.specs.Tables.{number, game_row, move_rows, rows_of_moves, rows_of_seen}
-use Rattle.club_rows.proofs.Proved.{Kind, event_in, in_draughts, in_shogi, met_ended}
+use Rattle.club_rows.specs.Tables.{number, game_row, move_rows, rows_of_moves}
+use Rattle.club_rows.proofs.Proved.{Kind, event_in, in_draughts, in_shogi, met_ended, scores_added}
 use Rattle.club_changes.proofs.SeenTexts.{drop-mapped}
 use Rattle.club_changes.specs.NewGames.{AreNewRows}
 use Rattle.club_changes.specs.declared.imported.added.NewRows.{NewRows}
@@ -57,7 +56,7 @@ use Rattle.club_changes.proofs.FoundMoves.{of_game, in_table, id_of}
 use Rattle.club_changes.proofs.GameRows.{stored_as}
 use Rattle.club_changes.proofs.ImportedTables.{game_more}
 use Rattle.club_changes.proofs.NextRows.{moves_had}
-use Rattle.club_changes.proofs.OutcomeLemmas.{same_content, answered_officer}
+use Rattle.club_changes.proofs.OutcomeLemmas.{same_content, answered_officer, unrefused}
 use Rattle.club_changes.proofs.PutSame.{ids_agree, ids_same, gathered_had}
 
 -- ---- the rows of one game's moves
@@ -101,22 +100,12 @@ other_shogi s (shogi g) legal apart = absurd (apart (ap kind_at legal.in_event �
 other_shogi s (draughts g) legal apart = refl
 
 abbrev pub imports_draughts : ImportsOf in_draughts draughts_records
-imports_draughts = record {
-  of_kind = λ any. draughts_in any;
-  none = refl;
-  same = λ g. refl;
-  other = other_draughts;
-  step = λ s moment given. refl;
-}
+imports_draughts =
+    record { of_kind = λ a. draughts_in a; none = refl; same = λ g. refl; other = other_draughts; step = λ s m i. refl }
 
 abbrev pub imports_shogi : ImportsOf in_shogi shogi_records
-imports_shogi = record {
-  of_kind = λ any. shogi_in any;
-  none = refl;
-  same = λ g. refl;
-  other = other_shogi;
-  step = λ s moment given. refl;
-}
+imports_shogi =
+    record { of_kind = λ a. shogi_in a; none = refl; same = λ g. refl; other = other_shogi; step = λ s m i. refl }
 
 kinds_decide : (a b : GameKind) → (a ≡ b) ⊎ (a ≢ b)
 kinds_decide Draughts Draughts = inl refl
@@ -125,12 +114,6 @@ kinds_decide Draughts Shogi = inr (λ is. cc)
 kinds_decide Shogi Draughts = inr (λ is. cc)
 
 -- ---- what an accepted import adds
-
-adds_unless : {S : Type 0} (again : Option Reply) (refusal : Option Refusal) (o : Outcome S) (x : S) (reply : Reply)
-    → accepted x reply ≡ unless_repeat again (unless refusal o) → (refusal ≡ None) × (accepted x reply ≡ o)
-adds_unless (Some r) refusal o x reply is = cc
-adds_unless None (Some why) o x reply is = cc
-adds_unless None None o x reply is = (refl, is)
 
 -- the game's number is the next one, and its players differ
 pub record AddsNext {M : Type 0} (games : ℕ) (i : Imported M) (id : ℕ) : Type 0 where
@@ -157,24 +140,20 @@ between_adds event first second games (record_is.refused refusal) i id two is = 
 module _ {P M E T : Type 0} (laws : GameRules P M E T) (records : GameRecords M) (given : Import)
     (first second : Option ℕ) (under : Option KeyedGame) (old : Option (Game M)) (games : ℕ) (i : Imported M) (id : ℕ)
   where
-    found_adds : (declares : Bool) (event : Option ℕ) → accepted i (game_seated id)
-        ≡ import_found laws records given declares event first second under old games → AddsNext games i id
-    found_adds declares None is = cc
-    found_adds declares (Some event) is =
+    pub officer_adds : (who : Caller) (declares : Bool) (event : Option ℕ)
+        → accepted i (game_seated id) ≡ by_officer who
+        (import_found laws records given declares event first second under old games) → AddsNext games i id
+    officer_adds (Member m) declares event is = cc
+    officer_adds Officer declares None is = cc
+    officer_adds Officer declares (Some event) is =
         let read = reading_of_import laws records given in
         let admitted = read_in records.format declares read in
-        let (allowed, added) = adds_unless (repeat_of_import laws records given event first second under old games)
+        let (allowed, added) = unrefused (repeat_of_import laws records given event first second under old games)
         (import_refusal laws records given event first second under old games)
         (import_between event first second games admitted) i (game_seated id) is in
         let tests = none-holds (import_tests laws records given event first second under old games) allowed in
         let good = three-true (is_name given.key) (are_two first second) (has_part read) (not-false _ tests.1.0) in
         between_adds event first second games admitted i id good.1 added
-
-    pub officer_adds : (who : Caller) (declares : Bool) (event : Option ℕ)
-        → accepted i (game_seated id) ≡ by_officer who
-        (import_found laws records given declares event first second under old games) → AddsNext games i id
-    officer_adds Officer declares event is = found_adds declares event is
-    officer_adds (Member m) declares event is = cc
 
 -- ---- in the club
 
@@ -183,21 +162,16 @@ module _ {P M E T : Type 0} {laws : GameRules P M E T} {kind : GameKind} (k : Ki
   -- the stored game under a key, where it is of this kind
   pub under_of_kind : (key : List ℕ) (under : Option StoredGame) → IsUnder s key under
       → IsOfKind laws kind (tables s) (of.of_kind (any_under s.games key)) under
-  under_of_kind key None is =
-      subst (λ o. IsOfKind laws kind (tables s) o None) (sym (ap of.of_kind is.0 ∙ of.none)) tt
+  under_of_kind key None is = rw (is.0, of.none) tt
   under_of_kind key (Some stored) is = elim (kinds_decide stored.kind kind) [
     | inl same ↦
         let (g, stands) = stored_as k s is_club is.id is.game stored is.here is.stored_is same in
-        let found : of.of_kind (any_under s.games key) ≡ Some g = ap of.of_kind (is.under ∙ ap Some stands.same)
-        ∙ of.same g in
         let line = subst₂ (λ t n. TellsLine laws t n g (tables s)) (sym stands.terms) (sym is.stored_is.id_is)
         (tells_line k s is.id g stands.here) in
-        subst (λ o. IsOfKind laws kind (tables s) o (Some stored)) (sym found) (same, line, stands.is_row)
+        rw (is.under, stands.same, of.same g) (same, line, stands.is_row)
     | inr apart ↦
         let legal = in-place (IsLegalIn both_games s) s.games is.id is.game is_club.games is.here in
-        let none : of.of_kind (any_under s.games key) ≡ None = ap of.of_kind is.under
-        ∙ of.other s is.game legal (λ alike. apart (is.stored_is.kind ∙ alike)) in
-        subst (λ o. IsOfKind laws kind (tables s) o (Some stored)) (sym none) apart
+        rw (is.under, of.other s is.game legal (λ alike. apart (is.stored_is.kind ∙ alike))) apart
   ]
 
   module _ (moment : ℕ) (given : Import) where
@@ -213,39 +187,13 @@ module _ {P M E T : Type 0} {laws : GameRules P M E T} {kind : GameKind} (k : Ki
     put_new i c p =
         let new = new_game i in
         let n = 1 + length s.games in
-        let terms = terms_at (place s.events i.pairing.event) in
         let next : length s.games + 1 ≡ n = omega arith in
-        let numbered =
-        subst
-        (λ m.
-        Puts c moment
-        (record no_rows {
-          games = game_row laws terms m new ∷ [];
-          moves = move_rows laws terms m new;
-          seen = seen_rows laws m new;
-          scores = p.scores;
-        })) next p.puts in
-        let row = sym (k.row s.events n new) in
-        let moves = sym (k.moves s.events n new) in
-        let seen = sym (k.seen n new) in
-        let met : meetings_in both_games (k.into new) ≡ meetings (pos new.event) (pos new.first) (pos new.second)
-        p.score = k.scores new ∙ met_ended laws new p.score p.ended in
-        game_more both_games s (k.into new) moment c new.event new.first new.second p.score p.scores
-        is_club.challenge_numbers met p.scores_are
-        (subst
-        (λ r.
-        Puts c moment
-        (record no_rows {
-          games = r ∷ [];
-          moves = rows_of_moves both_games s.events n (k.into new);
-          seen = rows_of_seen both_games n (k.into new);
-          scores = p.scores;
-        })) row
-        (subst₂
-        (λ ms ps.
-        Puts c moment
-        (record no_rows { games = game_row laws terms n new ∷ []; moves = ms; seen = ps; scores = p.scores })) moves
-        seen numbered))
+        let put = p.scores_are in
+        game_more s (k.into new) moment c p.scores
+        (rw put.rows_are
+        (scores_added both_games s.games new.event new.first new.second p.score put.firsts put.seconds put.pair
+        put.firsts_are put.seconds_are put.next (k.into new) (k.scores new ∙ met_ended laws new p.score p.ended)))
+        (rw (k.row s.events n new, k.moves s.events n new, k.seen n new) (rw next at p.puts))
 
     put_import : (who : Caller) (look : Outcome (Imported M)) (c : Option Changes)
         → PutsImport laws s.events given.key (length s.games) moment (tables s 14) (by_officer who look) c
@@ -254,8 +202,7 @@ module _ {P M E T : Type 0} {laws : GameRules P M E T} {kind : GameKind} (k : Ki
     put_import Officer (repeated reply) None p = same_content s
     put_import Officer (refused refusal) None p = same_content s
     put_import Officer (accepted i reply) None p = absurd p
-    put_import Officer (repeated reply) (Some c) p = absurd p
-    put_import Officer (refused refusal) (Some c) p = absurd p
+    put_import Officer _ (Some c) p = absurd p
     put_import (Member m) look None p = same_content s
     put_import (Member m) look (Some c) p = absurd p
 
@@ -266,28 +213,14 @@ module _ {P M E T : Type 0} {laws : GameRules P M E T} {kind : GameKind} (k : Ki
         (imported_by laws records known who given (of.of_kind (any_under s.games given.key))) d
         → IsDecided s (caller_step s moment who (import_record given)) d
     import_decided who known d is kind_is decided =
-        let old = of.of_kind (any_under s.games given.key) in
-        let look = import_looked_up laws records s given old in
-        let looked : imported_by laws records known who given old ≡ by_officer who look =
-        λ j. by_officer who (import_found laws records given
-        (event_declares (is.events_are j) given.event)
-        (find_id (has_event_name given.event) (is.events_are j))
-        (find_id (has_member_name given.first) (is.members_are j))
-        (find_id (has_member_name given.second) (is.members_are j))
-        (is.keyed_is j) old (is.games_are j)) in
-        let step : caller_step s moment who (import_record given) ≡ by_officer who (map_outcome added look) =
-        ap (λ x. by_officer who (import_as both_games s moment given x)) kind_is
+        let look = import_looked_up laws records s given (of.of_kind (any_under s.games given.key)) in
+        let step = ap (λ x. by_officer who (import_as both_games s moment given x)) kind_is
         ∙ ap (by_officer who) (of.step s moment given) in
-        let puts = subst (λ o. PutsImport laws s.events given.key (length s.games) moment (tables s 14) o d.changes)
-        looked
-        (subst₂
-        (λ es n. PutsImport laws es given.key n moment (tables s 14) (imported_by laws records known who given old)
-        d.changes) is.events_are is.games_are decided.puts) in
+        let found = rw (is.members_are, is.events_are, is.keyed_is, is.games_are) at decided in
         record {
-          answer = decided.answer
-              ∙ (ap answered looked ∙ (sym (answered_officer s added who look) ∙ ap answered (sym step)));
+          answer = found.answer ∙ (sym (answered_officer s added who look) ∙ ap answered (sym step));
           rows = subst (λ x. AreSame (changed_if d.changes (tables s)) (tables (state_after s x))) (sym step)
-              (put_import who look d.changes puts);
+              (put_import who look d.changes found.puts);
         }
 
 -- ---- by what the program answers
@@ -297,19 +230,13 @@ module _ {P M E T : Type 0} (laws : GameRules P M E T) (events : List Event) (ke
   pub repeated_in : (id : ℕ) → d.outcome ≡ given_is.Repeated (answer_is.Game id) → d.changes ≡ None
       → ◌≡◌ {A = Outcome (Imported M)} (repeated (game_seated id)) after
       → IsImportedIn laws events key games moment table after d
-  repeated_in id is none same = record {
-    answer = ap outcome_of is ∙ ap answered same;
-    puts = subst (λ o. PutsImport laws events key games moment table o d.changes) same
-        (subst (λ c. PutsImport laws events key games moment table (repeated (game_seated id)) c) (sym none) tt);
-  }
+  repeated_in id is none same =
+      record { answer = ap outcome_of is ∙ ap answered same; puts = rw (← same, none) tt }
 
   pub refused_in : (why : Refusal) → d.outcome ≡ given_is.Refused why → d.changes ≡ None
       → ◌≡◌ {A = Outcome (Imported M)} (refused why) after → IsImportedIn laws events key games moment table after d
-  refused_in why is none same = record {
-    answer = ap outcome_of is ∙ ap answered same;
-    puts = subst (λ o. PutsImport laws events key games moment table o d.changes) same
-        (subst (λ c. PutsImport laws events key games moment table (refused why) c) (sym none) tt);
-  }
+  refused_in why is none same =
+      record { answer = ap outcome_of is ∙ ap answered same; puts = rw (← same, none) tt }
 
 -- a game was added, by the next number
 pub added_in : {P M E T : Type 0} (laws : GameRules P M E T) (events : List Event) (key : List ℕ) (games moment : ℕ)
@@ -319,13 +246,8 @@ pub added_in : {P M E T : Type 0} (laws : GameRules P M E T) (events : List Even
     (imported laws (Some key) i.pairing moment i.recorded) c
     → IsImportedIn laws events key games moment table after
     (record { outcome = given_is.Accepted (answer_is.Game id); changes = Some c })
-added_in laws events key games moment table after i id c same next puts = record {
-  answer = ap answered same;
-  puts = subst (λ o. PutsImport laws events key games moment table o (Some c)) same
-      (subst
-      (λ n. PutsNewGame laws (terms_at (place events i.pairing.event)) n moment table
-      (imported laws (Some key) i.pairing moment i.recorded) c) next puts);
-}
+added_in laws events key games moment table after i id c same next puts =
+    record { answer = ap answered same; puts = rw (← same) (rw next at puts) }
 
 -- ---- the kind of an event's games
 
@@ -337,15 +259,6 @@ pub kind_at_place : (es : List given_event.Event) (name : List ℕ) (i : ℕ) (e
 kind_at_place es name i e within is =
     ap (λ l. event_kind l name) (drop-mapped event_of es i e within is
     ∙ ap (λ k. event_of e ∷ drop k (events_of es)) (sym (add-one i)))
-
-pub kind_here : (b : Bool) (one other found : GameKind) → b ≡ true → found ≡ (if b then one else other) → found ≡ one
-kind_here true one other found is same = same
-kind_here false one other found is same = cc
-
-pub kind_later : (b : Bool) (one other found : GameKind) → b ≡ false → found ≡ (if b then one else other)
-    → found ≡ other
-kind_later false one other found is same = same
-kind_later true one other found is same = cc
 
 -- what is put are the rows of the game
 pub put_as : {P M E T : Type 0} (laws : GameRules P M E T) (terms : Terms) (id moment : ℕ) (game : Game M)
@@ -364,17 +277,8 @@ pub put_as : {P M E T : Type 0} (laws : GameRules P M E T) (terms : Terms) (id m
       seen = seen_rows laws id game;
       scores = scores;
     })
-put_as laws terms id moment game rows scores c are puts = record {
-  meta = puts.meta;
-  members_are = puts.members_are;
-  events_are = puts.events_are;
-  rules_are = puts.rules_are;
-  challenges_are = puts.challenges_are;
-  games_are = puts.games_are ∙ ap (λ (r : Row). r ∷ []) are.game_is;
-  moves_are = puts.moves_are ∙ are.moves_are;
-  seen_are = puts.seen_are ∙ are.seen_are;
-  scores_are = puts.scores_are;
-}
+put_as laws terms id moment game rows scores c are puts =
+    rw (are.game_is, are.moves_are, are.seen_are) at puts
 
 -- what an import answers by the members and the events is what it answers by what is known
 pub by_known : {P M E T : Type 0} (laws : GameRules P M E T) (records : GameRecords M) (known : Known) (who : Caller)
@@ -385,10 +289,4 @@ pub by_known : {P M E T : Type 0} (laws : GameRules P M E T) (records : GameReco
     (find_id (has_event_name given.event) (events_of es))
     (find_id (has_member_name given.first) (members_of ms)) (find_id (has_member_name given.second) (members_of ms))
     known.keyed old known.games) ≡ imported_by laws records known who given old
-by_known laws records known who given old ms es members events =
-    λ j. by_officer who (import_found laws records given
-    (event_declares (events_of (events j)) given.event)
-    (find_id (has_event_name given.event) (events_of (events j)))
-    (find_id (has_member_name given.first) (members_of (members j)))
-    (find_id (has_member_name given.second) (members_of (members j)))
-    known.keyed old known.games)
+by_known laws records known who given old ms es members events = rw (members, events)

@@ -1,6 +1,6 @@
 -- Games whose side to move has lost by time, and their rows.
 use Rattle.std.proofs.Common.{◌≡◌, ◌≢◌, ℕ, suc, ◌-◌, List, [], ◌∷◌, ◌++◌, map, pos, Some, None, Bool}
-use Rattle.std.proofs.Common.{true, false, not, ◌&&◌, refl, ap, sym, subst, ◌∙◌}
+use Rattle.std.proofs.Common.{true, false, not, ◌&&◌, refl, ap, sym, ◌∙◌}
 use Rattle.std.specs.Prelude.{slice_set, is_some, nat_lt, if◌then◌else◌}
 use Rattle.std.proofs.lemmas.Bool.{and_parts, not-true}
 use Rattle.sqlite_value.specs.declared.value.Value.TheVariants.{Text}
@@ -9,11 +9,13 @@ use Rattle.sqlite.specs.Order.{Row}
 use Rattle.squares.specs.declared.sides.Score.{Score}
 use Rattle.squares.specs.declared.sides.Side.{Side}
 use Rattle.squares.specs.Sides.{loses, score_text}
+use Rattle.squares.specs.declared.draughts.moves.DMove.{DMove}
+use Rattle.squares.specs.declared.shogi.moves.SMove.{SMove}
 use Rattle.club_rules.specs.GameRules.{GameRules}
 use Rattle.club_core.specs.declared.rows.GameEnd.TheVariants.{Outside}
 use Rattle.club_requests.specs.declared.outside_end.OutsideEnd.TheVariants.{Time}
 use Rattle.club_core.specs.Events.{Event, Terms}
-use Rattle.club_core.specs.Game.{Entry, Game, left_of, clocks_of, turn_of, rule_end, end_of, end_with, result_of}
+use Rattle.club_core.specs.Game.{Game, left_of, clocks_of, turn_of, rule_end, end_of, end_with, result_of}
 use Rattle.club_core.specs.Game.{score_with}
 use Rattle.club_core.specs.State.{draughts, shogi, place, terms_at, is_late_any, swept_any}
 use Rattle.club_core.specs.Step.{is_late, ended, swept}
@@ -24,8 +26,7 @@ use Rattle.club_rows.specs.Club.{ClubGame, ClubState, IsClub, both_games}
 use Rattle.club_rows.specs.Columns.{Columns, IsReadAs, columns_of, stored_cells}
 use Rattle.club_rows.specs.LegalRows.{IsRecordOf}
 use Rattle.club_rows.specs.Scores.{Meeting, meetings, meetings_of, meetings_in}
-use Rattle.club_rows.specs.Seen.{seen_rows}
-use Rattle.club_rows.specs.Tables.{end_name_text, at_start, with_entry, entry_row, entry_rows, move_rows, game_row}
+use Rattle.club_rows.specs.Tables.{end_name_text, game_row}
 use Rattle.club_rows.specs.Tables.{row_of_game, rows_of_moves, rows_of_seen, gathered_from}
 use Rattle.club_rows.proofs.Proved.{columns-are, draughts_laws, in_draughts, in_shogi, met_ended, met_running}
 use Rattle.club_rows.proofs.Proved.{none-read, shogi_laws}
@@ -35,6 +36,8 @@ use Rattle.club_changes.specs.Ended.{cells_lost}
 use Rattle.club_changes.specs.Late.{late_side}
 use Rattle.club_changes.specs.Swept.{LeavesOthers}
 use Rattle.club_changes.proofs.GameRows.{is_record}
+use Rattle.club_changes.proofs.PlayedLemmas.{rows_stay}
+use Rattle.club_changes.proofs.PutSame.{if_same}
 
 then_some : {A : Type 0} (b : Bool) (x y : A) → (if b then Some x else None) ≡ Some y → (b ≡ true) × (y ≡ x)
 then_some true x y is = (refl, cc)
@@ -84,12 +87,6 @@ module _ {P M E T : Type 0} (laws : GameRules P M E T) (are : AreRules laws) (ev
   abbrev row_of : Game M → Row
   row_of g = game_row laws (terms_at (place events g.event)) id g
 
-  abbrev Lost : Score → Type 0
-  Lost = IsLost late its_columns (meetings_of laws game) (meetings_of laws game_after) (row_of game_after) row
-
-  abbrev Tells : Columns → Type 0
-  Tells c = TellsLate moment late c (meetings_of laws game) (meetings_of laws game_after) (row_of game_after) row
-
   side_is : late_side its_columns moment ≡ (if late then Some turn else None)
   side_is =
       let clocks = clocks_of game its_terms in
@@ -110,10 +107,10 @@ module _ {P M E T : Type 0} (laws : GameRules P M E T) (are : AreRules laws) (ev
       let result = ap (or_null (λ score. Text (score_text score))) (sym (result_is running)) in
       λ i. slice_set (slice_set (is.row i) 12 (end i)) 13 (result i)
 
-  is_lost : late ≡ true → Lost (loses turn)
+  is_lost : late ≡ true → IsLost late its_columns (meetings_of laws game) (meetings_of laws game_after)
+      (row_of game_after) row (loses turn)
   is_lost late_is =
-      let running : result_of laws game ≡ None =
-      not-some (result_of laws game) (not-true _ (and_parts _ _ late_is).0) in
+      let running = not-some (result_of laws game) (not-true _ (and_parts _ _ late_is).0) in
       let now : game_after ≡ ended game Time = ap (λ b. if b then ended game Time else game) late_is in
       record {
         late_is = late_is;
@@ -123,12 +120,12 @@ module _ {P M E T : Type 0} (laws : GameRules P M E T) (are : AreRules laws) (ev
         meets = ap (meetings_of laws) now ∙ met_ended laws (ended game Time) (loses turn) (result_is running);
       }
 
-  tells : (c : Columns) → game_cells row ≡ stored_cells c → Tells c
-  tells c read = subst Tells (sym (columns-are laws its_terms id game row is c read)) (record {
+  tells : (c : Columns) → game_cells row ≡ stored_cells c
+      → TellsLate moment late c (meetings_of laws game) (meetings_of laws game_after) (row_of game_after) row
+  tells c read = rw (columns-are laws its_terms id game row is c read) (record {
     in_time = λ none. then_none late turn (sym side_is ∙ none);
     lost = λ side score some loss.
-        let (late_is, by) = then_some late turn side (sym side_is ∙ some) in
-        subst Lost (sym (loss ∙ ap loses by)) (is_lost late_is);
+        let (late_is, by) = then_some late turn side (sym side_is ∙ some) in rw (loss, by) (is_lost late_is);
   })
 
 -- ---- a game of the club
@@ -164,38 +161,15 @@ module _ (s : ClubState) (moment : ℕ) where
 
 -- ---- what a sweep leaves of a game
 
--- the rows of its moves do not look at how it ended
-module _ {P M E T : Type 0} (laws : GameRules P M E T) (id : ℕ) where
-  entries_stay : (terms : Terms) (game : Game M) (es : List (Entry M))
-      → entry_rows laws terms id (ended game Time) es ≡ entry_rows laws terms id game es
-  entries_stay terms game [] = refl
-  entries_stay terms game (e ∷ es) = ap (λ rest. entry_row laws terms id game e ∷ rest)
-      (entries_stay terms (with_entry game e) es)
-
-  moves_stay : (events : List Event) (game : Game M) (b : Bool) → let after = if b then ended game Time else game in
-      move_rows laws (terms_at (place events after.event)) id after
-      ≡ move_rows laws (terms_at (place events game.event)) id game
-  moves_stay events game true = entries_stay (terms_at (place events game.event)) (at_start game) game.entries
-  moves_stay events game false = refl
-
-  seen_stay : (game : Game M) (b : Bool) → seen_rows laws id (if b then ended game Time else game)
-      ≡ seen_rows laws id game
-  seen_stay game true = refl
-  seen_stay game false = refl
-
-module _ (s : ClubState) (moment : ℕ) where
-  pub swept_moves : (id : ℕ) (g : ClubGame)
-      → rows_of_moves both_games s.events id (swept_any both_games s moment g) ≡ rows_of_moves both_games s.events id g
-  swept_moves id (draughts game) = moves_stay both_games.draughts id s.events game
-      (is_late_any both_games s moment (draughts game))
-  swept_moves id (shogi game) = moves_stay both_games.shogi id s.events game
-      (is_late_any both_games s moment (shogi game))
-
-  pub swept_seen : (id : ℕ) (g : ClubGame)
-      → rows_of_seen both_games id (swept_any both_games s moment g) ≡ rows_of_seen both_games id g
-  swept_seen id (draughts game) = seen_stay both_games.draughts id game
-      (is_late_any both_games s moment (draughts game))
-  swept_seen id (shogi game) = seen_stay both_games.shogi id game (is_late_any both_games s moment (shogi game))
+-- what does not look at how a game ended stays
+swept_keeps : (s : ClubState) (moment : ℕ) (f : ClubGame → List Row)
+    → ((g : Game DMove) → f (draughts (ended g Time)) ≡ f (draughts g))
+    → ((g : Game SMove) → f (shogi (ended g Time)) ≡ f (shogi g))
+    → (g : ClubGame) → f (swept_any both_games s moment g) ≡ f g
+swept_keeps s moment f one other (draughts game) = if_same (λ g. f (draughts g))
+    (is_late_any both_games s moment (draughts game)) (ended game Time) game (one game)
+swept_keeps s moment f one other (shogi game) = if_same (λ g. f (shogi g))
+    (is_late_any both_games s moment (shogi game)) (ended game Time) game (other game)
 
 -- the rows of elements that change and keep their rows
 pub gathered_stay : {A : Type 0} (rows : ℕ → A → List Row) (after : A → A)
@@ -214,7 +188,10 @@ leaves_others s moment = record {
   events_stay = refl;
   rules_stay = refl;
   challenges_stay = refl;
-  moves_stay = gathered_stay (rows_of_moves both_games s.events) (swept_any both_games s moment) (swept_moves s moment)
-      1 s.games;
-  seen_stays = gathered_stay (rows_of_seen both_games) (swept_any both_games s moment) (swept_seen s moment) 1 s.games;
+  moves_stay = gathered_stay (rows_of_moves both_games s.events) (swept_any both_games s moment)
+      (λ id. swept_keeps s moment (rows_of_moves both_games s.events id)
+      (λ g. rows_stay both_games.draughts (terms_at (place s.events g.event)) id (ended g Time) g refl refl)
+      (λ g. rows_stay both_games.shogi (terms_at (place s.events g.event)) id (ended g Time) g refl refl)) 1 s.games;
+  seen_stays = gathered_stay (rows_of_seen both_games) (swept_any both_games s moment)
+      (λ id. swept_keeps s moment (rows_of_seen both_games id) (λ g. refl) (λ g. refl)) 1 s.games;
 }

@@ -66,52 +66,44 @@ module _ {P M E T : Type 0} (rules : GameRules P M E T) (ms : List M) (i : ℕ) 
     position-is : (p : P) → p ≡ position_after rules rules.start (take i ms) → p ≡ last_position rules game
     position-is p stands = stands ∙ ap (position_after rules rules.start) (sym moves-are)
 
-    -- the clocks with that move
-    clocks-with : (p : P) (turn : Side) (a b c d : ℕ) → p ≡ position_after rules rules.start (take i ms)
-        → turn ≡ rules.turn p → clocks_with a b moment ≡ clocks_of game terms
-        → clocks_with c d moment ≡ spend terms.increment turn moment (clocks_with a b moment)
-        → clocks_with c d moment ≡ clocks_of (with_entry game made) terms
-    clocks-with p turn a b c d stands to_move was now =
-        let moves : turn ≡ turn_of rules game = to_move ∙ ap rules.turn (position-is p stands) in
-        now ∙ (λ j. spend terms.increment (moves j) moment (was j))
-        ∙ sym (clocks-played rules are.turn_passes are.first_starts game line-so-far m moment terms)
+    -- with that move the clocks are those after it, and the rows have its own; then so it is for one ply more
+    module _ (p q : P) (turn : Side) (a b c d left : ℕ) (stands : p ≡ position_after rules rules.start (take i ms))
+        (goes : q ≡ rules.play p m) (to_move : turn ≡ rules.turn p)
+        (was : clocks_with a b moment ≡ clocks_of game terms)
+        (now : clocks_with c d moment ≡ spend terms.increment turn moment (clocks_with a b moment))
+        (left_is : left ≡ left_of turn (clocks_with c d moment)) where
+      moves : turn ≡ turn_of rules game
+      moves = to_move ∙ ap rules.turn (position-is p stands)
 
-    pub clocks-next : (p : P) (turn : Side) (a b c d : ℕ) → p ≡ position_after rules rules.start (take i ms)
-        → turn ≡ rules.turn p → clocks_with a b moment ≡ clocks_of game terms
-        → clocks_with c d moment ≡ spend terms.increment turn moment (clocks_with a b moment)
-        → clocks_with c d moment ≡ clocks_of (game_from moment (entries_at_once moment (take (i + 1) ms))) terms
-    clocks-next p turn a b c d stands to_move was now =
-        clocks-with p turn a b c d stands to_move was now
-        ∙ ap (λ l. clocks_of (game_from moment l) terms) (sym entries-more)
+      clocks-then : clocks_with c d moment ≡ clocks_of (with_entry game made) terms
+      clocks-then =
+          now ∙ (λ j. spend terms.increment (moves j) moment (was j))
+          ∙ sym (clocks-played rules are.turn_passes are.first_starts game line-so-far m moment terms)
 
-    -- the row of the ply
-    pub row-is : (p q : P) (turn : Side) (a b c d left : ℕ) → p ≡ position_after rules rules.start (take i ms)
-        → q ≡ rules.play p m → turn ≡ rules.turn p → clocks_with a b moment ≡ clocks_of game terms
-        → clocks_with c d moment ≡ spend terms.increment turn moment (clocks_with a b moment)
-        → left ≡ left_of turn (clocks_with c d moment)
-        → ◌≡◌ {A = Row} (number id ∷ number (i + 1) ∷ Text (rules.write_move p m) ∷ number moment ∷ number left
-        ∷ Text (rules.write_position q) ∷ []) (entry_row rules terms id game made)
-    row-is p q turn a b c d left stands goes to_move was now left_is =
-        let here : p ≡ last_position rules game = position-is p stands in
-        let all : length (take i ms) ≡ i = length-take-le i ms (omega (arith, within)) in
-        let count : length es ≡ length (take i ms) =
-        length-map (take i ms) (λ x. record { made = x; moment = moment }) in
-        let ply : i + 1 ≡ length es + 1 = omega (arith, all, count) in
-        let moves : turn ≡ turn_of rules game = to_move ∙ ap rules.turn here in
-        let clocks = clocks-with p turn a b c d stands to_move was now in
-        let seconds : left ≡ left_of (turn_of rules game) (clocks_of (with_entry game made) terms) = left_is
-        ∙ (λ j. left_of (moves j) (clocks j)) in
-        let there : q ≡ last_position rules (with_entry game made) = goes ∙ ap (λ x. rules.play x m) here
-        ∙ sym (last-played rules game m moment) in
-        λ j. number id ∷ number (ply j) ∷ Text (rules.write_move (here j) m) ∷ number moment ∷ number (seconds j)
-        ∷ Text (rules.write_position (there j)) ∷ []
+      row-is : ◌≡◌ {A = Row} (number id ∷ number (i + 1) ∷ Text (rules.write_move p m) ∷ number moment ∷ number left
+          ∷ Text (rules.write_position q) ∷ []) (entry_row rules terms id game made)
+      row-is =
+          let here : p ≡ last_position rules game = position-is p stands in
+          let all : length (take i ms) ≡ i = length-take-le i ms (omega (arith, within)) in
+          let count : length es ≡ length (take i ms) =
+          length-map (take i ms) (λ x. record { made = x; moment = moment }) in
+          let ply : i + 1 ≡ length es + 1 = omega (arith, all, count) in
+          let seconds = left_is ∙ (λ j. left_of (moves j) (clocks-then j)) in
+          let there = goes ∙ ap (λ x. rules.play x m) here ∙ sym (last-played rules game m moment) in
+          λ j. number id ∷ number (ply j) ∷ Text (rules.write_move (here j) m) ∷ number moment ∷ number (seconds j)
+          ∷ Text (rules.write_position (there j)) ∷ []
 
-    pub rows-next : (old new : List Row) (row : Row) → old ≡ rows_at_once rules terms id moment (take i ms)
-        → new ≡ old ++ row ∷ [] → row ≡ entry_row rules terms id game made
-        → new ≡ rows_at_once rules terms id moment (take (i + 1) ms)
-    rows-next old new row was more is_row =
-        more ∙ (λ j. was j ++ is_row j ∷ []) ∙ sym (rows-append rules terms id (game_from moment []) es made)
-        ∙ ap (λ l. move_rows rules terms id (game_from moment l)) (sym entries-more)
+      pub ply-next : (old new : List Row) (row : Row) → old ≡ rows_at_once rules terms id moment (take i ms)
+          → new ≡ old ++ row ∷ []
+          → row ≡ number id ∷ number (i + 1) ∷ Text (rules.write_move p m) ∷ number moment ∷ number left
+          ∷ Text (rules.write_position q) ∷ []
+          → (new ≡ rows_at_once rules terms id moment (take (i + 1) ms))
+          × (clocks_with c d moment ≡ clocks_of (game_from moment (entries_at_once moment (take (i + 1) ms))) terms)
+      ply-next old new row had more is_row = (
+        more ∙ (λ j. had j ++ (is_row ∙ row-is) j ∷ []) ∙ sym (rows-append rules terms id (game_from moment []) es made)
+            ∙ ap (λ l. move_rows rules terms id (game_from moment l)) (sym entries-more),
+        clocks-then ∙ ap (λ l. clocks_of (game_from moment l) terms) (sym entries-more),
+      )
 
 -- ---- the game of a record
 

@@ -1,6 +1,6 @@
 -- What is decided of a command, by what it is answered and the rows that are put.
-use Rattle.std.proofs.Common.{◌≡◌, ℕ, ◌+◌, List, [], ◌∷◌, ◌++◌, length, Option, Some, None, Bool, true, false, ◌&&◌}
-use Rattle.std.proofs.Common.{refl, ap, sym, subst, subst₂, ◌∙◌, true≢false, arith}
+use Rattle.std.proofs.Common.{◌≡◌, ℕ, ◌+◌, List, [], ◌∷◌, ◌++◌, length, Option, Some, None, true, false}
+use Rattle.std.proofs.Common.{refl, ap, sym, subst, ◌∙◌, true≢false, arith}
 use Rattle.std.specs.Prelude.{max}
 use Rattle.club_requests.specs.declared.answers.Outcome as given
 use Rattle.club_requests.specs.declared.answers.Outcome.TheVariants as given_is
@@ -22,23 +22,29 @@ use Rattle.club_core.specs.Events.{event_tests, declaring}
 use Rattle.club_core.specs.declared.seats.KeyedGame.{KeyedGame}
 use Rattle.club_core.specs.declared.seats.Pairing.{Pairing}
 use Rattle.club_core.specs.Seats.{pair, seat_found, seat_step, same_seats, seat_refusal, has_member_name}
-use Rattle.club_core.specs.State.{state_after, is_accepted, add_member, add_event, seat, seated, seated_as, kind_at}
+use Rattle.club_core.specs.State.{state_after, is_accepted, add_member, add_event, seat, seated_as, kind_at}
 use Rattle.club_core.specs.State.{place, with_members, with_events, with_new_game, game_under, caller_of, step_by}
 use Rattle.club_core.proofs.Proved.{none-holds}
-use Rattle.club_laws.proofs.Proved.{unmoved, not-false}
-use Rattle.club_rows.specs.Tables.{member_row, event_row, rule_row, rows_of_seen}
-use Rattle.sqlite.specs.Order.{Row}
+use Rattle.club_laws.proofs.Proved.{unmoved, not-false, three-true}
+use Rattle.club_rows.specs.Tables.{member_row, event_row, rule_row, row_of_game, rows_of_moves, meta_row}
 use Rattle.store_tables.specs.declared.rows.Changes.{Changes}
 use Rattle.club_changes.specs.declared.decided.Decided.{Decided}
-use Rattle.club_rows.specs.Club.{both_games, ClubState, IsClub, tables}
+use Rattle.club_rows.specs.Club.{both_games, ClubGame, ClubState, IsClub, tables}
 use Rattle.club_changes.specs.Steps.{request, club_step, caller_step, started, started_seen, started_scores, AreSame}
-use Rattle.club_changes.specs.Steps.{Puts, no_rows, IsDecided, changed_if}
-use Rattle.club_rules.specs.declared.names.GameKind.{GameKind}
-use Rattle.club_rules.specs.declared.names.GameKind.TheVariants.{Draughts, Shogi}
-use Rattle.club_rows.proofs.Proved.{seen-start}
-use Rattle.club_changes.proofs.PutSame.{◌&◌, same_itself}
-use Rattle.club_changes.proofs.NextRows.{puts_all, puts, member_next, event_next, seat_next}
-use Rattle.club_changes.proofs.ChangedLemmas.{all_changed}
+use Rattle.club_changes.specs.Steps.{HaveSame, Puts, PutRows, no_rows, IsDecided, changed_if}
+use Rattle.club_rows.proofs.Proved.{scores_seated, seen-added}
+use Rattle.store_tables.proofs.Proved.{altered}
+use Rattle.store_tables.specs.Changed.{changed}
+use Rattle.store_tables.specs.Content.{put}
+use Rattle.club_changes.proofs.PutSame.{◌&◌, same_itself, same_by, one_replaced, row_added, nothing_added}
+use Rattle.club_changes.proofs.PutSame.{numbered_alike, gathered_alike}
+use Rattle.club_changes.proofs.NextRows.{first_of_game, rows_before, no_moves}
+use Rattle.club_changes.proofs.ChangedLemmas.{all_changed, with_rows}
+
+-- the row of the last accepted command is replaced
+pub moment_put : (s : ClubState) (moment : ℕ)
+    → HaveSame (put (0 ∷ []) (meta_row 2 moment) (meta_row 2 s.last ∷ [])) (meta_row 2 moment ∷ [])
+moment_put s moment = one_replaced (meta_row 2 s.last) (meta_row 2 moment) 1 refl refl
 
 pub same_content : (s : ClubState) → AreSame (tables s) (tables s)
 same_content s =
@@ -54,8 +60,7 @@ accepted_alike (refused refusal) = refl
 pub none_decided : (s : ClubState) (after : Outcome ClubState) (d : Decided) (o : given.Outcome) → d.outcome ≡ o
     → d.changes ≡ None → outcome_of o ≡ answered after → is_accepted (outcome_of o) ≡ false → IsDecided s after d
 none_decided s after d o is none answer not_accepted =
-    let stays : state_after s after ≡ s = unmoved s after
-    (sym (accepted_alike after) ∙ (ap is_accepted (sym answer) ∙ not_accepted)) in
+    let stays = unmoved s after (sym (accepted_alike after) ∙ (ap is_accepted (sym answer) ∙ not_accepted)) in
     record {
       answer = ap outcome_of is ∙ answer;
       rows = subst (λ n. AreSame (changed_if d.changes (tables s)) (tables n)) (sym stays)
@@ -64,46 +69,14 @@ none_decided s after d o is none answer not_accepted =
 
 -- where a command is accepted, the rows that are put make the tables of the state after it
 pub all_decided : (s : ClubState) (after : Outcome ClubState) (new : ClubState) (o : given.Outcome) (c : Changes)
-    (moment : ℕ) (members events rules challenges games moves seen scores : List Row) → outcome_of o ≡ answered after
-    → state_after s after ≡ new
-    → Puts c moment
-    (record {
-      members = members;
-      events = events;
-      rules = rules;
-      challenges = challenges;
-      games = games;
-      moves = moves;
-      seen = seen;
-      scores = scores;
-    })
-    → AreSame (puts_all moment members events rules challenges games moves seen scores (tables s)) (tables new)
+    (moment : ℕ) (rows : PutRows) → outcome_of o ≡ answered after → state_after s after ≡ new → Puts c moment rows
+    → AreSame (with_rows moment rows (tables s)) (tables new)
     → IsDecided s after (record { outcome = o; changes = Some c })
-all_decided s after new o c moment members events rules challenges games moves seen scores answer stands are same =
-    record {
-      answer = answer;
-      rows = subst (λ n. AreSame (changed_if (Some c) (tables s)) (tables n)) (sym stands)
-          (subst (λ content. AreSame content (tables new))
-          (sym (all_changed c moment members events rules challenges games moves seen scores are (tables s))) same);
-    }
-
-pub put_decided : (s : ClubState) (after : Outcome ClubState) (new : ClubState) (o : given.Outcome) (c : Changes)
-    (moment : ℕ) (members events games moves seen scores : List Row) → outcome_of o ≡ answered after
-    → state_after s after ≡ new → Puts c moment
-    (record {
-      members = members;
-      events = events;
-      rules = [];
-      challenges = [];
-      games = games;
-      moves = moves;
-      seen = seen;
-      scores = scores;
-    })
-    → AreSame (puts moment members events games moves seen scores (tables s)) (tables new)
-    → IsDecided s after (record { outcome = o; changes = Some c })
-put_decided s after new o c moment members events games moves seen scores answer stands are same =
-    all_decided s after new o c moment members events [] [] games moves seen scores answer stands are same
+all_decided s after new o c moment rows answer stands are same = record {
+  answer = answer;
+  rows = subst (λ n. AreSame (changed c (tables s)) (tables n)) (sym stands)
+      (all_changed c moment rows (tables s) (tables new) are same);
+}
 
 module _ {T : Type 0} (s : ClubState) (f : T → ClubState) where
   pub answered_mapped : (o : Outcome T) → answered (map_outcome f o) ≡ answered o
@@ -148,13 +121,15 @@ pub member_decided : (s : ClubState) (moment : ℕ) (who : Caller) (name key : L
 member_decided s moment who name key o c answer is_in are =
     let m : core_members.Member = record { name = name; key = key } in
     let f = with_members s moment in
-    put_decided s (caller_step s moment who (add_member name key)) (f (s.members ++ m ∷ [])) o c moment
-    (member_row (1 + length s.members) m ∷ []) [] [] [] [] []
+    all_decided s (caller_step s moment who (add_member name key)) (f (s.members ++ m ∷ [])) o c moment _
     (answer ∙ sym (answered_officer s f who (member_step s.members name key)))
     (officer_added s f who (same_member s.members name key) (member_refusal s.members name key) (s.members ++ m ∷ [])
     (member_added (length s.members + 1)) (ap is_accepted (sym answer) ∙ is_in))
     are
-    (member_next both_games s m moment)
+    (moment_put s moment
+    & row_added member_row (λ id x. refl) s.members m
+    & same_itself _ & same_itself _ & same_itself _ & same_itself _ & same_itself _ & same_itself _
+    & same_itself _ & tt)
 
 pub event_decided : (s : ClubState) (moment : ℕ) (who : Caller) (e : Event) (o : given.Outcome) (c : Changes) → IsClub s
     → outcome_of o ≡ answered (by_officer who (event_step s.events e)) → is_accepted (outcome_of o) ≡ true
@@ -166,13 +141,24 @@ pub event_decided : (s : ClubState) (moment : ℕ) (who : Caller) (e : Event) (o
     → IsDecided s (caller_step s moment who (add_event e)) (record { outcome = o; changes = Some c })
 event_decided s moment who e o c club answer is_in are =
     let f = with_events s moment in
-    all_decided s (caller_step s moment who (add_event e)) (f (s.events ++ declaring e ∷ [])) o c moment []
-    (event_row (1 + length s.events) e ∷ []) (rule_row (1 + length s.events) (declaring e) ∷ []) [] [] [] [] []
+    let new = declaring e in
+    all_decided s (caller_step s moment who (add_event e)) (f (s.events ++ new ∷ [])) o c moment _
     (answer ∙ sym (answered_officer s f who (event_step s.events e)))
-    (officer_added s f who (same_event s.events e) (event_refusal s.events e) (s.events ++ declaring e ∷ [])
+    (officer_added s f who (same_event s.events e) (event_refusal s.events e) (s.events ++ new ∷ [])
     (event_added (length s.events + 1)) (ap is_accepted (sym answer) ∙ is_in))
     are
-    (event_next both_games s (declaring e) moment club.games)
+    (moment_put s moment
+    & same_itself _
+    & row_added event_row (λ id x. refl) s.events new
+    & same_itself _
+    & same_by _ _
+    (gathered_alike (rows_of_moves both_games s.events) (rows_of_moves both_games (s.events ++ new ∷ [])) 1 s.games
+    (λ n g at id. (rows_before both_games s new g (club.games n g at) id).1))
+    & same_by _ _
+    (numbered_alike (row_of_game both_games s.events) (row_of_game both_games (s.events ++ new ∷ [])) 1 s.games
+    (λ n g at id. (rows_before both_games s new g (club.games n g at) id).0))
+    & same_itself _ & same_itself _
+    & row_added rule_row (λ id x. refl) s.events new & tt)
 
 -- ---- what an accepted command meets
 
@@ -181,25 +167,21 @@ unrefused_by : {T : Type 0} (who : Caller) (again : Option Reply) (refusal : Opt
 unrefused_by Officer None None o is = refl
 unrefused_by _ _ _ o is = absurd (true≢false (sym is))
 
-three_true : (a b c : Bool) → (a && b && c) ≡ true → (b ≡ true) × (c ≡ true)
-three_true true true true is = (refl, refl)
-three_true _ _ _ is = absurd (true≢false (sym is))
-
 -- the seconds of an event that is added keep their limits
 pub event_limits : (who : Caller) (events : List Event) (e : Event) (o : given.Outcome)
     → outcome_of o ≡ answered (by_officer who (event_step events e)) → is_accepted (outcome_of o) ≡ true
     → (is_budget e.terms.budget ≡ true) × (is_increment e.terms.increment ≡ true)
 event_limits who events e o answer is_in =
-    let none : event_refusal events e ≡ None =
-    unrefused_by who (same_event events e) (event_refusal events e)
+    let none = unrefused_by who (same_event events e) (event_refusal events e)
     (accepted (events ++ declaring e ∷ []) (event_added (length events + 1))) (ap is_accepted (sym answer) ∙ is_in) in
     let fails = none-holds (event_tests events e) none in
-    three_true (is_name e.name) (is_budget e.terms.budget) (is_increment e.terms.increment)
-    (not-false (has_good_values e) fails.1.0)
+    let good = three-true (is_name e.name) (is_budget e.terms.budget) (is_increment e.terms.increment)
+    (not-false (has_good_values e) fails.1.0) in
+    (good.1, good.2)
 
-unrefused : {T : Type 0} (again : Option Reply) (refusal : Option Refusal) (o : Outcome T) (t : T) (r : Reply)
-    → accepted t r ≡ unless_repeat again (unless refusal o) → accepted t r ≡ o
-unrefused None None o t r is = is
+pub unrefused : {T : Type 0} (again : Option Reply) (refusal : Option Refusal) (o : Outcome T) (t : T) (r : Reply)
+    → accepted t r ≡ unless_repeat again (unless refusal o) → (refusal ≡ None) × (accepted t r ≡ o)
+unrefused None None o t r is = (refl, is)
 unrefused _ _ o t r is = cc
 
 pair_id : (event : ℕ) (first second : Option ℕ) (games : ℕ) (p : Pairing) (id : ℕ)
@@ -208,19 +190,15 @@ pair_id event None second games p id is = cc
 pair_id event (Some one) None games p id is = cc
 pair_id event (Some one) (Some other) games p id is = cc
 
-found_id : (event first second : Option ℕ) (under : Option KeyedGame) (games : ℕ) (key : List ℕ) (p : Pairing) (id : ℕ)
-    → accepted p (game_seated id) ≡ seat_found event first second under games key → id ≡ games + 1
-found_id None first second under games key p id is = cc
-found_id (Some event) first second under games key p id is =
-    pair_id event first second games p id
-    (unrefused (same_seats event first second under) (seat_refusal under games key first second)
-    (pair event first second games) p (game_seated id) is)
-
 officer_id : (who : Caller) (event first second : Option ℕ) (under : Option KeyedGame) (games : ℕ) (key : List ℕ)
     (p : Pairing) (id : ℕ) → accepted p (game_seated id) ≡ by_officer who
     (seat_found event first second under games key) → id ≡ games + 1
 officer_id (Member m) event first second under games key p id is = cc
-officer_id Officer event first second under games key p id is = found_id event first second under games key p id is
+officer_id Officer None first second under games key p id is = cc
+officer_id Officer (Some event) first second under games key p id is =
+    pair_id event first second games p id
+    (unrefused (same_seats event first second under) (seat_refusal under games key first second)
+    (pair event first second games) p (game_seated id) is).1
 
 -- a seating by what the rows tell is that of the state
 pub seat_same : (seating : Outcome Pairing) (who : Caller) (key event first second : List ℕ)
@@ -230,12 +208,6 @@ pub seat_same : (seating : Outcome Pairing) (who : Caller) (key event first seco
     → seating ≡ by_officer who (seat_step ms es u n key event first second)
 seat_same seating who key event first second members ms events es under u games n is m e k c =
     is ∙ (λ i. by_officer who (seat_step (m i) (e i) (k i) (c i) key event first second))
-
--- a game that was just seated has one position
-pub one_seen : (kind : GameKind) (id : ℕ) (key : Option (List ℕ)) (pairing : Pairing) (moment : ℕ) → (row : Row)
-    × (rows_of_seen both_games id (seated_as kind key pairing moment) ≡ row ∷ [])
-one_seen Draughts id key pairing moment = (_, seen-start both_games.draughts id (seated key pairing moment) refl)
-one_seen Shogi id key pairing moment = (_, seen-start both_games.shogi id (seated key pairing moment) refl)
 
 pub seat_decided : (s : ClubState) (moment : ℕ) (who : Caller) (key event first second : List ℕ) (p : Pairing) (id : ℕ)
     (c : Changes) → IsClub s → accepted p (game_seated id) ≡ by_officer who
@@ -254,17 +226,19 @@ seat_decided s moment who key event first second p id c club answer are running 
     (find_id (has_member_name first) s.members) (find_id (has_member_name second) s.members)
     (game_under s.games key) (length s.games) key p id answer in
     let same_id : id ≡ 1 + length s.games = omega (arith, next) in
-    let row : started s.events id (Some key) p moment ≡ started s.events (1 + length s.games) (Some key) p moment =
-    ap (λ k. started s.events k (Some key) p moment) same_id in
-    let seen : started_seen s.events id (Some key) p moment ≡ started_seen s.events (1 + length s.games) (Some key) p
-    moment = ap (λ k. started_seen s.events k (Some key) p moment) same_id in
-    let (first_seen, first_is) = one_seen (kind_at (place s.events p.event)) (1 + length s.games) (Some key) p moment in
-    put_decided s (caller_step s moment who (seat key event first second)) (f p) (given_is.Accepted (answer_is.Game id))
-    c moment [] [] (started s.events (1 + length s.games) (Some key) p moment ∷ []) [] (first_seen ∷ []) []
-    (ap answered answer ∙ sym (answered_officer s f who step))
+    let new : ClubGame = seated_as (kind_at (place s.events p.event)) (Some key) p moment in
+    all_decided s (caller_step s moment who (seat key event first second)) (f p) (given_is.Accepted (answer_is.Game id))
+    c moment _ (ap answered answer ∙ sym (answered_officer s f who step))
     (officer_stands s f who step p (game_seated id) answer)
-    (subst₂ (λ r l. Puts c moment (record no_rows { games = r ∷ []; seen = l })) row (seen ∙ first_is) are)
-    (seat_next both_games s key p moment first_seen first_is running)
+    (rw same_id at are)
+    (moment_put s moment
+    & same_itself _ & same_itself _ & same_itself _
+    & nothing_added (rows_of_moves both_games s.events) s.games new
+    (no_moves both_games s.events (kind_at (place s.events p.event)) (Some key) p moment)
+    & row_added (row_of_game both_games s.events) (first_of_game both_games s.events) s.games new
+    & altered (0 ∷ 1 ∷ []) _ _ _ (seen-added both_games s.games new)
+    & same_by _ _ (sym (scores_seated both_games s.games new running))
+    & same_itself _ & tt)
 
 -- ---- who asks
 
@@ -274,8 +248,7 @@ pub caller_decided : (s : ClubState) (moment effective : ℕ) (who : given_who.W
     → IsDecided s (caller_step s effective caller (command_of command)) d
     → IsDecided s (club_step s (request who command moment)) d
 caller_decided s moment effective who caller command d moment_is caller_is decided =
-    subst (λ o. IsDecided s (step_by both_games s (max moment s.last) o (command_of command)) d) caller_is
-    (subst (λ m. IsDecided s (caller_step s m caller (command_of command)) d) moment_is decided)
+    rw (← caller_is, ← moment_is) decided
 
 pub nobody_decided : (s : ClubState) (moment : ℕ) (who : given_who.Who) (command : given_command.Command) (d : Decided)
     → None ≡ caller_of s.members (who_of who) → d.outcome ≡ given_is.Refused UnknownKey → d.changes ≡ None

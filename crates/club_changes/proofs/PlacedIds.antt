@@ -1,11 +1,12 @@
 -- Rows with an id for each place of a list, and those of the elements that pass a test.
 use Rattle.std.proofs.Common.{◌≡◌, ℕ, zero, suc, ◌+◌, List, [], ◌∷◌, ◌++◌, length, map, take, drop, pos, Some, Bool}
-use Rattle.std.proofs.Common.{true, false, cond, ◌&&◌, refl, ap, sym, subst, subst₂, ◌∙◌, arith, add-one, inl, inr}
+use Rattle.std.proofs.Common.{true, false, cond, refl, ap, sym, subst, subst₂, ◌∙◌, arith, inl, inr}
 use Rattle.std.proofs.Common.{append_assoc}
 use Rattle.std.specs.Prelude.{slice_get, count_by, if◌then◌else◌}
 use Rattle.std.specs.Cmp.{tied_itself}
 use Rattle.std.proofs.lemmas.Bool.{cases_Bool, and_parts, and_from}
-use Rattle.std.proofs.lemmas.List.{append-nil}
+use Rattle.std.proofs.lemmas.List.{append-nil, take_more, drop_more}
+use Rattle.std.proofs.lemmas.Option.{get_or_from_slice_get, slice_get_within}
 use Rattle.std.proofs.lemmas.List.Sums.{sum_by-cons}
 use Rattle.sqlite.specs.Order.{Row, column}
 use Rattle.sqlite.specs.Collation.TheVariants.{Binary}
@@ -25,13 +26,15 @@ use Rattle.store_tables.proofs.Proved.{equal_ints, equal_from}
 pub pos_same : (m n : ℕ) → pos m ≡ pos n → m ≡ n
 pos_same m n is = cc
 
+pub number_same : (m n : ℕ) → number m ≡ number n → m ≡ n
+number_same m n is = cc
+
 value_itself : (m : ℕ) → equal Binary (number m) (number m) ≡ true
 value_itself m = equal_from (number m) (number m) refl refl (tied_itself value_cmp_total (number m))
 
 pub ids_agree : (a b : Row) (m : ℕ) → column a 0 ≡ number m → column b 0 ≡ number m → same_key (0 ∷ []) a b ≡ true
 unfolding first_key
-ids_agree a b m p q = subst₂ (λ x y. (equal Binary x y && true) ≡ true) (sym p) (sym q)
-    (and_from _ _ (value_itself m) refl)
+ids_agree a b m p q = rw (p, q) (and_from _ _ (value_itself m) refl)
 
 pub ids_same : (a b : Row) (m n : ℕ) → column a 0 ≡ number m → column b 0 ≡ number n → same_key (0 ∷ []) a b ≡ true
     → m ≡ n
@@ -39,18 +42,38 @@ unfolding first_key
 ids_same a b m n p q same =
     pos_same m n (equal_ints (pos m) (pos n) (subst₂ (λ x y. equal Binary x y ≡ true) p q (and_parts _ _ same).0))
 
+pub numbers_same : (a b : Row) (m n k j : ℕ) → column a 0 ≡ number m → column b 0 ≡ number n → column a 1 ≡ number k
+    → column b 1 ≡ number j → same_key (0 ∷ 1 ∷ []) a b ≡ true → (m ≡ n) × (k ≡ j)
+unfolding first_key
+numbers_same a b m n k j p q r t same =
+    let h = rw (p, q, r, t) at same in
+    let one = and_parts _ _ h in
+    (pos_same m n (equal_ints _ _ one.0), pos_same k j (equal_ints _ _ (and_parts _ _ one.1).0))
+
 -- ---- a row for each element, by ids that count up
 
+pub had_at : (xs : List Row) (z : Row) → Has xs z → (n : ℕ) × (slice_get xs n ≡ Some z)
+had_at [] z h = absurd h
+had_at (x ∷ xs) z (inl is) = (0, ap Some (sym is))
+had_at (x ∷ xs) z (inr h) = let (n, at) = had_at xs z h in (suc n, at)
+
 module _ {A : Type 0} (row : ℕ → A → Row) where
+  -- the element whose row stands at a place
+  pub numbered_got : (id : ℕ) (xs : List A) (k : ℕ) (z : Row) → slice_get (numbered_from row id xs) k ≡ Some z → (x : A)
+      × (slice_get xs k ≡ Some x) × (z ≡ row (id + k) x)
+  numbered_got id [] k z at = cc
+  numbered_got id (x ∷ xs) zero z at = let is : z ≡ row id x = cc in
+      let here : id ≡ id + 0 = omega arith in (x, refl, is ∙ ap (λ k. row k x) here)
+  numbered_got id (x ∷ xs) (suc k) z at =
+      let (y, stands, is) = numbered_got (suc id) xs k z at in
+      let later : suc id + k ≡ id + suc k = omega arith in
+      (y, stands, is ∙ ap (λ j. row j y) later)
+
   pub numbered_had : (id : ℕ) (xs : List A) (z : Row) → Has (numbered_from row id xs) z → (n : ℕ) × (x : A)
       × (slice_get xs n ≡ Some x) × (z ≡ row (id + n) x)
-  numbered_had id [] z h = absurd h
-  numbered_had id (x ∷ xs) z (inl is) = let here : id ≡ id + 0 = omega arith in
-      (0, x, refl, is ∙ ap (λ k. row k x) here)
-  numbered_had id (x ∷ xs) z (inr h) =
-      let (n, y, at, is) = numbered_had (suc id) xs z h in
-      let later : suc id + n ≡ id + suc n = omega arith in
-      (suc n, y, at, is ∙ ap (λ k. row k y) later)
+  numbered_had id xs z h =
+      let (n, at) = had_at (numbered_from row id xs) z h in
+      let (x, stands, is) = numbered_got id xs n z at in (n, x, stands, is)
 
   pub numbered_has : (id : ℕ) (xs : List A) (n : ℕ) (x : A) → slice_get xs n ≡ Some x
       → Has (numbered_from row id xs) (row (id + n) x)
@@ -63,54 +86,34 @@ module _ {A : Type 0} (row : ℕ → A → Row) where
       let later : suc id + n ≡ id + suc n = omega arith in
       inr (subst (λ k. Has (numbered_from row (suc id) ys) (row k x)) later (numbered_has (suc id) ys n x at))
 
+  pub numbered_in : (xs : List A) (n : ℕ) (x : A) (z : Row) → slice_get xs n ≡ Some x → z ≡ row (1 + n) x
+      → Has (numbered_from row 1 xs) z
+  numbered_in xs n x z at is = subst (Has (numbered_from row 1 xs)) (sym is) (numbered_has 1 xs n x at)
+
   pub numbered_length : (id : ℕ) (xs : List A) → length (numbered_from row id xs) ≡ length xs
   numbered_length id [] = refl
   numbered_length id (x ∷ xs) = ap suc (numbered_length (suc id) xs)
 
-  -- the element whose row stands at a place
   pub numbered_at : {R : Type 0} (cells : R → Row) (id : ℕ) (rs : List R) (xs : List A)
       → map cells rs ≡ numbered_from row id xs → (k : ℕ) (r : R) → slice_get rs k ≡ Some r → (x : A)
       × (slice_get xs k ≡ Some x) × (cells r ≡ row (id + k) x)
-  numbered_at cells id [] xs same k r at = cc
-  numbered_at cells id (q ∷ rs) [] same k r at = cc
-  numbered_at cells id (q ∷ rs) (x ∷ xs) same zero r at =
-      let first : cells q ≡ row id x = cc in
-      let is : r ≡ q = cc in
-      let here : id ≡ id + 0 = omega arith in
-      (x, refl, ap cells is ∙ (first ∙ ap (λ k. row k x) here))
-  numbered_at cells id (q ∷ rs) (x ∷ xs) same (suc k) r at =
-      let rest : map cells rs ≡ numbered_from row (suc id) xs = cc in
-      let (y, stands, is) = numbered_at cells (suc id) rs xs rest k r at in
-      let later : suc id + k ≡ id + suc k = omega arith in
-      (y, stands, is ∙ ap (λ j. row j y) later)
+  numbered_at cells id rs xs same k r at = numbered_got id xs k (cells r)
+      (ap (λ l. slice_get l k) (sym same) ∙ map-at cells rs k r at)
+
+pub first_of : {A : Type 0} (row : ℕ → A → Row) → ((id : ℕ) (x : A) → column (row id x) 0 ≡ number id) → (z : Row)
+    (n : ℕ) (x : A) → z ≡ row (1 + n) x → column z 0 ≡ number (1 + n)
+first_of row first z n x is = ap (λ w. column w 0) is ∙ first (1 + n) x
 
 -- ---- elements of lists
 
-take_suc : {A : Type 0} (xs : List A) (k : ℕ) (x : A) → slice_get xs k ≡ Some x → take (suc k) xs ≡ take k xs ++ x ∷ []
-take_suc [] k x at = cc
-take_suc (y ∷ ys) zero x at = let e : y ≡ x = cc in ap (λ (z : _). z ∷ []) e
-take_suc (y ∷ ys) (suc k) x at = ap (λ zs. y ∷ zs) (take_suc ys k x at)
-
 pub take_next : {A : Type 0} (xs : List A) (k : ℕ) (x : A) → slice_get xs k ≡ Some x
     → take (k + 1) xs ≡ take k xs ++ x ∷ []
-take_next xs k x at = rw add-one (take_suc xs k x at)
-
-drop_suc : {A : Type 0} (xs : List A) (k : ℕ) (x : A) → slice_get xs k ≡ Some x → drop k xs ≡ x ∷ drop (suc k) xs
-drop_suc [] k x at = cc
-drop_suc (y ∷ ys) zero x at = let e : y ≡ x = cc in ap (λ z. z ∷ ys) e
-drop_suc (y ∷ ys) (suc k) x at = drop_suc ys k x at
+take_next xs k x at = take_more xs k x (slice_get_within xs k x at)
+    ∙ ap (λ y. take k xs ++ y ∷ []) (get_or_from_slice_get xs k x x at)
 
 pub drop_next : {A : Type 0} (xs : List A) (k : ℕ) (x : A) → slice_get xs k ≡ Some x → drop k xs ≡ x ∷ drop (k + 1) xs
-drop_next xs k x at = rw add-one (drop_suc xs k x at)
-
-pub drop_all : {A : Type 0} (xs : List A) → drop (length xs) xs ≡ []
-drop_all [] = refl
-drop_all (x ∷ xs) = drop_all xs
-
-pub taken_length : {A : Type 0} (xs : List A) (k : ℕ) (x : A) → slice_get xs k ≡ Some x → length (take k xs) ≡ k
-taken_length [] k x at = cc
-taken_length (y ∷ ys) zero x at = refl
-taken_length (y ∷ ys) (suc k) x at = ap suc (taken_length ys k x at)
+drop_next xs k x at = drop_more xs k x (slice_get_within xs k x at)
+    ∙ ap (λ y. y ∷ drop (k + 1) xs) (get_or_from_slice_get xs k x x at)
 
 pub gathered_last : {A : Type 0} (rows : ℕ → A → List Row) (id : ℕ) (xs : List A) (x : A)
     → gathered_from rows id (xs ++ x ∷ []) ≡ gathered_from rows id xs ++ rows (id + length xs) x
@@ -119,9 +122,7 @@ gathered_last rows id [] x =
     append-nil (rows id x) ∙ ap (λ k. rows k x) here
 gathered_last rows id (y ∷ ys) x =
     let later : suc id + length ys ≡ id + suc (length ys) = omega arith in
-    ap (λ l. rows id y ++ l) (gathered_last rows (suc id) ys x
-    ∙ ap (λ k. gathered_from rows (suc id) ys ++ rows k x) later)
-    ∙ sym (append_assoc (rows id y) (gathered_from rows (suc id) ys) (rows (id + suc (length ys)) x))
+    rw (gathered_last rows (suc id) ys x, append_assoc, later)
 
 -- ---- the elements that pass a test change
 
@@ -130,44 +131,24 @@ module _ {A : Type 0} (row : ℕ → A → Row) (passes : A → Bool) (after : A
   abbrev pub row_if : ℕ → A → List Row
   row_if id x = if passes x then row id (after x) ∷ [] else []
 
-  pub row_if_passes : (id : ℕ) (x : A) → passes x ≡ true → row_if id x ≡ row id (after x) ∷ []
-  row_if_passes id x is = rw is refl
-
-  pub row_if_fails : (id : ℕ) (x : A) → passes x ≡ false → row_if id x ≡ []
-  row_if_fails id x is = rw is refl
-
   one_had : (id : ℕ) (x : A) (z : Row) (b : Bool) → passes x ≡ b → Has (row_if id x) z → (b ≡ true)
       × (z ≡ row id (after x))
-  one_had id x z true is h = elim (subst (λ l. Has l z) (row_if_passes id x is) h)
-      [ inl here ↦ (refl, here) | inr none ↦ absurd none ]
-  one_had id x z false is h = absurd (subst (λ l. Has l z) (row_if_fails id x is) h)
+  one_had id x z true is h = elim (rw is at h) [ inl here ↦ (refl, here) | inr none ↦ absurd none ]
+  one_had id x z false is h = absurd (rw is at h)
 
   one_has : (id : ℕ) (x : A) → passes x ≡ true → Has (row_if id x) (row id (after x))
-  one_has id x is = subst (λ l. Has l (row id (after x))) (sym (row_if_passes id x is)) (inl refl)
-
-  count_one : (id : ℕ) (x : A) (xs : List A) (b : Bool) → passes x ≡ b
-      → length (gathered_from row_if (suc id) xs) ≡ count_by passes xs
-      → length (row_if id x ++ gathered_from row_if (suc id) xs) ≡ count_by passes (x ∷ xs)
-  count_one id x xs true is rest =
-      let more : count_by passes (x ∷ xs) ≡ cond (passes x) 1 0 + count_by passes xs =
-      sum_by-cons (λ y. cond (passes y) 1 0) x xs in
-      let one : ℕ = 1 in
-      let here : cond (passes x) one 0 ≡ one = ap (λ b. cond b one 0) is in
-      let whole : suc (length (gathered_from row_if (suc id) xs)) ≡ count_by passes (x ∷ xs) =
-      omega (arith, more, here, rest) in
-      ap (λ l. length (l ++ gathered_from row_if (suc id) xs)) (row_if_passes id x is) ∙ whole
-  count_one id x xs false is rest =
-      let more : count_by passes (x ∷ xs) ≡ cond (passes x) 1 0 + count_by passes xs =
-      sum_by-cons (λ y. cond (passes y) 1 0) x xs in
-      let none : ℕ = 0 in
-      let here : cond (passes x) 1 none ≡ none = ap (λ b. cond b 1 none) is in
-      let whole : length (gathered_from row_if (suc id) xs) ≡ count_by passes (x ∷ xs) =
-      omega (arith, more, here, rest) in
-      ap (λ l. length (l ++ gathered_from row_if (suc id) xs)) (row_if_fails id x is) ∙ whole
+  one_has id x is = rw is (inl refl)
 
   pub passing_count : (id : ℕ) (xs : List A) → length (gathered_from row_if id xs) ≡ count_by passes xs
   passing_count id [] = refl
-  passing_count id (x ∷ xs) = count_one id x xs (passes x) refl (passing_count (suc id) xs)
+  passing_count id (x ∷ xs) = one (passes x) (passing_count (suc id) xs)
+      ∙ sym (sum_by-cons (λ y. cond (passes y) 1 0) x xs)
+    where
+      one : (b : Bool) → length (gathered_from row_if (suc id) xs) ≡ count_by passes xs
+          → length ((if b then row id (after x) ∷ [] else []) ++ gathered_from row_if (suc id) xs)
+          ≡ cond b 1 0 + count_by passes xs
+      one true rest = let rest_is = rest in omega (arith, rest_is)
+      one false rest = let rest_is = rest in omega (arith, rest_is)
 
   -- one that does not pass stays, and a row begins with its id
   module _ (kept : (x : A) → passes x ≡ false → after x ≡ x)
@@ -178,8 +159,7 @@ module _ {A : Type 0} (row : ℕ → A → Row) (passes : A → Bool) (after : A
       among = λ z h.
           let (n, x, at, has) = gathered-had row_if 1 xs z h in
           let (passed, is) = one_had (1 + n) x z (passes x) refl has in
-          subst (Has (numbered_from row 1 (map after xs))) (sym is)
-          (numbered_has row 1 (map after xs) n (after x) (map-at after xs n x at));
+          numbered_in row (map after xs) n (after x) z (map-at after xs n x at) is;
       from = λ z h.
           let (n, y, at, is) = numbered_had row 1 (map after xs) z h in
           let (x, stands, y_is) = map-got after xs n y at in
@@ -188,32 +168,25 @@ module _ {A : Type 0} (row : ℕ → A → Row) (passes : A → Bool) (after : A
                 inr
                 (gathered-has row_if 1 xs n x z stands
                 (subst (Has (row_if (1 + n) x)) (ap (row (1 + n)) y_is ∙ sym is) (one_has (1 + n) x passed)))
-            | inr failed ↦
-                inl
-                (subst (Has (numbered_from row 1 xs)) (ap (row (1 + n)) (sym (kept x failed) ∙ y_is) ∙ sym is)
-                (numbered_has row 1 xs n x stands))
+            | inr failed ↦ inl
+                (numbered_in row xs n x z stands (is ∙ ap (row (1 + n)) (sym (sym (kept x failed) ∙ y_is))))
           ];
       stays = λ z h.
           let (n, x, at, is) = numbered_had row 1 xs z h in
           elim (cases_Bool (passes x)) [
-            | inl passed ↦ inr (
-              row (1 + n) (after x),
-              gathered-has row_if 1 xs n x (row (1 + n) (after x)) at (one_has (1 + n) x passed),
-              ids_agree z (row (1 + n) (after x)) (1 + n) (ap (λ w. column w 0) is ∙ first (1 + n) x)
-                  (first (1 + n) (after x)),
-            )
-            | inr failed ↦
-                inl
-                (subst (Has (numbered_from row 1 (map after xs))) (ap (row (1 + n)) (kept x failed) ∙ sym is)
-                (numbered_has row 1 (map after xs) n (after x) (map-at after xs n x at)))
+            | inl passed ↦
+                let by = row (1 + n) (after x) in
+                let put = gathered-has row_if 1 xs n x by at (one_has (1 + n) x passed) in
+                inr (by, put, ids_agree z by (1 + n) (first_of row first z n x is) (first (1 + n) (after x)))
+            | inr failed ↦ inl (numbered_in row (map after xs) n (after x) z (map-at after xs n x at)
+                (is ∙ ap (row (1 + n)) (sym (kept x failed))))
           ];
       one = λ z w h k same.
           let (n, x, at, z_is) = numbered_had row 1 (map after xs) z h in
           let (m, y, there, w_is) = numbered_had row 1 (map after xs) w k in
-          let ids = ids_same z w (1 + n) (1 + m) (ap (λ v. column v 0) z_is ∙ first (1 + n) x)
-          (ap (λ v. column v 0) w_is ∙ first (1 + m) y) same in
+          let ids = ids_same z w (1 + n) (1 + m) (first_of row first z n x z_is) (first_of row first w m y w_is) same in
           let place : n ≡ m = omega (arith, ids) in
           let here : slice_get (map after xs) m ≡ Some x = subst (λ j. slice_get (map after xs) j ≡ Some x) place at in
           let one_is : x ≡ y = cc in
-          z_is ∙ (ap (λ j. row (1 + j) x) place ∙ (ap (row (1 + m)) one_is ∙ sym w_is));
+          z_is ∙ ((λ j. row (1 + place j) (one_is j)) ∙ sym w_is);
     }

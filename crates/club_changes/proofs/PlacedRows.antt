@@ -1,7 +1,8 @@
 -- Rows that have their places, from 1, in a column; the rows of a game's moves are such.
-use Rattle.std.proofs.Common.{◌≡◌, ℕ, zero, suc, ◌+◌, List, [], ◌∷◌, ◌++◌, length, pos, Option, Some, None, refl, ap}
-use Rattle.std.proofs.Common.{sym, subst, ◌∙◌, arith, inl, inr, length-append}
+use Rattle.std.proofs.Common.{◌≡◌, ℕ, zero, suc, ◌+◌, List, [], ◌∷◌, ◌++◌, length, Option, Some, None, refl, ap}
+use Rattle.std.proofs.Common.{sym, subst, ◌∙◌, arith, length-append}
 use Rattle.std.specs.Prelude.{slice_get}
+use Rattle.std.proofs.lemmas.Option.{same_Some}
 use Rattle.sqlite.specs.Order.{Row, column}
 use Rattle.sqlite_rules.specs.Lists.{Has}
 use Rattle.sqlite_rules.proofs.ListLemmas.{has_got}
@@ -10,9 +11,7 @@ use Rattle.club_core.specs.Events.{Terms}
 use Rattle.club_core.specs.Game.{Entry, Game}
 use Rattle.club_rows.specs.Tables.{number, entry_row, entry_rows, move_rows, at_start, with_entry}
 use Rattle.store_tables.specs.Changes.{HaveSame}
-
-pos_same : (m n : ℕ) → pos m ≡ pos n → m ≡ n
-pos_same m n is = cc
+use Rattle.club_changes.proofs.PlacedIds.{had_at, number_same}
 
 pub same_list : (xs ys : List Row) → ((n : ℕ) (z : Row) → slice_get xs n ≡ Some z → slice_get ys n ≡ Some z)
     → ((n : ℕ) (z : Row) → slice_get ys n ≡ Some z → slice_get xs n ≡ Some z) → xs ≡ ys
@@ -20,15 +19,9 @@ same_list [] [] there back = refl
 same_list [] (y ∷ ys) there back = let none : ◌≡◌ {A = Option Row} None (Some y) = back 0 y refl in cc
 same_list (x ∷ xs) [] there back = let none : ◌≡◌ {A = Option Row} None (Some x) = there 0 x refl in cc
 same_list (x ∷ xs) (y ∷ ys) there back =
-    let here : ◌≡◌ {A = Option Row} (Some y) (Some x) = there 0 x refl in
-    let e : x ≡ y = cc in
+    let e = sym (same_Some y x (there 0 x refl)) in
     let rest = same_list xs ys (λ n z h. there (suc n) z h) (λ n z h. back (suc n) z h) in
     λ i. e i ∷ rest i
-
-pub had_at : (xs : List Row) (z : Row) → Has xs z → (n : ℕ) × (slice_get xs n ≡ Some z)
-had_at [] z h = absurd h
-had_at (x ∷ xs) z (inl is) = (0, ap Some (sym is))
-had_at (x ∷ xs) z (inr h) = let (n, at) = had_at xs z h in (suc n, at)
 
 -- each row has its place, from 1, in the column
 abbrev pub AreAtPlaces : ℕ → List Row → Type 0
@@ -38,12 +31,9 @@ placed_same : (at : ℕ) (xs ys : List Row) → AreAtPlaces at xs → AreAtPlace
     → (n : ℕ) (z : Row) → slice_get xs n ≡ Some z → slice_get ys n ≡ Some z
 placed_same at xs ys places others same n z stands =
     let (k, there) = had_at ys z (same z (has_got xs n z stands)) in
-    let e : pos (1 + k) ≡ pos (1 + n) = number_same (1 + k) (1 + n) (sym (others k z there) ∙ places n z stands) in
-    let k_is : k ≡ n = omega (arith, pos_same (1 + k) (1 + n) e) in
+    let e = number_same (1 + k) (1 + n) (sym (others k z there) ∙ places n z stands) in
+    let k_is : k ≡ n = omega (arith, e) in
     subst (λ j. slice_get ys j ≡ Some z) k_is there
-  where
-    number_same : (a b : ℕ) → number a ≡ number b → pos a ≡ pos b
-    number_same a b is = cc
 
 -- the same rows by their places are one list
 pub one_line : (at : ℕ) (xs ys : List Row) → AreAtPlaces at xs → AreAtPlaces at ys → HaveSame xs ys → xs ≡ ys

@@ -1,24 +1,23 @@
 -- Rows that are put into a table that has an id for each place of a list.
-use Rattle.std.proofs.Common.{◌≡◌, ℕ, zero, suc, ◌+◌, ◌<◌, List, [], ◌∷◌, ◌++◌, length, get_or, pos, Some, true, false}
-use Rattle.std.proofs.Common.{refl, ap, sym, subst, subst₂, ◌∙◌, arith, inl, inr, true≢false}
-use Rattle.std.specs.Prelude.{slice_get, slice_set}
-use Rattle.std.proofs.lemmas.Bool.{cases_Bool, and_parts}
-use Rattle.std.proofs.lemmas.Option.{slice_get_within}
+use Rattle.std.proofs.Common.{◌≡◌, ℕ, suc, ◌+◌, ◌<◌, List, [], ◌∷◌, ◌++◌, length, get_or, Some, false}
+use Rattle.std.proofs.Common.{refl, ap, sym, subst, subst₂, ◌∙◌, arith, inl, inr, ◌⊎◌, true≢false, Bool, true}
+use Rattle.std.specs.Prelude.{if◌then◌else◌, slice_get, slice_set}
+use Rattle.std.proofs.lemmas.Bool.{cases_Bool, false_from_ne_true}
+use Rattle.std.proofs.lemmas.List.{append-nil}
+use Rattle.std.proofs.lemmas.Option.{slice_get_within, slice_get-get_or}
 use Rattle.sqlite.specs.Order.{Row, column}
-use Rattle.sqlite.specs.Collation.TheVariants.{Binary}
-use Rattle.sqlite_schema.specs.Rules.{equal}
-use Rattle.sqlite_value.specs.Keys.{first_key}
 use Rattle.sqlite_rules.specs.Lists.{Has}
 use Rattle.sqlite_rules.proofs.ListLemmas.{has_either, has_left, has_right}
 use Rattle.club_laws.proofs.Proved.{got-append, got-set, set-got, get-append, at-last, put-at}
 use Rattle.club_rows.specs.Tables.{number, numbered_from, gathered_from}
+pub use Rattle.club_rows.proofs.Proved.{gathered-had as gathered_had, gathered-has as gathered_has}
 use Rattle.store_tables.specs.Content.{same_key, put}
-use Rattle.store_tables.proofs.Proved.{equal_ints}
 pub use Rattle.store_tables.proofs.Proved.{same_itself, same_by, put_had, put_kept}
-pub use Rattle.club_changes.proofs.PlacedRows.{same_list, had_at, AreAtPlaces, one_line}
-pub use Rattle.club_changes.proofs.PlacedIds.{pos_same, ids_agree, ids_same, numbered_had, numbered_has}
-pub use Rattle.club_changes.proofs.PlacedIds.{numbered_length}
-pub use Rattle.club_changes.proofs.PlacedIds.{numbered_at, take_next}
+pub use Rattle.club_changes.proofs.PlacedRows.{same_list, AreAtPlaces, one_line}
+pub use Rattle.club_changes.proofs.PlacedIds.{pos_same, number_same, ids_agree, ids_same, numbers_same}
+pub use Rattle.club_changes.proofs.PlacedIds.{had_at, numbered_had, numbered_has}
+pub use Rattle.club_changes.proofs.PlacedIds.{numbered_at, numbered_length, take_next}
+use Rattle.club_changes.proofs.PlacedIds.{first_of, gathered_last, numbered_got, numbered_in}
 use Rattle.club_changes.specs.Steps.{HaveSame}
 
 -- one table, and those after it
@@ -30,23 +29,12 @@ one & more = (one, more)
 
 pub ids_apart : (a b : Row) (m n : ℕ) → column a 0 ≡ number m → column b 0 ≡ number n → (m ≡ n → ⊥)
     → same_key (0 ∷ []) a b ≡ false
-ids_apart a b m n p q apart = elim (cases_Bool (same_key (0 ∷ []) a b)) [
-  | inl same ↦ absurd (apart (ids_same a b m n p q same))
-  | inr other ↦ other
-]
+ids_apart a b m n p q apart = false_from_ne_true _ (λ same. apart (ids_same a b m n p q same))
 
 pub pairs_apart : (a b : Row) (m n k j : ℕ) → column a 0 ≡ number m → column b 0 ≡ number n → column a 1 ≡ number k
     → column b 1 ≡ number j → (m ≡ n → k ≡ j → ⊥) → same_key (0 ∷ 1 ∷ []) a b ≡ false
-unfolding first_key
-pairs_apart a b m n k j p q r t apart = elim (cases_Bool (same_key (0 ∷ 1 ∷ []) a b)) [
-  | inl same ↦
-      let parts = and_parts _ _ same in
-      let rest = and_parts _ _ parts.1 in
-      absurd (apart
-      (pos_same m n (equal_ints (pos m) (pos n) (subst₂ (λ x y. equal Binary x y ≡ true) p q parts.0)))
-      (pos_same k j (equal_ints (pos k) (pos j) (subst₂ (λ x y. equal Binary x y ≡ true) r t rest.0))))
-  | inr other ↦ other
-]
+pairs_apart a b m n k j p q r t apart =
+    false_from_ne_true _ (λ same. let both = numbers_same a b m n k j p q r t same in apart both.0 both.1)
 
 -- ---- a row that is put
 
@@ -67,10 +55,13 @@ one_replaced old new m p q = record {
 
 -- ---- elements of lists
 
+-- a choice of two that have one value
+pub if_same : {A B : Type 0} (f : A → B) (b : Bool) (x y : A) → f x ≡ f y → f (if b then x else y) ≡ f y
+if_same f true x y same = same
+if_same f false x y same = refl
+
 pub at_get : {A : Type 0} (xs : List A) (k : ℕ) (x : A) → k < length xs → x ≡ get_or xs k x → slice_get xs k ≡ Some x
-at_get [] k x within is = absurd (omega arith)
-at_get (y ∷ ys) zero x within is = ap Some (sym is)
-at_get (y ∷ ys) (suc k) x within is = at_get ys k x (omega arith) is
+at_get xs k x within is = slice_get-get_or xs k x within ∙ ap Some (sym is)
 
 -- ---- a row for each element, by ids that count up
 
@@ -78,72 +69,60 @@ module _ {A : Type 0} (row : ℕ → A → Row) where
   module _ (first : (id : ℕ) (x : A) → column (row id x) 0 ≡ number id) where
     pub numbered_places : (id : ℕ) (xs : List A) (k : ℕ) → k < length (numbered_from row id xs)
         → column (get_or (numbered_from row id xs) k []) 0 ≡ number (id + k)
-    numbered_places id [] k within = absurd (omega arith)
-    numbered_places id (x ∷ xs) zero within = let here : id ≡ id + 0 = omega arith in first id x ∙ ap number here
-    numbered_places id (x ∷ xs) (suc k) within =
-        let later : suc id + k ≡ id + suc k = omega arith in
-        numbered_places (suc id) xs k (omega arith) ∙ ap number later
+    numbered_places id xs k within =
+        let at = slice_get-get_or (numbered_from row id xs) k [] within in
+        let (x, stands, is) = numbered_got row id xs k _ at in ap (λ w. column w 0) is ∙ first (id + k) x
 
     -- a row with the next id is put
-    pub row_added : (xs : List A) (x : A) (r : Row) → r ≡ row (1 + length xs) x
-        → HaveSame (put (0 ∷ []) r (numbered_from row 1 xs)) (numbered_from row 1 (xs ++ x ∷ []))
-    row_added xs x r is = record {
+    pub row_added : (xs : List A) (x : A) → HaveSame (put (0 ∷ []) (row (1 + length xs) x) (numbered_from row 1 xs))
+        (numbered_from row 1 (xs ++ x ∷ []))
+    row_added xs x = let r = row (1 + length xs) x in record {
       there = λ z h. elim (put_had (0 ∷ []) r (numbered_from row 1 xs) z h) [
-        | inl new ↦ subst (Has (numbered_from row 1 (xs ++ x ∷ []))) (sym (new ∙ is))
-            (numbered_has row 1 (xs ++ x ∷ []) (length xs) x (at-last xs x))
+        | inl new ↦ numbered_in row (xs ++ x ∷ []) (length xs) x z (at-last xs x) new
         | inr old ↦
             let (n, y, at, same) = numbered_had row 1 xs z old.0 in
-            subst (Has (numbered_from row 1 (xs ++ x ∷ []))) (sym same)
-            (numbered_has row 1 (xs ++ x ∷ []) n y (get-append xs (x ∷ []) n y at))
+            numbered_in row (xs ++ x ∷ []) n y z (get-append xs (x ∷ []) n y at) same
       ];
       back = λ z h.
           let (n, y, at, same) = numbered_had row 1 (xs ++ x ∷ []) z h in
           elim (got-append xs x n y at) [
             | inl old ↦
-                let within : n < length xs = slice_get_within xs n y old in
-                put_kept (0 ∷ []) r (numbered_from row 1 xs) z
-                (subst (Has (numbered_from row 1 xs)) (sym same) (numbered_has row 1 xs n y old))
-                (ids_apart z r (1 + n) (1 + length xs) (ap (λ w. column w 0) same ∙ first (1 + n) y)
-                (ap (λ w. column w 0) is ∙ first (1 + length xs) x) (λ e. absurd (omega arith)))
-            | inr new ↦ inl (same ∙ (ap (λ k. row (1 + k) y) new.0 ∙ (ap (row (1 + length xs)) (sym new.1) ∙ sym is)))
+                let within = slice_get_within xs n y old in
+                put_kept (0 ∷ []) r (numbered_from row 1 xs) z (numbered_in row xs n y z old same)
+                (ids_apart z r (1 + n) (1 + length xs) (first_of row first z n y same) (first (1 + length xs) x)
+                (λ e. absurd (omega (arith, e, within))))
+            | inr new ↦ inl (same ∙ (ap (λ k. row (1 + k) y) new.0 ∙ ap (row (1 + length xs)) (sym new.1)))
           ];
     }
 
     -- a row is put for the one with its id
-    pub row_replaced : (xs : List A) (i : ℕ) (old new : A) (r : Row) → slice_get xs i ≡ Some old → r ≡ row (1 + i) new
-        → HaveSame (put (0 ∷ []) r (numbered_from row 1 xs)) (numbered_from row 1 (slice_set xs i new))
-    row_replaced xs i old new r at_i is = record {
+    pub row_replaced : (xs : List A) (i : ℕ) (old new : A) → slice_get xs i ≡ Some old
+        → HaveSame (put (0 ∷ []) (row (1 + i) new) (numbered_from row 1 xs)) (numbered_from row 1 (slice_set xs i new))
+    row_replaced xs i old new at_i = let r = row (1 + i) new in record {
       there = λ z h. elim (put_had (0 ∷ []) r (numbered_from row 1 xs) z h) [
-        | inl put ↦ subst (Has (numbered_from row 1 (slice_set xs i new))) (sym (put ∙ is))
-            (numbered_has row 1 (slice_set xs i new) i new (put-at xs i old new at_i))
+        | inl put ↦ numbered_in row (slice_set xs i new) i new z (put-at xs i old new at_i) put
         | inr was ↦
             let (n, y, at, same) = numbered_had row 1 xs z was.0 in
             elim (set-got xs i new n y at) [
-              | inl kept ↦ subst (Has (numbered_from row 1 (slice_set xs i new))) (sym same)
-                  (numbered_has row 1 (slice_set xs i new) n y kept)
+              | inl kept ↦ numbered_in row (slice_set xs i new) n y z kept same
               | inr here ↦
-                  let first_z : column z 0 ≡ number (1 + i) = ap (λ w. column w 0) same
-                  ∙ (first (1 + n) y ∙ ap (λ k. number (1 + k)) here.0) in
-                  absurd
-                  (true≢false (sym (ids_agree z r (1 + i) first_z (ap (λ w. column w 0) is ∙ first (1 + i) new))
-                  ∙ was.1))
+                  let first_z = first_of row first z n y same ∙ ap (λ k. number (1 + k)) here.0 in
+                  absurd (true≢false (sym (ids_agree z r (1 + i) first_z (first (1 + i) new)) ∙ was.1))
             ]
       ];
       back = λ z h.
           let (n, y, at, same) = numbered_had row 1 (slice_set xs i new) z h in
           elim (cases_Bool (same_key (0 ∷ []) z r)) [
             | inl alike ↦
-                let here : 1 + n ≡ 1 + i = ids_same z r (1 + n) (1 + i) (ap (λ w. column w 0) same ∙ first (1 + n) y)
-                (ap (λ w. column w 0) is ∙ first (1 + i) new) alike in
+                let here = ids_same z r (1 + n) (1 + i) (first_of row first z n y same) (first (1 + i) new) alike in
                 let n_is : n ≡ i = omega (arith, here) in
                 let there : slice_get (slice_set xs i new) n ≡ Some new =
                 subst (λ k. slice_get (slice_set xs i new) k ≡ Some new) (sym n_is) (put-at xs i old new at_i) in
                 let y_is : y ≡ new = cc in
-                inl (same ∙ (ap (λ k. row k y) here ∙ (ap (row (1 + i)) y_is ∙ sym is)))
+                inl (same ∙ (λ j. row (1 + n_is j) (y_is j)))
             | inr other ↦ elim (got-set xs i new n y at) [
-              | inl was ↦ put_kept (0 ∷ []) r (numbered_from row 1 xs) z
-                  (subst (Has (numbered_from row 1 xs)) (sym same) (numbered_has row 1 xs n y was)) other
-              | inr put ↦ inl (same ∙ (ap (λ k. row (1 + k) y) put.0 ∙ (ap (row (1 + i)) (sym put.1) ∙ sym is)))
+              | inl was ↦ put_kept (0 ∷ []) r (numbered_from row 1 xs) z (numbered_in row xs n y z was same) other
+              | inr put ↦ inl (same ∙ (ap (λ k. row (1 + k) y) put.0 ∙ ap (row (1 + i)) (sym put.1)))
             ]
           ];
     }
@@ -151,107 +130,74 @@ module _ {A : Type 0} (row : ℕ → A → Row) where
 -- ---- the rows of each element
 
 module _ {A : Type 0} (rows : ℕ → A → List Row) where
-  pub gathered_had : (id : ℕ) (xs : List A) (z : Row) → Has (gathered_from rows id xs) z → (n : ℕ) × (x : A)
-      × (slice_get xs n ≡ Some x) × Has (rows (id + n) x) z
-  gathered_had id [] z h = absurd h
-  gathered_had id (x ∷ xs) z h = elim (has_either (rows id x) (gathered_from rows (suc id) xs) z h) [
-    | inl here ↦ let same : id ≡ id + 0 = omega arith in (0, x, refl, subst (λ k. Has (rows k x) z) same here)
-    | inr later ↦
-        let (n, y, at, has) = gathered_had (suc id) xs z later in
-        let same : suc id + n ≡ id + suc n = omega arith in
-        (suc n, y, at, subst (λ k. Has (rows k y) z) same has)
-  ]
-
-  pub gathered_has : (id : ℕ) (xs : List A) (n : ℕ) (x : A) (z : Row) → slice_get xs n ≡ Some x
-      → Has (rows (id + n) x) z → Has (gathered_from rows id xs) z
-  gathered_has id [] n x z at h = cc
-  gathered_has id (y ∷ ys) zero x z at h =
-      let same : id + 0 ≡ id = omega arith in
-      let is : x ≡ y = cc in
-      has_left (rows id y) (gathered_from rows (suc id) ys) z (subst₂ (λ k w. Has (rows k w) z) same is h)
-  gathered_has id (y ∷ ys) (suc n) x z at h =
-      let same : id + suc n ≡ suc id + n = omega arith in
-      has_right (rows id y) (gathered_from rows (suc id) ys) z
-      (gathered_has (suc id) ys n x z at (subst (λ k. Has (rows k x) z) same h))
-
   -- an element that has no rows adds none
   pub nothing_added : (xs : List A) (x : A) → ((id : ℕ) → rows id x ≡ [])
       → HaveSame (gathered_from rows 1 xs) (gathered_from rows 1 (xs ++ x ∷ []))
-  nothing_added xs x none = record {
-    there = λ z h.
-        let (n, y, at, has) = gathered_had 1 xs z h in
-        gathered_has 1 (xs ++ x ∷ []) n y z (get-append xs (x ∷ []) n y at) has;
-    back = λ z h.
-        let (n, y, at, has) = gathered_had 1 (xs ++ x ∷ []) z h in
-        elim (got-append xs x n y at) [
-          | inl old ↦ gathered_has 1 xs n y z old has
-          | inr new ↦ absurd (subst (λ l. Has l z) (ap (rows (1 + n)) (sym new.1) ∙ none (1 + n)) has)
-        ];
-  }
+  nothing_added xs x none = same_by _ _ (sym (gathered_last rows 1 xs x
+      ∙ (ap (λ l. gathered_from rows 1 xs ++ l) (none (1 + length xs)) ∙ append-nil (gathered_from rows 1 xs))))
 
-  -- one element gets one row more, whose key no row has
-  pub one_row_more : (xs : List A) (i : ℕ) (old new : A) (r : Row) → slice_get xs i ≡ Some old
-      → rows (1 + i) new ≡ rows (1 + i) old ++ r ∷ []
-      → ((n : ℕ) (x : A) (z : Row) → slice_get xs n ≡ Some x → Has (rows (1 + n) x) z
-      → same_key (0 ∷ 1 ∷ []) z r ≡ false)
-      → HaveSame (put (0 ∷ 1 ∷ []) r (gathered_from rows 1 xs)) (gathered_from rows 1 (slice_set xs i new))
-  one_row_more xs i old new r at_i grown fresh = record {
-    there = λ z h. elim (put_had (0 ∷ 1 ∷ []) r (gathered_from rows 1 xs) z h) [
-      | inl is ↦
-          gathered_has 1 (slice_set xs i new) i new z (put-at xs i old new at_i)
-          (subst (λ l. Has l z) (sym grown) (has_right (rows (1 + i) old) (r ∷ []) z (inl is)))
-      | inr was ↦
-          let (n, y, at, has) = gathered_had 1 xs z was.0 in
-          elim (set-got xs i new n y at) [
-            | inl kept ↦ gathered_has 1 (slice_set xs i new) n y z kept has
-            | inr here ↦
-                let there : slice_get xs n ≡ Some old = subst (λ k. slice_get xs k ≡ Some old) (sym here.0) at_i in
-                let y_is : y ≡ old = cc in
-                let has_old : Has (rows (1 + i) old) z = subst₂ (λ k w. Has (rows (1 + k) w) z) here.0 y_is has in
-                gathered_has 1 (slice_set xs i new) n new z here.1
-                (subst (λ k. Has (rows (1 + k) new) z) (sym here.0)
-                (subst (λ l. Has l z) (sym grown) (has_left (rows (1 + i) old) (r ∷ []) z has_old)))
-          ]
-    ];
-    back = λ z h.
-        let (n, y, at, has) = gathered_had 1 (slice_set xs i new) z h in
-        elim (got-set xs i new n y at) [
-          | inl was ↦ put_kept (0 ∷ 1 ∷ []) r (gathered_from rows 1 xs) z (gathered_has 1 xs n y z was has)
-              (fresh n y z was has)
-          | inr here ↦
-              let in_new : Has (rows (1 + i) new) z = subst₂ (λ k w. Has (rows (1 + k) w) z) here.0 (sym here.1) has in
-              elim (has_either (rows (1 + i) old) (r ∷ []) z (subst (λ l. Has l z) grown in_new)) [
-                | inl before ↦ put_kept (0 ∷ 1 ∷ []) r (gathered_from rows 1 xs) z
-                    (gathered_has 1 xs i old z at_i before) (fresh i old z at_i before)
-                | inr last ↦ elim last [ inl is ↦ inl is | inr none ↦ absurd none ]
-              ]
-        ];
-  }
-
-  -- one element is replaced by another with the same rows
-  pub rows_kept : (xs : List A) (i : ℕ) (old new : A) → slice_get xs i ≡ Some old → rows (1 + i) new ≡ rows (1 + i) old
-      → HaveSame (gathered_from rows 1 xs) (gathered_from rows 1 (slice_set xs i new))
-  rows_kept xs i old new at_i kept_rows = record {
-    there = λ z h.
-        let (n, y, at, has) = gathered_had 1 xs z h in
+  module _ (xs : List A) (i : ℕ) (old new : A) (at_i : slice_get xs i ≡ Some old) where
+    -- a row of an element is one of the old's, or stays where the new stands in its place
+    row_stays : (z : Row) → Has (gathered_from rows 1 xs) z → Has (rows (1 + i) old) z
+        ⊎ Has (gathered_from rows 1 (slice_set xs i new)) z
+    row_stays z h =
+        let (n, y, at, has) = gathered_had rows 1 xs z h in
         elim (set-got xs i new n y at) [
-          | inl kept ↦ gathered_has 1 (slice_set xs i new) n y z kept has
+          | inl kept ↦ inr (gathered_has rows 1 (slice_set xs i new) n y z kept has)
           | inr here ↦
               let there : slice_get xs n ≡ Some old = subst (λ k. slice_get xs k ≡ Some old) (sym here.0) at_i in
               let y_is : y ≡ old = cc in
-              let has_old : Has (rows (1 + i) old) z = subst₂ (λ k w. Has (rows (1 + k) w) z) here.0 y_is has in
-              gathered_has 1 (slice_set xs i new) n new z here.1
-              (subst (λ k. Has (rows (1 + k) new) z) (sym here.0) (subst (λ l. Has l z) (sym kept_rows) has_old))
-        ];
-    back = λ z h.
-        let (n, y, at, has) = gathered_had 1 (slice_set xs i new) z h in
+              inl (subst₂ (λ k w. Has (rows (1 + k) w) z) here.0 y_is has)
+        ]
+
+    -- and a row then is one of the new's, or stood
+    row_stood : (z : Row) → Has (gathered_from rows 1 (slice_set xs i new)) z → Has (rows (1 + i) new) z
+        ⊎ ((n : ℕ) × (x : A) × (slice_get xs n ≡ Some x) × Has (rows (1 + n) x) z)
+    row_stood z h =
+        let (n, y, at, has) = gathered_had rows 1 (slice_set xs i new) z h in
         elim (got-set xs i new n y at) [
-          | inl was ↦ gathered_has 1 xs n y z was has
-          | inr here ↦
-              let in_new : Has (rows (1 + i) new) z = subst₂ (λ k w. Has (rows (1 + k) w) z) here.0 (sym here.1) has in
-              gathered_has 1 xs i old z at_i (subst (λ l. Has l z) kept_rows in_new)
-        ];
-  }
+          | inl was ↦ inr (n, y, was, has)
+          | inr here ↦ inl (subst₂ (λ k w. Has (rows (1 + k) w) z) here.0 (sym here.1) has)
+        ]
+
+    has_new : (z : Row) → Has (rows (1 + i) new) z → Has (gathered_from rows 1 (slice_set xs i new)) z
+    has_new z h = gathered_has rows 1 (slice_set xs i new) i new z (put-at xs i old new at_i) h
+
+    -- one element gets one row more, whose key no row has
+    pub one_row_more : (r : Row) → rows (1 + i) new ≡ rows (1 + i) old ++ r ∷ []
+        → ((n : ℕ) (x : A) (z : Row) → slice_get xs n ≡ Some x → Has (rows (1 + n) x) z
+        → same_key (0 ∷ 1 ∷ []) z r ≡ false)
+        → HaveSame (put (0 ∷ 1 ∷ []) r (gathered_from rows 1 xs)) (gathered_from rows 1 (slice_set xs i new))
+    one_row_more r grown fresh = record {
+      there = λ z h. elim (put_had (0 ∷ 1 ∷ []) r (gathered_from rows 1 xs) z h) [
+        | inl is ↦ has_new z (subst (λ l. Has l z) (sym grown) (has_right (rows (1 + i) old) (r ∷ []) z (inl is)))
+        | inr was ↦ elim (row_stays z was.0) [
+          | inl of_old ↦ has_new z (subst (λ l. Has l z) (sym grown) (has_left (rows (1 + i) old) (r ∷ []) z of_old))
+          | inr stays ↦ stays
+        ]
+      ];
+      back = λ z h. elim (row_stood z h) [
+        | inl now ↦ elim (has_either (rows (1 + i) old) (r ∷ []) z (subst (λ l. Has l z) grown now)) [
+          | inl before ↦ put_kept (0 ∷ 1 ∷ []) r (gathered_from rows 1 xs) z
+              (gathered_has rows 1 xs i old z at_i before) (fresh i old z at_i before)
+          | inr last ↦ elim last [ inl is ↦ inl is | inr none ↦ absurd none ]
+        ]
+        | inr (n, y, was, has) ↦ put_kept (0 ∷ 1 ∷ []) r (gathered_from rows 1 xs) z
+            (gathered_has rows 1 xs n y z was has) (fresh n y z was has)
+      ];
+    }
+
+    -- one element is replaced by another with the same rows
+    pub rows_kept : rows (1 + i) new ≡ rows (1 + i) old
+        → HaveSame (gathered_from rows 1 xs) (gathered_from rows 1 (slice_set xs i new))
+    rows_kept kept = record {
+      there = λ z h. elim (row_stays z h)
+          [ inl of_old ↦ has_new z (subst (λ l. Has l z) (sym kept) of_old) | inr stays ↦ stays ];
+      back = λ z h. elim (row_stood z h) [
+        | inl now ↦ gathered_has rows 1 xs i old z at_i (subst (λ l. Has l z) kept now)
+        | inr (n, y, was, has) ↦ gathered_has rows 1 xs n y z was has
+      ];
+    }
 
 -- ---- rows that do not change
 

@@ -1,16 +1,19 @@
 -- What rows of the tables of a club tell.
 use Rattle.std.proofs.Common.{◌≡◌, ℕ, zero, suc, ◌+◌, ◌-◌, ◌<◌, ◌≤◌, List, [], ◌∷◌, ◌++◌, length, map, take, get_or}
-use Rattle.std.proofs.Common.{pos, ℤ, Option, Some, None, refl, ap, sym, subst, ◌∙◌, arith, inl}
+use Rattle.std.proofs.Common.{pos, ℤ, Option, Some, None, refl, ap, sym, ◌∙◌, arith, inl}
 use Rattle.std.specs.Prelude.{slice_get, string_bytes}
 use Rattle.std.proofs.Math.Seq.{take-length}
 use Rattle.std.proofs.lemmas.List.{length-map, map-append}
 use Rattle.sqlite.specs.Order.{Row}
 use Rattle.sqlite.specs.declared.types.Value.TheVariants.{Int}
 use Rattle.sqlite_rules.specs.Lists.{Has}
+use Rattle.sqlite_rules.proofs.ListLemmas.{has_got}
+use Rattle.std.proofs.lemmas.Option.{same_Some}
 use Rattle.club_core.specs.declared.members.Member as given_member
 use Rattle.club_core.specs.Answer.{member_of}
 use Rattle.club_core.specs.Members.{Member}
 use Rattle.club_core.specs.State.{place}
+use Rattle.club_laws.proofs.Proved.{map-at}
 use Rattle.club_rows.specs.Tables.{numbered_from, member_row}
 use Rattle.store_tables.specs.Cells.{member_cells, score_cells}
 use Rattle.store_tables.specs.Contents.{AreThose}
@@ -31,10 +34,7 @@ module _ {A B R : Type 0} (of : B → A) (cells : R → Row) (row : ℕ → A �
       → map of news ≡ take (k + 1) all
   one_more_of k r done news b so_far within is more reads =
       let (x, at, stands) = numbered_at row cells 1 rows all same k r (at_get rows k r within is) in
-      ap (map of) more
-      ∙ (map-append of done (b ∷ [])
-      ∙ (ap (λ l. l ++ of b ∷ []) so_far
-      ∙ (ap (λ y. take k all ++ y ∷ []) (reads x at stands) ∙ sym (take_next all k x at))))
+      rw (more, map-append, take_next all k x at) (λ j. so_far j ++ reads x at stands j ∷ [])
 
   -- one row more was read
   pub one_more_read : (k : ℕ) (r : R) (done news : List B) (b : B) → map of done ≡ take k all → k < length rows
@@ -73,18 +73,12 @@ member_read r m name key id x same =
 
 -- ---- what stands at a place
 
-mapped_get : {A B : Type 0} (f : A → B) (xs : List A) (k : ℕ) (x : A) → slice_get xs k ≡ Some x
-    → slice_get (map f xs) k ≡ Some (f x)
-mapped_get f [] k x at = cc
-mapped_get f (y ∷ ys) zero x at = let e : y ≡ x = cc in ap (λ z. Some (f z)) e
-mapped_get f (y ∷ ys) (suc k) x at = mapped_get f ys k x at
-
 pub placed : {A B : Type 0} (f : A → B) (xs : List A) (id : ℕ) (x : A) → (id ≡ 0 → ⊥) → id - 1 < length xs
     → x ≡ get_or xs (id - 1) x → place (map f xs) id ≡ Some (f x)
 placed f xs zero x some within is = absurd (some refl)
 placed f xs (suc k) x some within is =
     let k_is : suc k - 1 ≡ k = omega arith in
-    mapped_get f xs k x (at_get xs k x (omega (arith, within)) (is ∙ ap (λ j. get_or xs j x) k_is))
+    map-at f xs k x (at_get xs k x (omega (arith, within)) (is ∙ ap (λ j. get_or xs j x) k_is))
 
 -- the one row that was pushed
 pub one_pushed : {R : Type 0} (cells : R → Row) (old new : List R) (r : R) (row : Row) → map cells old ≡ []
@@ -96,8 +90,7 @@ one_pushed cells (q ∷ old) new r row none more is = cc
 
 pub first_mapped : {R : Type 0} (cells : R → Row) (rows : List R) (r : R) → slice_get rows 0 ≡ Some r
     → Has (map cells rows) (cells r)
-first_mapped cells [] r at = cc
-first_mapped cells (q ∷ rows) r at = let e : r ≡ q = cc in inl (ap cells e)
+first_mapped cells rows r at = has_got (map cells rows) 0 (cells r) (map-at cells rows 0 r at)
 
 pub none_mapped : {R : Type 0} (cells : R → Row) (rows : List R) → slice_get rows 0 ≡ None → map cells rows ≡ []
 none_mapped cells [] at = refl
@@ -106,11 +99,7 @@ none_mapped cells (q ∷ rows) at = cc
 -- the first of rows that are known
 pub first_is : {R : Type 0} (cells : R → Row) (rows : List R) (r : R) (z : Row) (zs : List Row)
     → slice_get rows 0 ≡ Some r → map cells rows ≡ z ∷ zs → cells r ≡ z
-first_is cells [] r z zs at same = cc
-first_is cells (q ∷ rows) r z zs at same =
-    let e : r ≡ q = cc in
-    let first : cells q ≡ z = cc in
-    ap cells e ∙ first
+first_is cells rows r z zs at same = sym (same_Some z (cells r) (rw same at (map-at cells rows 0 r at)))
 
 -- ---- the row of a pair
 
@@ -120,10 +109,7 @@ pub score_first : (table : List Row) (event member opponent : ℕ) (e m o : ℤ)
     → AreThose (0 ∷ 1 ∷ 2 ∷ []) (Int e ∷ Int m ∷ Int o ∷ []) table (map score_cells found) → row ≡ slice_get found 0
     → IsFound table (pair_of event member opponent) row
 score_first table event member opponent e m o found row e_is m_is o_is those row_is =
-    let cells : ◌≡◌ {A = Row} (Int e ∷ Int m ∷ Int o ∷ []) (pair_cells (pair_of event member opponent)) = λ i.
-    Int (e_is i) ∷ Int (m_is i) ∷ Int (o_is i) ∷ [] in
-    subst (IsFound table (pair_of event member opponent)) (sym row_is)
-    (first_of found (subst (λ w. AreThose (0 ∷ 1 ∷ 2 ∷ []) w table (map score_cells found)) cells those))
+    rw row_is (first_of found (rw (e_is, m_is, o_is) at those))
   where
     first_of : (found : List ScoreRow) → AreThose (0 ∷ 1 ∷ 2 ∷ []) (pair_cells (pair_of event member opponent)) table
         (map score_cells found) → IsFound table (pair_of event member opponent) (slice_get found 0)

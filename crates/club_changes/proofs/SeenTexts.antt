@@ -1,7 +1,7 @@
 -- The rows of texts, one after another.
 use Rattle.std.proofs.Common.{◌≡◌, ℕ, zero, suc, ◌+◌, ◌<◌, List, [], ◌∷◌, ◌++◌, length, map, take, drop, get_or, Bool}
 use Rattle.std.proofs.Common.{true, false, refl, sym, ap, ◌∙◌, arith, add-one, append_assoc}
-use Rattle.std.specs.Prelude.{if◌then◌else◌, ◌||◌, string_bytes}
+use Rattle.std.specs.Prelude.{◌||◌, string_bytes}
 use Rattle.std.specs.declared.alloc.Global.{Global}
 use Rattle.std.specs.declared.string.String.{String}
 use Rattle.std.specs.List.{list_any}
@@ -22,49 +22,18 @@ drop-mapped f [] k x within is = absurd (omega arith)
 drop-mapped f (y ∷ ys) zero x within is = ap (λ z. f z ∷ map f ys) (sym is)
 drop-mapped f (y ∷ ys) (suc k) x within is = drop-mapped f ys k x (omega (arith, within)) is
 
-pub drop-all : {A : Type 0} (xs : List A) (k : ℕ) → k ≡ length xs → drop k xs ≡ []
-drop-all [] zero is = refl
-drop-all [] (suc k) is = refl
-drop-all (x ∷ xs) zero is = cc
-drop-all (x ∷ xs) (suc k) is = drop-all xs k (omega (arith, is))
-
 module _ (id : ℕ) (all : List (List ℕ)) (ply : ℕ) (text : List ℕ)
     (here : drop ply all ≡ text ∷ drop (suc ply) all) where
-  at-next : drop (suc ply) all ≡ drop (ply + 1) all
-  at-next = ap (λ k. drop k all) (sym (add-one ply))
-
-  rest-next : rows_from id all (suc ply) (drop (suc ply) all) ≡ rows_from id all (ply + 1) (drop (ply + 1) all)
-  rest-next = ap (λ k. rows_from id all k (drop k all)) (sym (add-one ply))
-
   -- a text that stood before has no row of its own
   pub seen-skipped : (rows : List Row) → stood_before all ply text ≡ true
       → rows ++ rows_from id all (ply + 1) (drop (ply + 1) all) ≡ rows ++ rows_from id all ply (drop ply all)
-  seen-skipped rows stood =
-      sym (ap (λ l. rows ++ l) (ap (rows_from id all ply) here ∙ (skips (stood_before all ply text) stood ∙ rest-next)))
-    where
-      skips : (b : Bool) → b ≡ true → ◌≡◌ {A = List Row}
-          (if b then rows_from id all (suc ply) (drop (suc ply) all) else seen_row id text (times_in all text) ply
-          ∷ rows_from id all (suc ply) (drop (suc ply) all)) (rows_from id all (suc ply) (drop (suc ply) all))
-      skips true is = refl
-      skips false is = cc
+  seen-skipped rows stood = rw (here, stood, add-one ply)
 
   -- and one that did not has one
   pub seen-put : (rows new : List Row) → stood_before all ply text ≡ false
       → new ≡ rows ++ seen_row id text (times_in all text) ply ∷ []
       → new ++ rows_from id all (ply + 1) (drop (ply + 1) all) ≡ rows ++ rows_from id all ply (drop ply all)
-  seen-put rows new stood more =
-      let row : Row = seen_row id text (times_in all text) ply in
-      ap (λ l. l ++ rows_from id all (ply + 1) (drop (ply + 1) all)) more
-      ∙ (append_assoc rows (row ∷ []) (rows_from id all (ply + 1) (drop (ply + 1) all))
-      ∙ (ap (λ l. rows ++ row ∷ l) (sym rest-next)
-      ∙ ap (λ l. rows ++ l) (sym (ap (rows_from id all ply) here ∙ puts (stood_before all ply text) stood))))
-    where
-      puts : (b : Bool) → b ≡ false → ◌≡◌ {A = List Row}
-          (if b then rows_from id all (suc ply) (drop (suc ply) all) else seen_row id text (times_in all text) ply
-          ∷ rows_from id all (suc ply) (drop (suc ply) all))
-          (seen_row id text (times_in all text) ply ∷ rows_from id all (suc ply) (drop (suc ply) all))
-      puts false is = refl
-      puts true is = cc
+  seen-put rows new stood more = rw (more, append_assoc, here, stood, add-one ply)
 
 -- whether a text stood before, over the texts as they are kept
 any-mapped : {A B : Type 0} (p : B → Bool) (f : A → B) (xs : List A)
@@ -72,10 +41,14 @@ any-mapped : {A B : Type 0} (p : B → Bool) (f : A → B) (xs : List A)
 any-mapped p f [] = refl
 any-mapped p f (x ∷ xs) = ap (λ b. p (f x) || b) (any-mapped p f xs)
 
-pub stood-is : (texts : List (String Global)) (ply : ℕ) (text : List ℕ)
-    → list_any (λ t. bytes_eq text (string_bytes t)) (take ply texts) ≡ stood_before (bytes_of texts) ply text
-stood-is texts ply text = any-mapped (bytes_eq text) (λ t. string_bytes t) (take ply texts)
-    ∙ ap (list_any (bytes_eq text)) (sym (take-map (λ t. string_bytes t) ply texts))
+pub stood-is : (texts : List (String Global)) (ply : ℕ) (text u : List ℕ) (found b : Bool)
+    → found ≡ list_any (λ t. bytes_eq u (string_bytes t)) (take ply texts) → u ≡ text → found ≡ b
+    → stood_before (bytes_of texts) ply text ≡ b
+stood-is texts ply text u found b is same told =
+    sym
+    (is ∙ ap (λ v. list_any (λ t. bytes_eq v (string_bytes t)) (take ply texts)) same
+    ∙ any-mapped (bytes_eq text) (λ t. string_bytes t) (take ply texts)
+    ∙ ap (list_any (bytes_eq text)) (sym (take-map (λ t. string_bytes t) ply texts))) ∙ told
 
 -- the texts of a line with one move more
 pub texts-next : {P M E T : Type 0} (rules : GameRules P M E T) (ms : List M) (i : ℕ) (m : M) → i < length ms
@@ -85,13 +58,6 @@ pub texts-next : {P M E T : Type 0} (rules : GameRules P M E T) (ms : List M) (i
     → q ≡ position_after rules rules.start (take (i + 1) ms)
     → new ≡ map rules.write_position (positions rules rules.start (take (i + 1) ms))
 texts-next rules ms i m within is old new text q was more text_is stands =
-    let one : take (i + 1) ms ≡ take i ms ++ m ∷ [] = one-more rules ms i m within is in
-    let last : text ≡ rules.write_position (position_after rules rules.start (take i ms ++ m ∷ [])) = text_is
-    ∙ ap rules.write_position (stands ∙ ap (position_after rules rules.start) one) in
-    more
-    ∙ ((λ j. was j ++ last j ∷ [])
-    ∙ (sym
-    (map-append rules.write_position (positions rules rules.start (take i ms))
-    (position_after rules rules.start (take i ms ++ m ∷ []) ∷ []))
-    ∙ (ap (map rules.write_position) (sym (positions-append rules rules.start (take i ms) m))
-    ∙ ap (λ l. map rules.write_position (positions rules rules.start l)) (sym one))))
+    let one = one-more rules ms i m within is in
+    let last = text_is ∙ ap rules.write_position (stands ∙ ap (position_after rules rules.start) one) in
+    rw (one, positions-append rules rules.start (take i ms) m, map-append) (more ∙ (λ j. was j ++ last j ∷ []))

@@ -1,10 +1,10 @@
 -- The sums of pairs of players as rows of scores are put.
 use Rattle.std.proofs.Common.{◌≡◌, ℕ, ◌+◌, length, append_assoc, List, [], ◌∷◌, ◌++◌, map, take, pos, Option, Some}
-use Rattle.std.proofs.Common.{None, true, false, cond, refl, ap, sym, subst, subst₂, ◌∙◌, inl, inr, ◌⊎◌, true≢false}
+use Rattle.std.proofs.Common.{None, true, false, cond, refl, ap, sym, subst, ◌∙◌, inl, inr, ◌⊎◌, true≢false}
 use Rattle.std.specs.Prelude.{slice_get}
 use Rattle.std.specs.Option.{option_map}
 use Rattle.std.proofs.Math.Seq.{take-length}
-use Rattle.std.proofs.lemmas.Bool.{cases_Bool}
+use Rattle.std.proofs.lemmas.Bool.{cases_Bool, false_from_ne_true}
 use Rattle.std.proofs.lemmas.List.{map-append}
 use Rattle.sqlite_value.specs.declared.value.Value.TheVariants.{Int}
 use Rattle.sqlite.specs.Order.{Row}
@@ -12,7 +12,7 @@ use Rattle.sqlite_rules.specs.Lists.{Has}
 use Rattle.sqlite_rules.proofs.ListLemmas.{has_either, has_left, has_right}
 use Rattle.squares.specs.declared.sides.Score.{Score}
 use Rattle.store_tables.specs.Cells.{score_cells}
-use Rattle.store_tables.specs.Changes.{Alters, HaveSame, put_rows}
+use Rattle.store_tables.specs.Changes.{HaveSame}
 use Rattle.store_tables.specs.Content.{same_key, put}
 use Rattle.store_tables.specs.declared.rows.ScoreRow.{ScoreRow}
 use Rattle.store_tables.proofs.Proved.{put_had, put_kept, altered}
@@ -56,41 +56,26 @@ module _ (was now : List Row) (row : ScoreRow) (comes : Comes was now row) (old 
     found_here pair is = subst (λ p. IsFound now p (option_map (row_with p) (Some (sums_found (Some row))))) is
         (comes.has, row_agrees row)
 
-    apart_key : (pair : Pair) (sums : Sums) → same_pair (pair_in row) pair ≡ false
-        → same_key pair_key (score_cells (row_with pair sums)) (score_cells row) ≡ false
-    apart_key pair sums apart =
-        elim (cases_Bool (same_key pair_key (score_cells (row_with pair sums)) (score_cells row))) [
-          | inl same ↦
-              absurd
-              (true≢false
-              (sym
-              (subst (λ p. same_pair (pair_in row) p ≡ true)
-              (sym (keys_same pair (pair_in row) (rest_of (row_with pair sums)) (rest_of row) same))
-              (pair_itself (pair_in row))) ∙ apart))
-          | inr other ↦ other
-        ]
+    clash : (pair : Pair) → same_pair (pair_in row) pair ≡ false → pair_in row ≡ pair → ⊥
+    clash pair apart is =
+        true≢false (sym (subst (λ p. same_pair (pair_in row) p ≡ true) is (pair_itself (pair_in row))) ∙ apart)
 
     found_there : (pair : Pair) → same_pair (pair_in row) pair ≡ false → (sums : Option Sums)
         → IsFound was pair (option_map (row_with pair) sums) → IsFound now pair (option_map (row_with pair) sums)
     found_there pair apart None none = λ z h at. elim (comes.from z h) [
       | inl stood ↦ none z stood at
       | inr is ↦
-          true≢false
-          (sym
-          (subst (λ p. same_pair (pair_in row) p ≡ true)
-          (row_pair row pair (subst (λ w. same_key pair_key w (pair_cells pair) ≡ true) is at))
-          (pair_itself (pair_in row))) ∙ apart)
+          clash pair apart (row_pair row pair (subst (λ w. same_key pair_key w (pair_cells pair) ≡ true) is at))
     ]
-    found_there pair apart (Some sums) found = (comes.stays _ found.0 (apart_key pair sums apart), found.1)
+    found_there pair apart (Some sums) found =
+        let other = false_from_ne_true _ (λ same.
+        clash pair apart (sym (keys_same pair (pair_in row) (rest_of (row_with pair sums)) (rest_of row) same))) in
+        (comes.stays _ found.0 other, found.1)
 
     pub stand_next : AreStanding new now
     stand_next pair = elim (cases_Bool (same_pair (pair_in row) pair)) [
-      | inl same ↦ subst (λ o. IsFound now pair (option_map (row_with pair) o))
-          (sym (adds pair ∙ ap (λ b. cond b (Some (sums_found (Some row))) (old pair)) same))
-          (found_here pair (pair_same (pair_in row) pair same))
-      | inr apart ↦ subst (λ o. IsFound now pair (option_map (row_with pair) o))
-          (sym (adds pair ∙ ap (λ b. cond b (Some (sums_found (Some row))) (old pair)) apart))
-          (found_there pair apart (old pair) (stand pair))
+      | inl same ↦ rw (adds pair, same) (found_here pair (pair_same (pair_in row) pair same))
+      | inr apart ↦ rw (adds pair, apart) (found_there pair apart (old pair) (stand pair))
     ]
 
 comes_last : (rows : List Row) (row : ScoreRow) → Comes rows (rows ++ score_cells row ∷ []) row
@@ -124,17 +109,14 @@ stand_same sums one other same stand pair =
 -- ---- the rows of a table, one after another
 
 pub stand_start : (sums : Pair → Option Sums) → ((pair : Pair) → sums pair ≡ None) → AreStanding sums []
-stand_start sums none pair = subst (λ o. IsFound [] pair (option_map (row_with pair) o)) (sym (none pair))
-    (λ z h at. absurd h)
+stand_start sums none pair = rw (none pair) (λ z h at. absurd h)
 
 pub stand_more : (rows : List ScoreRow) (k : ℕ) (row : ScoreRow) (old new : Pair → Option Sums)
     → slice_get rows k ≡ Some row → AreStanding old (map score_cells (take k rows))
     → ((pair : Pair) → new pair ≡ cond (same_pair (pair_in row) pair) (Some (sums_found (Some row))) (old pair))
     → AreStanding new (map score_cells (take (k + 1) rows))
 stand_more rows k row old new at stand adds =
-    let longer : map score_cells (take (k + 1) rows) ≡ map score_cells (take k rows) ++ score_cells row ∷ [] =
-    ap (map score_cells) (take_next rows k row at) ∙ map-append score_cells (take k rows) (row ∷ []) in
-    subst (AreStanding new) (sym longer)
+    rw (take_next rows k row at, map-append score_cells (take k rows) (row ∷ []))
     (stand_next (map score_cells (take k rows)) (map score_cells (take k rows) ++ score_cells row ∷ []) row
     (comes_last (map score_cells (take k rows)) row) old new stand adds)
 
@@ -168,10 +150,9 @@ module _ (before after : List Meeting) (event first second : ℕ) (score : Score
       let are =
       next before after
       (record { of_first = stand (pair_of event first second); of_second = stand (pair_of event second first) }) in
-      let alters : Alters pair_key (a ∷ b ∷ []) was now =
-      subst₂ (λ one other. Alters pair_key (one ∷ other ∷ []) was now) (sym are.of_first) (sym are.of_second)
-      (rows_alter before (meetings (pos event) (pos first) (pos second) score) after) in
-      let makes : HaveSame (put_rows pair_key (a ∷ b ∷ []) was) now = altered pair_key (a ∷ b ∷ []) was now alters in
+      let makes = altered pair_key (a ∷ b ∷ []) was now
+      (rw (are.of_first, are.of_second) (rows_alter before (meetings (pos event) (pos first) (pos second) score) after))
+      in
       let half = stand_next was (put pair_key a was) pair.first (comes_put was pair.first) old mid stand one in
       let whole = stand_next (put pair_key a was) (put pair_key b (put pair_key a was)) pair.second
       (comes_put (put pair_key a was) pair.second) mid new half other in

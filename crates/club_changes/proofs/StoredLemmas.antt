@@ -20,8 +20,7 @@ module _ {R P M E T : Type 0} (rules : GameRules P M E T) (terms : Terms) (id fr
       → HaveSame (map move_cells rows) (move_rows rules terms id game)
       → map move_cells rows ≡ move_rows rules terms id game
   rows-are replayed game was same =
-      let shown : map move_cells rows ≡ move_rows rules terms id (game_from from was.entries) =
-      ap (map move_cells) (sym (take-length rows)) ∙ was.played.moves in
+      let shown = ap (map move_cells) (sym (take-length rows)) ∙ was.played.moves in
       one_line 1 (map move_cells rows) (move_rows rules terms id game)
       (subst (AreAtPlaces 1) (sym shown) (moves-placed rules terms id (game_from from was.entries)))
       (moves-placed rules terms id game) same
@@ -32,6 +31,5 @@ module _ {R P M E T : Type 0} (rules : GameRules P M E T) (terms : Terms) (id fr
       → replayed.line.items ≡ moves_of game
   line-is replayed game was is =
       let count : length rows ≡ length game.entries = played-count rules terms id from rows game is in
-      let all : game.entries ≡ was.entries = sym (take-length game.entries) ∙ ap (λ n. take n game.entries) (sym count)
-      ∙ was.only game is in
+      let all = sym (take-length game.entries) ∙ ap (λ n. take n game.entries) (sym count) ∙ was.only game is in
       was.replays.line ∙ ap (λ l. map (λ e. e.made) l) (sym all)

@@ -4,6 +4,7 @@ use Rattle.squares.specs.declared.sides.Side.{Side}
 use Rattle.club_core.specs.Game.{Clocks, left_of, side_after}
 use Rattle.club_rows.specs.Columns.{Columns}
 
+-- the clocks that the columns tell
 abbrev pub clocks_in : Columns → Clocks
 clocks_in c = record { left_first = c.left_first; left_second = c.left_second; since = c.since }
 

@@ -1,9 +1,10 @@
 -- The texts of draughts are in ASCII.
-use Rattle.std.proofs.Common.{◌≡◌, ℕ, zero, suc, ◌+◌, ◌/◌, ◌%◌, ◌≤◌, List, [], ◌∷◌, ◌++◌, Option, Some, None, Bool}
-use Rattle.std.proofs.Common.{true, false, cond, Ok, Err, inl, inr, refl, sym, subst, arith, nat_lt}
+use Rattle.std.proofs.Common.{◌≡◌, ℕ, zero, suc, ◌+◌, ◌≤◌, List, [], ◌∷◌, ◌++◌, Option, Some, None, Ok, Err, refl}
+use Rattle.std.proofs.Common.{arith, nat_lt, ◌<◌}
 use Rattle.std.specs.Prelude.{IfSome}
 use Rattle.std.specs.List.{AllByRecursion, cons_option, filter_map, join_with_byte, range_with_len}
 use Rattle.std.specs.FinMap as finite_map
+use Rattle.std.proofs.lemmas.Bool.{cond_both}
 use Rattle.squares.specs.declared.draughts.moves.DMove.{DMove}
 use Rattle.squares.specs.declared.draughts.piece.DPiece.{DPiece}
 use Rattle.squares.specs.declared.sides.Side.{Side}
@@ -21,39 +22,29 @@ use Rattle.club_games.specs.DraughtsLaws.{draughts-reads_back}
 use Rattle.club_rows.proofs.PlainTexts.{Plain, plain-append, ArePlain}
 
 square-plain : (n : ℕ) → n ≤ 50 → Plain (square_text n)
-square-plain n low = by (nat_lt n 10)
-  where
-    by : (b : Bool) → Plain (cond b ((48 + n) ∷ []) ((48 + n / 10) ∷ (48 + n % 10) ∷ []))
-    by true = (omega (arith, low), tt)
-    by false = (omega (arith, low), (omega (arith, low), tt))
+square-plain n low = cond_both (nat_lt n 10) _ _ Plain (λ e. omega (arith, low)) (λ e. omega (arith, low))
 
 piece-plain : (n : ℕ) (piece : DPiece) → n ≤ 50 → Plain (piece_text n piece)
-piece-plain n piece low = by piece.king
-  where
-    by : (b : Bool) → Plain (cond b (75 ∷ square_text n) (square_text n))
-    by true = (omega arith, square-plain n low)
-    by false = square-plain n low
+piece-plain n piece low = cond_both piece.king _ _ Plain (λ e. (omega arith, square-plain n low))
+    (λ e. square-plain n low)
 
 abbrev PlainIfAny : Option (List ℕ) → Type 0
 PlainIfAny o = IfSome o Plain
 
 piece_of-plain : (side : Side) (n : ℕ) (o : Option DPiece) → n ≤ 50 → PlainIfAny (piece_of side n o)
 piece_of-plain side n None low = tt
-piece_of-plain side n (Some piece) low = by (same_side piece.side side)
-  where
-    by : (b : Bool) → PlainIfAny (cond b (Some (piece_text n piece)) None)
-    by true = piece-plain n piece low
-    by false = tt
+piece_of-plain side n (Some piece) low =
+    cond_both (same_side piece.side side) _ _ PlainIfAny (λ e. piece-plain n piece low) (λ e. tt)
 
 items-plain : (f : ℕ → Option (List ℕ)) → ((n : ℕ) → n ≤ 50 → PlainIfAny (f n)) → (ns : List ℕ)
     → AllByRecursion (λ n. n ≤ 50) ns → AllByRecursion Plain (filter_map f ns)
 items-plain f each [] low = tt
-items-plain f each (n ∷ ns) low = by (f n) (each n low.0) (items-plain f each ns low.1)
-  where
-    by : (o : Option (List ℕ)) → PlainIfAny o → AllByRecursion Plain (filter_map f ns)
-        → AllByRecursion Plain (cons_option o (filter_map f ns))
-    by None plain rest = rest
-    by (Some x) plain rest = (plain, rest)
+items-plain f each (n ∷ ns) low =
+    let rest = items-plain f each ns low.1 in
+    elim (f n) as (λ o. PlainIfAny o → AllByRecursion Plain (cons_option o (filter_map f ns))) [
+      | None ↦ λ plain. rest
+      | Some x ↦ λ plain. (plain, rest)
+    ] (each n low.0)
 
 join-plain : (items : List (List ℕ)) → AllByRecursion Plain items → Plain (join_with_byte 44 items)
 join-plain [] plain = tt
@@ -78,8 +69,7 @@ pieces-plain side board squares low =
     (λ n within. piece_of-plain side n (finite_map.get board n) within) squares low)
 
 letter-plain : (side : Side) → Plain (side_letter side)
-letter-plain First = (omega arith, tt)
-letter-plain Second = (omega arith, tt)
+letter-plain side = grind arith
 
 fen-plain : (p : Position) → Plain (fen_text p)
 unfolding fen_text
@@ -95,28 +85,20 @@ fen-plain p =
 -- ---- moves: what is read has the form of a move's text
 
 square_text-plain : (n : ℕ) (text : List ℕ) → IsSquareText n text → Plain text
-square_text-plain n text (on, inl is) = subst Plain (sym is) (square-plain n on.1)
-square_text-plain n text (on, inr is) = subst Plain (sym is) (omega arith, square-plain n on.1)
+square_text-plain n text is = grind (arith, square-plain n is.0.1)
 
 landings-plain : (ns : List ℕ) (text : List ℕ) → AreLandings ns text → Plain text
-landings-plain [] text is = subst Plain (sym is) tt
-landings-plain (n ∷ ns) text (landing, rest, (cross, square, inl x, on, first), more, is) =
-    subst Plain (sym is)
-    (plain-append landing rest (subst Plain (sym first) (omega (arith, x), square_text-plain n square on))
-    (landings-plain ns rest more))
-landings-plain (n ∷ ns) text (landing, rest, (cross, square, inr colon, on, first), more, is) =
-    subst Plain (sym is)
-    (plain-append landing rest (subst Plain (sym first) (omega (arith, colon), square_text-plain n square on))
-    (landings-plain ns rest more))
+landings-plain [] text is = rw is tt
+landings-plain (n ∷ ns) text (landing, rest, (cross, square, which, on, first), more, is) =
+    let low : cross < 128 = omega (arith, which) in
+    rw is (plain-append landing rest (rw first (low, square_text-plain n square on)) (landings-plain ns rest more))
 
 form-plain : (text : List ℕ) (form : Form) → HasForm text form → Plain text
 form-plain text (quiet from to) (first, second, from_is, to_is, is) =
-    subst Plain (sym is)
-    (plain-append first (45 ∷ second) (square_text-plain from first from_is)
+    rw is (plain-append first (45 ∷ second) (square_text-plain from first from_is)
     (omega arith, square_text-plain to second to_is))
 form-plain text (capture from middle to) (first, landings, from_is, are, is) =
-    subst Plain (sym is)
-    (plain-append first landings (square_text-plain from first from_is)
+    rw is (plain-append first landings (square_text-plain from first from_is)
     (landings-plain (middle ++ to ∷ []) landings are))
 
 reading-plain : (p : Position) (text : List ℕ) (m : DMove) (r : FormReading) → read_form text ≡ r

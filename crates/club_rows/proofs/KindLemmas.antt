@@ -1,5 +1,5 @@
 -- The kinds of games: how the games of one kind stand among the games of the club.
-use Rattle.std.proofs.Common.{◌≡◌, ℕ, List, length, Some, refl, ap, sym, ◌∙◌}
+use Rattle.std.proofs.Common.{◌≡◌, ℕ, List, length, Some, refl, ap, ◌∙◌, arith}
 use Rattle.std.specs.Prelude.{Option}
 use Rattle.squares.specs.declared.draughts.moves.DMove.{DMove}
 use Rattle.squares.specs.declared.shogi.moves.SMove.{SMove}
@@ -18,7 +18,7 @@ use Rattle.club_core.specs.declared.seats.Pairing.{Pairing}
 use Rattle.club_core.specs.State.{AnyGame, draughts, shogi, place, kind_at, terms_at, pairing_of, seated, seated_as}
 use Rattle.club_core.specs.State.{with_game, step_game}
 use Rattle.club_core.specs.Step.{GameCommand, game_step}
-use Rattle.club_core.proofs.Proved.{AreRules}
+use Rattle.club_core.proofs.Proved.{AreRules, are_rules}
 use Rattle.club_rows.specs.Club.{both_games, ClubGame, ClubState}
 use Rattle.club_rows.specs.Seen.{seen_rows}
 use Rattle.club_rows.specs.Scores.{meetings_of, meetings_in}
@@ -61,31 +61,20 @@ pub back-draughts : (s : ClubState) (any : ClubGame) → IsLegalIn both_games s 
     → kind_at (place s.events (event_in any)) ≡ Draughts → (g : Game DMove) × (any ≡ draughts g)
 back-draughts s (draughts g) legal is = (g, refl)
 back-draughts s (shogi g) legal is =
-    let clash : Draughts ≡ Shogi = sym is ∙ (ap kind_at legal.in_event ∙ legal.of_kind) in
-    absurd cc
+    let of_kind = ap kind_at legal.in_event ∙ legal.of_kind in absurd cc
 
 pub back-shogi : (s : ClubState) (any : ClubGame) → IsLegalIn both_games s any
     → kind_at (place s.events (event_in any)) ≡ Shogi → (g : Game SMove) × (any ≡ shogi g)
 back-shogi s (shogi g) legal is = (g, refl)
 back-shogi s (draughts g) legal is =
-    let clash : Shogi ≡ Draughts = sym is ∙ (ap kind_at legal.in_event ∙ legal.of_kind) in
-    absurd cc
+    let of_kind = ap kind_at legal.in_event ∙ legal.of_kind in absurd cc
 
 pub draughts_laws : AreRules both_games.draughts
-draughts_laws = record {
-  first_starts = draughts-first_starts;
-  turn_passes = draughts-turn_passes;
-  same_is = draughts-same_is;
-  ends_at_limit = draughts-ends_at_limit;
-}
+draughts_laws = are_rules both_games.draughts draughts-first_starts draughts-turn_passes draughts-same_is
+    draughts-ends_at_limit
 
 pub shogi_laws : AreRules both_games.shogi
-shogi_laws = record {
-  first_starts = shogi-first_starts;
-  turn_passes = shogi-turn_passes;
-  same_is = shogi-same_is;
-  ends_at_limit = shogi-ends_at_limit;
-}
+shogi_laws = are_rules both_games.shogi shogi-first_starts shogi-turn_passes shogi-same_is shogi-ends_at_limit
 
 abbrev pub in_draughts : Kind both_games.draughts Draughts
 in_draughts = record {
@@ -123,7 +112,4 @@ in_shogi = record {
 
 -- kinds with one number are one
 pub kinds-alike : (a b : GameKind) → kind_number a ≡ kind_number b → a ≡ b
-kinds-alike Draughts Draughts is = refl
-kinds-alike Shogi Shogi is = refl
-kinds-alike Draughts Shogi is = cc
-kinds-alike Shogi Draughts is = cc
+kinds-alike a b is = grind arith

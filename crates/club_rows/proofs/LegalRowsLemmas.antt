@@ -1,6 +1,6 @@
 -- What is shown of a game that was replayed, where its row stands.
-use Rattle.std.proofs.Common.{◌≡◌, ℕ, ◌<◌, ◌≤◌, ◌^◌, List, [], length, map, take, Option, None, ◌&&◌, refl}
-use Rattle.std.proofs.Common.{ap, sym, ◌∙◌, subst, subst₂, pos, inl, inr}
+use Rattle.std.proofs.Common.{◌≡◌, ℕ, ◌<◌, ◌≤◌, ◌^◌, List, [], length, map, take, Option, None, ◌&&◌, refl, ap, sym}
+use Rattle.std.proofs.Common.{◌∙◌, subst, subst₂, pos, inl, inr, arith}
 use Rattle.std.specs.Prelude.{IsTrue}
 use Rattle.std.proofs.Math.Seq.{take-length}
 use Rattle.club_rules.specs.GameRules.{GameRules}
@@ -17,27 +17,23 @@ use Rattle.store_tables.specs.declared.rows.MoveRow.{MoveRow}
 use Rattle.club_rows.specs.Replay.{WasReplayed, IsPlayedAs, Replays, game_from}
 use Rattle.club_rows.specs.Tally.{IsTallyOf}
 use Rattle.club_rows.specs.LegalRows.{AreMovesOf, IsHistoryOf, AreRowsOf, IsWrongAsTold, ShowsGame, IsSoundIfShown}
-use Rattle.club_rows.specs.LegalRows.{AreMovesTold, IsRecordOf, StandsAs}
-use Rattle.club_rows.specs.Columns.{Columns, AreColumns, HasReplayed, IsOutsideIn, columns_of, game_in}
-use Rattle.club_rows.specs.Columns.{IsReadAs, stored_cells}
+use Rattle.club_rows.specs.LegalRows.{AreMovesTold, StandsAs}
+use Rattle.club_rows.specs.Columns.{Columns, AreColumns, HasReplayed, IsOutsideIn, columns_of, game_in, IsReadAs}
+use Rattle.club_rows.specs.Columns.{stored_cells}
 use Rattle.club_rows.specs.MayStand.{may_declare}
 use Rattle.club_rows.specs.declared.replay.Replayed.{Replayed}
 use Rattle.club_rows.specs.declared.view.Played.{Played}
 use Rattle.club_rows.specs.declared.view.CheckedRows.{CheckedRows}
 use Rattle.club_rows.specs.declared.view.CheckedRows.TheVariants as shown
-use Rattle.club_rows.proofs.ColumnLemmas.{columns-are, columns-stored, none-read, outside-told, row-columns, same-pos}
-use Rattle.club_rows.proofs.StandLemmas.{declares, row-stands, stands-legal, legal-stands, rows-played}
+use Rattle.club_rows.proofs.ColumnLemmas.{cells-told, columns-read, columns-stored, none-read, outside-told}
+use Rattle.club_rows.proofs.ColumnLemmas.{row-columns, same-pos}
+use Rattle.club_rows.proofs.StandLemmas.{declares, row-stands, stands-legal, legal-stands}
 use Rattle.club_rows.proofs.WholeLemmas.{none-played, played-count, rows-alike}
 
-pub record-of : {P M E T : Type 0} (rules : GameRules P M E T) (terms : Terms) (id : ℕ) (stored : GameRecord)
-    (moves : List MoveRow) (game : Game M) → AreRowsOf rules terms id stored moves game
-    → IsRecordOf rules terms id stored game
-record-of rules terms id stored moves game is =
-    record { budget = is.budget; increment = is.increment; legal = is.legal; fits = is.fits; row = is.row }
-
 -- what is known of a view that was made of rows with these columns
-pub record WasViewed {R P M E T : Type 0} (rules : GameRules P M E T) (terms : Terms) (c : Columns)
-    (moves : List MoveRow) (replayed : Replayed R P M E T) (full : Played R P M E T) : Type 0 where
+pub record WasViewed {R P M E T : Type 0} (rules : GameRules P M E T) (terms : Terms) (stored : GameRecord)
+    (moves : List MoveRow) (c : Columns) (replayed : Replayed R P M E T) (full : Played R P M E T) : Type 0 where
+  pub read : game_cells stored ≡ stored_cells c
   pub budget : IsTrue (is_budget terms.budget)
   pub increment : IsTrue (is_increment terms.increment)
   pub fit : AreColumns c
@@ -51,9 +47,51 @@ pub record WasViewed {R P M E T : Type 0} (rules : GameRules P M E T) (terms : T
   pub line : full.line.items ≡ replayed.line.items
   pub tally : IsTallyOf rules replayed.line.items full.tally
 
-module _ {R P M E T : Type 0} (rules : GameRules P M E T) (terms : Terms) (stored : GameRecord) (moves : List MoveRow)
-    (c : Columns) (read : game_cells stored ≡ stored_cells c) (replayed : Replayed R P M E T) (full : Played R P M E T)
-    (known : WasViewed rules terms c moves replayed full) where
+-- ---- what is wrong
+
+module _ {P M E T : Type 0} (rules : GameRules P M E T) (terms : Terms) (stored : GameRecord) (moves : List MoveRow)
+  where
+    module _ (number from : ℕ) (id_is : stored.id ≡ pos number) (start_is : stored.start ≡ pos from) where
+      -- rows that are those of no game's moves are wrong
+      pub moves-wrong : ((game : Game M) → ¬ IsPlayedAs rules terms number from moves game)
+          → ¬ AreMovesOf rules terms stored moves
+      moves-wrong none (inl empty) = none (game_from from []) (rw empty (none-played rules terms number from))
+      moves-wrong none (inr have) =
+          none have.game
+          (subst₂ (λ i f. IsPlayedAs rules terms i f moves have.game) (same-pos _ _ (sym have.id_is ∙ id_is))
+          (same-pos _ _ (sym have.start_is ∙ start_is)) have.played)
+
+      -- those that were replayed are not
+      pub moves-right : {R : Type 0} (replayed : Replayed R P M E T) → number < 2 ^ 32 → from ≤ 253402300799
+          → WasReplayed rules terms number from moves (length moves) replayed → AreMovesOf rules terms stored moves
+      moves-right replayed short within was = inr (record {
+        id = number;
+        start = from;
+        id_is = id_is;
+        start_is = start_is;
+        short = short;
+        within = within;
+        game = game_from from was.entries;
+        played = rw (take-length moves) at was.played;
+      })
+
+    module _ (few : NumbersAreFew rules) (none : IsReadAs (game_cells stored) None) where
+      -- a row of which nothing is read is no game's
+      pub no-rows : (id : ℕ) (game : Game M) → ¬ AreRowsOf rules terms id stored moves game
+      no-rows id game is = none-read rules terms id game stored (assumption) few none
+
+      -- and beside it nothing but the moves is told
+      pub none-wrong : {R : Type 0} (s : CheckedRows R P M E T) → AreMovesTold rules terms stored moves s
+          → IsWrongAsTold rules terms stored moves s
+      none-wrong (shown.Game v) told = absurd told
+      none-wrong shown.WrongMoves told = told
+      none-wrong shown.WrongGame told = (told, no-rows)
+
+-- ---- what is shown
+
+module _ {R P M E T : Type 0} {rules : GameRules P M E T} {terms : Terms} {stored : GameRecord} {moves : List MoveRow}
+    {c : Columns} {replayed : Replayed R P M E T} {full : Played R P M E T}
+    (known : WasViewed rules terms stored moves c replayed full) where
   abbrev view : GameView R P M E T
   view = full.view
 
@@ -66,7 +104,7 @@ module _ {R P M E T : Type 0} (rules : GameRules P M E T) (terms : Terms) (store
   history : IsHistoryOf rules shown_game full
   history =
       let line = known.was.replays.line in
-      record { line = known.line ∙ line; tally = subst (λ l. IsTallyOf rules l full.tally) line known.tally }
+      record { line = known.line ∙ line; tally = rw line at known.tally }
 
   row-of : IsRowOf rules terms shown_game view.row
   row-of = subst (λ t. IsRowOf rules t shown_game view.row) known.terms_are showing.row
@@ -81,26 +119,7 @@ module _ {R P M E T : Type 0} (rules : GameRules P M E T) (terms : Terms) (store
   -- a row that has what was replayed has the columns of the game
   columns-shown : HasReplayed rules view.row c → c ≡ columns_of rules terms c.id shown_game
   columns-shown has =
-      let row = columns-stored rules terms c.id shown_game view.row row-of in
-      let since = has.since ∙ ap (λ x. x.since) row in
-      let plies = has.plies ∙ ap (λ x. x.plies) row in
-      let left_first = has.left_first ∙ ap (λ x. x.left_first) row in
-      let left_second = has.left_second ∙ ap (λ x. x.left_second) row in
-      let end = has.end ∙ ap (λ x. x.end) row in
-      let result = has.result ∙ ap (λ x. x.result) row in
-      let position = has.position ∙ ap (λ x. x.position) row in
-      let track_first = has.track_first ∙ ap (λ x. x.track.0) row in
-      let track_second = has.track_second ∙ ap (λ x. x.track.1) row in
-      λ i. record c {
-        since = since i;
-        plies = plies i;
-        left_first = left_first i;
-        left_second = left_second i;
-        end = end i;
-        result = result i;
-        position = position i;
-        track = (track_first i, track_second i);
-      }
+      grind (arith, columns-stored rules terms c.id shown_game view.row row-of)
 
   pub shown-sound : (s : CheckedRows R P M E T) → StandsAs rules c full s → IsSoundIfShown rules terms stored moves s
   shown-sound shown.WrongMoves stands = tt
@@ -109,41 +128,25 @@ module _ {R P M E T : Type 0} (rules : GameRules P M E T) (terms : Terms) (store
       let made = stands-legal rules terms shown_game known.was.played.legal
       (λ some. sym ruled-is ∙ known.named.alone some)
       (sym (row-stands rules terms shown_game view.row _ row-of (declares-is shown_game showing)) ∙ stands.1) in
-      let rows : AreRowsOf rules terms c.id stored moves shown_game = record {
-        budget = known.budget;
-        increment = known.increment;
-        legal = made.0;
-        fits = record {
-          id = known.fit.id;
-          event = known.fit.event;
-          first = known.fit.first;
-          second = known.fit.second;
-          key = made.1;
-          start = known.fit.start;
-          entries = known.was.played.moments;
-        };
-        row = read ∙ (ap stored_cells (columns-shown stands.2) ∙ sym (row-columns rules terms c.id shown_game));
-        moves =
-            ap (map move_cells) (sym (take-length moves))
-            ∙ (known.was.played.moves ∙ rows-alike rules terms c.id (game_from c.start [])
-            (record shown_game { entries = [] }) known.was.entries refl refl);
-      } in (
-        c.id,
-        shown_game,
-        rows,
-        subst (λ x. terms_of x.view ≡ terms) (sym stands.0) known.terms_are,
-        subst (λ x. Shows rules shown_game x.view) (sym stands.0) showing,
-        subst (λ x. IsSound rules x.view) (sym stands.0) known.sound,
-        subst (IsHistoryOf rules shown_game) (sym stands.0) history,
-      )
+      let row = known.read ∙ (ap stored_cells (columns-shown stands.2) ∙ sym (row-columns rules terms c.id shown_game))
+      in
+      let played =
+      ap (map move_cells) (sym (take-length moves))
+      ∙ (known.was.played.moves ∙ rows-alike rules terms c.id (game_from c.start [])
+      (record shown_game { entries = [] }) known.was.entries refl refl) in
+      rw stands.0 (c.id, shown_game, assumption (row, played), known.terms_are, showing, known.sound, history)
 
   module _ (id : ℕ) (game : Game M) (is : AreRowsOf rules terms id stored moves game) where
     same : c ≡ columns_of rules terms id game
-    same = columns-are rules terms id game stored (record-of rules terms id stored moves game is) c read
+    same = columns-read rules terms id game (game_cells stored) c is.row known.read
 
     played : IsPlayedAs rules terms c.id c.start moves game
-    played = rows-played rules terms id c.id c.start stored moves game is (ap (λ x. x.id) same)
-        (sym (ap (λ x. x.start) same))
+    played = record {
+      legal = is.legal;
+      start = sym (ap (λ x. x.start) same);
+      moments = is.fits.entries;
+      moves = rw (ap (λ x. x.id) same) is.moves;
+    }
 
     entries-same : known.was.entries ≡ game.entries
     entries-same =
@@ -151,22 +154,11 @@ module _ {R P M E T : Type 0} (rules : GameRules P M E T) (terms : Terms) (store
         ∙ (ap (λ n. take n game.entries) (played-count rules terms c.id c.start moves game played)
         ∙ take-length game.entries)
 
-    ruled-same : rules.judge rules.start replayed.line.items ≡ rule_end rules game
-    ruled-same = ruled-is ∙ ap (λ es. rules.judge rules.start (map (λ e. e.made) es)) entries-same
-
     game-same : shown_game ≡ game
     game-same =
-        let outside = outside-told rules terms id game is.legal c same _ ruled-same known.outside known.named in
-        λ i. record {
-          key = (same i).key;
-          event = (same i).event;
-          first = (same i).first;
-          second = (same i).second;
-          start = (same i).start;
-          entries = entries-same i;
-          offer = (same i).offer;
-          outside = outside i;
-        }
+        let ruled = ruled-is ∙ ap (λ es. rules.judge rules.start (map (λ e. e.made) es)) entries-same in
+        let outside = outside-told rules terms id game is.legal c same _ ruled known.outside known.named in
+        grind (arith, same, entries-same, outside)
 
     shows-it : Shows rules game view
     shows-it = subst (λ x. Shows rules x view) game-same showing
@@ -176,19 +168,8 @@ module _ {R P M E T : Type 0} (rules : GameRules P M E T) (terms : Terms) (store
 
     -- the columns of the game are those that were replayed
     has-replayed : HasReplayed rules view.row c
-    has-replayed =
-        let all = same ∙ sym (columns-stored rules terms id game view.row row-it) in
-        record {
-          since = ap (λ x. x.since) all;
-          plies = ap (λ x. x.plies) all;
-          left_first = ap (λ x. x.left_first) all;
-          left_second = ap (λ x. x.left_second) all;
-          track_first = ap (λ x. x.track.0) all;
-          track_second = ap (λ x. x.track.1) all;
-          end = ap (λ x. x.end) all;
-          result = ap (λ x. x.result) all;
-          position = ap (λ x. x.position) all;
-        }
+    has-replayed = subst (HasReplayed rules view.row)
+        (columns-stored rules terms id game view.row row-it ∙ sym same) (assumption)
 
     pub shown-complete : (s : CheckedRows R P M E T) → StandsAs rules c full s → ShowsGame rules terms game s
     shown-complete shown.WrongMoves stands = stands
@@ -197,64 +178,16 @@ module _ {R P M E T : Type 0} (rules : GameRules P M E T) (terms : Terms) (store
         (stands
         (row-stands rules terms game view.row _ row-it (declares-is game shows-it)
         ∙ legal-stands rules terms game is.legal is.fits.key) has-replayed)
-    shown-complete (shown.Game v) stands = (
-      subst (λ x. terms_of x.view ≡ terms) (sym stands.0) known.terms_are,
-      subst (λ x. Shows rules game x.view) (sym stands.0) shows-it,
-      subst (IsHistoryOf rules game) (sym stands.0) (subst (λ x. IsHistoryOf rules x full) game-same history),
-    )
+    shown-complete (shown.Game v) stands =
+        rw stands.0 (known.terms_are, shows-it, subst (λ x. IsHistoryOf rules x full) game-same history)
 
--- ---- what is wrong
-
-module _ {P M E T : Type 0} (rules : GameRules P M E T) (terms : Terms) (stored : GameRecord) (moves : List MoveRow)
-    (number from : ℕ) (id_is : stored.id ≡ pos number) (start_is : stored.start ≡ pos from) where
-  -- rows that are those of no game's moves are wrong
-  pub moves-wrong : ((game : Game M) → ¬ IsPlayedAs rules terms number from moves game)
-      → ¬ AreMovesOf rules terms stored moves
-  moves-wrong none (inl empty) =
-      none (game_from from [])
-      (subst (λ ms. IsPlayedAs rules terms number from ms (game_from from [])) (sym empty)
-      (none-played rules terms number from))
-  moves-wrong none (inr have) =
-      none have.game
-      (subst₂ (λ i f. IsPlayedAs rules terms i f moves have.game) (same-pos _ _ (sym have.id_is ∙ id_is))
-      (same-pos _ _ (sym have.start_is ∙ start_is)) have.played)
-
-  -- those that were replayed are not
-  pub moves-right : {R : Type 0} (replayed : Replayed R P M E T) → number < 2 ^ 32 → from ≤ 253402300799
-      → WasReplayed rules terms number from moves (length moves) replayed → AreMovesOf rules terms stored moves
-  moves-right replayed short within was = inr (record {
-    id = number;
-    start = from;
-    id_is = id_is;
-    start_is = start_is;
-    short = short;
-    within = within;
-    game = game_from from was.entries;
-    played = subst (λ ms. IsPlayedAs rules terms number from ms (game_from from was.entries)) (take-length moves)
-        was.played;
-  })
-
--- of what was shown after a replay nothing but the row can be wrong
-pub told-wrong : {R P M E T : Type 0} (rules : GameRules P M E T) (terms : Terms) (stored : GameRecord)
-    (moves : List MoveRow) (c : Columns) (full : Played R P M E T) → AreMovesOf rules terms stored moves
-    → (s : CheckedRows R P M E T) → StandsAs rules c full s
-    → ((id : ℕ) (game : Game M) → AreRowsOf rules terms id stored moves game → ShowsGame rules terms game s)
-    → IsWrongAsTold rules terms stored moves s
-told-wrong rules terms stored moves c full right (shown.Game v) stands complete = tt
-told-wrong rules terms stored moves c full right shown.WrongMoves stands complete = absurd stands
-told-wrong rules terms stored moves c full right shown.WrongGame stands complete = (right, complete)
-
--- a row of which nothing is read is no game's
-pub no-rows : {P M E T : Type 0} (rules : GameRules P M E T) (terms : Terms) (stored : GameRecord)
-    (moves : List MoveRow) → NumbersAreFew rules → IsReadAs (game_cells stored) None → (id : ℕ) (game : Game M)
-    → ¬ AreRowsOf rules terms id stored moves game
-no-rows rules terms stored moves few none id game is =
-    none-read rules terms id game stored (record-of rules terms id stored moves game is) few none
-
--- and beside it nothing but the moves is told
-pub none-wrong : {R P M E T : Type 0} (rules : GameRules P M E T) (terms : Terms) (stored : GameRecord)
-    (moves : List MoveRow) → ((id : ℕ) (game : Game M) → ¬ AreRowsOf rules terms id stored moves game)
-    → (s : CheckedRows R P M E T) → AreMovesTold rules terms stored moves s → IsWrongAsTold rules terms stored moves s
-none-wrong rules terms stored moves none (shown.Game v) told = absurd told
-none-wrong rules terms stored moves none shown.WrongMoves told = told
-none-wrong rules terms stored moves none shown.WrongGame told = (told, none)
+  -- nothing but the row can be wrong
+  pub told-wrong : (s : CheckedRows R P M E T) → StandsAs rules c full s → IsWrongAsTold rules terms stored moves s
+  told-wrong (shown.Game v) stands = tt
+  told-wrong shown.WrongMoves stands = absurd stands
+  told-wrong shown.WrongGame stands =
+      let told = cells-told stored c known.read in (
+        moves-right rules terms stored moves c.id c.start told.id told.start replayed known.fit.id known.fit.start
+            known.was,
+        λ id game is. shown-complete id game is shown.WrongGame stands,
+      )

@@ -1,27 +1,18 @@
 -- What a replay keeps with each row.
-use Rattle.std.proofs.Common.{◌≡◌, ℕ, ◌+◌, ◌*◌, ◌≤◌, ◌<◌, List, [], ◌∷◌, ◌++◌, length, cond, None, Some, Ok, sym, ap}
-use Rattle.std.proofs.Common.{subst, ◌∙◌, arith, length-append}
+use Rattle.std.proofs.Common.{◌≡◌, ℕ, ◌+◌, ◌*◌, ◌≤◌, ◌<◌, List, [], ◌∷◌, ◌++◌, length, cond, None, Some, Ok, subst}
+use Rattle.std.proofs.Common.{arith, length-append}
 use Rattle.std.specs.Prelude.{string_bytes}
 use Rattle.squares.specs.declared.sides.Side.{Side}
-use Rattle.squares.specs.declared.sides.Side.TheVariants.{First, Second}
 use Rattle.squares.specs.Sides.{other}
 use Rattle.club_rules.specs.GameRules.{GameRules}
 use Rattle.club_rules.specs.Laws.{SamePositionIs, TextsTellPositions}
-use Rattle.club_rules.specs.Line.{IsPlayedLine, line_track, position_after}
+use Rattle.club_rules.specs.Line.{position_after}
 use Rattle.club_rules.proofs.Proved.{position_after-append, IsLegalLine-append}
 use Rattle.club_core.proofs.Proved.{line_track-append, IsPlayedLine-append, IsPlayedLine-none}
 use Rattle.club_rows.specs.declared.replay.Replayed.{Replayed}
 use Rattle.club_rows.specs.Tally.{IsTallyOf, HasStood, PositionText, same_text, seen_at, stood_then, stood_seldom}
 use Rattle.club_rows.specs.Replay.{IsReplayed, left_in}
 use Rattle.club_rows.proofs.TallyLemmas.{few-seldom, stood-then, tally-more}
-
--- a bound that both clocks keep, when one gains the increment at most
-rooms : {R P M E T : Type 0} (old new : Replayed R P M E T) (turn : Side) (increment bound more : ℕ)
-    → bound + increment ≤ more → old.left_first ≤ bound → old.left_second ≤ bound
-    → left_in new turn ≤ left_in old turn + increment → left_in new (other turn) ≡ left_in old (other turn)
-    → (new.left_first ≤ more) × (new.left_second ≤ more)
-rooms old new First increment bound more room first second mover rest = (omega arith, omega arith)
-rooms old new Second increment bound more room first second mover rest = (omega arith, omega arith)
 
 module _ {R P M E T : Type 0} (rules : GameRules P M E T) where
   -- the move leads to a text, a track, a tally and a count of the new position
@@ -45,45 +36,21 @@ module _ {R P M E T : Type 0} (rules : GameRules P M E T) where
       mover rest counts =
       let ms = old.line.items in
       let more_line : List M = ms ++ made ∷ [] in
-      let here : rules.check (position_after rules rules.start ms) made ≡ Ok tt =
-      subst (λ p. rules.check p made ≡ Ok tt) is.position legal in
+      let here = subst (λ p. rules.check p made ≡ Ok tt) is.position legal in
       let more : 31536000 + increment * plies + increment ≤ 31536000 + increment * (plies + 1) = grind arith in
-      let room = rooms old new turn increment (31536000 + increment * plies) (31536000 + increment * (plies + 1)) more
-      is.room_first is.room_second mover rest in
       let all_legal = IsLegalLine-append rules rules.start ms made is.line.legal here in
-      let after : position ≡ rules.play (position_after rules rules.start ms) made = played
-      ∙ ap (λ p. rules.play p made) is.position in
+      let after = position_after-append rules rules.start ms made in
       let text_is : string_bytes text ≡ rules.write_position (position_after rules rules.start more_line) =
-      counts.text_is
-      ∙ (ap (λ p. rules.write_position (rules.play p made)) is.position
-      ∙ ap rules.write_position (sym (position_after-append rules rules.start ms made))) in
-      let track : new.track ≡ line_track rules rules.start more_line =
-      counts.track
-      ∙ ((λ i. rules.track_next (is.counted.track i) (is.position i) made (after i))
-      ∙ sym (line_track-append rules rules.start ms made)) in
-      let count = is.plies_are in
-      let stood =
-      counts.stood
-      (few-seldom (seen_at old.tally text) (length ms) (is.counted.tally.few text) (omega (arith, count, low))) in
+      grind (arith, counts.text_is, is.position, after) in
+      let seldom = few-seldom (seen_at old.tally text) (length ms) (is.counted.tally.few text)
+      (omega (arith, is.plies_are, low)) in
+      let stood = counts.stood seldom in
       let tally = tally-more rules same_is tell ms made all_legal old.tally is.counted.tally text text_is new.tally
       new.stood stood counts.adds in
       let last = stood-then rules same_is tell ms made all_legal old.tally is.counted.tally text text_is in
-      record {
-        line = subst (IsPlayedLine rules rules.start) (sym line)
-            (IsPlayedLine-append rules rules.start ms made is.line running here);
-        position =
-            stands ∙ played ∙ ap (λ p. rules.play p made) is.position
-            ∙ sym (position_after-append rules rules.start ms made) ∙ ap (position_after rules rules.start) (sym line);
-        counted = record {
-          track = subst (λ l. new.track ≡ line_track rules rules.start l) (sym line) track;
-          tally = subst (λ l. IsTallyOf rules l new.tally) (sym line) tally;
-          stood = subst (λ l. HasStood rules l (position_after rules rules.start l) new.stood) (sym line)
-              (subst (HasStood rules more_line (position_after rules rules.start more_line)) (sym stood) last);
-        };
-        plies_are = ap length line ∙ length-append ms (made ∷ []) ∙ ap (λ n. n + 1) is.plies_are;
-        room_first = room.0;
-        room_second = room.1;
-      }
+      let track = line_track-append rules rules.start ms made in
+      let played_line = IsPlayedLine-append rules rules.start ms made is.line running here in
+      grind (arith, after, track, tally, last, played_line, more, length-append ms (made ∷ []))
 
   -- what stands at the start is a replay of no plies
   pub start-replayed : (increment : ℕ) (game : Replayed R P M E T) → game.line.items ≡ [] → game.position ≡ rules.start
@@ -91,15 +58,4 @@ module _ {R P M E T : Type 0} (rules : GameRules P M E T) where
       → HasStood rules [] rules.start game.stood → game.left_first ≤ 31536000 → game.left_second ≤ 31536000
       → IsReplayed rules increment 0 game
   start-replayed increment game line position track tally stood first second =
-      record {
-        line = subst (IsPlayedLine rules rules.start) (sym line) (IsPlayedLine-none rules rules.start);
-        position = position ∙ ap (position_after rules rules.start) (sym line);
-        counted = record {
-          track = track ∙ ap (line_track rules rules.start) (sym line);
-          tally = subst (λ l. IsTallyOf rules l game.tally) (sym line) tally;
-          stood = subst (λ l. HasStood rules l (position_after rules rules.start l) game.stood) (sym line) stood;
-        };
-        plies_are = ap length line;
-        room_first = omega (arith, first);
-        room_second = omega (arith, second);
-      }
+      grind (arith, IsPlayedLine-none rules rules.start)

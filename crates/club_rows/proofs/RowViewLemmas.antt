@@ -1,29 +1,27 @@
 -- What a game's row alone shows of it, and what the rows of one ply show of that ply.
-use Rattle.std.proofs.Common.{◌≡◌, ℕ, zero, suc, pos, ◌-◌, ◌<◌, ◌≤◌, List, [], ◌∷◌, length, map, Option, Some}
-use Rattle.std.proofs.Common.{None, Result, Ok, refl, ap, sym, subst, ◌∙◌, arith}
+use Rattle.std.proofs.Common.{◌≡◌, ℕ, zero, suc, pos, ◌-◌, ◌≤◌, List, [], length, map, Option, Some, None, Ok, refl, ap}
+use Rattle.std.proofs.Common.{sym, subst, ◌∙◌, arith, inl, inr}
 use Rattle.std.specs.Prelude.{string_bytes, slice_get, is_some, IsSome}
 use Rattle.std.specs.Option.{option_map}
-use Rattle.std.proofs.lemmas.List.{length-map, take-map}
-use Rattle.std.proofs.lemmas.Option.{slice_get-map, slice_get_within}
-use Rattle.club_rules.specs.declared.refusals.MoveRefusal.{MoveRefusal}
+use Rattle.std.proofs.lemmas.Bool.{cases_lt}
+use Rattle.std.proofs.lemmas.List.{length-map}
+use Rattle.std.proofs.lemmas.Option.{slice_get-get_or, slice_get_past}
 use Rattle.club_rules.specs.GameRules.{GameRules}
 use Rattle.club_rules.specs.Line.{position_after, IsLegalLine}
-use Rattle.club_rules.proofs.Proved.{check-at}
-use Rattle.club_rows.proofs.LineLemmas.{IsLegalLine-take}
-use Rattle.club_rules.specs.Laws.{TracksTellEnds, NumbersGiveTracks, ReadsBack, WritesPositions}
-use Rattle.club_rules.specs.Laws.{StandsForOne, IsPositionRead}
+use Rattle.club_rules.specs.Laws.{TracksTellEnds, NumbersGiveTracks, WritesPositions, StandsForOne, IsPositionRead}
 use Rattle.club_core.specs.declared.rows.Asked.{Asked}
 use Rattle.club_core.specs.Events.{Terms}
-use Rattle.club_core.specs.Game.{Game, clocks_of, moves_of, left_of, side_after}
-use Rattle.club_core.specs.Game.{game_at, last_position, rule_end}
+use Rattle.club_core.specs.Game.{Entry, Game, clocks_of, moves_of, left_of, side_after, game_at, last_position}
+use Rattle.club_core.specs.Game.{rule_end}
 use Rattle.club_core.specs.Legal.{IsLegalGame}
 use Rattle.club_core.specs.Step.{move_at}
 use Rattle.club_core.specs.View.{IsAsked, track_of_game}
 use Rattle.club_core.proofs.Proved.{AreRules, tracked-end}
+use Rattle.club_laws.proofs.Proved.{map-at}
 use Rattle.store_tables.specs.Cells.{move_cells}
 use Rattle.store_tables.specs.declared.rows.GameRecord.{GameRecord}
 use Rattle.store_tables.specs.declared.rows.MoveRow.{MoveRow}
-use Rattle.club_rows.specs.Tables.{move_rows}
+use Rattle.club_rows.specs.Tables.{at_start, move_rows}
 use Rattle.club_rows.specs.Columns.{Columns, columns_of}
 use Rattle.club_rows.specs.RowView.{HasLastStood, IsPlayed, row_at}
 use Rattle.club_rows.specs.LegalRows.{IsRecordOf}
@@ -31,7 +29,7 @@ use Rattle.club_rows.specs.declared.tally.Stood.{Stood}
 use Rattle.club_rows.proofs.NextLemmas.{six-parts}
 use Rattle.club_rows.proofs.ColumnLemmas.{cells-told, row-columns}
 use Rattle.club_rows.proofs.TallyLemmas.{last-stood}
-use Rattle.club_rows.proofs.WholeLemmas.{rows-from, rows-count, entry-left, entry-more}
+use Rattle.club_rows.proofs.WholeLemmas.{rows-from, rows-count, line-at, legal-at, entry-left, entry-more}
 
 -- ---- the row of a game
 
@@ -39,8 +37,7 @@ module _ {P M E T : Type 0} (rules : GameRules P M E T) (terms : Terms) (id : �
     (is : IsRecordOf rules terms id stored game) where
   pub position-text : string_bytes stored.position ≡ rules.write_position (last_position rules game)
   position-text =
-      let told = cells-told stored (columns_of rules terms id game) (is.row ∙ row-columns rules terms id game) in
-      told.position
+      (cells-told stored (columns_of rules terms id game) (is.row ∙ row-columns rules terms id game)).position
 
 -- the end that a track gives, and the track, by the columns of the game
 module _ {P M E T : Type 0} (rules : GameRules P M E T) (terms : Terms) (id : ℕ) (game : Game M)
@@ -58,10 +55,6 @@ module _ {P M E T : Type 0} (rules : GameRules P M E T) (terms : Terms) (id : �
   pub track-is : NumbersGiveTracks rules → rules.track_of c.track.0 c.track.1 ≡ track_of_game rules game
   track-is give = ap (λ x. rules.track_of x.track.0 x.track.1) same ∙ give (track_of_game rules game)
 
-not-some : {A : Type 0} (o : Option A) → o ≡ None → IsSome o → ⊥
-not-some None is some = cc
-not-some (Some x) is some = cc
-
 -- ---- the rows of a ply
 
 -- what the row of a ply, counted from 0, tells
@@ -78,72 +71,33 @@ module _ {P M E T : Type 0} (rules : GameRules P M E T) (are : AreRules rules) (
   pub ply-row : (k : ℕ) (row : MoveRow) → slice_get (move_rows rules terms id game) k ≡ Some (move_cells row)
       → IsPlyRow rules terms game k row
   ply-row k row at =
-      let got = rows-from rules terms id (record game { entries = [] }) game.entries k (move_cells row) at in
+      let got = rows-from rules terms id (at_start game) game.entries k (move_cells row) at in
       let e = got.0 in
       let parts = six-parts _ _ _ _ _ _ _ _ _ _ _ _ got.2 in
       let more = entry-more rules terms id game k e got.1 in
       record {
         made = e.made;
-        made_is = slice_get-map (λ x. x.made) game.entries k ∙ ap (option_map (λ x. x.made)) got.1;
+        made_is = map-at (λ (x : Entry M). x.made) game.entries k e got.1;
         text = parts.c_is;
         left = parts.e_is ∙ ap pos (entry-left rules terms id are game legal k e got.1);
         position = parts.f_is
             ∙ ap (λ es. rules.write_position (position_after rules rules.start (map (λ x. x.made) es))) more;
       }
 
-  -- a ply has a row where a move was played
-  pub rows-where : (k : ℕ) (m : M) → slice_get (moves_of game) k ≡ Some m → IsSome (slice_get (move_rows rules terms
-      id game) k)
-  rows-where k m at =
-      let inside : k < length (moves_of game) = slice_get_within (moves_of game) k m at in
-      let count : length (moves_of game) ≡ length game.entries = simp length-map in
-      let rows = rows-count rules terms id (record game { entries = [] }) game.entries in
-      got-some (move_rows rules terms id game) k (omega (arith, inside, count, rows))
-    where
-      got-some : {A : Type 0} (xs : List A) (k : ℕ) → k < length xs → IsSome (slice_get xs k)
-      got-some [] k inside = absurd (omega (arith, inside))
-      got-some (x ∷ xs) zero inside = refl
-      got-some (x ∷ xs) (suc k) inside = got-some xs k (omega (arith, inside))
+  -- without a row no more moves were played
+  no-more : (k : ℕ) (row : Option MoveRow) → option_map move_cells row ≡ slice_get (move_rows rules terms id game) k
+      → row ≡ None → length (moves_of game) ≤ k
+  no-more k row at none = elim (cases_lt k (length (move_rows rules terms id game))) [
+    | inl inside ↦ let got = slice_get-get_or (move_rows rules terms id game) k [] inside in absurd cc
+    | inr past ↦
+        let made : length (moves_of game) ≡ length game.entries = simp length-map in
+        omega (arith, past, made, rows-count rules terms id (at_start game) game.entries)
+  ]
 
-  -- and none where none was
   pub row-none : (ply : ℕ) (row : Option MoveRow) → option_map move_cells row ≡ row_at rules terms id game ply
       → row ≡ None → move_at game ply ≡ None
   row-none zero row at none = refl
-  row-none (suc k) row at none = gone (slice_get (moves_of game) k) refl
-    where
-      gone : (o : Option M) → slice_get (moves_of game) k ≡ o → o ≡ None
-      gone None is = refl
-      gone (Some m) is =
-          let some = rows-where k m is in
-          let nothing : slice_get (move_rows rules terms id game) k ≡ None = sym at ∙ ap (option_map move_cells) none in
-          absurd (not-some (slice_get (move_rows rules terms id game) k) nothing some)
-
-  -- a ply before one that was played was played too
-  pub played-before : (ply : ℕ) → IsSome (move_at game (suc (suc ply))) → IsSome (move_at game (suc ply))
-  played-before ply some = some-before (moves_of game) ply some
-    where
-      some-before : {A : Type 0} (xs : List A) (k : ℕ) → IsSome (slice_get xs (suc k)) → IsSome (slice_get xs k)
-      some-before {A} [] k some = absurd (not-some {A = A} None refl some)
-      some-before (x ∷ xs) zero some = refl
-      some-before (x ∷ xs) (suc k) some = some-before xs k some
-
-  -- the line up to a ply is legal, and so is its move
-  pub line-at : (k : ℕ) → IsLegalLine rules rules.start (moves_of (game_at game k))
-  line-at k = subst (IsLegalLine rules rules.start) (take-map (λ x. x.made) k game.entries)
-      (IsLegalLine-take rules k rules.start (moves_of game) legal.line.legal)
-
-  pub legal-at : (k : ℕ) (m : M) → slice_get (moves_of game) k ≡ Some m
-      → rules.check (last_position rules (game_at game k)) m ≡ Ok tt
-  legal-at k m at = subst (λ l. rules.check (position_after rules rules.start l) m ≡ Ok tt)
-      (take-map (λ x. x.made) k game.entries) (check-at rules rules.start (moves_of game) k m legal.line.legal at)
-
--- two legal moves with one text are one
-pub one-text : {P M E T : Type 0} (rules : GameRules P M E T) → ReadsBack rules → (p : P) (a b : M)
-    → rules.check p a ≡ Ok tt → rules.check p b ≡ Ok tt → rules.write_move p a ≡ rules.write_move p b → a ≡ b
-one-text rules back p a b one two same = same-ok a b (sym (back p a one) ∙ (ap (rules.read_move p) same ∙ back p b two))
-  where
-    same-ok : {A : Type 0} (a b : A) → ◌≡◌ {A = Result A MoveRefusal} (Ok a) (Ok b) → a ≡ b
-    same-ok a b is = cc
+  row-none (suc k) row at none = slice_get_past (moves_of game) k (no-more k row at none)
 
 -- what a reader answers to the text of a position on a line
 pub position-found : {P M E T : Type 0} (rules : GameRules P M E T) (StandsFor : List ℕ → P → Type 0)
@@ -163,27 +117,25 @@ module _ {P M E T : Type 0} (rules : GameRules P M E T) (are : AreRules rules) (
       → (ply : ℕ) → 2 ≤ ply → (row : MoveRow) → Some (move_cells row) ≡ row_at rules terms id game (ply - 1)
       → (text : List ℕ) → text ≡ string_bytes row.position → (found : Option P) → IsPositionRead StandsFor text found
       → found ≡ Some (last_position rules (game_at game (ply - 1)))
-  before-some StandsFor writes one zero low row at text is found read = absurd (omega (arith, low))
-  before-some StandsFor writes one (suc zero) low row at text is found read = absurd (omega (arith, low))
   before-some StandsFor writes one (suc (suc n)) low row at text is found read =
       let back : suc (suc n) - 1 ≡ suc n = omega arith in
       let here : slice_get (move_rows rules terms id game) n ≡ Some (move_cells row) =
       sym (at ∙ ap (row_at rules terms id game) back) in
       let told = ply-row rules are terms id game legal n row here in
       position-found rules StandsFor writes one (moves_of (game_at game (suc n)))
-      (line-at rules are terms id game legal (suc n)) text (is ∙ told.position) found read
+      (line-at rules terms id game legal (suc n)) text (is ∙ told.position) found read
       ∙ ap (λ k. Some (last_position rules (game_at game k))) (sym back)
+  before-some StandsFor writes one ply low row at text is found read = absurd (omega (arith, low))
 
   -- there is one where the ply was played
   pub before-none : (ply : ℕ) → 2 ≤ ply → (row : Option MoveRow)
       → option_map move_cells row ≡ row_at rules terms id game (ply - 1) → row ≡ None → IsSome (move_at game ply) → ⊥
-  before-none zero low row at none some = omega (arith, low)
-  before-none (suc zero) low row at none some = omega (arith, low)
   before-none (suc (suc n)) low row at none some =
       let back : suc (suc n) - 1 ≡ suc n = omega arith in
-      not-some (move_at game (suc n))
-      (row-none rules are terms id game legal (suc n) row (at ∙ ap (row_at rules terms id game) back) none)
-      (played-before rules are terms id game legal n some)
+      let few = no-more rules are terms id game legal n row (at ∙ ap (row_at rules terms id game) back) none in
+      let gone = slice_get_past (moves_of game) (suc n) (omega (arith, few)) in
+      absurd cc
+  before-none ply low row at none some = absurd (omega (arith, low))
 
   -- what was played at a ply, by its row
   pub asked-shown : {R : Type 0} (ply : ℕ) → 1 ≤ ply → (row : MoveRow)
@@ -201,16 +153,8 @@ module _ {P M E T : Type 0} (rules : GameRules P M E T) (are : AreRules rules) (
       let here : before ≡ last_position rules (game_at game k) = before_is (ap is_some told.made_is)
       ∙ ap (λ n. last_position rules (game_at game n)) back in
       let legal_here = subst (λ p. rules.check p told.made ≡ Ok tt) (sym here)
-      (legal-at rules are terms id game legal k told.made told.made_is) in
+      (legal-at rules terms id game legal k told.made told.made_is) in
       let text = told.text ∙ ap (λ p. rules.write_move p told.made) (sym here) in
       let (asked, found_is, played) = shows told.made (left_of (side_after k) (clocks_of (game_at game (suc k)) terms))
       legal_here text told.left in
-      let left = played.left_is ∙ ap (λ n. left_of (side_after n) (clocks_of (game_at game (suc k)) terms)) (sym back)
-      in
-      let before_asked = played.before_is ∙ (here ∙ ap (λ n. last_position rules (game_at game n)) (sym back)) in
-      subst (λ o. IsAsked rules terms game (suc k) o found) (sym told.made_is)
-      (subst (λ f. IsAsked rules terms game (suc k) (Some told.made) f) (sym found_is)
-      (played.made_is, left, before_asked, played.ply_is))
-
-pub some-same : {A : Type 0} {x y : A} → Some x ≡ Some y → x ≡ y
-some-same is = cc
+      rw (told.made_is, found_is) (grind (arith, played, here, back))

@@ -1,5 +1,5 @@
 -- The rows of scores of a club, as its games change: what is offered to the crates above.
-use Rattle.std.proofs.Common.{◌≡◌, ℕ, pos, List, [], ◌∷◌, ◌++◌, Option, Some, None, refl, ap, sym, subst, subst₂, ◌∙◌}
+use Rattle.std.proofs.Common.{◌≡◌, ℕ, pos, List, [], ◌∷◌, ◌++◌, Option, Some, None, ap, sym, ◌∙◌, arith}
 use Rattle.std.specs.Prelude.{slice_get, slice_set}
 use Rattle.std.specs.List.{AllByRecursion, flat_map}
 use Rattle.std.proofs.lemmas.List.{append-nil}
@@ -47,22 +47,6 @@ found_some rows pair row found those has = those.sound (score_cells row) has
 
 -- ---- the rows of a club
 
--- the two rows of a game that ends between others
-module _ (before after : List Meeting) (event first second : ℕ) (score : Score) (firsts seconds : Option ScoreRow)
-    (rows : ScorePair) where
-  rows_next : IsFound (score_rows (before ++ after)) (pair_of event first second) firsts
-      → IsFound (score_rows (before ++ after)) (pair_of event second first) seconds
-      → AreNext event first second score firsts seconds rows
-      → Alters (0 ∷ 1 ∷ 2 ∷ []) (score_cells rows.first ∷ score_cells rows.second ∷ []) (score_rows (before ++ after))
-      (score_rows (before ++ (meetings (pos event) (pos first) (pos second) score ++ after)))
-  rows_next first_is second_is next =
-      let are = next before after (record { of_first = first_is; of_second = second_is }) in
-      subst₂
-      (λ one other. Alters (0 ∷ 1 ∷ 2 ∷ []) (one ∷ other ∷ []) (score_rows (before ++ after))
-      (score_rows (before ++ (meetings (pos event) (pos first) (pos second) score ++ after))))
-      (sym are.of_first) (sym are.of_second)
-      (rows_alter before (meetings (pos event) (pos first) (pos second) score) after)
-
 module _ {DP DM DE DT SP SM SE ST : Type 0} (kinds : ClubRules DP DM DE DT SP SM SE ST) where
   -- where no game's result changes, the rows stay
   pub scores_stay : (games : List (AnyGame DM SM)) (n : ℕ) (old new : AnyGame DM SM) → slice_get games n ≡ Some old
@@ -80,22 +64,22 @@ module _ {DP DM DE DT SP SM SE ST : Type 0} (kinds : ClubRules DP DM DE DT SP SM
   pub scores_typed : (games : List (AnyGame DM SM)) → AllByRecursion IsScore (scores_in kinds games)
   scores_typed games = all_from IsScore (scores_in kinds games)
       (λ z has. let (p, met, is) = rows_had (flat_map (meetings_in kinds) games) z has in
-      subst IsScore (sym is) (record {
-        width = refl;
-        event = (_, refl);
-        member = (_, refl);
-        opponent = (_, refl);
-        points = (_, refl);
-        wins = (_, refl);
-        draws = (_, refl);
-        losses = (_, refl);
-      }))
+      rw is (grind arith))
 
   module _ (games : List (AnyGame DM SM)) (event first second : ℕ) (score : Score) (firsts seconds : Option ScoreRow)
       (rows : ScorePair)
       (firsts_is : IsFound (scores_in kinds games) (pair_of event first second) firsts)
       (seconds_is : IsFound (scores_in kinds games) (pair_of event second first) seconds)
       (next : AreNext event first second score firsts seconds rows) where
+    ended : (before after now : List Meeting) → flat_map (meetings_in kinds) games ≡ before ++ after
+        → now ≡ before ++ (meetings (pos event) (pos first) (pos second) score ++ after)
+        → Alters (0 ∷ 1 ∷ 2 ∷ []) (score_cells rows.first ∷ score_cells rows.second ∷ []) (scores_in kinds games)
+        (score_rows now)
+    ended before after now was is =
+        let are = next before after (record { of_first = rw was at firsts_is; of_second = rw was at seconds_is }) in
+        rw (was, is, are.of_first, are.of_second)
+        (rows_alter before (meetings (pos event) (pos first) (pos second) score) after)
+
     -- where a game ends, the rows of its two players are put
     pub scores_next : (n : ℕ) (old new : AnyGame DM SM) → slice_get games n ≡ Some old → meetings_in kinds old ≡ []
         → meetings_in kinds new ≡ meetings (pos event) (pos first) (pos second) score
@@ -103,15 +87,7 @@ module _ {DP DM DE DT SP SM SE ST : Type 0} (kinds : ClubRules DP DM DE DT SP SM
         (scores_in kinds (slice_set games n new))
     scores_next n old new at none ends =
         let (before, after, was, now) = met_between (meetings_in kinds) games n old new at none in
-        let first_is : IsFound (score_rows (before ++ after)) (pair_of event first second) firsts =
-        subst (λ ms. IsFound (score_rows ms) (pair_of event first second) firsts) was firsts_is in
-        let second_is : IsFound (score_rows (before ++ after)) (pair_of event second first) seconds =
-        subst (λ ms. IsFound (score_rows ms) (pair_of event second first) seconds) was seconds_is in
-        subst₂
-        (λ was_ms now_ms. Alters (0 ∷ 1 ∷ 2 ∷ []) (score_cells rows.first ∷ score_cells rows.second ∷ [])
-        (score_rows was_ms) (score_rows now_ms))
-        (sym was) (sym (now ∙ ap (λ ms. before ++ (ms ++ after)) ends))
-        (rows_next before after event first second score firsts seconds rows first_is second_is next)
+        ended before after _ was (now ∙ ap (λ ms. before ++ (ms ++ after)) ends)
 
     -- where a game is added that has ended, the rows of its two players are put
     pub scores_added : (new : AnyGame DM SM)
@@ -120,16 +96,5 @@ module _ {DP DM DE DT SP SM SE ST : Type 0} (kinds : ClubRules DP DM DE DT SP SM
         (scores_in kinds (games ++ new ∷ []))
     scores_added new ends =
         let before = flat_map (meetings_in kinds) games in
-        let was : before ≡ before ++ [] = sym (append-nil before) in
-        let now : flat_map (meetings_in kinds) (games ++ new ∷ []) ≡ before
-        ++ (meetings (pos event) (pos first) (pos second) score ++ []) = met_last (meetings_in kinds) games new
-        ∙ ap (λ ms. before ++ ms) (ends ∙ sym (append-nil (meetings (pos event) (pos first) (pos second) score))) in
-        let first_is : IsFound (score_rows (before ++ [])) (pair_of event first second) firsts =
-        subst (λ ms. IsFound (score_rows ms) (pair_of event first second) firsts) was firsts_is in
-        let second_is : IsFound (score_rows (before ++ [])) (pair_of event second first) seconds =
-        subst (λ ms. IsFound (score_rows ms) (pair_of event second first) seconds) was seconds_is in
-        subst₂
-        (λ was_ms now_ms. Alters (0 ∷ 1 ∷ 2 ∷ []) (score_cells rows.first ∷ score_cells rows.second ∷ [])
-        (score_rows was_ms) (score_rows now_ms))
-        (sym was) (sym now)
-        (rows_next before [] event first second score firsts seconds rows first_is second_is next)
+        ended before [] _ (sym (append-nil before))
+        (met_last (meetings_in kinds) games new ∙ ap (λ ms. before ++ ms) (ends ∙ sym (append-nil _)))

@@ -1,27 +1,25 @@
 -- The rows of scores: which there are, by what they are told apart, and what one more ended game makes of them.
 use Rattle.std.proofs.Common.{◌≡◌, ℕ, zero, suc, List, [], ◌∷◌, ◌++◌, map, true, not, ◌⊎◌, inl, inr, Some, pos, refl}
-use Rattle.std.proofs.Common.{ap, sym, subst, subst₂, ◌∙◌, true≢false, append_assoc}
-use Rattle.std.specs.Prelude.{ℤ, filter, slice_get, slice_set}
-use Rattle.std.specs.List.{flat_map}
-use Rattle.std.specs.Cmp.{tied_itself}
+use Rattle.std.proofs.Common.{ap, sym, subst, ◌∙◌, true≢false, append_assoc}
+use Rattle.std.specs.Prelude.{filter, slice_get, slice_set}
+use Rattle.std.specs.List.{flat_map, list_any}
 use Rattle.std.proofs.lemmas.Bool.{cases_Bool, and_parts, and_from}
 use Rattle.std.proofs.lemmas.Bool.Decides.{Decides-int_eq}
+use Rattle.std.proofs.lemmas.Grind.{flat_map-append}
 use Rattle.std.proofs.lemmas.List.{append-nil, map-append}
 use Rattle.std.proofs.lemmas.List.Elements.{filter-append}
 use Rattle.sqlite_value.specs.declared.value.Value.TheVariants.{Int}
 use Rattle.sqlite.specs.Order.{Row}
-use Rattle.sqlite.specs.Collation.TheVariants.{Binary}
-use Rattle.sqlite_schema.specs.Rules.{equal}
 use Rattle.sqlite_value.specs.Keys.{first_key}
-use Rattle.sqlite_value.proofs.OrderLemmas.{value_cmp_total}
 use Rattle.sqlite_rules.specs.Lists.{Has}
-use Rattle.sqlite_rules.proofs.ListLemmas.{has_filtered, has_kept, has_either, has_left, has_right}
+use Rattle.sqlite_rules.proofs.ListLemmas.{has_filtered, has_kept, has_either, has_left, has_right, some_has, some_from}
 use Rattle.store_tables.specs.Content.{same_key}
 use Rattle.store_tables.specs.Changes.{Alters}
-use Rattle.store_tables.proofs.Proved.{equal_ints, equal_from}
+use Rattle.store_tables.proofs.Proved.{equal_ints, has_map, has_mapped}
 use Rattle.club_rows.specs.Scores.{Meeting, same_pair, scores_of, once_each, score_row, score_rows, wins, draws, losses}
 use Rattle.club_rows.specs.Scores.{points}
 use Rattle.club_rows.specs.declared.scores.Pair.{Pair}
+use Rattle.club_rows.proofs.KeyPairs.{itself}
 
 abbrev pub pair_key : List ℕ
 pair_key = 0 ∷ 1 ∷ 2 ∷ []
@@ -32,10 +30,11 @@ pub pair_same : (p q : Pair) → same_pair p q ≡ true → p ≡ q
 pair_same p q same =
     let parts = and_parts _ _ same in
     let rest = and_parts _ _ parts.1 in
-    let event : p.event ≡ q.event = (Decides-int_eq p.event q.event).0 parts.0 in
-    let member : p.member ≡ q.member = (Decides-int_eq p.member q.member).0 rest.0 in
-    let opponent : p.opponent ≡ q.opponent = (Decides-int_eq p.opponent q.opponent).0 rest.1 in
-    λ i. record { event = event i; member = member i; opponent = opponent i }
+    λ i. record {
+      event = (Decides-int_eq p.event q.event).0 parts.0 i;
+      member = (Decides-int_eq p.member q.member).0 rest.0 i;
+      opponent = (Decides-int_eq p.opponent q.opponent).0 rest.1 i;
+    }
 
 pub pair_itself : (p : Pair) → same_pair p p ≡ true
 pair_itself p = and_from _ _ ((Decides-int_eq p.event p.event).1 refl)
@@ -55,19 +54,12 @@ once_has (q ∷ ps) p (inr h) = elim (cases_Bool (same_pair p q)) [
 ]
 
 pub mapped_had : {A B : Type 0} (f : A → B) (xs : List A) (y : B) → Has (map f xs) y → (x : A) × Has xs x × (y ≡ f x)
-mapped_had f [] y h = absurd h
-mapped_had f (x ∷ xs) y (inl is) = (x, inl refl, is)
-mapped_had f (x ∷ xs) y (inr h) = let (z, has, is) = mapped_had f xs y h in (z, inr has, is)
+mapped_had = has_mapped
 
 pub mapped_has : {A B : Type 0} (f : A → B) (xs : List A) (x : A) → Has xs x → Has (map f xs) (f x)
-mapped_has f [] x h = absurd h
-mapped_has f (z ∷ xs) x (inl is) = inl (ap f is)
-mapped_has f (z ∷ xs) x (inr h) = inr (mapped_has f xs x h)
+mapped_has = has_map
 
 -- ---- keys
-
-ints_agree : (m : ℤ) → equal Binary (Int m) (Int m) ≡ true
-ints_agree m = equal_from (Int m) (Int m) refl refl (tied_itself value_cmp_total (Int m))
 
 -- rows that begin with pairs have the same key where the pairs are one
 pub keys_same : (p q : Pair) (xs ys : Row)
@@ -78,17 +70,18 @@ keys_same p q xs ys same =
     let parts = and_parts _ _ same in
     let rest = and_parts _ _ parts.1 in
     let last = and_parts _ _ rest.1 in
-    let event : p.event ≡ q.event = equal_ints p.event q.event parts.0 in
-    let member : p.member ≡ q.member = equal_ints p.member q.member rest.0 in
-    let opponent : p.opponent ≡ q.opponent = equal_ints p.opponent q.opponent last.0 in
-    λ i. record { event = event i; member = member i; opponent = opponent i }
+    λ i. record {
+      event = equal_ints p.event q.event parts.0 i;
+      member = equal_ints p.member q.member rest.0 i;
+      opponent = equal_ints p.opponent q.opponent last.0 i;
+    }
 
 pub keys_agree : (p : Pair) (xs ys : Row)
     → same_key pair_key (Int p.event ∷ Int p.member ∷ Int p.opponent ∷ xs)
     (Int p.event ∷ Int p.member ∷ Int p.opponent ∷ ys) ≡ true
 unfolding first_key
-keys_agree p xs ys = and_from _ _ (ints_agree p.event)
-    (and_from _ _ (ints_agree p.member) (and_from _ _ (ints_agree p.opponent) refl))
+keys_agree p xs ys = and_from _ _ (itself (Int p.event) (λ e. cc))
+    (and_from _ _ (itself (Int p.member) (λ e. cc)) (and_from _ _ (itself (Int p.opponent) (λ e. cc)) refl))
 
 -- ---- the rows of meetings
 
@@ -117,8 +110,7 @@ pub rows_one : (ms : List Meeting) (x y : Row) → Has (score_rows ms) x → Has
 rows_one ms x y h k same =
     let (p, met, x_is) = rows_had ms x h in
     let (q, met_too, y_is) = rows_had ms y k in
-    let one : p ≡ q = keys_same p q (sums_in ms p) (sums_in ms q)
-    (subst₂ (λ a b. same_key pair_key a b ≡ true) x_is y_is same) in
+    let one : p ≡ q = keys_same p q (sums_in ms p) (sums_in ms q) (rw (x_is, y_is) at same) in
     x_is ∙ (ap (row_in ms) one ∙ sym y_is)
 
 -- ---- more meetings
@@ -150,37 +142,28 @@ module _ (before new after : List Meeting) where
   abbrev all : List Meeting
   all = before ++ (new ++ after)
 
-  pairs_had : (p : Pair) → Has (pairs_of all) p → Has (pairs_of new) p ⊎ Has (pairs_of old_ms) p
-  pairs_had p h =
-      let (m, has, is) = mapped_had (λ (m : Meeting). m.pair) all p h in
-      elim (has_either before (new ++ after) m has) [
-        | inl early ↦
-            inr
-            (subst (Has (pairs_of old_ms)) (sym is)
-            (mapped_has (λ (m : Meeting). m.pair) old_ms m (has_left before after m early)))
-        | inr later ↦ elim (has_either new after m later) [
-          | inl now ↦ inl (subst (Has (pairs_of new)) (sym is) (mapped_has (λ (m : Meeting). m.pair) new m now))
-          | inr late ↦
-              inr
-              (subst (Has (pairs_of old_ms)) (sym is)
-              (mapped_has (λ (m : Meeting). m.pair) old_ms m (has_right before after m late)))
-        ]
-      ]
+  old_pairs : pairs_of old_ms ≡ pairs_of before ++ pairs_of after
+  old_pairs = map-append (λ (m : Meeting). m.pair) before after
 
-  new_among : (p : Pair) → Has (pairs_of new) p → Has (pairs_of all) p
-  new_among p h =
-      let (m, has, is) = mapped_had (λ (m : Meeting). m.pair) new p h in
-      subst (Has (pairs_of all)) (sym is)
-      (mapped_has (λ (m : Meeting). m.pair) all m (has_right before (new ++ after) m (has_left new after m has)))
+  all_pairs : pairs_of all ≡ pairs_of before ++ (pairs_of new ++ pairs_of after)
+  all_pairs = map-append (λ (m : Meeting). m.pair) before (new ++ after)
+      ∙ ap (λ ps. pairs_of before ++ ps) (map-append (λ (m : Meeting). m.pair) new after)
+
+  pairs_had : (p : Pair) → Has (pairs_of all) p → Has (pairs_of new) p ⊎ Has (pairs_of old_ms) p
+  pairs_had p h = elim (has_either (pairs_of before) (pairs_of new ++ pairs_of after) p (rw all_pairs at h)) [
+    | inl early ↦ inr (rw old_pairs (has_left (pairs_of before) (pairs_of after) p early))
+    | inr later ↦ elim (has_either (pairs_of new) (pairs_of after) p later) [
+      | inl now ↦ inl now
+      | inr late ↦ inr (rw old_pairs (has_right (pairs_of before) (pairs_of after) p late))
+    ]
+  ]
 
   old_among : (p : Pair) → Has (pairs_of old_ms) p → Has (pairs_of all) p
-  old_among p h =
-      let (m, has, is) = mapped_had (λ (m : Meeting). m.pair) old_ms p h in
-      subst (Has (pairs_of all)) (sym is)
-      (mapped_has (λ (m : Meeting). m.pair) all m (elim (has_either before after m has) [
-        | inl early ↦ has_left before (new ++ after) m early
-        | inr late ↦ has_right before (new ++ after) m (has_right new after m late)
-      ]))
+  old_among p h = rw all_pairs (elim (has_either (pairs_of before) (pairs_of after) p (rw old_pairs at h)) [
+    | inl early ↦ has_left (pairs_of before) (pairs_of new ++ pairs_of after) p early
+    | inr late ↦ has_right (pairs_of before) (pairs_of new ++ pairs_of after) p
+        (has_right (pairs_of new) (pairs_of after) p late)
+  ])
 
   row_stays : (p : Pair) → (Has (pairs_of new) p → ⊥) → row_in all p ≡ row_in old_ms p
   row_stays p none =
@@ -189,36 +172,25 @@ module _ (before new after : List Meeting) where
       ∙ sym (scores_append p before after)))
 
   among : (p : Pair) (ps : List Pair) → Has ps p ⊎ (Has ps p → ⊥)
-  among p [] = inr (λ h. absurd h)
-  among p (q ∷ ps) = elim (cases_Bool (same_pair p q)) [
-    | inl same ↦ inl (inl (pair_same p q same))
-    | inr other ↦ elim (among p ps) [
-      | inl has ↦ inl (inr has)
-      | inr none ↦
-          inr
-          (λ h.
-          elim h [
-            | inl is ↦ true≢false (sym (subst (λ x. same_pair p x ≡ true) is (pair_itself p)) ∙ other)
-            | inr has ↦
-                none has
-          ])
-    ]
+  among p ps = elim (cases_Bool (list_any (same_pair p) ps)) [
+    | inl has ↦ let (q, there, same) = some_has (same_pair p) ps has in inl (rw (pair_same p q same) there)
+    | inr none ↦ inr (λ h. true≢false (sym (some_from (same_pair p) ps p h (pair_itself p)) ∙ none))
   ]
 
   -- the rows of the new meetings' pairs, put, make the rows of all meetings of the old
   pub rows_alter : Alters pair_key (map (row_in all) (pairs_of new)) (score_rows old_ms) (score_rows all)
   rows_alter = record {
     among = λ z h. let (p, has, is) = mapped_had (row_in all) (pairs_of new) z h in
-        subst (Has (score_rows all)) (sym is) (rows_has all p (new_among p has));
+        rw is
+        (rows_has all p (rw all_pairs (has_right (pairs_of before) (pairs_of new ++ pairs_of after) p
+        (has_left (pairs_of new) (pairs_of after) p has))));
     from = λ z h.
         let (p, has, is) = rows_had all z h in
         elim (among p (pairs_of new)) [
-          | inl now ↦
-              inr
-              (subst (Has (map (row_in all) (pairs_of new))) (sym is) (mapped_has (row_in all) (pairs_of new) p now))
+          | inl now ↦ inr (rw is (mapped_has (row_in all) (pairs_of new) p now))
           | inr none ↦ elim (pairs_had p has) [
             | inl now ↦ absurd (none now)
-            | inr was ↦ inl (subst (Has (score_rows old_ms)) (sym (is ∙ row_stays p none)) (rows_has old_ms p was))
+            | inr was ↦ inl (rw (is ∙ row_stays p none) (rows_has old_ms p was))
           ]
         ];
     stays = λ z h.
@@ -231,8 +203,7 @@ module _ (before new after : List Meeting) where
                 subst (λ x. same_key pair_key x (row_in all p) ≡ true) (sym is)
                     (keys_agree p (sums_in old_ms p) (sums_in all p)),
               )
-          | inr none ↦
-              inl (subst (Has (score_rows all)) (sym (is ∙ sym (row_stays p none))) (rows_has all p (old_among p has)))
+          | inr none ↦ inl (rw (is ∙ sym (row_stays p none)) (rows_has all p (old_among p has)))
         ];
     one = rows_one all;
   }
@@ -265,6 +236,5 @@ module _ {A : Type 0} (meetings_in : A → List Meeting) where
 
   pub met_last : (games : List A) (new : A)
       → flat_map meetings_in (games ++ new ∷ []) ≡ flat_map meetings_in games ++ meetings_in new
-  met_last [] new = append-nil (meetings_in new)
-  met_last (g ∷ games) new = ap (λ ms. meetings_in g ++ ms) (met_last games new)
-      ∙ sym (append_assoc (meetings_in g) (flat_map meetings_in games) (meetings_in new))
+  met_last games new = flat_map-append meetings_in games (new ∷ [])
+      ∙ ap (λ ms. flat_map meetings_in games ++ ms) (append-nil (meetings_in new))

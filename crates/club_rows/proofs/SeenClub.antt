@@ -1,9 +1,8 @@
 -- The table of the positions of all games, where a game changes or is added.
-use Rattle.std.proofs.Common.{◌≡◌, ℕ, ℤ, ◌+◌, List, [], ◌∷◌, ◌++◌, length, map, pos, Some, true, inl, refl, ap, sym}
-use Rattle.std.proofs.Common.{subst, subst₂, ◌∙◌, arith}
+use Rattle.std.proofs.Common.{◌≡◌, ℕ, ◌+◌, List, [], ◌∷◌, ◌++◌, length, map, Option, Some, true, inl, refl, ap, subst₂}
+use Rattle.std.proofs.Common.{◌∙◌, arith}
 use Rattle.std.specs.Prelude.{slice_get, slice_set, string_bytes}
-use Rattle.sqlite_value.specs.declared.value.Value.{Value}
-use Rattle.sqlite_value.specs.declared.value.Value.TheVariants.{Int, Text}
+use Rattle.sqlite_value.specs.declared.value.Value.TheVariants.{Text}
 use Rattle.sqlite.specs.Order.{Row, column}
 use Rattle.sqlite_rules.specs.Lists.{Has}
 use Rattle.store_tables.specs.Changes.{Alters}
@@ -15,21 +14,13 @@ use Rattle.club_rules.specs.GameRules.{GameRules}
 use Rattle.club_core.specs.ClubRules.{ClubRules}
 use Rattle.club_core.specs.Game.{Game}
 use Rattle.club_core.specs.declared.seats.Pairing.{Pairing}
-use Rattle.club_core.specs.State.{AnyGame, draughts, shogi, State, place, kind_at, seated_as, with_new_game}
+use Rattle.club_core.specs.State.{AnyGame, draughts, shogi, State, place, kind_at, seated_as, with_imported}
+use Rattle.club_core.specs.State.{with_new_game}
 use Rattle.club_rows.specs.Tables.{number, gathered_from, rows_of_seen, tables_of}
 use Rattle.club_rows.specs.Seen.{texts_of, seen_rows, IsFound}
 use Rattle.club_rows.proofs.GatheredLemmas.{gathered-had, gathered-has, gathered-set, gathered-added}
-use Rattle.club_rows.proofs.KeyPairs.{same-numbers, same-texts, pairs-agree}
-use Rattle.club_rows.proofs.SeenGame.{seen-id, seen-apart}
-
-number-same : (m n : ℕ) → number m ≡ number n → m ≡ n
-number-same m n is = by (int-same (pos m) (pos n) is)
-  where
-    int-same : (a b : ℤ) → ◌≡◌ {A = Value} (Int a) (Int b) → a ≡ b
-    int-same a b same = cc
-
-    by : pos m ≡ pos n → m ≡ n
-    by same = cc
+use Rattle.club_rows.proofs.KeyPairs.{same-numbers, same-texts, keys-agree}
+use Rattle.club_rows.proofs.SeenGame.{seen-id, texts-apart}
 
 module _ {DP DM DE DT SP SM SE ST : Type 0} (kinds : ClubRules DP DM DE DT SP SM SE ST) where
   numbered : (id : ℕ) (g : AnyGame DM SM) (z : Row) → Has (rows_of_seen kinds id g) z → column z 0 ≡ number id
@@ -38,8 +29,8 @@ module _ {DP DM DE DT SP SM SE ST : Type 0} (kinds : ClubRules DP DM DE DT SP SM
 
   apart : (id : ℕ) (g : AnyGame DM SM) (z w : Row) → Has (rows_of_seen kinds id g) z → Has (rows_of_seen kinds id g) w
       → same_key (0 ∷ 1 ∷ []) z w ≡ true → z ≡ w
-  apart id (draughts g) z w h k same = seen-apart kinds.draughts id g z w h k same
-  apart id (shogi g) z w h k same = seen-apart kinds.shogi id g z w h k same
+  apart id (draughts g) z w h k same = texts-apart id (texts_of kinds.draughts g) z w h k same
+  apart id (shogi g) z w h k same = texts-apart id (texts_of kinds.shogi g) z w h k same
 
   -- a game that changes alters the table as it alters the rows of the game
   pub seen-table-set : (s : State DM SM) (n : ℕ) (old new : AnyGame DM SM) (moment : ℕ) (changed : List Row)
@@ -56,16 +47,21 @@ module _ {DP DM DE DT SP SM SE ST : Type 0} (kinds : ClubRules DP DM DE DT SP SM
       (gathered_from (rows_of_seen kinds) 1 (games ++ new ∷ []))
   seen-added games new = gathered-added (rows_of_seen kinds) numbered apart games new
 
-  -- a game that was just seated adds the row of its opening
+  -- a game that was just seated under a key or under none adds the row of its opening
+  pub seated-added : (s : State DM SM) (key : Option (List ℕ)) (pairing : Pairing) (moment : ℕ) (row : Row)
+      → rows_of_seen kinds (1 + length s.games) (seated_as (kind_at (place s.events pairing.event)) key pairing moment)
+      ≡ row ∷ []
+      → Alters (0 ∷ 1 ∷ []) (row ∷ []) (tables_of kinds s 12)
+      (tables_of kinds
+      (with_imported s moment (seated_as (kind_at (place s.events pairing.event)) key pairing moment)) 12)
+  seated-added s key pairing moment row is =
+      rw is at (seen-added s.games (seated_as (kind_at (place s.events pairing.event)) key pairing moment))
+
   pub seen-table-added : (s : State DM SM) (key : List ℕ) (pairing : Pairing) (moment : ℕ) (row : Row)
       → rows_of_seen kinds (1 + length s.games)
       (seated_as (kind_at (place s.events pairing.event)) (Some key) pairing moment) ≡ row ∷ []
       → Alters (0 ∷ 1 ∷ []) (row ∷ []) (tables_of kinds s 12) (tables_of kinds (with_new_game s moment key pairing) 12)
-  seen-table-added s key pairing moment row is =
-      subst
-      (λ rows. Alters (0 ∷ 1 ∷ []) rows (tables_of kinds s 12)
-      (tables_of kinds (with_new_game s moment key pairing) 12)) is
-      (seen-added s.games (seated_as (kind_at (place s.events pairing.event)) (Some key) pairing moment))
+  seen-table-added s key pairing moment row is = seated-added s (Some key) pairing moment row is
 
   -- ---- the row of a position
 
@@ -74,9 +70,7 @@ module _ {DP DM DE DT SP SM SE ST : Type 0} (kinds : ClubRules DP DM DE DT SP SM
       → Has (tables_of kinds s 12) z → column z 0 ≡ number (1 + n) → Has (rows_of_seen kinds (1 + n) g) z
   game-had s n g z at h first =
       let (m, x, there, has) = gathered-had (rows_of_seen kinds) 1 s.games z h in
-      let id = number-same (1 + m) (1 + n) (sym (numbered (1 + m) x z has) ∙ first) in
-      let place : m ≡ n = omega (arith, id) in
-      let here : slice_get s.games n ≡ Some x = subst (λ k. slice_get s.games k ≡ Some x) place there in
+      let place : m ≡ n = grind (arith, numbered (1 + m) x z has, first) in
       let is : x ≡ g = cc in
       subst₂ (λ k e. Has (rows_of_seen kinds (1 + k) e) z) place is has
 
@@ -88,11 +82,10 @@ module _ {DP DM DE DT SP SM SE ST : Type 0} (kinds : ClubRules DP DM DE DT SP SM
       → AreThose (0 ∷ 1 ∷ []) (number (1 + n) ∷ Text text ∷ []) (tables_of kinds s 12) (map seen_cells found)
       → IsFound rules (1 + n) game text (slice_get found 0)
   seen-found rules s n any game text [] at same those = λ z is.
-      let here : Has (rows_of_seen kinds (1 + n) any) z = subst (λ l. Has l z) (sym same) is.there in
-      let in_table = gathered-has (rows_of_seen kinds) 1 s.games n any z at here in
-      those.complete z in_table
-      (pairs-agree z (number (1 + n) ∷ Text text ∷ []) (1 + n) text (numbered (1 + n) any z here) refl is.text_is
-      refl)
+      let here = rw (← same) at is.there in
+      those.complete z (gathered-has (rows_of_seen kinds) 1 s.games n any z at here)
+      (keys-agree z (number (1 + n) ∷ Text text ∷ []) (number (1 + n)) (Text text) (λ e. cc) (λ e. cc)
+      (numbered (1 + n) any z here) refl is.text_is refl)
   seen-found rules s n any game text (r ∷ rs) at same those =
       let (in_table, alike) = those.sound (seen_cells r) (inl refl) in
       let it = gathered-had (rows_of_seen kinds) 1 s.games (seen_cells r) in_table in
@@ -100,8 +93,5 @@ module _ {DP DM DE DT SP SM SE ST : Type 0} (kinds : ClubRules DP DM DE DT SP SM
       let id = same-numbers (seen_cells r) (number (1 + n) ∷ Text text ∷ []) (1 + it.0) (1 + n) first refl alike in
       let is = same-texts (seen_cells r) (number (1 + n) ∷ Text text ∷ []) (string_bytes r.position) text refl refl
       alike in
-      record {
-        there = subst (λ l. Has l (seen_cells r)) same
-            (game-had s n any (seen_cells r) at in_table (first ∙ ap number id));
-        text_is = ap Text is;
-      }
+      let had = game-had s n any (seen_cells r) at in_table (first ∙ ap number id) in
+      record { there = rw same at had; text_is = ap Text is }

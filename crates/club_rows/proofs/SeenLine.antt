@@ -1,12 +1,12 @@
 -- What the row of a game's last position tells of its line: how often the position stood, and after which ply first.
-use Rattle.std.proofs.Common.{◌≡◌, ℕ, zero, suc, ◌+◌, ◌≤◌, List, [], ◌∷◌, length, map, take, pos, Bool, true, false}
-use Rattle.std.proofs.Common.{cond, Some, refl, ap, sym, subst, ◌∙◌, arith}
-use Rattle.std.specs.Prelude.{ℤ, count_by, slice_get}
+use Rattle.std.proofs.Common.{◌≡◌, ℕ, zero, suc, ◌≤◌, List, [], ◌∷◌, length, map, take, pos, Bool, true, cond, Some}
+use Rattle.std.proofs.Common.{refl, ap, sym, ◌∙◌, arith}
+use Rattle.std.specs.Prelude.{count_by, slice_get}
 use Rattle.std.specs.Str.{bytes_eq}
+use Rattle.std.proofs.lemmas.List.{length-map}
 use Rattle.std.proofs.lemmas.Option.{slice_get_within}
 use Rattle.std.proofs.lemmas.List.Sums.{sum_by-cons}
-use Rattle.sqlite_value.specs.declared.value.Value.{Value}
-use Rattle.sqlite_value.specs.declared.value.Value.TheVariants.{Int, Text}
+use Rattle.sqlite_value.specs.declared.value.Value.TheVariants.{Int}
 use Rattle.sqlite.specs.Order.{Row, column}
 use Rattle.club_rules.specs.GameRules.{GameRules}
 use Rattle.club_rules.specs.Laws.{SamePositionIs, TextsTellPositions}
@@ -17,33 +17,20 @@ use Rattle.store_tables.specs.Cells.{seen_cells}
 use Rattle.store_tables.specs.declared.rows.SeenRow.{SeenRow}
 use Rattle.club_rows.specs.Seen.{times_in, texts_of, IsSeenRow}
 use Rattle.club_rows.proofs.LineLemmas.{IsLegalLine-take}
+use Rattle.club_rows.proofs.SeenGame.{positions-count}
 use Rattle.club_rows.proofs.SeenTexts.{FirstAt, row-had}
 
 count-alike : {A B : Type 0} (f : A → B) (test : B → Bool) (other : A → Bool) (xs : List A)
     → ((n : ℕ) (x : A) → slice_get xs n ≡ Some x → test (f x) ≡ other x) → count_by test (map f xs) ≡ count_by other xs
 count-alike f test other [] same = refl
 count-alike f test other (x ∷ xs) same =
-    let here : ◌≡◌ {A = ℕ} (cond (test (f x)) 1 0) (cond (other x) 1 0) = ap (λ b. cond b 1 0) (same 0 x refl) in
     let rest = count-alike f test other xs (λ n y at. same (suc n) y at) in
-    sum_by-cons (λ y. cond (test y) 1 0) (f x) (map f xs)
-    ∙ ((λ i. here i + rest i) ∙ sym (sum_by-cons (λ y. cond (other y) 1 0) x xs))
+    let first = sum_by-cons (λ y. cond (test y) 1 0) (f x) (map f xs) in
+    let second = sum_by-cons (λ y. cond (other y) 1 0) x xs in
+    grind (arith, rest, first, second, same 0 x refl)
 
 bools-same : (a b : Bool) → (a ≡ true → b ≡ true) → (b ≡ true → a ≡ true) → a ≡ b
-bools-same true b there back = sym (there refl)
-bools-same false true there back = back refl
-bools-same false false there back = refl
-
-number_same : (m n : ℕ) → ◌≡◌ {A = Value} (Int (pos m)) (Int (pos n)) → m ≡ n
-number_same m n is = cc
-
-int_same : (m n : ℤ) → ◌≡◌ {A = Value} (Int m) (Int n) → m ≡ n
-int_same m n is = cc
-
-text_same : (a b : List ℕ) → ◌≡◌ {A = Value} (Text a) (Text b) → a ≡ b
-text_same a b is = cc
-
-some_same : (a b : List ℕ) → Some a ≡ Some b → a ≡ b
-some_same a b is = cc
+bools-same a b there back = grind arith
 
 module _ {P M E T : Type 0} (rules : GameRules P M E T) where
   -- each position of a line stands after so many plies
@@ -62,10 +49,6 @@ module _ {P M E T : Type 0} (rules : GameRules P M E T) where
   text-at p [] (suc n) low = absurd (omega (arith, low))
   text-at p (m ∷ ms) zero low = refl
   text-at p (m ∷ ms) (suc n) low = text-at (rules.play p m) ms n (omega (arith, low))
-
-  texts-count : (p : P) (ms : List M) → length (map rules.write_position (positions rules p ms)) ≡ length ms + 1
-  texts-count p [] = refl
-  texts-count p (m ∷ ms) = ap suc (texts-count (rules.play p m) ms) ∙ omega arith
 
   module _ (same_is : SamePositionIs rules) (tell : TextsTellPositions rules) (ms : List M)
       (legal : IsLegalLine rules rules.start ms) where
@@ -98,11 +81,13 @@ module _ {P M E T : Type 0} (rules : GameRules P M E T) where
     text-first : (ply : ℕ) → FirstAt texts ply (rules.write_position last) → FirstStands rules rules.start ms ply
     text-first ply first =
         let within = slice_get_within texts ply (rules.write_position last) first.at in
-        let count = texts-count rules.start ms in
-        let low : ply ≤ length ms = omega (arith, within, count) in
+        let count = positions-count rules rules.start ms in
+        let texts_count = length-map (positions rules rules.start ms) rules.write_position in
+        let low : ply ≤ length ms = omega (arith, within, count, texts_count) in
+        let both = sym (text-at rules.start ms ply low) ∙ first.at in
         record {
           within = low;
-          stands = told ply (some_same _ _ (sym (text-at rules.start ms ply low) ∙ first.at));
+          stands = told ply (cc);
           earliest = λ k before here. first.earliest k before
               (text-at rules.start ms k (omega (arith, before, low)) ∙ ap (λ q. Some (rules.write_position q)) here);
         }
@@ -112,12 +97,9 @@ module _ {P M E T : Type 0} (rules : GameRules P M E T) where
       → IsSeenRow rules id game text (seen_cells row) → (count : ℕ) × (first : ℕ) × (row.count ≡ pos count)
       × (row.first_ply ≡ pos first)
   numbers-in id game text row is =
-      let it = row-had id (texts_of rules game) (seen_cells row) is.there in (
-        times_in (texts_of rules game) it.text,
-        it.ply,
-        int_same _ _ (ap (λ r. column r 2) it.is),
-        int_same _ _ (ap (λ r. column r 3) it.is),
-      )
+      let it = row-had id (texts_of rules game) (seen_cells row) is.there in
+      let row_is = it.is in
+      (times_in (texts_of rules game) it.text, it.ply, cc, cc)
 
   -- The row of a legal game's last position tells how often the position stood, and after which ply first.
   pub stood-in-row : SamePositionIs rules → TextsTellPositions rules
@@ -128,13 +110,10 @@ module _ {P M E T : Type 0} (rules : GameRules P M E T) where
       × FirstStands rules rules.start (moves_of game) first
   stood-in-row same_is tell id game row times first legal is times_is first_is =
       let it = row-had id (texts_of rules game) row is.there in
-      let text : it.text ≡ rules.write_position (last_position rules game) =
-      text_same _ _ (sym (ap (λ r. column r 1) it.is) ∙ is.text_is) in
-      let count : times ≡ times_in (texts_of rules game) it.text =
-      number_same _ _ (sym times_is ∙ ap (λ r. column r 2) it.is) in
-      let place : first ≡ it.ply = number_same _ _ (sym first_is ∙ ap (λ r. column r 3) it.is) in (
+      let row_is = it.is in
+      let text : it.text ≡ rules.write_position (last_position rules game) = cc (is.text_is) in
+      let count : times ≡ times_in (texts_of rules game) it.text = cc in
+      let place : first ≡ it.ply = cc in (
         count ∙ (ap (times_in (texts_of rules game)) text ∙ text-times same_is tell (moves_of game) legal),
-        subst (FirstStands rules rules.start (moves_of game)) (sym place)
-            (text-first same_is tell (moves_of game) legal it.ply
-            (subst (FirstAt (texts_of rules game) it.ply) text it.first)),
+        rw place (text-first same_is tell (moves_of game) legal it.ply (rw text at it.first)),
       )

@@ -1,7 +1,7 @@
 -- The rows of the positions of a legal club have the types of their columns.
-use Rattle.std.proofs.Common.{ℕ, suc, List, [], ◌∷◌, map, Bool, true, false, refl}
-use Rattle.std.specs.Prelude.{if◌then◌else◌}
+use Rattle.std.proofs.Common.{ℕ, suc, List, [], ◌∷◌, map, inl, inr, arith}
 use Rattle.std.specs.List.{AllByRecursion}
+use Rattle.std.proofs.lemmas.Bool.{cases_Bool}
 use Rattle.club_rules.specs.GameRules.{GameRules}
 use Rattle.club_rules.specs.Line.{positions}
 use Rattle.club_core.specs.Game.{Game, moves_of}
@@ -18,25 +18,17 @@ use Rattle.club_rows.proofs.TextLemmas.{gathered-all}
 
 module _ {P M E T : Type 0} (laws : GameRules P M E T) (plain : ArePlain laws) (id : ℕ) where
   row-typed : (p : P) (count ply : ℕ) → IsSeen (seen_row id (laws.write_position p) count ply)
-  row-typed p count ply = record {
-    width = refl;
-    game = (_, refl);
-    position = is-text _ (plain.position p);
-    count = (_, refl);
-    first_ply = (_, refl);
-  }
+  row-typed p count ply = grind (arith, is-text (laws.write_position p) (plain.position p))
 
   rows-typed : (texts : List (List ℕ)) (ply : ℕ) (ps : List P)
       → AllByRecursion IsSeen (rows_from id texts ply (map laws.write_position ps))
   rows-typed texts ply [] = tt
-  rows-typed texts ply (p ∷ ps) = by (stood_before texts ply (laws.write_position p)) (rows-typed texts (suc ply) ps)
-    where
-      by : (b : Bool) → AllByRecursion IsSeen (rows_from id texts (suc ply) (map laws.write_position ps))
-          → AllByRecursion IsSeen
-          (if b then rows_from id texts (suc ply) (map laws.write_position ps) else seen_row id (laws.write_position p)
-          (times_in texts (laws.write_position p)) ply ∷ rows_from id texts (suc ply) (map laws.write_position ps))
-      by true rest = rest
-      by false rest = (row-typed p (times_in texts (laws.write_position p)) ply, rest)
+  rows-typed texts ply (p ∷ ps) =
+      let rest = rows-typed texts (suc ply) ps in
+      elim (cases_Bool (stood_before texts ply (laws.write_position p))) [
+        | inl stood ↦ rw stood rest
+        | inr new ↦ rw new (row-typed p (times_in texts (laws.write_position p)) ply, rest)
+      ]
 
   pub seen-rows-typed : (game : Game M) → AllByRecursion IsSeen (seen_rows laws id game)
   seen-rows-typed game = rows-typed (texts_of laws game) 0 (positions laws laws.start (moves_of game))

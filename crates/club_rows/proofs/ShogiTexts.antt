@@ -1,6 +1,7 @@
 -- The texts of shogi are in ASCII.
 use Rattle.std.proofs.Common.{◌≡◌, ℕ, zero, suc, ◌+◌, ◌<◌, ◌≤◌, List, [], ◌∷◌, ◌++◌, length, Option, Some, None, Bool}
-use Rattle.std.proofs.Common.{true, false, cond, Ok, refl, sym, subst, arith}
+use Rattle.std.proofs.Common.{Ok, refl, arith}
+use Rattle.std.proofs.lemmas.Bool.{cond_both}
 use Rattle.squares.specs.declared.sides.Side.{Side}
 use Rattle.squares.specs.declared.sides.Side.TheVariants.{First, Second}
 use Rattle.squares.specs.declared.shogi.hand.Hand.{Hand}
@@ -9,7 +10,6 @@ use Rattle.squares.specs.declared.shogi.moves.SMove.{SMove}
 use Rattle.squares.specs.declared.shogi.moves.SMove.TheVariants.{Step, Drop}
 use Rattle.squares.specs.declared.shogi.piece.HandKind.{HandKind}
 use Rattle.squares.specs.declared.shogi.piece.Kind.{Kind}
-use Rattle.squares.specs.declared.shogi.piece.Kind.TheVariants as kind
 use Rattle.squares.specs.declared.shogi.piece.SPiece.{SPiece}
 use Rattle.squares.specs.ShogiHands.{count_of}
 use Rattle.squares.specs.ShogiPieces.{is_promoted, kind_of, on_board}
@@ -29,31 +29,18 @@ use Rattle.club_rows.proofs.PlainTexts.{Plain, plain-append, decimal-plain, AreP
 -- ---- positions
 
 capital-low : (k : Kind) → capital k < 96
-capital-low kind.King = omega arith
-capital-low kind.Rook = omega arith
-capital-low kind.Bishop = omega arith
-capital-low kind.Gold = omega arith
-capital-low kind.Silver = omega arith
-capital-low kind.Knight = omega arith
-capital-low kind.Lance = omega arith
-capital-low kind.Pawn = omega arith
+capital-low k = grind arith
 
 letter-low : (side : Side) (k : Kind) → letter side k < 128
-letter-low First k = let low = capital-low k in omega (arith, low)
-letter-low Second k = let low = capital-low k in omega (arith, low)
+letter-low side k = grind (arith, capital-low k)
 
 piece-plain : (piece : SPiece) → Plain (piece_text piece)
-piece-plain piece = by (is_promoted piece.role)
-  where
-    by : (b : Bool)
-        →
-        Plain (cond b (43 ∷ letter piece.side (kind_of piece.role) ∷ []) (letter piece.side (kind_of piece.role) ∷ []))
-    by true = (omega arith, (letter-low piece.side (kind_of piece.role), tt))
-    by false = (letter-low piece.side (kind_of piece.role), tt)
+piece-plain piece =
+    let low = letter-low piece.side (kind_of piece.role) in
+    cond_both (is_promoted piece.role) _ _ Plain (λ e. omega (arith, low)) (λ e. omega (arith, low))
 
 gap-plain : (gap : ℕ) → gap ≤ 9 → Plain (gap_text gap)
-gap-plain zero few = tt
-gap-plain (suc n) few = (omega (arith, few), tt)
+gap-plain gap few = grind arith
 
 cells-plain : (gap : ℕ) (cells : List (Option SPiece)) → gap + length cells ≤ 9 → Plain (cells_text gap cells)
 cells-plain gap [] few = gap-plain gap (omega (arith, few))
@@ -92,8 +79,7 @@ kinds-plain side hand (k ∷ kinds) = plain-append (held_text side k (count_of k
     (held-plain side k (count_of k hand)) (kinds-plain side hand kinds)
 
 hyphen-plain : (text : List ℕ) → Plain text → Plain (or_hyphen text)
-hyphen-plain [] plain = (omega arith, tt)
-hyphen-plain (c ∷ text) plain = plain
+hyphen-plain text plain = grind arith
 
 hands-plain : (hands : Hands) → Plain (hands_text hands)
 unfolding hands_text
@@ -103,8 +89,7 @@ hands-plain hands =
     (kinds-plain Second hands.second hand_kinds))
 
 turn-low : (side : Side) → turn_letter side < 128
-turn-low First = omega arith
-turn-low Second = omega arith
+turn-low side = grind arith
 
 position-plain : (p : ShogiPosition) → Plain (position_text p)
 unfolding position_text
@@ -117,8 +102,7 @@ square-plain : (n : ℕ) → n < 81 → Plain (square_text n)
 square-plain n on = (omega (arith, on), (omega (arith, on), tt))
 
 promotion-plain : (promote : Bool) → Plain (promotion_text promote)
-promotion-plain true = (omega arith, tt)
-promotion-plain false = tt
+promotion-plain promote = grind arith
 
 usi-plain : (m : SMove) → IsOnBoard m → Plain (usi_text m)
 usi-plain (Step from to promote) on =
@@ -130,8 +114,7 @@ reading-plain : (text : List ℕ) (reach : ℕ) (m : SMove) (o : Option SMove) �
     → move_read o reach ≡ Ok m → Plain text
 reading-plain text reach m None is read = cc
 reading-plain text reach m (Some n) is read =
-    let usi = usi_reading-sound text n is in
-    subst Plain (sym usi.1) (usi-plain n usi.0)
+    let usi = usi_reading-sound text n is in rw usi.1 (usi-plain n usi.0)
 
 move-plain : (p : ShogiPosition) (m : SMove) → shogi.check p m ≡ Ok tt → Plain (usi_text m)
 move-plain p m ok = reading-plain (usi_text m) (usi_reach (usi_text m)) m (usi_reading (usi_text m)) refl

@@ -1,20 +1,16 @@
 -- The rows of a game's moves one after another, and what a replay of so many of them shows.
-use Rattle.std.proofs.Common.{◌≡◌, ℕ, zero, suc, pos, ◌+◌, ◌-◌, ◌<◌, ◌≤◌, List, [], ◌∷◌, ◌++◌, length, map, take, Some}
-use Rattle.std.proofs.Common.{None, Result, Ok, refl, ap, sym, ◌∙◌, subst, arith, append_assoc, append-nil, add-one}
-use Rattle.std.proofs.Common.{length-append}
-use Rattle.std.specs.Prelude.{slice_get, IsSome}
-use Rattle.std.specs.Option.{option_map}
+use Rattle.std.proofs.Common.{◌≡◌, ℕ, zero, suc, ◌+◌, ◌-◌, ◌<◌, ◌≤◌, List, [], ◌∷◌, ◌++◌, length, take, Some, None, Ok}
+use Rattle.std.proofs.Common.{refl, ap, sym, ◌∙◌, subst, arith, append_assoc, append-nil, add-one, length-append}
+use Rattle.std.specs.Prelude.{slice_get}
 use Rattle.std.proofs.lemmas.List.{map-append, length-map, take-map, take_more, length-take-le}
-use Rattle.std.proofs.lemmas.Option.{slice_get-map, slice_get_within, same_Some, get_or_from_slice_get}
+use Rattle.std.proofs.lemmas.Option.{slice_get_within, same_Some, get_or_from_slice_get}
 use Rattle.sqlite.specs.Order.{Row}
 use Rattle.squares.specs.declared.sides.Side.{Side}
 use Rattle.squares.specs.declared.sides.Side.TheVariants.{First}
 use Rattle.squares.specs.Sides.{other}
-use Rattle.club_rules.specs.declared.refusals.MoveRefusal.{MoveRefusal}
 use Rattle.club_rules.specs.GameRules.{GameRules}
 use Rattle.club_rules.specs.Line.{IsLegalLine, position_after}
 use Rattle.club_rules.proofs.Proved.{check-at}
-use Rattle.club_requests.specs.declared.outside_end.OutsideEnd.{OutsideEnd}
 use Rattle.club_requests.specs.Limits.{last_moment}
 use Rattle.club_core.specs.Events.{Terms}
 use Rattle.club_core.specs.Game.{Entry, Game, Clocks, spend, spend_all, turns, side_after, clocks_of, moves_of}
@@ -22,25 +18,22 @@ use Rattle.club_core.specs.Game.{moments_of, opening_clocks, left_of, last_posit
 use Rattle.club_core.specs.Game.{end_with, score_with}
 use Rattle.club_core.specs.Legal.{IsTimely, IsLegalGame}
 use Rattle.club_core.proofs.Proved.{AreRules, legal-played, turn-of-game, running-before, IsPlayedLine-none}
-use Rattle.club_laws.proofs.Proved.{each-append}
+use Rattle.club_laws.proofs.Proved.{each-append, map-at}
 use Rattle.store_tables.specs.Cells.{move_cells}
 use Rattle.store_tables.specs.declared.rows.MoveRow.{MoveRow}
-use Rattle.club_rows.specs.Tables.{entry_row, entry_rows, move_rows, with_entry}
+use Rattle.club_rows.specs.Tables.{at_start, entry_row, entry_rows, with_entry}
 use Rattle.club_rows.specs.Replay.{Follows, Replays, IsPlayedAs, WasReplayed, game_from}
 use Rattle.club_rows.specs.declared.replay.Replayed.{Replayed}
-use Rattle.club_rows.proofs.LineLemmas.{IsLegalLine-take}
-use Rattle.club_rows.proofs.NextLemmas.{six-parts}
+use Rattle.club_rows.proofs.LineLemmas.{IsLegalLine-take, one-text}
 
 -- the moves at those moments being in time, so is each of them
 pub timely-at : (increment : ℕ) (side : Side) (ms : List ℕ) (k m : ℕ) (c : Clocks) → IsTimely increment side ms c
     → slice_get ms k ≡ Some m → ((spend_all increment side (take k ms) c).since ≤ m)
-    ×
-    (m - (spend_all increment side (take k ms) c).since ≤ left_of (turns k side)
+    × (m - (spend_all increment side (take k ms) c).since ≤ left_of (turns k side)
     (spend_all increment side (take k ms) c))
 timely-at increment side [] k m c timely at = cc
 timely-at increment side (x ∷ ms) zero m c timely at =
-    let e : x ≡ m = same_Some x m at in
-    (subst (λ n. c.since ≤ n) e timely.0, subst (λ n. n - c.since ≤ left_of side c) e timely.1)
+    let e : m ≡ x = sym (same_Some x m at) in rw e (timely.0, timely.1)
 timely-at increment side (x ∷ ms) (suc k) m c timely at =
     timely-at increment (other side) ms k m (spend increment side x c) timely.2 at
 
@@ -53,26 +46,7 @@ take-got xs k x at = take_more xs k x (slice_get_within xs k x at)
 -- no row is that of a game in which no move was played
 pub none-played : {P M E T : Type 0} (rules : GameRules P M E T) (terms : Terms) (id from : ℕ)
     → IsPlayedAs rules terms id from [] (game_from from [])
-none-played rules terms id from =
-    record {
-      legal = record {
-        line = IsPlayedLine-none rules rules.start;
-        plies = omega arith;
-        timely = tt;
-        outside_alone = λ some. absurd (absent OutsideEnd some);
-        offer = tt;
-        agreed = λ is. absurd cc;
-        recorded = λ score is. absurd cc;
-        declared = λ is. absurd cc;
-        players = λ same. absurd (omega (arith, same));
-      };
-      start = refl;
-      moments = λ n x at. absurd cc;
-      moves = refl;
-    }
-  where
-    absent : (A : Type 0) → IsSome {T = A} None → ⊥
-    absent A is = cc
+none-played rules terms id from = let line = IsPlayedLine-none rules rules.start in grind (arith, line)
 
 module _ {P M E T : Type 0} (rules : GameRules P M E T) (terms : Terms) (id : ℕ) where
   abbrev pub row_at : ℕ → List (Entry M) → Entry M → Row
@@ -105,19 +79,36 @@ module _ {P M E T : Type 0} (rules : GameRules P M E T) (terms : Terms) (id : �
       → (game : Game M) (stored : MoveRow) (e f : Entry M) → Follows rules terms id game stored e
       → Follows rules terms id game stored f → e ≡ f
   entry-only reads_back game stored e f one two =
-      let p = last_position rules game in
-      let parts = six-parts _ _ _ _ _ _ _ _ _ _ _ _ (sym one.row ∙ two.row) in
-      let made : Ok e.made ≡ Ok f.made = sym (reads_back p e.made one.legal)
-      ∙ (ap (rules.read_move p) parts.c_is ∙ reads_back p f.made two.legal) in
-      let made_is : e.made ≡ f.made = same-ok e.made f.made made in
-      let moment_is : e.moment ≡ f.moment = same-pos e.moment f.moment parts.d_is in
-      λ i. record { made = made_is i; moment = moment_is i }
-    where
-      same-ok : (a b : M) → ◌≡◌ {A = Result M MoveRefusal} (Ok a) (Ok b) → a ≡ b
-      same-ok a b is = cc
+      let made = one-text rules reads_back (last_position rules game) e.made f.made one.legal two.legal in
+      grind (arith, made, one.row, two.row)
 
-      same-pos : (a b : ℕ) → pos a ≡ pos b → a ≡ b
-      same-pos a b is = cc
+  module _ (game : Game M) (legal : IsLegalGame rules terms game) (k : ℕ) where
+    -- the line up to a ply is legal, and so is its move
+    pub line-at : IsLegalLine rules rules.start (moves_of (game_at game k))
+    line-at = subst (IsLegalLine rules rules.start) (take-map (λ x. x.made) k game.entries)
+        (IsLegalLine-take rules k rules.start (moves_of game) legal.line.legal)
+
+    pub legal-at : (m : M) → slice_get (moves_of game) k ≡ Some m
+        → rules.check (last_position rules (game_at game k)) m ≡ Ok tt
+    legal-at m at = subst (λ l. rules.check (position_after rules rules.start l) m ≡ Ok tt)
+        (take-map (λ x. x.made) k game.entries) (check-at rules rules.start (moves_of game) k m legal.line.legal at)
+
+    turn-at : AreRules rules → k < length game.entries → turn_of rules (game_at game k) ≡ side_after k
+    turn-at laws inside =
+        turn-of-game rules laws.turn_passes laws.first_starts (game_at game k) line-at
+        ∙ ap side_after (length-take-le k game.entries (omega arith))
+
+  -- nothing was replayed
+  pub was-start : {R : Type 0} (from : ℕ) (rows : List MoveRow) (replayed : Replayed R P M E T)
+      → Replays rules terms (game_from from []) replayed → WasReplayed rules terms id from rows 0 replayed
+  was-start from rows replayed replays =
+      record {
+        entries = [];
+        replays = replays;
+        played = none-played rules terms id from;
+        count = refl;
+        only = λ game is. refl;
+      }
 
   module _ (laws : AreRules rules) (from : ℕ) (rows : List MoveRow) where
     -- each row of a legal game's moves is that of an entry that may be played where it stands
@@ -126,63 +117,21 @@ module _ {P M E T : Type 0} (rules : GameRules P M E T) (terms : Terms) (id : �
         × Follows rules terms id (game_from from (take k game.entries)) row e
     played-follows game k row is at =
         let legal = is.legal in
-        let cells : slice_get (map move_cells rows) k ≡ Some (move_cells row) = slice_get-map move_cells rows k
-        ∙ ap (option_map move_cells) at in
-        let got = rows-from (record game { entries = [] }) game.entries k (move_cells row)
-        (sym (ap (λ l. slice_get l k) is.moves) ∙ cells) in
+        let cells = rw is.moves at (map-at move_cells rows k row at) in
+        let got = rows-from (at_start game) game.entries k (move_cells row) cells in
         let e = got.0 in
-        let inside : k < length game.entries = slice_get_within game.entries k e got.1 in
-        let made : slice_get (moves_of game) k ≡ Some e.made = slice_get-map (λ x. x.made) game.entries k
-        ∙ ap (option_map (λ x. x.made)) got.1 in
-        let moment : slice_get (moments_of game) k ≡ Some e.moment = slice_get-map (λ x. x.moment) game.entries k
-        ∙ ap (option_map (λ x. x.moment)) got.1 in
-        let before = take k game.entries in
-        let line : IsLegalLine rules rules.start (map (λ x. x.made) before) =
-        subst (IsLegalLine rules rules.start) (take-map (λ x. x.made) k game.entries)
-        (IsLegalLine-take rules k rules.start (moves_of game) legal.line.legal) in
-        let count : length before ≡ k = length-take-le k game.entries (omega arith) in
-        let turn : turn_of rules (game_from from before) ≡ turns k First =
-        turn-of-game rules laws.turn_passes laws.first_starts (game_from from before) line
-        ∙ ap (λ n. turns n First) count in
-        let clocks : spend_all terms.increment First (take k (moments_of game)) (opening_clocks game terms)
-        ≡ clocks_of (game_from from before) terms =
-        ap (λ l. spend_all terms.increment First l (opening_clocks game terms))
-        (take-map (λ x. x.moment) k game.entries)
-        ∙ ap
-        (λ n. spend_all terms.increment First (map (λ x. x.moment) before)
-        (record { left_first = terms.budget; left_second = terms.budget; since = n })) is.start in
-        let timely = timely-at terms.increment First (moments_of game) k e.moment (opening_clocks game terms)
-        legal.timely moment in (
-          e,
-          got.1,
-          record {
-            running = running-before rules terms game legal k inside;
-            legal = subst (λ l. rules.check (position_after rules rules.start l) e.made ≡ Ok tt)
-                (take-map (λ x. x.made) k game.entries)
-                (check-at rules rules.start (moves_of game) k e.made legal.line.legal made);
-            later = subst (λ c. c.since ≤ e.moment) clocks timely.0;
-            in_time =
-                subst (λ s. e.moment - (clocks_of (game_from from before) terms).since
-                ≤ left_of s (clocks_of (game_from from before) terms)) (sym turn)
-                (subst (λ c. e.moment - c.since ≤ left_of (turns k First) c) clocks timely.1);
-            moment = is.moments k e got.1;
-            row = got.2 ∙ ap (λ n. row_at n before e) is.start;
-          },
-        )
+        let inside = slice_get_within game.entries k e got.1 in
+        let made = map-at (λ (x : Entry M). x.made) game.entries k e got.1 in
+        let moment = map-at (λ (x : Entry M). x.moment) game.entries k e got.1 in
+        let timely = rw (take-map (λ x. x.moment) k game.entries) at
+        (timely-at terms.increment First (moments_of game) k e.moment (opening_clocks game terms) legal.timely
+        moment) in
+        let running = running-before rules terms game legal k inside in
+        let ok = legal-at game legal k e.made made in
+        let turn = turn-at game legal k laws inside in
+        (e, got.1, grind (arith, is.start, running, ok, timely, turn, is.moments k e got.1, got.2))
 
     module _ {R : Type 0} where
-      -- nothing was replayed
-      pub was-start : (replayed : Replayed R P M E T) → Replays rules terms (game_from from []) replayed
-          → WasReplayed rules terms id from rows 0 replayed
-      was-start replayed replays =
-          record {
-            entries = [];
-            replays = replays;
-            played = none-played rules terms id from;
-            count = refl;
-            only = λ game is. refl;
-          }
-
       -- one row more was replayed
       pub was-more : ((p : P) (m : M) → rules.check p m ≡ Ok tt → rules.read_move p (rules.write_move p m) ≡ Ok m)
           → (plies : ℕ) (old new : Replayed R P M E T) (row : MoveRow) (e : Entry M)
@@ -194,7 +143,6 @@ module _ {P M E T : Type 0} (rules : GameRules P M E T) (terms : Terms) (id : �
           let before = game_from from was.entries in
           let running : result_of rules before ≡ None =
           ap (λ o. score_with rules (end_with o None) (turn_of rules before)) follows.running in
-          let taken : take (plies + 1) rows ≡ take plies rows ++ row ∷ [] = take-got rows plies row at in
           record {
             entries = was.entries ++ e ∷ [];
             replays = replays;
@@ -203,19 +151,14 @@ module _ {P M E T : Type 0} (rules : GameRules P M E T) (terms : Terms) (id : �
                   follows.in_time follows.legal;
               start = refl;
               moments = each-append (λ x. x.moment ≤ last_moment) was.entries e was.played.moments follows.moment;
-              moves =
-                  ap (map move_cells) taken
-                  ∙ (map-append move_cells (take plies rows) (row ∷ [])
-                  ∙ (ap (λ l. l ++ move_cells row ∷ []) was.played.moves
-                  ∙ (ap (λ r. move_rows rules terms id before ++ r ∷ []) follows.row
-                  ∙ sym (rows-append (game_from from []) was.entries e))));
+              moves = rw (take-got rows plies row at, map-append, was.played.moves, follows.row)
+                  (sym (rows-append (game_from from []) was.entries e));
             };
             count = length-append was.entries (e ∷ []) ∙ ap (λ n. n + 1) was.count;
             only = λ game is.
                 let got = played-follows game plies row is at in
                 let same = was.only game is in
-                let one : Follows rules terms id before row got.0 =
-                subst (λ es. Follows rules terms id (game_from from es) row got.0) same got.2 in
+                let one = subst (λ es. Follows rules terms id (game_from from es) row got.0) same got.2 in
                 take-got game.entries plies got.0 got.1
                 ∙ (ap (λ l. l ++ got.0 ∷ []) same ∙ ap (λ x. was.entries ++ x ∷ [])
                 (entry-only reads_back before row got.0 e one follows));
@@ -239,8 +182,7 @@ module _ {P M E T : Type 0} (rules : GameRules P M E T) (terms : Terms) (id : �
   pub played-count : (from : ℕ) (rows : List MoveRow) (game : Game M) → IsPlayedAs rules terms id from rows game
       → length rows ≡ length game.entries
   played-count from rows game is =
-      let count : length (map move_cells rows) ≡ length rows = simp length-map in
-      sym count ∙ (ap length is.moves ∙ rows-count (record game { entries = [] }) game.entries)
+      sym (length-map rows move_cells) ∙ (ap length is.moves ∙ rows-count (at_start game) game.entries)
 
   -- the entries up to one, and with it
   pub entry-more : (game : Game M) (k : ℕ) (e : Entry M) → slice_get game.entries k ≡ Some e
@@ -254,17 +196,7 @@ module _ {P M E T : Type 0} (rules : GameRules P M E T) (terms : Terms) (id : �
       (clocks_of (game_from game.start (take k game.entries ++ e ∷ [])) terms)
       ≡ left_of (side_after k) (clocks_of (game_at game (suc k)) terms)
   entry-left laws game legal k e at =
-      let before = take k game.entries in
-      let inside : k < length game.entries = slice_get_within game.entries k e at in
-      let line : IsLegalLine rules rules.start (map (λ x. x.made) before) =
-      subst (IsLegalLine rules rules.start) (take-map (λ x. x.made) k game.entries)
-      (IsLegalLine-take rules k rules.start (moves_of game) legal.line.legal) in
-      let count : length before ≡ k = length-take-le k game.entries (omega arith) in
-      let turn : turn_of rules (game_from game.start before) ≡ side_after k =
-      turn-of-game rules laws.turn_passes laws.first_starts (game_from game.start before) line
-      ∙ ap side_after count in
-      ap (λ s. left_of s (clocks_of (game_from game.start (before ++ e ∷ [])) terms)) turn
-      ∙ ap (λ es. left_of (side_after k) (clocks_of (game_from game.start es) terms)) (entry-more game k e at)
+      rw (turn-at rules terms id game legal k laws (slice_get_within game.entries k e at), entry-more game k e at)
 
 -- the rows of a game's moves depend on its start and its entries alone
 pub rows-alike : {P M E T : Type 0} (rules : GameRules P M E T) (terms : Terms) (id : ℕ) (a b : Game M)

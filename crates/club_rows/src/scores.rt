@@ -172,7 +172,8 @@ fn row_after(pair: Pair, found: Option<&ScoreRow>, score: OwnScore) -> Option<Sc
     })
 }
 
-fn pair_of(event: u32, member: u32, opponent: u32) -> Pair
+/// The pair of two members in an event.
+pub fn pair_of(event: u32, member: u32, opponent: u32) -> Pair
     ensures { result ≡ pair_of event member opponent }
 {
     Pair {

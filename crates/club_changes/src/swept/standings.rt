@@ -6,7 +6,7 @@ ghost use Rattle.std.specs.Option.{option_map};
 ghost use Rattle.sqlite.specs.Order.{Row};
 ghost use Rattle.store_tables.specs.Cells.{score_cells};
 ghost use Rattle.store_tables.specs.Changes.{HaveSame};
-ghost use Rattle.club_rows.specs.NextScores.{pair_of, row_with, sums_found};
+ghost use Rattle.club_rows.specs.NextScores.{row_with, sums_found};
 ghost use Rattle.club_rows.specs.Scores.{Meeting, meetings, same_pair, score_rows};
 ghost use Rattle.club_rows.specs.declared.scores.Pair as given_pair;
 ghost use Rattle.club_rows.specs.Pairs.{pair_in, sums_at};
@@ -15,22 +15,12 @@ ghost use Rattle.club_changes.specs.Standing.{AreStanding, PutsRows};
 use crate::swept::fault::SweepFault;
 use club_rows::columns::StoredGame;
 use club_rows::score_after;
-use club_rows::scores::{Pair, Sums, pair_in, sums_of};
+use club_rows::scores::{Pair, Sums, pair_in, pair_of, sums_of};
 use club_rules::Memory;
 use squares::Score;
 use std::alloc::Global;
 use std::collections::HashMap;
 use store_tables::ScoreRow;
-
-fn pair_of(event: u32, member: u32, opponent: u32) -> Pair
-    ensures { result ≡ pair_of event member opponent }
-{
-    Pair {
-        event: i64::from(event),
-        member: i64::from(member),
-        opponent: i64::from(opponent),
-    }
-}
 
 // The row of a pair, if they met.
 fn row_of(standings: &HashMap<Pair, Sums>, pair: Pair) -> Option<ScoreRow>

@@ -1,7 +1,5 @@
-use Rattle.std.proofs.Common.{◌≡◌, None, subst}
 use Rattle.std.proofs.lemmas.Result.{IfOk-weaker}
 use Rattle.club_core.specs.Answer.{events_of}
-use Rattle.club_core.specs.State.{place}
 use Rattle.club_changes.proofs.ChallengedTables.{begun_started}
 use Rattle.club_changes.proofs.FoundLemmas.{both_ok}
 use Rattle.club_changes.proofs.challenges.begun_rows.Goals as goal
@@ -15,5 +13,4 @@ returns-in-Accepted-clause-puts c =
 
 pub returns-in-Accepted-clause-unfit : goal.returns-in-Accepted-clause-unfit
 returns-in-Accepted-clause-unfit c = λ unfit.
-    subst (λ p. place (events_of c.args.events.now) p.event ≡ None) c.pairing-pairing.ensures
-    (c.seated_rows.ensures.unfit unfit)
+    rw c.pairing-pairing.ensures at (c.seated_rows.ensures.unfit unfit)

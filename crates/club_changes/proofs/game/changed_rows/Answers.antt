@@ -3,15 +3,8 @@ use Rattle.club_changes.proofs.ReadRows.{one_pushed}
 use Rattle.club_changes.proofs.game.changed_rows.Goals as goal
 
 pub returns : goal.returns
-returns g c terms new first second left is = record {
-  meta = c.at-changes.ensures.meta;
-  members_are = c.at-changes.ensures.members_are;
-  events_are = c.at-changes.ensures.events_are;
-  rules_are = c.at-changes.ensures.rules_are;
-  challenges_are = c.at-changes.ensures.challenges_are;
-  games_are = one_pushed game_cells c.at-changes.result.games.items c.push.new.self.items c.in_ok-record_of.field-0 _
-      c.at-changes.ensures.games_are c.in_ok-push.ensures.items (c.in_ok-record_of.ensures first second terms new is);
-  moves_are = c.in_ok-changes.ensures left;
-  seen_are = c.in_ok-changes-2.ensures;
-  scores_are = c.in_ok-changes-3.ensures;
-}
+returns g c terms new first second left is =
+    let games = one_pushed game_cells c.at-changes.result.games.items c.push.new.self.items c.in_ok-record_of.field-0 _
+    c.at-changes.ensures.games_are c.in_ok-push.ensures.items (c.in_ok-record_of.ensures first second terms new is) in
+    let moves = c.in_ok-changes.ensures left in
+    search (games, moves, c.in_ok-changes-2.ensures, c.in_ok-changes-3.ensures, c.at-changes.ensures)

@@ -1,29 +1,25 @@
 use Rattle.club_core.proofs.Proved.{are_rules}
-use Rattle.club_changes.proofs.PlayedLemmas.{given_repeated, given_refused, given_change}
+use Rattle.club_core.specs.Step.{game_step}
+use Rattle.club_changes.proofs.PlayedLemmas.{none_given, given_change}
 use Rattle.club_changes.proofs.game.put_decision.Goals as goal
 
 pub returns-in-Repeated-clause-step : goal.returns-in-Repeated-clause-step
 returns-in-Repeated-clause-step g c terms old who command table budget increment legal is seen scores =
-    let laws = g.R.Rules.rules in
-    let met = g.met.R.Rules in
-    let are = are_rules laws met.first_starts met.turn_passes met.same_is met.ends_at_limit in
-    given_repeated laws are terms c.args.game old c.args.moment who command budget increment legal table _ c.args.shown
-    is c.in-Repeated.answer c.unchanged.result c.in-Repeated.is c.unchanged.ensures.outcome c.unchanged.ensures.none
+    none_given g.R.Rules.rules terms c.args.game old c.args.moment table
+    (game_step g.R.Rules.rules terms old c.args.moment who command) c.args.shown c.unchanged.result is
+    (rw c.in-Repeated.is c.unchanged.ensures.outcome) c.unchanged.ensures.none
 
 pub returns-in-Refused-clause-step : goal.returns-in-Refused-clause-step
 returns-in-Refused-clause-step g c terms old who command table budget increment legal is seen scores =
-    let laws = g.R.Rules.rules in
-    let met = g.met.R.Rules in
-    let are = are_rules laws met.first_starts met.turn_passes met.same_is met.ends_at_limit in
-    given_refused laws are terms c.args.game old c.args.moment who command budget increment legal table _ c.args.shown
-    is c.in-Refused.refusal c.unchanged-in-Refused.result c.in-Refused.is c.unchanged-in-Refused.ensures.outcome
-    c.unchanged-in-Refused.ensures.none
+    none_given g.R.Rules.rules terms c.args.game old c.args.moment table
+    (game_step g.R.Rules.rules terms old c.args.moment who command) c.args.shown c.unchanged-in-Refused.result is
+    (rw c.in-Refused.is c.unchanged-in-Refused.ensures.outcome) c.unchanged-in-Refused.ensures.none
 
 pub returns-clause-step : goal.returns-clause-step
 returns-clause-step g c terms old who command table budget increment legal is seen scores =
     let laws = g.R.Rules.rules in
     let met = g.met.R.Rules in
     let are = are_rules laws met.first_starts met.turn_passes met.same_is met.ends_at_limit in
-    given_change laws are terms c.args.game old c.args.moment who command budget increment legal table _ c.args.shown is
-    c.args.counts seen scores c.in-Accepted.row c.in-Accepted.made c.in-Accepted.answer c.in_ok-changes.changes
-    c.in-Accepted.is c.in_ok-changes.ensures
+    given_change laws are terms c.args.game old c.args.moment who command budget increment legal table c.args.shown
+    c.in-Accepted.row c.in-Accepted.made c.in-Accepted.answer c.args.counts c.in_ok-changes.changes c.in-Accepted.is is
+    seen scores c.in_ok-changes.ensures

@@ -29,23 +29,13 @@ returns-clause-step c s is_club same =
     (sym c.if-not-is_accepted.ensures) in
     let budget : e.terms.budget ≤ 31536000 = budget_most e.terms.budget limits.0 in
     let increment : e.terms.increment ≤ 2592000 = increment_most e.terms.increment limits.1 in
-    let row = c.in_ok-event_row.ensures (omega (arith, budget)) (omega (arith, increment))
-    ∙ ap (λ k. event_row k e) next in
+    let events = one_pushed event_cells c.at-changes.result.events.items c.push.new.self.items
+    c.in_ok-event_row.field-0 (event_row (1 + length s.events) e) c.at-changes.ensures.events_are
+    c.in_ok-push.ensures.items
+    (c.in_ok-event_row.ensures (omega (arith, budget)) (omega (arith, increment)) ∙ ap (λ k. event_row k e) next) in
+    let rules = one_pushed event_rule_cells c.at-changes.result.event_rules.items c.push-2.new.self.items
+    c.rule_row.result (rule_row (1 + length s.events) (declaring e)) c.at-changes.ensures.rules_are
+    c.in_ok-push-2.ensures.items (c.rule_row.ensures e ∙ ap (λ k. rule_row k (declaring e)) next) in
     event_decided s c.args.moment c.args.caller e c.add_event-outcome.result _ is_club answer
     (sym c.if-not-is_accepted.ensures)
-    (record {
-      meta = c.at-changes.ensures.meta;
-      members_are = c.at-changes.ensures.members_are;
-      events_are = one_pushed event_cells c.at-changes.result.events.items c.push.new.self.items
-          c.in_ok-event_row.field-0 (event_row (1 + length s.events) e) c.at-changes.ensures.events_are
-          c.in_ok-push.ensures.items row;
-      rules_are = one_pushed event_rule_cells c.at-changes.result.event_rules.items c.push-2.new.self.items
-          c.rule_row.result (rule_row (1 + length s.events) (declaring e)) c.at-changes.ensures.rules_are
-          c.in_ok-push-2.ensures.items
-          (c.rule_row.ensures e ∙ ap (λ k. rule_row k (declaring e)) next);
-      challenges_are = c.at-changes.ensures.challenges_are;
-      games_are = c.at-changes.ensures.games_are;
-      moves_are = c.at-changes.ensures.moves_are;
-      seen_are = c.at-changes.ensures.seen_are;
-      scores_are = c.at-changes.ensures.scores_are;
-    })
+    (search (events, rules, c.at-changes.ensures))

@@ -26,20 +26,10 @@ returns-clause-step c s same =
     let m : Member = record { name = name; key = key } in
     let counted : length (members_of c.args.members.now) ≡ length c.args.members.now = simp length-map in
     let next : length c.args.members.now + 1 ≡ 1 + length s.members = omega (arith, counted, ap length same) in
-    let row = c.in_ok-member_row.ensures ∙ ap (λ k. member_row k m) next in
+    let members = one_pushed member_cells c.at-changes.result.members.items c.push.new.self.items
+    c.in_ok-member_row.field-0 (member_row (1 + length s.members) m) c.at-changes.ensures.members_are
+    c.in_ok-push.ensures.items (c.in_ok-member_row.ensures ∙ ap (λ k. member_row k m) next) in
     member_decided s c.args.moment c.args.caller name key c.add_member-outcome.result _
     (c.add_member-outcome.ensures ∙ ap (λ ms. answered (by_officer c.args.caller (member_step ms name key))) same)
     (sym c.if-not-is_accepted.ensures)
-    (record {
-      meta = c.at-changes.ensures.meta;
-      members_are = one_pushed member_cells c.at-changes.result.members.items c.push.new.self.items
-          c.in_ok-member_row.field-0 (member_row (1 + length s.members) m) c.at-changes.ensures.members_are
-          c.in_ok-push.ensures.items row;
-      events_are = c.at-changes.ensures.events_are;
-      rules_are = c.at-changes.ensures.rules_are;
-      challenges_are = c.at-changes.ensures.challenges_are;
-      games_are = c.at-changes.ensures.games_are;
-      moves_are = c.at-changes.ensures.moves_are;
-      seen_are = c.at-changes.ensures.seen_are;
-      scores_are = c.at-changes.ensures.scores_are;
-    })
+    (search (members, c.at-changes.ensures))

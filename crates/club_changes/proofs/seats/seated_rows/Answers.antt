@@ -6,8 +6,7 @@ use Rattle.club_core.specs.LegalState.{IsLegalEvent}
 use Rattle.club_requests.specs.Limits.{is_budget}
 use Rattle.club_core.specs.State.{place, kind_at, terms_at}
 use Rattle.club_laws.proofs.Proved.{in-place}
-use Rattle.club_rows.specs.Replay.{terms_given}
-use Rattle.club_changes.specs.Steps.{first_row, first_seen_rows, first_meetings, started_seen, Puts, no_rows}
+use Rattle.club_changes.specs.Steps.{first_row, first_meetings, Puts, no_rows}
 use Rattle.club_changes.proofs.ClubPlayed.{started_first, started_seen_first}
 use Rattle.club_changes.proofs.seats.seated_rows.Goals as goal
 
@@ -19,13 +18,10 @@ returns-clause-puts c legal =
     let pairing = c.args.new.pairing in
     let id = c.args.new.game in
     let at : place events pairing.event ≡ Some event = c.in_ok-event.ensures.at in
-    let terms : terms_given c.terms_of.result ≡ terms_at (place events pairing.event) = c.terms_of.ensures
-    ∙ ap terms_at (sym at) in
+    let terms = c.terms_of.ensures ∙ ap terms_at (sym at) in
     let budget = (in-place IsLegalEvent events pairing.event event legal at).budget in
     let is = started_first events pairing id key c.args.moment event.game (ap kind_at at) in
-    let seen : first_seen_rows event.game id key pairing c.args.moment
-    ≡ started_seen events id key pairing c.args.moment =
-    started_seen_first events pairing id key c.args.moment event.game (ap kind_at at) in
+    let seen = started_seen_first events pairing id key c.args.moment event.game (ap kind_at at) in
     subst₂ (λ r l. Puts c.in_ok-changes.changes c.args.moment (record no_rows { games = r ∷ []; seen = l }))
     (ap (λ t. first_row event.game t id key pairing c.args.moment) terms ∙ sym is) seen
     (c.in_ok-changes.ensures.puts (subst (λ t. IsTrue (is_budget t.budget)) (sym c.terms_of.ensures) budget))

@@ -1,6 +1,6 @@
 use Rattle.std.proofs.Common.{◌≡◌, refl, sym, ◌∙◌}
-use Rattle.club_rows.proofs.RowViewLemmas.{one-text}
 use Rattle.club_rows.proofs.ColumnLemmas.{same-pos}
+use Rattle.club_rows.proofs.LineLemmas.{one-text}
 use Rattle.club_rows.proofs.row_view.asked_in.Goals as goal
 
 pub returns-clause-shows : goal.returns-clause-shows

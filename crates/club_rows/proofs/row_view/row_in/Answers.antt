@@ -1,5 +1,5 @@
-use Rattle.std.proofs.Common.{◌≡◌, ap, ◌∙◌}
-use Rattle.club_core.specs.Game.{rule_end, score_with}
+use Rattle.std.proofs.Common.{◌≡◌, ap, ◌∙◌, arith}
+use Rattle.club_core.specs.Game.{rule_end}
 use Rattle.club_rows.proofs.ColumnLemmas.{end-told}
 use Rattle.club_rows.proofs.RowViewLemmas.{ruled-is}
 use Rattle.club_rows.proofs.row_view.row_in.Goals as goal
@@ -16,21 +16,4 @@ returns-clause-shows g c = λ terms id game legal same last stands.
     c.args.stood stands c.args.position.now last) in
     let end = end-told laws terms id game legal _ same c.track_end-ruled.result ruled c.end_in-end.result
     c.end_in-end.ensures in
-    record {
-      key = c.in_ok-owned.ensures ∙ ap (λ x. x.key) same;
-      event = ap (λ x. x.event) same;
-      first = ap (λ x. x.first) same;
-      second = ap (λ x. x.second) same;
-      start = ap (λ x. x.start) same;
-      plies = ap (λ x. x.plies) same;
-      clocks = λ i. record {
-        left_first = (same i).left_first;
-        left_second = (same i).left_second;
-        since = (same i).since;
-      };
-      track = ap (λ x. x.track) same;
-      offer = ap (λ x. x.offer) same;
-      end = end;
-      result = c.score_of_end-result.ensures ∙ (λ i. score_with laws (end i) ((c.turn.ensures ∙ ap laws.turn last) i));
-      position = c.in_ok-from_str.ensures.ok ∙ ap (λ x. x.position) same;
-    }
+    grind (arith, same, end, last)

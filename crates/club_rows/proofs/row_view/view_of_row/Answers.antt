@@ -1,9 +1,10 @@
 use Rattle.std.proofs.Common.{sym, ◌∙◌, ap}
+use Rattle.std.proofs.lemmas.Option.{same_Some}
 use Rattle.club_core.specs.Game.{moves_of}
 use Rattle.club_rows.specs.Columns.{columns_in}
 use Rattle.club_rows.specs.Replay.{terms_given}
 use Rattle.club_rows.proofs.ColumnLemmas.{columns-are, none-read}
-use Rattle.club_rows.proofs.RowViewLemmas.{position-found, track-is, some-same}
+use Rattle.club_rows.proofs.RowViewLemmas.{position-found, track-is}
 use Rattle.club_rows.proofs.row_view.view_of_row.Goals as goal
 
 pub returns-in-None-clause-found : goal.returns-in-None-clause-found
@@ -21,7 +22,7 @@ returns-clause-shows g c = λ id game is stands.
     let text = ap (λ x. x.position) same in
     let found = position-found laws g.R.Rules.StandsFor g.met.R.Rules.writes_positions g.met.R.Rules.stands_for_one
     (moves_of game) is.legal.line.legal stored.position.now text c.in_ok-position.field-0 c.in_ok-position.ensures in
-    let last = some-same (sym c.in-Some-2.is ∙ found) in
+    let last = same_Some _ _ (sym c.in-Some-2.is ∙ found) in
     record {
       row = c.in_ok-new.ensures.shows terms id game is.legal same last stands;
       position = last;

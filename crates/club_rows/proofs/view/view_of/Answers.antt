@@ -1,10 +1,8 @@
-use Rattle.std.proofs.Common.{subst, sym, length}
 use Rattle.club_rows.specs.Columns.{columns_in}
-use Rattle.club_rows.specs.Replay.{IsCounted, WasReplayed, terms_given}
-use Rattle.club_rows.specs.Tally.{IsTallyOf}
+use Rattle.club_rows.specs.Replay.{IsCounted, terms_given}
 use Rattle.club_rows.proofs.ColumnLemmas.{cells-told}
-use Rattle.club_rows.proofs.LegalRowsLemmas.{WasViewed, moves-right, moves-wrong, none-wrong, no-rows}
-use Rattle.club_rows.proofs.LegalRowsLemmas.{shown-complete, shown-sound, told-wrong}
+use Rattle.club_rows.proofs.LegalRowsLemmas.{WasViewed, moves-wrong, none-wrong, no-rows, shown-complete, shown-sound}
+use Rattle.club_rows.proofs.LegalRowsLemmas.{told-wrong}
 use Rattle.club_rows.proofs.view.view_of.Given as given
 use Rattle.club_rows.proofs.view.view_of.Goals as goal
 
@@ -19,8 +17,7 @@ returns-in-None-clause-complete g c = λ id game is.
 pub returns-in-None-clause-wrong : goal.returns-in-None-clause-wrong
 returns-in-None-clause-wrong g c = λ budget increment.
     none-wrong g.R.Rules.rules (terms_given c.args.terms) c.args.row.now c.args.moves.now
-    (no-rows g.R.Rules.rules (terms_given c.args.terms) c.args.row.now c.args.moves.now
-    g.met.R.Rules.numbers_are_few c.in-None.ensures) c.in_ok-shown-in-None.shown
+    g.met.R.Rules.numbers_are_few c.in-None.ensures c.in_ok-shown-in-None.shown
     (c.in_ok-shown-in-None.ensures.moves budget increment)
 
 -- ---- moves that are no game's
@@ -34,52 +31,34 @@ returns-in-None-2-clause-wrong g c = λ budget increment.
 
 -- ---- what is shown of a game that was replayed
 
-replayed : (g : given.Over) (c : goal.After-stands g)
-    → WasReplayed g.R.Rules.rules (terms_given c.args.terms) c.in-Some.stored.id c.in-Some.stored.start
-    c.args.moves.now (length c.args.moves.now) c.in-Some-2.game
-replayed g c = rw c.in-Some-2.is at c.in_ok-game.ensures.some
-
 known : (g : given.Over) (c : goal.After-stands g)
-    → WasViewed g.R.Rules.rules (terms_given c.args.terms) (columns_in c.in-Some.stored) c.args.moves.now
-    c.in-Some-2.game c.in_ok-played.played
+    → WasViewed g.R.Rules.rules (terms_given c.args.terms) c.args.row.now c.args.moves.now
+    (columns_in c.in-Some.stored) c.in-Some-2.game c.in_ok-played.played
 known g c =
-    let laws = g.R.Rules.rules in
     let limits = rw c.in-Some-2.is at c.in_ok-game.ensures.terms in
     let safe = rw c.in-Some-2.is at c.in_ok-game.ensures.safe in
-    let counted : IsCounted laws c.in-Some-2.game = safe.3.counted in
+    let counted : IsCounted g.R.Rules.rules c.in-Some-2.game = safe.3.counted in
     let (outside, named, shows) = c.in_ok-played.ensures.shows in
     record {
+      read = c.in-Some.ensures.0;
       budget = limits.0;
       increment = limits.1;
       fit = c.in-Some.ensures.1;
-      was = replayed g c;
+      was = rw c.in-Some-2.is at c.in_ok-game.ensures.some;
       outside = outside;
       named = named;
       shows = shows;
       terms_are = c.in_ok-played.ensures.terms;
       sound = c.in_ok-played.ensures.sound;
       line = c.in_ok-played.ensures.line;
-      tally = subst (IsTallyOf laws c.in-Some-2.game.line.items) (sym c.in_ok-played.ensures.tally) counted.tally;
+      tally = rw (← c.in_ok-played.ensures.tally) at counted.tally;
     }
 
 pub returns-clause-sound : goal.returns-clause-sound
-returns-clause-sound g c =
-    shown-sound g.R.Rules.rules (terms_given c.args.terms) c.args.row.now c.args.moves.now
-    (columns_in c.in-Some.stored) c.in-Some.ensures.0 c.in-Some-2.game c.in_ok-played.played (known g c)
-    c.stands.result c.stands.ensures
+returns-clause-sound g c = shown-sound (known g c) c.stands.result c.stands.ensures
 
 pub returns-clause-complete : goal.returns-clause-complete
-returns-clause-complete g c = λ id game is.
-    shown-complete g.R.Rules.rules (terms_given c.args.terms) c.args.row.now c.args.moves.now
-    (columns_in c.in-Some.stored) c.in-Some.ensures.0 c.in-Some-2.game c.in_ok-played.played (known g c) id game is
-    c.stands.result c.stands.ensures
+returns-clause-complete g c = λ id game is. shown-complete (known g c) id game is c.stands.result c.stands.ensures
 
 pub returns-clause-wrong : goal.returns-clause-wrong
-returns-clause-wrong g c = λ budget increment.
-    let stored = c.in-Some.stored in
-    let told = cells-told c.args.row.now (columns_in stored) c.in-Some.ensures.0 in
-    told-wrong g.R.Rules.rules (terms_given c.args.terms) c.args.row.now c.args.moves.now (columns_in stored)
-    c.in_ok-played.played
-    (moves-right g.R.Rules.rules (terms_given c.args.terms) c.args.row.now c.args.moves.now stored.id stored.start
-    told.id told.start c.in-Some-2.game c.in-Some.ensures.1.id c.in-Some.ensures.1.start
-    (replayed g c)) c.stands.result c.stands.ensures (returns-clause-complete g c)
+returns-clause-wrong g c = λ budget increment. told-wrong (known g c) c.stands.result c.stands.ensures

@@ -1,9 +1,8 @@
-use Rattle.std.proofs.Common.{◌≡◌, ◌≤◌, ◌<◌, ◌^◌, Some, length, map, ap, sym, subst, ◌∙◌, arith}
+use Rattle.std.proofs.Common.{◌≡◌, Some, length, map, ap, ◌∙◌, arith}
 use Rattle.std.proofs.lemmas.List.{length-map}
 use Rattle.club_rules.specs.Line.{positions}
 use Rattle.club_rules.specs.Records.{recorded_of}
 use Rattle.club_core.specs.Imports.{imported}
-use Rattle.club_requests.specs.Limits.{most_plies}
 use Rattle.club_core.specs.View.{IsRowOf}
 use Rattle.club_core.proofs.Proved.{are_rules}
 use Rattle.club_laws.proofs.Proved.{within-limit}
@@ -18,7 +17,7 @@ pub move_rows-requires-clause-few : goal.move_rows-requires-clause-few
 move_rows-requires-clause-few g c =
     let met = g.met.R.Rules in
     let are = are_rules g.R.Rules.rules met.first_starts met.turn_passes met.same_is met.ends_at_limit in
-    subst (λ ms. length ms ≤ most_plies) (sym c.as_slice-moves.ensures.value)
+    rw c.as_slice-moves.ensures.value
     (within-limit g.R.Rules.rules are c.args.new.now.recorded.moves.items c.requires.by_rules.line)
 
 pub returns : goal.returns
@@ -39,11 +38,10 @@ returns g c =
     let limit = within-limit laws are r.moves c.requires.by_rules.line in
     let count : length game.entries ≡ length r.moves = length-map r.moves (λ m. record { made = m; moment = moment }) in
     let room = room_for game terms c.requires.budget c.requires.increment (omega (arith, limit, count)) in
-    let first : row.left_first < 2 ^ 63 = let same = ap (λ k. k.left_first) is.clocks in omega (arith, same, room.0) in
-    let second : row.left_second < 2 ^ 63 = let same = ap (λ k. k.left_second) is.clocks in
-    omega (arith, same, room.1) in
+    let first = ap (λ k. k.left_first) is.clocks in
+    let second = ap (λ k. k.left_second) is.clocks in
     record {
-      game_is = c.in_ok-game.ensures first second terms game is;
+      game_is = c.in_ok-game.ensures (omega (arith, first, room.0)) (omega (arith, second, room.1)) terms game is;
       moves_are = c.in_ok-made.ensures ∙ ap (rows_at_once laws terms id moment) value
           ∙ game-moves laws terms id key pairing moment r;
       seen_are = c.in_ok-seen.ensures

@@ -1,12 +1,10 @@
-use Rattle.std.proofs.Common.{◌≤◌, ◌+◌, ◌*◌, ℕ, [], ◌∷◌, map, ap, ◌∙◌, arith}
-use Rattle.std.proofs.lemmas.Bool.Decides.{nat_tests}
+use Rattle.std.proofs.Common.{◌+◌, ◌*◌, ℕ, [], ◌∷◌, map, ap, ◌∙◌, arith}
 use Rattle.std.proofs.lemmas.List.{map-append}
 use Rattle.club_core.proofs.Proved.{are_rules}
-use Rattle.club_imports.specs.OneMoment.{clocks_with}
 use Rattle.club_rows.specs.Replay.{terms_given}
 use Rattle.store_tables.specs.Cells.{move_cells}
-use Rattle.club_changes.proofs.MoveLemmas.{move-legal, position-next, clocks-next, row-is, rows-next}
-use Rattle.club_changes.proofs.RoomLemmas.{spend_most, side_most}
+use Rattle.club_changes.proofs.MoveLemmas.{move-legal, position-next, ply-next}
+use Rattle.club_changes.proofs.RoomLemmas.{spent_few, side_most}
 use Rattle.club_changes.proofs.imported.moves.move_rows.Goals as goal
 
 pub play-after-requires : goal.play-after-requires
@@ -22,21 +20,14 @@ ply_row-requires-clause-legal g c =
 pub ply_row-requires-clause-left : goal.ply_row-requires-clause-left
 ply_row-requires-clause-left g c =
     let now = c.loop-i.invariant in
-    let increment : ℕ = c.args.terms.increment in
-    let low : increment ≤ 2592000 = let is = c.requires.increment in grind (arith, nat_tests, is) in
-    let first = ap (λ k. k.left_first) (c.with-left.ensures 0) in
-    let second = ap (λ k. k.left_second) (c.with-left.ensures 0) in
-    let more = spend_most increment c.turn-turn.result 0 (clocks_with c.loop-i.left.first c.loop-i.left.second 0) in
-    let more_first = more.0 in
-    let more_second = more.1 in
-    let was_first = now.first in
-    let was_second = now.second in
-    let within = c.loop-i-test.true in
-    let few = c.requires.few in
     let most : ℕ = 31536000 + 601 * 2592000 in
+    let few = spent_few c.args.terms.increment c.turn-turn.result c.loop-i.i c.loop-i.left.first c.loop-i.left.second
+    c.with-left.result.first c.with-left.result.second c.requires.increment now.first now.second
+    (c.with-left.ensures 0) in
+    let plies = c.requires.few in
+    let within = c.loop-i-test.true in
     let left = side_most c.turn-turn.result c.with-left.result.first c.with-left.result.second 0 most
-    (omega (arith, low, first, more_first, was_first, within, few))
-    (omega (arith, low, second, more_second, was_second, within, few)) in
+    (omega (arith, few.0, within, plies)) (omega (arith, few.1, within, plies)) in
     let is = c.of.ensures 0 in
     omega (arith, left, is)
 
@@ -51,8 +42,6 @@ loop-i-preserved g c =
     let m = c.index-moves-i.result in
     let within = c.loop-i-test.true in
     let is = c.index-moves-i.is in
-    let line = c.requires.line in
-    let terms = terms_given c.args.terms in
     let moment = c.args.moment in
     let p = c.loop-i.position in
     let q = c.play-after.result in
@@ -61,26 +50,18 @@ loop-i-preserved g c =
     let b : ℕ = c.loop-i.left.second in
     let x : ℕ = c.with-left.result.first in
     let y : ℕ = c.with-left.result.second in
-    let spent = c.with-left.ensures moment in
-    let row = c.in_ok-ply_row.ensures ∙ row-is laws ms i m within is are line terms c.args.game moment p q turn a b x y
-    c.of.result now.position c.play-after.ensures c.turn-turn.ensures now.clocks spent (c.of.ensures moment) in
-    let pushed = ap (map move_cells) c.in_ok-push.ensures.items
-    ∙ map-append move_cells c.loop-i.rows.items (c.in_ok-ply_row.field-0 ∷ []) in
-    let increment : ℕ = c.args.terms.increment in
-    let low : increment ≤ 2592000 = let given = c.requires.increment in grind (arith, nat_tests, given) in
-    let first = ap (λ k. k.left_first) (c.with-left.ensures 0) in
-    let second = ap (λ k. k.left_second) (c.with-left.ensures 0) in
-    let more = spend_most increment turn 0 (clocks_with a b 0) in
-    let more_first = more.0 in
-    let more_second = more.1 in
-    let was_first = now.first in
-    let was_second = now.second in
+    let next = ply-next laws ms i m within is are c.requires.line (terms_given c.args.terms) c.args.game moment p q turn
+    a b x y c.of.result now.position c.play-after.ensures c.turn-turn.ensures now.clocks (c.with-left.ensures moment)
+    (c.of.ensures moment) (map move_cells c.loop-i.rows.items) (map move_cells c.push.new.self.items)
+    (move_cells c.in_ok-ply_row.field-0) now.rows
+    (ap (map move_cells) c.in_ok-push.ensures.items
+    ∙ map-append move_cells c.loop-i.rows.items (c.in_ok-ply_row.field-0 ∷ [])) c.in_ok-ply_row.ensures in
+    let few = spent_few c.args.terms.increment turn i a b x y c.requires.increment now.first now.second
+    (c.with-left.ensures 0) in
     record {
-      rows = rows-next laws ms i m within is are line terms c.args.game moment (map move_cells c.loop-i.rows.items)
-          (map move_cells c.push.new.self.items) (move_cells c.in_ok-ply_row.field-0) now.rows pushed row;
+      rows = next.0;
       position = position-next laws ms i m within is p q now.position c.play-after.ensures;
-      clocks = clocks-next laws ms i m within is are line terms c.args.game moment p turn a b x y now.position
-          c.turn-turn.ensures now.clocks spent;
-      first = omega (arith, low, first, more_first, was_first);
-      second = omega (arith, low, second, more_second, was_second);
+      clocks = next.1;
+      first = few.0;
+      second = few.1;
     }

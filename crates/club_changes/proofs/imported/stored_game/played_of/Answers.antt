@@ -1,6 +1,6 @@
-use Rattle.std.proofs.Common.{ap, length, sym}
+use Rattle.std.proofs.Common.{ap, sym}
 use Rattle.club_rows.specs.Columns.{columns_in}
-use Rattle.club_rows.specs.Replay.{IsPlayedAs, WasReplayed, terms_given}
+use Rattle.club_rows.specs.Replay.{IsPlayedAs, terms_given}
 use Rattle.club_rows.proofs.Proved.{columns-are}
 use Rattle.club_changes.proofs.StoredLemmas.{rows-are, line-is}
 use Rattle.club_changes.proofs.imported.stored_game.played_of.Goals as goal
@@ -14,8 +14,7 @@ returns-in-Some-2 g c game of same =
     let rows = c.args.moves.now in
     let replayed = c.in-Some-2.game in
     let are = columns-are laws terms id game c.args.row.now of (columns_in stored) c.in-Some.ensures.0 in
-    let was : WasReplayed laws terms id stored.start rows (length rows) replayed =
-    rw c.in-Some-2.is at c.in_ok-game.ensures.some in
+    let was = rw c.in-Some-2.is at c.in_ok-game.ensures.some in
     let played : IsPlayedAs laws terms id stored.start rows game = record {
       legal = of.legal;
       start = sym (ap (λ x. x.start) are);
