@@ -1,20 +1,17 @@
--- The games that were read of a database, one after another, and the club that they are.
+-- The games that were read of a database, one after another, what their rows show, and the club that they are.
 use Rattle.std.proofs.Common.{◌≡◌, ◌≢◌, ◌⊎◌, ℕ, suc, pos, ◌+◌, ◌-◌, ◌<◌, ◌≤◌, List, [], ◌∷◌, ◌++◌, length, map, take}
-use Rattle.std.proofs.Common.{Some, None, Option, refl, ap, sym, subst, subst₂, ◌∙◌, arith, inl, inr, length-append}
-use Rattle.std.specs.Prelude.{IfSome, ℤ, slice_get}
-use Rattle.std.specs.List.Sorted.{IsPermutation}
+use Rattle.std.proofs.Common.{Some, None, Option, refl, ap, sym, subst, subst₂, ◌∙◌, arith, inl, inr, length-append, ℤ}
+use Rattle.std.specs.Prelude.{IfSome, slice_get}
 use Rattle.std.proofs.lemmas.List.{map-append, length-map}
-use Rattle.std.proofs.lemmas.List.Sorted.{length_permutation}
 use Rattle.std.proofs.lemmas.Option.{same_Some, slice_get_within}
 use Rattle.sqlite.specs.Order.{Row}
 use Rattle.sqlite.specs.Effect.{Database}
 use Rattle.sqlite.specs.State.{State, IsUnchanged}
 use Rattle.sqlite.specs.Tree.{Trees}
-use Rattle.club_opening.proofs.BlameLemmas.{before, stays, read_after}
 use Rattle.club_core.specs.LegalState.{IsLegalIn}
 use Rattle.club_laws.proofs.Proved.{each-append, got-append}
 use Rattle.store_tables.specs.Placed.{club_trees}
-use Rattle.store_tables.specs.Cells.{game_cells, move_cells, seen_cells}
+use Rattle.store_tables.specs.Cells.{game_cells}
 use Rattle.store_tables.specs.Content.{AreApart, cells}
 use Rattle.store_tables.specs.Rows.{HaveIds}
 use Rattle.store_tables.specs.Tables.{moves, seen}
@@ -22,48 +19,40 @@ use Rattle.store_tables.specs.declared.names.Table.{Table}
 use Rattle.store_tables.specs.declared.names.Table.TheVariants.{Moves, Games, Seen, Scores, Meta}
 use Rattle.store_tables.specs.declared.names.Version.{Version}
 use Rattle.store_tables.specs.declared.rows.GameRecord.{GameRecord}
-use Rattle.store_tables.specs.declared.rows.MoveRow.{MoveRow}
 use Rattle.store_tables.specs.declared.rows.Rows.{Rows}
-use Rattle.store_tables.specs.declared.rows.SeenRow.{SeenRow}
-use Rattle.store_tables.proofs.Proved.{same_by}
-use Rattle.store_sql.specs.Read.{AreCounted, AreReadOf, beginning_with}
+use Rattle.store_sql.specs.Read.{AreCounted, beginning_with}
 use Rattle.club_rows.specs.Club.{both_games, ClubGame, ClubState, IsClub}
 use Rattle.club_rows.specs.FirstSchema.{IsClubOf}
 use Rattle.club_rows.specs.Tables.{numbered_from, row_of_game, rows_of_moves, rows_of_seen}
-use Rattle.club_audit.specs.Audit.{AreAllOf, AreApartGames, HasPeople, IsGameAt, until}
-use Rattle.club_audit.proofs.Proved.{keys-in, all-right, club-right, id-told, none-named, numbered-append, numbered-at}
-use Rattle.club_audit.proofs.Proved.{numbered-length, right-club, take-got}
-use Rattle.club_audit.specs.FirstWrong.{IsFirstWrong, Precedes, order}
-use Rattle.club_audit.specs.GameAudit.{IsRightAt}
+use Rattle.club_audit.specs.Audit.{AreApartGames, HasPeople, until}
+use Rattle.club_audit.proofs.Proved.{keys-in, id-told, numbered-append, numbered-length}
+use Rattle.club_audit.specs.FirstWrong.{Precedes, order}
 use Rattle.club_rows.proofs.Proved.{same-pos}
 use Rattle.club_opening.specs.Examined.{AreGamesFound, AreLeftAfter, IsFoundAs, IsGameFound, IsPlayExamined, NamesPlay}
 use Rattle.club_opening.specs.Examined.{AreScoresExamined, IsAfter, IsGameOf, IsOf, IsOneOf, IsPlayed, NamesLeft}
-use Rattle.club_opening.specs.Examined.{WereFound, WerePlayed, moves_in, past, seen_in}
+use Rattle.club_opening.specs.Examined.{WereFound, WerePlayed, moves_in, past, seen_in, AreExamined}
 use Rattle.club_opening.specs.Blames.{NamesTable}
 use Rattle.club_opening.specs.Places.{IsMomentOf, IsNoRegister, IsRegisterOf, last_moment}
-use Rattle.club_changes.specs.Steps.{HaveSame}
 use Rattle.club_opening.specs.declared.fault.OpenFault.{OpenFault}
 use Rattle.club_opening.specs.declared.fault.OpenFault.TheVariants.{Damaged}
-use Rattle.club_opening.proofs.GroupRows.{none_left, own_moves, own_seen, same_on, turned_same}
 use Rattle.club_opening.specs.Versions.{HasClub}
-use Rattle.club_opening.proofs.PastLemmas.{last_or, past_step}
-use Rattle.club_opening.specs.RightMoves.{GamesWrong, HasMovesOf, MovesWrong, SeenWrong, beyond}
-use Rattle.club_opening.proofs.BeyondLemmas.{beyond_step, id_of_game, ids_apart, moves_gathered, none_beyond}
-use Rattle.club_opening.proofs.BeyondLemmas.{seen_owned}
-use Rattle.club_opening.proofs.StoredLemmas.{IsStored, club_of_version, stored_of}
+use Rattle.club_opening.specs.RightMoves.{HasMovesOf, beyond, HaveSeenOf, id_at, without}
+use Rattle.club_opening.proofs.StoredLemmas.{club_of_version}
+use Rattle.club_changes.proofs.Proved.{moves_had, take_next}
+use Rattle.club_opening.proofs.ClubLemmas.{before, stays, read_after, events_of, members_of}
+use Rattle.club_opening.proofs.FirstWrong.{rows_at}
+use Rattle.club_opening.proofs.FirstWrong.{shown_held}
+use Rattle.club_opening.proofs.RowLemmas.{seen_had, last_or, past_step, table_past, beyond_step, id_of_game, ids_apart}
+use Rattle.club_opening.proofs.RowLemmas.{moves_gathered, none_beyond, seen_owned}
+use Rattle.store_tables.specs.Changes.{HaveSame}
+use Rattle.club_opening.specs.Faults.{told}
 
 -- ---- wrong tables
 
-seen_precedes : (wrong : Option Table) → IsPlayed wrong → Precedes Seen wrong
-seen_precedes None played = tt
-seen_precedes (Some t) played = subst (λ (u : Table). order Seen < order u) (sym (played t refl)) (omega arith)
-
--- where only `meta` is wrong, nothing is up to the games
-pub played_after : (wrong : Option Table) → IsPlayed wrong → IsAfter Games wrong
-played_after wrong played t is = subst (λ (u : Table). order Games < order u) (sym (played t is)) (omega arith)
-
-pub seen_after : (wrong : Option Table) → IsPlayed wrong → IsAfter Seen wrong
-seen_after wrong played t is = subst (λ (u : Table). order Seen < order u) (sym (played t is)) (omega arith)
+-- where only `meta` is wrong, nothing is up to a table before it
+pub played_after : (table : Table) → order table < order Meta → (wrong : Option Table) → IsPlayed wrong
+    → IsAfter table wrong
+played_after table low wrong played t is = subst (λ (u : Table). order table < order u) (sym (played t is)) low
 
 pub some_after : (table : Table) (wrong : Option Table) (named : Table) → wrong ≡ Some named → order table < order named
     → IsAfter table wrong
@@ -74,29 +63,50 @@ pub after_precedes : (table : Table) (wrong : Option Table) → IsAfter table wr
 after_precedes table None after = tt
 after_precedes table (Some t) after = after t refl
 
-last_table : (t : Table) → order Meta ≤ order t → t ≡ Meta
-last_table Meta low = refl
-last_table _ low = absurd (omega (arith, low))
-
-none_some : (o : Option Table) (t : Table) → o ≡ Some t → o ≡ None → ⊥
-none_some o t some none = let both : ◌≡◌ {A = Option Table} (Some t) None = sym some ∙ none in absurd cc
+-- a table after the scores is `meta`
+after_last : (t : Table) → order Scores < order t → t ≡ Meta
+after_last Meta low = refl
+after_last _ low = absurd (omega (arith, low))
 
 -- ---- one game
 
 pub people_of : (s : ClubState) (rows : Rows) → IsClub s → IsRegisterOf s rows → HasPeople s rows
 people_of s rows club register = record {
-  members =
-      record {
-        rows_are = register.members;
-        legal = club.members;
-        count = club.member_count;
-        names = club.member_names;
-        keys = club.member_keys;
-      };
-  events =
-      record { rows_are = register.events; legal = club.events; count = club.event_count; names = club.event_names };
+  members = members_of s club rows.members.items register.members;
+  events = events_of s club rows.events.items register.events;
   rules = register.rules;
 }
+
+-- the games of a club whose register these rows are, with its rows of moves and of positions
+abbrev pub club_games : (rows : Rows) (version : Version) (s : ClubState) (db : Database) → IsClubOf version s
+    → IsRegisterOf s rows → HasClub version db s
+    → HaveSeenOf rows (moves_in (club_trees db)) (seen_in (club_trees db))
+club_games rows version s db own register holds = record {
+  games = record {
+    state = s;
+    legal = club_of_version version s own;
+    people = people_of s rows (club_of_version version s own) register;
+    games = register.games;
+    same = subst (HaveSame (moves_in (club_trees db))) (rows_at version s Moves (omega arith) tt)
+        (shown_held (moves 8) 4 refl refl holds);
+  };
+  same = subst (HaveSame (seen_in (club_trees db))) (rows_at version s Seen (omega arith) tt)
+      (shown_held (seen 12) 6 refl refl holds);
+}
+
+-- of such a club no row of moves or of positions is another's than those of its games
+none_over : (rows : Rows) (shown positions : List Row) → HaveSeenOf rows shown positions
+    → (length (past (length rows.games.items) shown) ≡ 0) × (length (past (length rows.games.items) positions) ≡ 0)
+none_over rows shown positions have =
+    let s = have.games.state in
+    let count = numbered-length game_cells (row_of_game both_games s.events) 1 rows.games.items s.games have.games.games
+    in (
+      ap (λ n. length (past n shown)) count
+          ∙ table_past (rows_of_moves both_games s.events) (λ id g z h. moves_had both_games s.events id g z h) shown
+          s.games have.games.same,
+      ap (λ n. length (past n positions)) count
+          ∙ table_past (rows_of_seen both_games) (λ id g z h. seen_had id g z h) positions s.games have.same,
+    )
 
 -- what a moment was read of
 pub moment_told : (stored : ℤ) (last : Option ℕ) → IfSome last (λ m. pos m ≡ stored)
@@ -119,129 +129,11 @@ club_of s rows last told club register = record {
   within = club.last;
 }
 
-next : (n : ℕ) → 1 + n ≡ n + 1
+pub next : (n : ℕ) → 1 + n ≡ n + 1
 next n = omega arith
 
 next_suc : (n : ℕ) → suc n ≡ n + 1
 next_suc n = omega arith
-
--- rows of moves that were judged to be all those of a legal game
-pub game_of : (place : ℕ) (game : GameRecord) (ms : List MoveRow) (old mid : State)
-    → AreReadOf (moves 8) 2 game.id (map move_cells ms) old mid → (s : ClubState) (g : ClubGame)
-    → IsGameAt s (place + 1) game ms g → IsGameOf s (place + 1) game (club_trees old.now) g
-game_of place game ms old mid one s g at = record {
-  legal = at.legal;
-  row_is = at.row_is;
-  moves_are = same_on _ (map move_cells ms) _ (turned_same _ _ one.once) (same_by _ _ at.moves_are);
-}
-
-module _ (rows : Rows) (place : ℕ) (game : GameRecord) (ms : List MoveRow) (ss : List SeenRow) (old mid new : State)
-    (one : AreReadOf (moves 8) 2 game.id (map move_cells ms) old mid)
-    (two : AreReadOf (seen 12) 2 game.id (map seen_cells ss) mid new) where
-  trees_are : club_trees mid.now ≡ club_trees old.now
-  trees_are = ap club_trees one.same.0.now_is
-
-  seen_once : IsPermutation (beginning_with game.id (seen_in (club_trees old.now))) (map seen_cells ss)
-  seen_once = subst (λ (t : Trees). IsPermutation (beginning_with game.id (seen_in t)) (map seen_cells ss)) trees_are
-      two.once
-
-  found_as : (s : ClubState) (g : ClubGame) → AreAllOf s (place + 1) game ms ss g
-      → IsFoundAs s (place + 1) game (club_trees old.now) g
-  found_as s g all = record {
-    game_is = game_of place game ms old mid one s g all.at;
-    seen_are = same_on _ (map seen_cells ss) _ (turned_same _ _ seen_once) all.seen_are.same;
-  }
-
-  -- those of a club's game are judged so
-  game_all : slice_get rows.games.items place ≡ Some game → (s : ClubState) → IsClub s → IsRegisterOf s rows
-      → IsStored old.now s → (place < 5000) × ((g : ClubGame) × AreAllOf s (place + 1) game ms ss g)
-  game_all at s club register holds =
-      let (g, stands, cells) = numbered-at game_cells (row_of_game both_games s.events) 1 rows.games.items s.games
-      register.games place game at in
-      let id : game.id ≡ pos (1 + place) = id-told s (1 + place) game g cells in
-      let most = club.game_count in
-      let within = slice_get_within s.games place g stands in
-      let first = subst (λ n. AreReadOf (moves 8) 2 n (map move_cells ms) old mid) id one in
-      let second = subst (λ n. AreReadOf (seen 12) 2 n (map seen_cells ss) mid new) id two in
-      let here : mid.now ≡ old.now = one.same.0.now_is in
-      let are_moves = own_moves s club old.now holds place g stands (map move_cells ms) old mid refl first in
-      let are_seen = own_seen s club old.now holds place g stands (map seen_cells ss) mid new here second in (
-        omega (arith, most, within),
-        (
-          g,
-          subst (λ n. AreAllOf s n game ms ss g) (next place) (record {
-            at = record { legal = club.games place g stands; row_is = cells; moves_are = are_moves };
-            seen_are = are_seen;
-          }),
-        ),
-      )
-
-  module _ (last : Option ℕ) (told : IsMomentOf rows.meta.last last) (wrong : Option Table)
-      (first : (s : ClubState) → HasPeople s rows → IsFirstWrong (IsRightAt s rows place game ms ss last) wrong) where
-    game_found_as : wrong ≡ None → (s : ClubState) → IsOf s rows last → (g : ClubGame)
-        × IsFoundAs s (place + 1) game (club_trees old.now) g
-    game_found_as none s of =
-        let right = all-right (IsRightAt s rows place game ms ss last) wrong (first s of.people) none Meta in
-        let (g, all) = right-club s rows of.people place game ms ss last of.within of.moment right in
-        (g, found_as s g all)
-
-    -- so they are up to the last moment of all, where at most `meta` is wrong
-    game_played : IsPlayed wrong → (s : ClubState) → HasPeople s rows → (g : ClubGame)
-        × IsFoundAs (until last_moment s) (place + 1) game (club_trees old.now) g
-    game_played played s people =
-        let (g, all) = (first s people).before Seen (seen_precedes wrong played) in
-        (g, found_as (until last_moment s) g all)
-
-    -- but for its positions, where no table up to the games is wrong
-    game_seated : IsAfter Games wrong → (s : ClubState) → HasPeople s rows → (g : ClubGame)
-        × IsGameOf (until last_moment s) (place + 1) game (club_trees old.now) g
-    game_seated after s people =
-        let (low, g, at) = (first s people).before Games (after_precedes Games wrong after) in
-        (g, game_of place game ms old mid one (until last_moment s) g at)
-
-    -- a table that is named is damaged
-    game_blamed : slice_get rows.games.items place ≡ Some game → (t : Table) → wrong ≡ Some t
-        → NamesPlay rows old.now (Damaged t)
-    game_blamed at t is = (
-      t,
-      refl,
-      λ version s of_version register holds.
-          let club = club_of_version version s of_version in
-          let people = people_of s rows club register in
-          let of = club_of s rows last told club register in
-          let (low, known) = game_all at s club register (stored_of version old.now s holds) in
-          let (g, all) = known in
-          let right = club-right s rows people place game ms ss last club.last low g all (λ n some. same_moment s n
-          some of.moment) in
-          let none = none-named (IsRightAt s rows place game ms ss last) wrong (first s people) right in
-          clash wrong is none,
-    )
-      where
-        clash : (o : Option Table) → o ≡ Some t → o ≡ None → ⊥
-        clash o some none = let both = sym some ∙ none in cc
-
-        same_moment : (s : ClubState) (n : ℕ) → last ≡ Some n → last ≡ Some s.last → s.last ≡ n
-        same_moment s n some is_last = same_Some s.last n (sym is_last ∙ some)
-
-    -- what was judged of a game's rows
-    pub game_found : slice_get rows.games.items place ≡ Some game
-        → (wrong ≡ Some Moves → (s : ClubState) → HasPeople s rows → MovesWrong rows old.now)
-        → (wrong ≡ Some Games → GamesWrong rows old.now) → (wrong ≡ Some Seen → SeenWrong rows old.now)
-        → (IsAfter Moves wrong → (s : ClubState) → HasPeople s rows
-        → HasMovesOf rows (moves_in (club_trees old.now)) game)
-        → IsGameFound rows last place game (length ms) (length ss) wrong old.now
-    game_found at moves_wrong games_wrong seen_wrong moves_right = record {
-      moves_number = sym (length-map ms move_cells) ∙ length_permutation _ (map move_cells ms) one.once;
-      seen_number = λ after. sym (length-map ss seen_cells) ∙ length_permutation _ (map seen_cells ss) seen_once;
-      found = game_found_as;
-      played = game_played;
-      seated = game_seated;
-      moves_right = moves_right;
-      blamed = game_blamed at;
-      moves_wrong = moves_wrong;
-      games_wrong = games_wrong;
-      seen_wrong = seen_wrong;
-    }
 
 -- ---- one game after another
 
@@ -306,13 +198,12 @@ seated_more s rows db k row was at g is =
       number_of = length-append was.games (g ∷ []) ∙ ap (λ n. n + 1) was.number_of;
       legal = each-append (IsLegalIn both_games s) was.games g was.legal is.legal;
       rows_are =
-          ap (λ n. map game_cells (take n rows)) (sym (next_suc k))
-          ∙ (ap (map game_cells) (take-got rows k row at)
+          ap (map game_cells) (take_next rows k row at)
           ∙ (map-append game_cells (take k rows) (row ∷ [])
           ∙ ((λ i. was.rows_are i ++ is.row_is i ∷ [])
           ∙ (ap (λ n. numbered_from (row_of_game both_games s.events) 1 was.games
           ++ row_of_game both_games s.events n g ∷ []) (sym place_is)
-          ∙ sym (numbered-append (row_of_game both_games s.events) 1 was.games g)))));
+          ∙ sym (numbered-append (row_of_game both_games s.events) 1 was.games g))));
       moves_are = λ n x there. elim (got-append was.games g n x there) [
         | inl old ↦ was.moves_are n x old
         | inr (last, same) ↦
@@ -342,43 +233,35 @@ found_more s rows db k row was at (g, is) =
 taken : (m own k rest : ℕ) → m ≡ k → k ≡ own + rest → m - own ≡ rest
 taken m own k rest is parts = omega (arith, is, parts)
 
--- a table from which on one is wrong is the last, where none before that is
-no_sooner : (u : Option Table) (t : Table) → IsPlayed u → (u ≡ None → ⊥)
-    → ((x : Table) → u ≡ Some x → order x ≤ order t) → t ≡ Meta
-no_sooner None t played some low = absurd (some refl)
-no_sooner (Some x) t played some low =
-    last_table t (subst (λ (y : Table). order y ≤ order t) (played x refl) (low x refl))
+-- where no table up to one is named, neither has one
+pub both_after : (table : Table) (w v u : Option Table) → IsOneOf w v u → IsAfter table u → IsAfter table w
+    × IsAfter table v
+both_after table w v None one after = let (first, second) = one.none refl in (λ t is. absurd (cc), λ t is. absurd (cc))
+both_after table w v (Some x) one after =
+    let before = after x refl in (
+      λ t is. let low = one.first x t refl (inl is) in omega (arith, before, low),
+      λ t is. let low = one.first x t refl (inr is) in omega (arith, before, low),
+    )
 
 -- where no table before `meta` is named, neither has one
 pub both_played : (w v u : Option Table) → IsOneOf w v u → IsPlayed u → IsPlayed w × IsPlayed v
-both_played w v u one played = (
-  λ t is. no_sooner u t played (λ none. none_some w t is (one.none none).0) (λ x named. one.first x t named (inl is)),
-  λ t is. no_sooner u t played (λ none. none_some v t is (one.none none).1) (λ x named. one.first x t named (inr is)),
-)
+both_played w v u one played =
+    let (first, second) = both_after Scores w v u one (played_after Scores (omega arith) u played) in
+    (λ t is. after_last t (first t is), λ t is. after_last t (second t is))
 
--- where no table up to one is named, neither has one
-after_one : (table : Table) (u : Option Table) (t : Table) → IsAfter table u → (u ≡ None → ⊥)
-    → ((x : Table) → u ≡ Some x → order x ≤ order t) → order table < order t
-after_one table None t after some low = absurd (some refl)
-after_one table (Some x) t after some low =
-    let before = after x refl in let up = low x refl in omega (arith, before, up)
-
-pub both_after : (table : Table) (w v u : Option Table) → IsOneOf w v u → IsAfter table u → IsAfter table w
-    × IsAfter table v
-both_after table w v u one after = (
-  λ t is. after_one table u t after (λ none. none_some w t is (one.none none).0)
-      (λ x named. one.first x t named (inl is)),
-  λ t is. after_one table u t after (λ none. none_some v t is (one.none none).1)
-      (λ x named. one.first x t named (inr is)),
-)
+-- what follows where either table is named follows where the first of them is
+pub either : {w v u : Option Table} {P : Type 0} → IsOneOf w v u → (t : Table) → u ≡ Some t → (w ≡ Some t → P)
+    → (v ≡ Some t → P) → P
+either one t named early here = elim (one.some t named) [
+  | inl is ↦ early is
+  | inr is ↦ here is
+]
 
 -- a table after the games is that of positions, or after it
 seen_or_after : (o : Option Table) → IsAfter Games o → (o ≡ Some Seen) ⊎ IsAfter Seen o
 seen_or_after None after = inr (λ t is. cc)
 seen_or_after (Some Seen) after = inl refl
-seen_or_after (Some Scores) after = inr (some_after Seen (Some Scores) Scores refl (omega arith))
-seen_or_after (Some Meta) after = inr (some_after Seen (Some Meta) Meta refl (omega arith))
-seen_or_after (Some t) after = let low = after t refl in absurd (omega (arith, low))
+seen_or_after (Some t) after = let low = after t refl in inr (some_after Seen (Some t) t refl (omega (arith, low)))
 
 -- where what is left would name a table that is not after, nothing is left
 none_after : (table named : Table) (o : Option Table) → IsAfter table o → ((t : Table) → o ≡ Some t → t ≡ named)
@@ -388,13 +271,6 @@ none_after table named (Some t) after other low =
     let up = subst (λ (u : Table). order table < order u) (other t refl) (after t refl) in
     absurd (omega (arith, up, low))
 
-none_named_of : (table : Table) (o : Option Table) → order table < order Meta → IsPlayed o
-    → ((t : Table) → o ≡ Some t → t ≡ table) → o ≡ None
-none_named_of table None low played named = refl
-none_named_of table (Some t) low played named =
-    let less = subst (λ (u : Table). order u < order Meta) (sym (named t refl) ∙ played t refl) low in
-    absurd (omega (arith, less))
-
 -- with one game more, its rows are no longer left
 module _ (rows : Rows) (last : Option ℕ) (k : ℕ) (game : GameRecord) (ms ss a b : ℕ) (w v u : Option Table)
     (db : Database) (at : slice_get rows.games.items k ≡ Some game) (was : AreLeftAfter rows last k ms ss w db)
@@ -402,29 +278,30 @@ module _ (rows : Rows) (last : Option ℕ) (k : ℕ) (game : GameRecord) (ms ss 
   id_of : (s : ClubState) (g : ClubGame) → IsGameOf s (k + 1) game (club_trees db) g → game.id ≡ pos (suc k)
   id_of s g is_game = id-told s (k + 1) game g is_game.row_is ∙ ap pos (sym (next_suc k))
 
+  without_more : (ids : ℕ → ℤ) (n own : ℕ) (shown : List Row)
+      → length (without ids k shown) ≡ length (beginning_with (ids k) shown) + length (without ids (suc k) shown)
+      → own ≡ length (beginning_with game.id shown) → game.id ≡ ids k → n ≡ length (without ids k shown)
+      → n - own ≡ length (without ids (k + 1) shown)
+  without_more ids n own shown step owned id left =
+      ap (λ m. n - m) (owned ∙ ap (λ z. length (beginning_with z shown)) id)
+      ∙ (taken n _ _ _ left step ∙ ap (λ m. length (without ids m shown)) (next_suc k))
+
   past_more : (n own : ℕ) (shown : List Row) → own ≡ length (beginning_with game.id shown) → game.id ≡ pos (suc k)
       → n ≡ length (past k shown) → n - own ≡ length (past (k + 1) shown)
-  past_more n own shown owned id left =
-      ap (λ m. n - m) (owned ∙ ap (λ z. length (beginning_with z shown)) id)
-      ∙ (taken n _ _ _ left (past_step k shown) ∙ ap (λ m. length (past m shown)) (next_suc k))
+  past_more n own shown = without_more (λ m. pos (suc m)) n own shown (past_step k shown)
 
   beyond_more : HaveIds rows → (n own : ℕ) (shown : List Row) → own ≡ length (beginning_with game.id shown)
       → n ≡ length (beyond rows k shown) → n - own ≡ length (beyond rows (k + 1) shown)
-  beyond_more ids n own shown owned left =
-      ap (λ m. n - m) (owned ∙ ap (λ z. length (beginning_with z shown)) (sym (id_of_game rows k game at)))
-      ∙ (taken n _ _ _ left
-      (beyond_step rows (ids_apart rows ids) k shown (slice_get_within rows.games.items k game at))
-      ∙ ap (λ m. length (beyond rows m shown)) (next_suc k))
+  beyond_more ids n own shown owned = without_more (id_at rows) n own shown
+      (beyond_step rows (ids_apart rows ids) k shown (slice_get_within rows.games.items k game at)) owned
+      (sym (id_of_game rows k game at))
 
   pub left_more : AreLeftAfter rows last (k + 1) (ms - a) (ss - b) u db
   left_more = record {
     found = λ none s of.
         let (early, here) = one_of.none none in
         found_more s rows.games.items (club_trees db) k game (was.found early s of) at (is.found here s of);
-    blamed = λ t named. elim (one_of.some t named) [
-      | inl early ↦ was.blamed t early
-      | inr here ↦ is.blamed t here
-    ];
+    blamed = λ t named. either one_of t named (was.blamed t) (is.blamed t);
     moves_left = λ none s of.
         let (early, here) = one_of.none none in
         let (g, found) = is.found here s of in
@@ -432,7 +309,7 @@ module _ (rows : Rows) (last : Option ℕ) (k : ℕ) (game : GameRecord) (ms ss 
     seen_left = λ none s of.
         let (early, here) = one_of.none none in
         let (g, found) = is.found here s of in
-        past_more ss b (seen_in (club_trees db)) (is.seen_number (λ t named. absurd (none_some v t named here)))
+        past_more ss b (seen_in (club_trees db)) (is.seen_number (λ t named. absurd (cc)))
         (id_of s g found.game_is) (was.seen_left early s of);
     played = λ free s people.
         let (early, here) = both_played w v u one_of free in
@@ -451,20 +328,11 @@ module _ (rows : Rows) (last : Option ℕ) (k : ℕ) (game : GameRecord) (ms ss 
     seen_rest = λ free s people.
         let (early, here) = both_played w v u one_of free in
         let (g, found) = is.played here s people in
-        past_more ss b (seen_in (club_trees db)) (is.seen_number (seen_after v here))
+        past_more ss b (seen_in (club_trees db)) (is.seen_number (played_after Seen (omega arith) v here))
         (id_of (until last_moment s) g found.game_is) (was.seen_rest early s people);
-    moves_wrong = λ named s people. elim (one_of.some Moves named) [
-      | inl early ↦ was.moves_wrong early s people
-      | inr here ↦ is.moves_wrong here s people
-    ];
-    games_wrong = λ named. elim (one_of.some Games named) [
-      | inl early ↦ was.games_wrong early
-      | inr here ↦ is.games_wrong here
-    ];
-    seen_wrong = λ named. elim (one_of.some Seen named) [
-      | inl early ↦ was.seen_wrong early
-      | inr here ↦ is.seen_wrong here
-    ];
+    moves_wrong = λ named. either one_of Moves named was.moves_wrong is.moves_wrong;
+    games_wrong = λ named. either one_of Games named was.games_wrong is.games_wrong;
+    seen_wrong = λ named. either one_of Seen named was.seen_wrong is.seen_wrong;
     moves_right = λ after s people n other low there.
         let (early, here) = both_after Moves w v u one_of after in
         elim (last_or n k (omega (arith, low))) [
@@ -496,47 +364,42 @@ module _ (rows : Rows) (last : Option ℕ) (told : IsMomentOf rows.meta.last las
   of_seen : (t : Table) → b ≡ Some t → t ≡ Seen
   of_seen t named = (seen_left.some t named).0
 
-  counts : (s : ClubState) → IsRegisterOf s rows → k ≡ length s.games
-  counts s register = all ∙ numbered-length game_cells (row_of_game both_games s.events) 1 rows.games.items s.games
-      register.games
+  over : (shown : List Row) (n : ℕ) → n ≡ length (past k shown) → n ≡ 0
+      → length (past (length rows.games.items) shown) ≡ 0
+  over shown n left none = ap (λ m. length (past m shown)) (sym all) ∙ (sym left ∙ none)
 
   -- where no table was wrong before and a row is left, no club has the tables
   left_blames : (o : Option Table) → o ≡ w → (0 < ms) ⊎ (0 < ss) → (version : Version) (s : ClubState)
       → IsClubOf version s → IsRegisterOf s rows → ¬ HasClub version db s
-  left_blames (Some t) is some version s of_version register holds =
-      (was.blamed t (sym is)).2 version s of_version register holds
-  left_blames None is (inl some) version s of_version register holds =
-      let club = club_of_version version s of_version in
-      let none = (none_left s club db (stored_of version db s holds)).0 in
-      let left = was.moves_left (sym is) s (club_of s rows last told club register)
-      ∙ ap (λ n. length (past n (moves_in (club_trees db)))) (counts s register) in
-      omega (arith, some, left, none)
-  left_blames None is (inr some) version s of_version register holds =
-      let club = club_of_version version s of_version in
-      let none = (none_left s club db (stored_of version db s holds)).1 in
-      let left = was.seen_left (sym is) s (club_of s rows last told club register)
-      ∙ ap (λ n. length (past n (seen_in (club_trees db)))) (counts s register) in
-      omega (arith, some, left, none)
+  left_blames (Some t) is some version s own register holds =
+      (was.blamed t (sym is)).2 version s own register holds
+  left_blames None is some version s own register holds =
+      let of = club_of s rows last told (club_of_version version s own) register in
+      let (moves_none, seen_none) = none_over rows _ _ (club_games rows version s db own register holds) in
+      elim some [
+        | inl here ↦
+            let left = was.moves_left (sym is) s of ∙ ap (λ n. length (past n (moves_in (club_trees db)))) all in
+            omega (arith, here, left, moves_none)
+        | inr here ↦
+            let left = was.seen_left (sym is) s of ∙ ap (λ n. length (past n (seen_in (club_trees db)))) all in
+            omega (arith, here, left, seen_none)
+      ]
 
   -- a table that is named is that of a game, or has rows that are left
   left_blamed : (t : Table) → v ≡ Some t → NamesPlay rows db (Damaged t)
-  left_blamed t named = elim (then_of.some t named) [
-    | inr from_seen ↦ (t, refl, left_blames w refl (inr ((seen_left.some t from_seen).1)))
-    | inl early ↦ elim (one_of.some t early) [
-      | inr from_moves ↦ (t, refl, left_blames w refl (inl ((moves_left.some t from_moves).1)))
-      | inl before ↦ was.blamed t before
-    ]
-  ]
+  left_blamed t named = either then_of t named
+      (λ early. either one_of t early (was.blamed t)
+      (λ from_moves. (t, refl, left_blames w refl (inl ((moves_left.some t from_moves).1)))))
+      (λ from_seen. (t, refl, left_blames w refl (inr ((seen_left.some t from_seen).1))))
 
   -- no row of moves is another's, if no table up to the games is
-  moves_over : IsAfter Games v → (s : ClubState) → HasPeople s rows
+  moves_done : IsAfter Games v → (s : ClubState) → HasPeople s rows
       → length (past (length rows.games.items) (moves_in (club_trees db))) ≡ 0
-  moves_over after s people =
+  moves_done after s people =
       let early = (both_after Games u b v then_of after).0 in
       let (before, from_moves) = both_after Games w a u one_of early in
-      ap (λ n. length (past n (moves_in (club_trees db)))) (sym all)
-      ∙ (sym (was.moves_rest before s people)
-      ∙ moves_left.none (none_after Games Moves a from_moves of_moves (omega arith)))
+      over (moves_in (club_trees db)) ms (was.moves_rest before s people)
+      (moves_left.none (none_after Games Moves a from_moves of_moves (omega arith)))
 
   -- all were found, if no table is named
   pub left_all : AreGamesFound rows last v db
@@ -549,10 +412,8 @@ module _ (rows : Rows) (last : Option ℕ) (told : IsMomentOf rows.meta.last las
         let (early, no_seen) = then_of.none none in
         let (before, no_moves) = one_of.none early in
         record {
-          moves = ap (λ n. length (past n (moves_in (club_trees db)))) (sym all)
-              ∙ (sym (was.moves_left before s of) ∙ moves_left.none no_moves);
-          seen = ap (λ n. length (past n (seen_in (club_trees db)))) (sym all)
-              ∙ (sym (was.seen_left before s of) ∙ seen_left.none no_seen);
+          moves = over (moves_in (club_trees db)) ms (was.moves_left before s of) (moves_left.none no_moves);
+          seen = over (seen_in (club_trees db)) ss (was.seen_left before s of) (seen_left.none no_seen);
         };
     played = λ free s people.
         let early = (both_played u b v then_of free).0 in
@@ -562,7 +423,7 @@ module _ (rows : Rows) (last : Option ℕ) (told : IsMomentOf rows.meta.last las
         let early = (both_after Games u b v then_of after).0 in
         let before = (both_after Games w a u one_of early).0 in
         subst (WerePlayed (until last_moment s) rows.games.items (club_trees db)) all (was.seated before s people);
-    moves_end = moves_over;
+    moves_end = moves_done;
     moves_right = λ after ids s people.
         let early = (both_after Moves u b v then_of after).0 in
         let (before, from_moves) = both_after Moves w a u one_of early in
@@ -574,47 +435,35 @@ module _ (rows : Rows) (last : Option ℕ) (told : IsMomentOf rows.meta.last las
         let (early, from_seen) = both_played u b v then_of free in
         let (before, from_moves) = both_played w a u one_of early in
         record {
-          moves = moves_over (played_after v free) s people;
-          seen = ap (λ n. length (past n (seen_in (club_trees db)))) (sym all)
-              ∙ (sym (was.seen_rest before s people)
-              ∙ seen_left.none (none_named_of Seen b (omega arith) from_seen of_seen));
+          moves = moves_done (played_after Games (omega arith) v free) s people;
+          seen = over (seen_in (club_trees db)) ss (was.seen_rest before s people)
+              (seen_left.none
+              (none_after Seen Seen b (played_after Seen (omega arith) b from_seen) of_seen (omega arith)));
         };
     blamed = left_blamed;
-    moves_wrong = λ named ids s people. elim (then_of.some Moves named) [
-      | inr from_seen ↦ let both : Moves ≡ Seen = of_seen Moves from_seen in absurd cc
-      | inl early ↦ elim (one_of.some Moves early) [
-        | inl before ↦ was.moves_wrong before s people
-        | inr from_moves ↦ λ version content holds have.
-            let some : 0 < ms = (moves_left.some Moves from_moves).1 in
-            let none = none_beyond rows (moves_in (club_trees db)) have.owned in
-            let left = was.moves_beyond ids ∙ ap (λ n. length (beyond rows n (moves_in (club_trees db)))) all in
-            absurd (omega (arith, some, left, none))
-      ]
-    ];
-    games_wrong = λ named. elim (then_of.some Games named) [
-      | inr from_seen ↦ let both : Games ≡ Seen = of_seen Games from_seen in absurd cc
-      | inl early ↦ elim (one_of.some Games early) [
-        | inl before ↦ was.games_wrong before
-        | inr from_moves ↦ let both : Games ≡ Moves = of_moves Games from_moves in absurd cc
-      ]
-    ];
-    seen_wrong = λ named ids. elim (then_of.some Seen named) [
-      | inl early ↦ elim (one_of.some Seen early) [
-        | inl before ↦ was.seen_wrong before
-        | inr from_moves ↦ let both : Seen ≡ Moves = of_moves Seen from_moves in absurd cc
-      ]
-      | inr from_seen ↦
-          let early = (both_after Games u b v then_of (some_after Games v Seen named (omega arith))).0 in
-          elim (seen_or_after w (both_after Games w a u one_of early).0) [
-            | inl before ↦ was.seen_wrong before
-            | inr after ↦ λ version content holds have.
-                let some : 0 < ss = (seen_left.some Seen from_seen).1 in
-                let none = none_beyond rows (seen_in (club_trees db)) (seen_owned rows _ _ have) in
-                let left = was.seen_beyond after ids
-                ∙ ap (λ n. length (beyond rows n (seen_in (club_trees db)))) all in
-                absurd (omega (arith, some, left, none))
-          ]
-    ];
+    moves_wrong = λ named ids s people. either then_of Moves named
+        (λ early. either one_of Moves early (λ before. was.moves_wrong before s people)
+        (λ from_moves version content holds have.
+        let some : 0 < ms = (moves_left.some Moves from_moves).1 in
+        let none = none_beyond rows (moves_in (club_trees db)) have.owned in
+        let left = was.moves_beyond ids ∙ ap (λ n. length (beyond rows n (moves_in (club_trees db)))) all in
+        omega (arith, some, left, none))) (λ from_seen. absurd (cc (of_seen Moves from_seen)));
+    games_wrong = λ named. either then_of Games named
+        (λ early. either one_of Games early was.games_wrong (λ from_moves. absurd (cc (of_moves Games from_moves))))
+        (λ from_seen. absurd (cc (of_seen Games from_seen)));
+    seen_wrong = λ named ids. either then_of Seen named
+        (λ early. either one_of Seen early was.seen_wrong (λ from_moves. absurd (cc (of_moves Seen from_moves))))
+        (λ from_seen.
+        let early = (both_after Games u b v then_of (some_after Games v Seen named (omega arith))).0 in
+        elim (seen_or_after w (both_after Games w a u one_of early).0) [
+          | inl before ↦ was.seen_wrong before
+          | inr after ↦ λ version content holds have.
+              let some : 0 < ss = (seen_left.some Seen from_seen).1 in
+              let none = none_beyond rows (seen_in (club_trees db)) (seen_owned rows _ _ have) in
+              let left = was.seen_beyond after ids
+              ∙ ap (λ n. length (beyond rows n (seen_in (club_trees db)))) all in
+              omega (arith, some, left, none)
+        ]);
   }
 
 -- what a fault says of a database that did not change
@@ -648,7 +497,33 @@ module _ {old one two : State} {m n : ℕ} (moves_are : AreCounted 8 m old one) 
     seen_apart = before (λ d. AreApart (club_trees d 12)) moves_are.same seen_are.apart;
   }
 
--- what was examined of a database that did not change after it
+-- the scores that were examined of a database that did not change before it
+pub scores_after : (rows : Rows) (old mid new : State) → IsUnchanged old mid → AreScoresExamined rows mid new
+    → AreScoresExamined rows old new
+scores_after rows old mid new same scores = record {
+  rows_of = scores.rows_of;
+  read = read_after same scores.read;
+  are = scores.are;
+}
+
+-- what was examined of a database that did not change before it
+pub examined_before : (rows : Rows) {old mid new : State} → IsUnchanged old mid → AreExamined rows mid new
+    → AreExamined rows old new
+examined_before rows {old} {mid} {new} same all = record {
+  moment = all.moment;
+  last = all.last;
+  challenges = all.challenges;
+  games = all.games;
+  play = record {
+    games = before (AreGamesFound rows (Some all.moment) None) same all.play.games;
+    same = stays same all.play.same;
+    moves_apart = before (λ d. AreApart (club_trees d 8)) same all.play.moves_apart;
+    seen_apart = before (λ d. AreApart (club_trees d 12)) same all.play.seen_apart;
+  };
+  scores = scores_after rows old mid new same all.scores;
+}
+
+-- and after it
 pub play_later : (rows : Rows) (last : Option ℕ) (old mid new : State) → IsPlayExamined rows last None old mid
     → IsUnchanged mid new → IsPlayExamined rows last None old new
 play_later rows last old mid new play same = record {
@@ -656,13 +531,4 @@ play_later rows last old mid new play same = record {
   same = stays play.same same;
   moves_apart = play.moves_apart;
   seen_apart = play.seen_apart;
-}
-
--- nor before it
-pub scores_after : (rows : Rows) (old mid new : State) → IsUnchanged old mid → AreScoresExamined rows mid new
-    → AreScoresExamined rows old new
-scores_after rows old mid new same scores = record {
-  rows_of = scores.rows_of;
-  read = read_after same scores.read;
-  are = scores.are;
 }

@@ -1,36 +1,31 @@
 -- What a database has of a club, in whatever version of its tables.
-use Rattle.std.proofs.Common.{arith, ◌≡◌, ℕ, ℤ, pos, false, List, [], ◌∷◌, refl, sym, subst, inl, inr}
+use Rattle.std.proofs.Common.{◌≡◌, false, List, [], ◌∷◌, refl, sym, subst, inl, inr}
 use Rattle.std.specs.List.{AllByRecursion}
 use Rattle.sqlite.specs.Effect.{Database}
 use Rattle.sqlite.specs.Order.{Row}
 use Rattle.sqlite.specs.Schema.{Schema}
-use Rattle.sqlite.specs.Table.{Table}
+use Rattle.sqlite.specs.Table.{Table as Definition}
 use Rattle.sqlite.specs.Tree.{Trees}
 use Rattle.sqlite_rules.specs.Lists.{Has}
 use Rattle.sqlite_schema.specs.Names.{same_name}
 use Rattle.sqlite_schema.specs.Rules.{clashes}
 use Rattle.sqlite_value.specs.Keys.{plain}
-use Rattle.sqlite_value.specs.declared.value.Value.TheVariants.{Int}
 use Rattle.store_tables.specs.Placed.{HasClubTables, HasTables, HasTablesOf, Stands, by_club, club_trees, tree_in}
-use Rattle.store_tables.specs.Content.{AreApart, Keeps}
+use Rattle.store_tables.specs.Content.{AreApart}
 use Rattle.store_tables.specs.Contents.{AreStored, Content, Stores}
-use Rattle.store_tables.proofs.Proved.{first_of_current, keeps_moved, tables_alone}
-use Rattle.store_tables.proofs.Proved.{unique_here, versions_apart}
-use Rattle.store_tables.specs.Tables.{club_schema, first_schema, IsClubSchema, schema_of, meta, members, events}
-use Rattle.store_tables.specs.Tables.{event_rules, challenges, moves, games, seen, scores}
+use Rattle.store_tables.proofs.Proved.{first_of_current, keeps_moved, tables_alone, unique_here, versions_apart}
+use Rattle.store_tables.specs.Tables.{IsClubSchema, schema_of}
+use Rattle.store_tables.specs.declared.names.Table.{Table}
 use Rattle.store_tables.specs.declared.names.Table.TheVariants.{Members, Events, EventRules, Challenges, Moves, Games}
 use Rattle.store_tables.specs.declared.names.Table.TheVariants.{Seen, Scores, Meta}
 use Rattle.store_tables.specs.declared.names.Version.{Version}
 use Rattle.store_tables.specs.declared.names.Version.TheVariants.{First, Current}
-use Rattle.club_rows.specs.Club.{both_games, ClubState, IsClub}
-use Rattle.club_rows.specs.FirstSchema.{IsClubOf, tables_at}
-use Rattle.club_rows.specs.Tables.{tables_of}
-use Rattle.club_opening.specs.Versions.{HasClub, HoldsRows}
+use Rattle.club_rows.specs.Club.{ClubState, IsClub}
+use Rattle.club_rows.specs.FirstSchema.{IsClubOf}
+use Rattle.club_opening.specs.RightTables.{HasTable}
+use Rattle.club_opening.specs.Versions.{HoldsRows}
 
 -- ---- the versions
-
-never : ◌≡◌ {A = ℕ} 8 9 → ⊥
-never is = omega (arith, is)
 
 -- a schema has the tables of one version
 pub one_of : (v w : Version) (schema : Schema) → HasTablesOf v schema → HasTablesOf w schema → v ≡ w
@@ -64,47 +59,30 @@ first_stand schema (inl first) = first.0
 first_stand schema (inr current) = first_of_current schema current
 
 -- each of them
-pub meta_stands : (schema : Schema) → HasClubTables schema → Stands schema Meta
-meta_stands schema has = (first_stand schema has).0
-
-pub members_stand : (schema : Schema) → HasClubTables schema → Stands schema Members
-members_stand schema has = (first_stand schema has).1.0
-
-pub events_stand : (schema : Schema) → HasClubTables schema → Stands schema Events
-events_stand schema has = (first_stand schema has).1.1.0
-
-pub challenges_stand : (schema : Schema) → HasClubTables schema → Stands schema Challenges
-challenges_stand schema has = (first_stand schema has).1.1.1.0
-
-pub moves_stand : (schema : Schema) → HasClubTables schema → Stands schema Moves
-moves_stand schema has = (first_stand schema has).1.1.1.1.0
-
-pub games_stand : (schema : Schema) → HasClubTables schema → Stands schema Games
-games_stand schema has = (first_stand schema has).1.1.1.1.1.0
-
-pub seen_stand : (schema : Schema) → HasClubTables schema → Stands schema Seen
-seen_stand schema has = (first_stand schema has).1.1.1.1.1.1.0
-
-pub scores_stand : (schema : Schema) → HasClubTables schema → Stands schema Scores
-scores_stand schema has = (first_stand schema has).1.1.1.1.1.1.1.0
+pub stands : (t : Table) → HasTable t First → {schema : Schema} → HasClubTables schema → Stands schema t
+stands Meta there {schema} has = (first_stand schema has).0
+stands Members there {schema} has = (first_stand schema has).1.0
+stands Events there {schema} has = (first_stand schema has).1.1.0
+stands Challenges there {schema} has = (first_stand schema has).1.1.1.0
+stands Moves there {schema} has = (first_stand schema has).1.1.1.1.0
+stands Games there {schema} has = (first_stand schema has).1.1.1.1.1.0
+stands Seen there {schema} has = (first_stand schema has).1.1.1.1.1.1.0
+stands Scores there {schema} has = (first_stand schema has).1.1.1.1.1.1.1.0
+stands EventRules there has = absurd there
 
 -- that of the rules of events
 pub rules_stand : (schema : Schema) → HasTablesOf Current schema → Stands schema EventRules
 rules_stand schema has = has.1.1.1.1.1.1.1.1.0
 
 -- Where it stands alone its tables have the trees that it gives them.
-trees_first : (trees : Trees)
-    → AllByRecursion (λ t. by_club first_schema trees t.tree ≡ trees t.tree) first_schema.tables
+trees_alone : (version : Version) (trees : Trees)
+    → AllByRecursion (λ t. by_club (schema_of version) trees t.tree ≡ trees t.tree) (schema_of version).tables
 unfolding by_club tree_in same_name
-trees_first trees = (refl, (refl, (refl, (refl, (refl, (refl, (refl, (refl, tt))))))))
-
-trees_alone : (trees : Trees)
-    → AllByRecursion (λ t. by_club club_schema trees t.tree ≡ trees t.tree) club_schema.tables
-unfolding by_club tree_in same_name
-trees_alone trees = (refl, (refl, (refl, (refl, (refl, (refl, (refl, (refl, (refl, tt)))))))))
+trees_alone First trees = (refl, (refl, (refl, (refl, (refl, (refl, (refl, (refl, tt))))))))
+trees_alone Current trees = (refl, (refl, (refl, (refl, (refl, (refl, (refl, (refl, (refl, tt)))))))))
 
 -- what some trees store others store that have the same rows
-stored_by : (here there : Trees) (content : Content) (tables : List Table)
+stored_by : (here there : Trees) (content : Content) (tables : List Definition)
     → AllByRecursion (λ t. here t.tree ≡ there t.tree) tables → AllByRecursion (λ t. Stores t here content) tables
     → AllByRecursion (λ t. Stores t there content) tables
 stored_by here there content [] same all = tt
@@ -119,12 +97,10 @@ stored_by here there content (t ∷ tables) same all = (
 -- what a club has that stands alone, the trees have
 pub held_alone : (version : Version) (db : Database) (content : Content) → db.schema ≡ schema_of version
     → AreStored (schema_of version) (club_trees db) content → AreStored (schema_of version) db.trees content
-held_alone First db content is stored =
-    stored_by (by_club first_schema db.trees) db.trees content first_schema.tables (trees_first db.trees)
-    (subst (λ s. AreStored first_schema (by_club s db.trees) content) is stored)
-held_alone Current db content is stored =
-    stored_by (by_club club_schema db.trees) db.trees content club_schema.tables (trees_alone db.trees)
-    (subst (λ s. AreStored club_schema (by_club s db.trees) content) is stored)
+held_alone version db content is stored =
+    stored_by (by_club (schema_of version) db.trees) db.trees content (schema_of version).tables
+    (trees_alone version db.trees)
+    (subst (λ s. AreStored (schema_of version) (by_club s db.trees) content) is stored)
 
 pub club_of_version : (version : Version) (s : ClubState) → IsClubOf version s → IsClub s
 club_of_version First s is = is.club
@@ -145,59 +121,8 @@ unique_of version db content holds =
     let has = of_version version db.schema holds.schema in
     let sound = holds.sound in
     record {
-      challenges = unique_here db.schema db.trees sound Challenges (challenges_stand db.schema has)
-          (1 ∷ 2 ∷ []) refl refl;
-      moves = unique_here db.schema db.trees sound Moves (moves_stand db.schema has) (1 ∷ 2 ∷ []) refl refl;
-      seen = unique_here db.schema db.trees sound Seen (seen_stand db.schema has) (1 ∷ 2 ∷ []) refl refl;
-      scores = unique_here db.schema db.trees sound Scores (scores_stand db.schema has) (1 ∷ 2 ∷ 3 ∷ []) refl refl;
+      challenges = unique_here db.schema db.trees sound Challenges (stands Challenges tt has) (1 ∷ 2 ∷ []) refl refl;
+      moves = unique_here db.schema db.trees sound Moves (stands Moves tt has) (1 ∷ 2 ∷ []) refl refl;
+      seen = unique_here db.schema db.trees sound Seen (stands Seen tt has) (1 ∷ 2 ∷ []) refl refl;
+      scores = unique_here db.schema db.trees sound Scores (stands Scores tt has) (1 ∷ 2 ∷ 3 ∷ []) refl refl;
     }
-
--- ---- what is stored
-
--- The tables of the club that both versions have, with whatever number.
-pub record IsStored (db : Database) (s : ClubState) : Type 0 where
-  pub unique : AreUnique (club_trees db)
-  pub number : ℤ
-  pub meta : Keeps (meta 0) (club_trees db) ((Int (pos 1) ∷ Int number ∷ Int (pos s.last) ∷ []) ∷ [])
-  pub members : Stores (members 1) (club_trees db) (tables_of both_games s)
-  pub events : Stores (events 4) (club_trees db) (tables_of both_games s)
-  pub challenges : Stores (challenges 6) (club_trees db) (tables_of both_games s)
-  pub moves : Stores (moves 8) (club_trees db) (tables_of both_games s)
-  pub games : Stores (games 10) (club_trees db) (tables_of both_games s)
-  pub seen : Stores (seen 12) (club_trees db) (tables_of both_games s)
-  pub scores : Stores (scores 14) (club_trees db) (tables_of both_games s)
-
-pub stored_of : (version : Version) (db : Database) (s : ClubState) → HasClub version db s → IsStored db s
-stored_of First db s holds =
-    let t = holds.tables in
-    record {
-      unique = unique_of First db (tables_at First s) holds;
-      number = pos 1;
-      meta = t.0.rows;
-      members = record { rows = t.1.0.rows; apart = t.1.0.apart };
-      events = record { rows = t.1.1.0.rows; apart = t.1.1.0.apart };
-      challenges = record { rows = t.1.1.1.0.rows; apart = t.1.1.1.0.apart };
-      moves = record { rows = t.1.1.1.1.0.rows; apart = t.1.1.1.1.0.apart };
-      games = record { rows = t.1.1.1.1.1.0.rows; apart = t.1.1.1.1.1.0.apart };
-      seen = record { rows = t.1.1.1.1.1.1.0.rows; apart = t.1.1.1.1.1.1.0.apart };
-      scores = record { rows = t.1.1.1.1.1.1.1.0.rows; apart = t.1.1.1.1.1.1.1.0.apart };
-    }
-stored_of Current db s holds =
-    let t = holds.tables in
-    record {
-      unique = unique_of Current db (tables_at Current s) holds;
-      number = pos 2;
-      meta = t.0.rows;
-      members = t.1.0;
-      events = t.1.1.0;
-      challenges = t.1.1.1.0;
-      moves = t.1.1.1.1.0;
-      games = t.1.1.1.1.1.0;
-      seen = t.1.1.1.1.1.1.0;
-      scores = t.1.1.1.1.1.1.1.0;
-    }
-
--- the rules of events of the last version
-pub rules_stored : (db : Database) (s : ClubState) → HasClub Current db s
-    → Stores (event_rules 16) (club_trees db) (tables_of both_games s)
-rules_stored db s holds = holds.tables.1.1.1.1.1.1.1.1.0

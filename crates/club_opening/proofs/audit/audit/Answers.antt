@@ -2,11 +2,10 @@ use Rattle.std.proofs.Common.{arith, inl, refl, sym, subst, inr}
 use Rattle.club_audit.specs.Audit.{AreApartGames}
 use Rattle.club_audit.proofs.Proved.{events-count, members-count}
 use Rattle.club_opening.proofs.ExaminedLemmas.{people_of}
-use Rattle.club_opening.proofs.RegisterLemmas.{register_apart, register_challenges}
-use Rattle.store_tables.specs.declared.names.Table.TheVariants.{Challenges, Games, Meta}
-use Rattle.club_opening.proofs.FirstLemmas.{damaged_same, some_later}
+use Rattle.store_tables.specs.declared.names.Table.TheVariants.{Challenges, Games}
+use Rattle.club_opening.proofs.PlayedLemmas.{register_apart, register_challenges}
+use Rattle.club_opening.proofs.FirstWrong.{damaged_same, some_later}
 use Rattle.club_opening.proofs.audit.audit.Goals as goal
-use Rattle.club_opening.proofs.UndamagedLemmas.{memory_undamaged}
 
 pub returns-in-Ok-false-clause-fault : goal.returns-in-Ok-false-clause-fault
 returns-in-Ok-false-clause-fault c =
@@ -47,20 +46,8 @@ returns-in-Ok-false-clause-challenged c s people t is = (
       absurd cc,
 )
 
-pub returns-in-Err-clause-challenged : goal.returns-in-Err-clause-challenged
-returns-in-Err-clause-challenged c s people t is = absurd (memory_undamaged _ refl t is)
-
-pub returns-in-Err-are_apart-clause-challenged : goal.returns-in-Err-are_apart-clause-challenged
-returns-in-Err-are_apart-clause-challenged c s people t is = absurd (memory_undamaged _ refl t is)
-
 pub returns-in-Ok-false-are_apart-clause-later : goal.returns-in-Ok-false-are_apart-clause-later
 returns-in-Ok-false-are_apart-clause-later c = some_later Games (inl (omega arith, omega arith))
-
-pub returns-in-Some-clause-later : goal.returns-in-Some-clause-later
-returns-in-Some-clause-later c t is = cc
-
-pub returns-in-None-clause-later : goal.returns-in-None-clause-later
-returns-in-None-clause-later c = some_later Meta (inr refl)
 
 pub returns-in-Ok-false-are_apart-clause-apart : goal.returns-in-Ok-false-are_apart-clause-apart
 returns-in-Ok-false-are_apart-clause-apart c after = let low = after Games refl in absurd (omega (arith, low))

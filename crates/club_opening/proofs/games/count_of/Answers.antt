@@ -1,5 +1,5 @@
 use Rattle.std.proofs.Common.{sym, ◌∙◌}
-use Rattle.club_opening.proofs.BlameLemmas.{told_mistyped}
+use Rattle.club_opening.proofs.ClubLemmas.{told_mistyped}
 use Rattle.club_opening.proofs.games.count_of.Goals as goal
 
 pub returns-in-Err-clause-apart : goal.returns-in-Err-clause-apart

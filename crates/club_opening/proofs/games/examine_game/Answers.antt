@@ -5,7 +5,6 @@ use Rattle.club_audit.specs.FirstWrong.{IsFirstWrong}
 use Rattle.club_audit.specs.GameAudit.{IsRightAt}
 use Rattle.club_rows.specs.Club.{ClubState}
 use Rattle.sqlite.specs.Held.{state}
-use Rattle.club_opening.proofs.StoredLemmas.{moves_stand}
 use Rattle.store_tables.specs.Cells.{IsMove}
 use Rattle.store_tables.specs.Tables.{moves}
 use Rattle.store_tables.specs.declared.names.Table.TheVariants.{Moves, Seen}
@@ -13,29 +12,27 @@ use Rattle.store_tables.specs.declared.rows.MoveRow.{MoveRow}
 use Rattle.store_tables.specs.declared.rows.SeenRow.{SeenRow}
 use Rattle.club_opening.specs.Examined.{IsGameFound}
 use Rattle.club_opening.specs.RightTables.{IsUntyped}
-use Rattle.club_opening.proofs.BlameLemmas.{stays, names_both, still}
-use Rattle.club_opening.proofs.ExaminedLemmas.{game_found}
-use Rattle.club_opening.proofs.FirstLemmas.{either_later, moves_types_wrong, some_later, wrong_later}
-use Rattle.club_opening.proofs.MovesReadLemmas.{game_games_wrong, game_moves_right, game_moves_wrong, game_seen_wrong}
-use Rattle.club_opening.proofs.UntypedLemmas.{untyped_found}
+use Rattle.club_opening.proofs.StoredLemmas.{stands}
+use Rattle.club_opening.proofs.ClubLemmas.{stays, names_both}
+use Rattle.club_opening.proofs.FirstWrong.{either_later, moves_types_wrong, some_later, wrong_later}
+use Rattle.club_opening.proofs.ClubLemmas.{still, unnamed}
+use Rattle.club_opening.proofs.FoundGames.{game_found, untyped_found}
 use Rattle.club_opening.proofs.games.examine_game.Goals as goal
-use Rattle.club_opening.proofs.UndamagedLemmas.{memory_undamaged, store_undamaged}
 
 pub returns-in-Err-clause-later_fault : goal.returns-in-Err-clause-later_fault
 returns-in-Err-clause-later_fault g c clean has =
     moves_types_wrong c.args.rows.now (state g.S.Store c.args.conn.now) c.in-Err.fault
-    (c.in-Err.ensures.blames clean (moves_stand _ has))
+    (c.in-Err.ensures.blames clean (stands Moves tt has))
 
 pub returns-in-Err-clause-blames : goal.returns-in-Err-clause-blames
 returns-in-Err-clause-blames g c clean has =
-    inl
-    (names_both Moves (moves 8) 4 IsMove (state g.S.Store c.args.conn.now) c.in-Err.fault refl refl (λ content all. all)
-    (c.in-Err.ensures.blames clean (moves_stand _ has)))
+    inl (names_both Moves (moves 8) 4 IsMove (state g.S.Store c.args.conn.now) _ refl refl (λ content all. all)
+    (c.in-Err.ensures.blames clean (stands Moves tt has)))
 
 pub returns-in-Err-read_seen-clause-blames : goal.returns-in-Err-read_seen-clause-blames
 returns-in-Err-read_seen-clause-blames g c clean has =
     let early = clean_before c.read_seen.ensures.reads clean in
-    let one = c.in-Ok.ensures.rows early (moves_stand _ has) in
+    let one = c.in-Ok.ensures.rows early (stands Moves tt has) in
     elim (c.in-Err-read_seen.ensures.blames clean (still one.same has)) [
       | inl store ↦ inl (inl store)
       | inr memory ↦ inl (inr (inl memory))
@@ -44,11 +41,8 @@ returns-in-Err-read_seen-clause-blames g c clean has =
 pub returns-in-Err-read_seen-clause-later_fault : goal.returns-in-Err-read_seen-clause-later_fault
 returns-in-Err-read_seen-clause-later_fault g c clean has t is =
     let early = clean_before c.read_seen.ensures.reads clean in
-    let one = c.in-Ok.ensures.rows early (moves_stand _ has) in
-    elim (c.in-Err-read_seen.ensures.blames clean (still one.same has)) [
-      | inl store ↦ absurd (store_undamaged c.in-Err-read_seen.fault store t is)
-      | inr memory ↦ absurd (memory_undamaged c.in-Err-read_seen.fault memory t is)
-    ]
+    let one = c.in-Ok.ensures.rows early (stands Moves tt has) in
+    absurd (unnamed _ (c.in-Err-read_seen.ensures.blames clean (still one.same has)) t is)
 
 pub returns-in-Ok-found_of-clause-reads : goal.returns-in-Ok-found_of-clause-reads
 returns-in-Ok-found_of-clause-reads g c = reads_on c.in-Ok.ensures.reads c.in-Ok-read_seen.ensures.reads
@@ -62,7 +56,7 @@ returns-in-Ok-found_of-clause-found g c clean has =
     let s1 = state g.S.Store c.read_of.new.conn in
     let s2 = state g.S.Store c.read_seen.new.conn in
     let early = clean_before c.read_seen.ensures.reads clean in
-    let one = c.in-Ok.ensures.rows early (moves_stand _ has) in
+    let one = c.in-Ok.ensures.rows early (stands Moves tt has) in
     let two = (rw c.in-Some.is at (c.in-Ok-read_seen.ensures.rows clean)) (still one.same has) in
     let rows = c.args.rows.now in
     let game = c.args.game.now in
@@ -79,11 +73,7 @@ returns-in-Ok-found_of-clause-found g c clean has =
       stays one.same two.same,
       subst₂ (λ a b. IsGameFound rows last c.args.place game a b wrong s0.now) (sym many_moves)
           (sym many_seen)
-          (game_found rows c.args.place game ms ss s0 s1 s2 one two last c.requires.last wrong first c.requires.at
-          (game_moves_wrong rows c.args.place game ms ss last s0 s1 one wrong first c.requires.at)
-          (game_games_wrong rows c.args.place game ms ss last s0 s1 one wrong first c.requires.at)
-          (game_seen_wrong rows c.args.place game ms ss last s0 s1 one wrong first c.requires.at s2 two)
-          (game_moves_right rows c.args.place game ms ss last s0 s1 one wrong first)),
+          (game_found rows c.args.place game ms ss last s0 s1 one wrong first c.requires.at s2 two c.requires.last),
     )
 
 pub returns-in-Ok-found_of-2-clause-found : goal.returns-in-Ok-found_of-2-clause-found
@@ -91,7 +81,7 @@ returns-in-Ok-found_of-2-clause-found g c clean has =
     let s0 = state g.S.Store c.args.conn.now in
     let s1 = state g.S.Store c.read_of.new.conn in
     let early = clean_before c.read_seen.ensures.reads clean in
-    let one = c.in-Ok.ensures.rows early (moves_stand _ has) in
+    let one = c.in-Ok.ensures.rows early (stands Moves tt has) in
     let (same, untyped) = c.in-Ok-read_seen.ensures.untyped clean c.in-None.is (still one.same has) in
     let rows = c.args.rows.now in
     let game = c.args.game.now in

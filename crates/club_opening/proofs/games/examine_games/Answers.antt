@@ -6,10 +6,10 @@ use Rattle.sqlite.specs.Held.{state}
 use Rattle.sqlite.proofs.StateLemmas.{unchanged}
 use Rattle.store_tables.proofs.Proved.{read_nothing, read_then, clean_before}
 use Rattle.club_opening.specs.Examined.{AreLeftAfter, IsGameFound}
-use Rattle.club_opening.proofs.BlameLemmas.{stays, before, still}
 use Rattle.club_opening.proofs.ExaminedLemmas.{blamed_before, both_after, left_all, left_more, left_start}
 use Rattle.store_tables.specs.declared.names.Table.TheVariants.{Moves, Seen}
-use Rattle.club_opening.proofs.FirstLemmas.{either_later, left_later}
+use Rattle.club_opening.proofs.ClubLemmas.{stays, before, still}
+use Rattle.club_opening.proofs.FirstWrong.{either_later, left_later}
 use Rattle.club_opening.proofs.games.examine_games.Goals as goal
 
 pub loop-place-init : goal.loop-place-init
@@ -84,10 +84,6 @@ returns-clause-found g c clean has is_open one two =
           c.first_of-with_moves.result c.left_over-2.result c.first_of.result s0.now was all c.left_over.ensures
           c.left_over-2.ensures c.first_of-with_moves.ensures c.first_of.ensures,
     )
-
-pub returns-clause-known : goal.returns-clause-known
-returns-clause-known g c = λ none.
-    c.loop-place.invariant.kept (c.first_of-with_moves.ensures.none (c.first_of.ensures.none none).0).0
 
 pub returns-clause-later : goal.returns-clause-later
 returns-clause-later g c s people known =

@@ -1,27 +1,23 @@
 use Rattle.std.proofs.Common.{◌≡◌, rules}
 use Rattle.sqlite.specs.Held.{state}
-use Rattle.club_opening.proofs.StoredLemmas.{seen_stand}
-use Rattle.store_tables.proofs.Proved.{read_failed}
 use Rattle.store_tables.specs.declared.names.Table.TheVariants.{Seen}
 use Rattle.club_opening.specs.Faults.{told}
-use Rattle.club_opening.proofs.UntypedLemmas.{seen_untyped, told_typed}
+use Rattle.club_opening.proofs.StoredLemmas.{stands}
+use Rattle.club_opening.proofs.FoundGames.{seen_untyped, told_typed}
 use Rattle.club_opening.proofs.games.read_seen.Goals as goal
 
 pub returns-in-Ok-clause-rows : goal.returns-in-Ok-clause-rows
-returns-in-Ok-clause-rows g c clean has = c.in-Ok.ensures.rows clean (seen_stand _ has)
+returns-in-Ok-clause-rows g c clean has = c.in-Ok.ensures.rows clean (stands Seen tt has)
 
 pub returns-in-Mistyped-clause-untyped : goal.returns-in-Mistyped-clause-untyped
 returns-in-Mistyped-clause-untyped g c clean none has = (
-  c.in-Err.ensures.same clean c.in-Mistyped.is (seen_stand _ has),
+  c.in-Err.ensures.same clean c.in-Mistyped.is (stands Seen tt has),
   seen_untyped (state g.S.Store c.args.conn.now) c.in-Err.fault c.in-Mistyped.is
-      (c.in-Err.ensures.blames clean (seen_stand _ has)),
+      (c.in-Err.ensures.blames clean (stands Seen tt has)),
 )
-
-pub returns-in_default-clause-reads : goal.returns-in_default-clause-reads
-returns-in_default-clause-reads g c = read_failed _ _ _ c.in-Err.ensures.reads
 
 pub returns-in_default-clause-blames : goal.returns-in_default-clause-blames
 returns-in_default-clause-blames g c clean has =
     let is : c.fault_in.result ≡ told Seen c.in-Err.fault = search rules in
     told_typed (state g.S.Store c.args.conn.now) c.in-Err.fault c.fault_in.result is c.in_default.not-Mistyped
-    (c.in-Err.ensures.blames clean (seen_stand _ has))
+    (c.in-Err.ensures.blames clean (stands Seen tt has))

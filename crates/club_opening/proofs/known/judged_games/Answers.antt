@@ -1,7 +1,7 @@
 use Rattle.std.proofs.Common.{rules, ◌≡◌, ◌+◌, ◌++◌, [], ◌∷◌, length, refl, sym, subst, slice_get, take, Some}
 use Rattle.std.proofs.lemmas.Option.{slice_get_read}
 use Rattle.club_opening.specs.KnownGames.{AreJudged}
-use Rattle.club_opening.proofs.JudgedLemmas.{judged_next}
+use Rattle.club_opening.proofs.KnownLemmas.{judged_next}
 use Rattle.club_opening.proofs.known.judged_games.Goals as goal
 
 pub rows-preserved : goal.rows-preserved

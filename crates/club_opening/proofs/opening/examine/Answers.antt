@@ -1,11 +1,23 @@
-use Rattle.std.proofs.Common.{◌≡◌, true, refl, ap, inr, subst, ◌∙◌}
+use Rattle.std.proofs.Common.{refl, inr, subst, ap, ◌∙◌}
 use Rattle.sqlite.specs.Held.{state}
-use Rattle.store_tables.specs.Tables.{schema_of}
-use Rattle.store_tables.specs.declared.names.Version.TheVariants.{Current}
-use Rattle.table_shapes.specs.Shapes.{is_of_club}
 use Rattle.club_rows.specs.FirstSchema.{IsClubOf}
 use Rattle.club_opening.specs.Versions.{HasClub}
+use Rattle.store_tables.specs.declared.names.Version.TheVariants.{Current}
+use Rattle.store_tables.specs.Tables.{schema_of}
 use Rattle.club_opening.proofs.opening.examine.Goals as goal
+
+pub returns-clause-held : goal.returns-clause-held
+returns-clause-held g c clean has sound =
+    let (s, club, register, holds) = c.in-Ok.ensures.held clean (inr has) sound in
+    let current = c.in-Ok.ensures.taken refl in (
+      s,
+      subst (λ v. IsClubOf v s) current club,
+      subst (λ v. HasClub v (state g.S.Store c.examine_from.new.conn).now s) current holds,
+    )
+
+pub returns-in-Err-clause-good : goal.returns-in-Err-clause-good
+returns-in-Err-clause-good g c clean s club holds shape =
+    c.in-Err.ensures.good clean Current s club holds shape (λ is. refl)
 
 pub returns-clause-found : goal.returns-clause-found
 returns-clause-found g c clean opened =
@@ -16,24 +28,3 @@ pub returns-clause-same : goal.returns-clause-same
 returns-clause-same g c clean has =
     let (schema, same) = c.in-Ok.ensures.same clean has in
     (schema ∙ ap schema_of (c.in-Ok.ensures.taken refl), same)
-
-pub returns-clause-shape : goal.returns-clause-shape
-returns-clause-shape g c =
-    subst (λ v. is_of_club v (state g.S.Store c.args.conn.now).now.schema ≡ true) (c.in-Ok.ensures.taken refl)
-    c.in-Ok.ensures.shape
-
-pub returns-in-Err-clause-good : goal.returns-in-Err-clause-good
-returns-in-Err-clause-good g c clean s club holds shape =
-    c.in-Err.ensures.good clean Current s club holds shape (λ is. refl)
-
-pub returns-clause-stays : goal.returns-clause-stays
-returns-clause-stays g c clean has = (c.in-Ok.ensures.stays clean (inr has)).1
-
-pub returns-clause-held : goal.returns-clause-held
-returns-clause-held g c clean has sound =
-    let (s, club, register, holds) = c.in-Ok.ensures.held clean (inr has) sound in
-    let current = c.in-Ok.ensures.taken refl in (
-      s,
-      subst (λ v. IsClubOf v s) current club,
-      subst (λ v. HasClub v (state g.S.Store c.examine_from.new.conn).now s) current holds,
-    )

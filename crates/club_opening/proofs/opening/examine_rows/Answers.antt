@@ -4,15 +4,14 @@ use Rattle.std.proofs.lemmas.Int.{ints}
 use Rattle.std.proofs.lemmas.Option.{IfSome_then}
 use Rattle.sqlite.specs.Held.{state}
 use Rattle.club_opening.specs.Examined.{IsPlayExamined}
-use Rattle.club_opening.proofs.BlameLemmas.{still}
 use Rattle.club_opening.proofs.ExaminedLemmas.{blamed_before, moment_told, moment_of, play_later, played_after}
 use Rattle.club_opening.proofs.ExaminedLemmas.{scores_after, some_after}
 use Rattle.store_tables.specs.declared.names.Table.TheVariants.{Games, Moves}
 use Rattle.club_opening.proofs.StoredLemmas.{club_of_version}
-use Rattle.sqlite.specs.Effect.{Database}
 use Rattle.club_opening.specs.RightTables.{IsWrongOfPlay, NamesScores}
-use Rattle.club_opening.proofs.FirstLemmas.{damaged_same}
 use Rattle.club_opening.proofs.PlayedLemmas.{are_played, are_scored, are_seated, before_last, meta_played, none_played}
+use Rattle.club_opening.proofs.ClubLemmas.{before, still}
+use Rattle.club_opening.proofs.FirstWrong.{damaged_same}
 use Rattle.club_opening.proofs.opening.examine_rows.Goals as goal
 
 pub examine_play-requires-clause-last : goal.examine_play-requires-clause-last
@@ -21,18 +20,6 @@ examine_play-requires-clause-last g c =
     (IfSome_then c.moment-last.result c.moment-last.ensures.some (λ m is. omega (arith, ints, is)))
     c.moment-last.ensures.range
     (λ none n low is. c.moment-last.ensures.none none n low (omega (arith, ints, is)))
-
-pub examine_play-requires-clause-known_moves : goal.examine_play-requires-clause-known_moves
-examine_play-requires-clause-known_moves g c = c.in-Ok.ensures.other
-
-pub examine_play-requires-clause-known_games : goal.examine_play-requires-clause-known_games
-examine_play-requires-clause-known_games g c = c.in-Ok.ensures.games
-
-pub examine_play-requires-clause-known_seen : goal.examine_play-requires-clause-known_seen
-examine_play-requires-clause-known_seen g c = c.in-Ok.ensures.unseen
-
-pub examine_play-requires-clause-known : goal.examine_play-requires-clause-known
-examine_play-requires-clause-known g c = c.in-Ok.ensures.remembered
 
 pub returns-in-None-wrong-clause-found : goal.returns-in-None-wrong-clause-found
 returns-in-None-wrong-clause-found g c clean has =
@@ -56,7 +43,7 @@ returns-in-None-wrong-clause-found g c clean has =
       moment = n;
       last = (moment, within);
       challenges = c.in-Ok.ensures.challenges;
-      games = c.in-Ok.ensures.apart (played_after _ (none_played _ free));
+      games = c.in-Ok.ensures.apart (played_after Games (omega arith) _ (none_played _ free));
       play = play_later rows _ s1 s2 s3 (subst (λ l. IsPlayExamined rows l None s1 s2) is_last play) scores.read.same;
       scores = scores_after rows s1 s2 s3 play.same scores;
     }
@@ -90,13 +77,6 @@ returns-in-Some-wrong-clause-blames g c clean has =
     let play = c.in-Ok-examine_play.ensures.found clean2 has in
     inr (play.games.blamed c.in-Some-wrong.table c.in-Some-wrong.is)
 
-pub returns-in-Err-clause-examined : goal.returns-in-Err-clause-examined
-returns-in-Err-clause-examined g c clean has s people ids t is = inl (c.in-Err.ensures.challenged s people t is)
-
-pub returns-in-Err-examine_play-clause-examined : goal.returns-in-Err-examine_play-clause-examined
-returns-in-Err-examine_play-clause-examined g c clean has s people ids t is =
-    inr (c.in-Ok.ensures.challenges, inl (c.in-Err-examine_play.ensures.later_fault clean has t is))
-
 pub returns-in-Some-clause-examined : goal.returns-in-Some-clause-examined
 returns-in-Some-clause-examined g c clean has s people ids t is =
     let table = c.in-Some.table in
@@ -105,13 +85,10 @@ returns-in-Some-clause-examined g c clean has s people ids t is =
     c.before_scores.ensures.meta
     (c.in-Ok-examine_play.ensures.later s people c.in-Ok.ensures.later table named) in
     let found = c.in-Ok-examine_play.ensures.found clean has in
-    let rows = c.args.rows.now in
     let wrong = c.in-Ok-examine_play.wrong in
-    let s1 = state g.S.Store c.args.conn.now in
-    let s2 = state g.S.Store c.examine_play.new.conn in
     inr (
       c.in-Ok.ensures.challenges,
-      inl (subst (IsWrongOfPlay rows (state g.S.Store c.args.conn.now).now) (damaged_same table t is) (record {
+      inl (subst (IsWrongOfPlay c.args.rows.now _) (damaged_same table t is) (record {
         play = play;
         moves = λ here. found.games.moves_wrong (named ∙ ap Some here) ids s people;
         games = λ here. found.games.games_wrong (named ∙ ap Some here);
@@ -120,7 +97,7 @@ returns-in-Some-clause-examined g c clean has s people ids t is =
           (λ low. found.games.moves_right (some_after Moves wrong table named low) ids s people),
           (λ low.
               let after = some_after Games wrong table named low in
-              are_seated rows c.moment-last.result wrong s1 s2 found after ids s people
+              are_seated found after ids s people
               (c.in-Ok.ensures.apart (c.in-Ok-examine_play.ensures.known_after Games after))),
         );
       })),
@@ -128,38 +105,22 @@ returns-in-Some-clause-examined g c clean has s people ids t is =
 
 pub returns-in-Err-examine_scores-clause-examined : goal.returns-in-Err-examine_scores-clause-examined
 returns-in-Err-examine_scores-clause-examined g c clean has s people ids t is =
-    let s1 = state g.S.Store c.args.conn.now in
-    let s2 = state g.S.Store c.examine_play.new.conn in
-    let rows = c.args.rows.now in
     let clean2 = clean_before c.examine_scores.ensures.reads clean in
     let play = c.in-Ok-examine_play.ensures.found clean2 has in
     let free = meta_played c.in-Ok-examine_play.wrong (c.before_scores.ensures.none c.in-None.is) in
     let apart = c.in-Ok.ensures.apart
-    (c.in-Ok-examine_play.ensures.known_after Games (played_after c.in-Ok-examine_play.wrong free)) in
-    let e = c.in-Err-examine_scores.fault in
-    let other = c.in-Err-examine_scores.ensures.scores clean (still play.same has) in
-    let (named, none) = subst (λ (d : Database). NamesScores rows d e) play.same.0.now_is other t is in
-    inr (
-      c.in-Ok.ensures.challenges,
-      inr (inl (
-        named,
-        are_played rows c.moment-last.result c.in-Ok-examine_play.wrong s1 s2 play free ids s people
-            apart,
-        none,
-      )),
-    )
+    (c.in-Ok-examine_play.ensures.known_after Games (played_after Games (omega arith) _ free)) in
+    let (named, none) = before (λ d. NamesScores c.args.rows.now d c.in-Err-examine_scores.fault) play.same
+    (c.in-Err-examine_scores.ensures.scores clean (still play.same has)) t is in
+    inr (c.in-Ok.ensures.challenges, inr (inl (named, are_played play free ids s people apart, none)))
 
 pub returns-in-Some-wrong-clause-examined : goal.returns-in-Some-wrong-clause-examined
 returns-in-Some-wrong-clause-examined g c clean has s people ids t is =
-    let s1 = state g.S.Store c.args.conn.now in
-    let s2 = state g.S.Store c.examine_play.new.conn in
-    let s3 = state g.S.Store c.examine_scores.new.conn in
-    let rows = c.args.rows.now in
     let clean2 = clean_before c.examine_scores.ensures.reads clean in
     let play = c.in-Ok-examine_play.ensures.found clean2 has in
     let free = meta_played c.in-Ok-examine_play.wrong (c.before_scores.ensures.none c.in-None.is) in
     let apart = c.in-Ok.ensures.apart
-    (c.in-Ok-examine_play.ensures.known_after Games (played_after c.in-Ok-examine_play.wrong free)) in
+    (c.in-Ok-examine_play.ensures.known_after Games (played_after Games (omega arith) _ free)) in
     let scored = c.in-Ok-examine_scores.ensures.found clean (still play.same has) in
     let table = c.in-Some-wrong.table in
     let last = free table c.in-Some-wrong.is in
@@ -167,11 +128,18 @@ returns-in-Some-wrong-clause-examined g c clean has s people ids t is =
       c.in-Ok.ensures.challenges,
       inr (inr (
         sym (damaged_same table t is) ∙ last,
-        are_played rows c.moment-last.result c.in-Ok-examine_play.wrong s1 s2 play free ids s people apart,
-        are_scored rows s1 s2 s3 play.same scored,
+        are_played play free ids s people apart,
+        are_scored play.same scored,
       )),
     )
 
 pub returns-in-None-wrong-clause-reads : goal.returns-in-None-wrong-clause-reads
 returns-in-None-wrong-clause-reads g c =
     reads_on c.in-Ok-examine_play.ensures.reads c.in-Ok-examine_scores.ensures.reads
+
+pub returns-in-Err-clause-examined : goal.returns-in-Err-clause-examined
+returns-in-Err-clause-examined g c clean has s people ids t is = inl (c.in-Err.ensures.challenged s people t is)
+
+pub returns-in-Err-examine_play-clause-examined : goal.returns-in-Err-examine_play-clause-examined
+returns-in-Err-examine_play-clause-examined g c clean has s people ids t is =
+    inr (c.in-Ok.ensures.challenges, inl (c.in-Err-examine_play.ensures.later_fault clean has t is))

@@ -6,7 +6,7 @@ use Rattle.club_opening.specs.Examined.{IsPlayExamined, NamesPlay}
 use Rattle.club_opening.specs.Blames.{NamesTable}
 use Rattle.club_opening.specs.RightTables.{NamesPlayed}
 use Rattle.club_opening.specs.declared.fault.OpenFault.TheVariants.{Damaged}
-use Rattle.club_opening.proofs.NamedLemmas.{fault_failed, named_damage, named_failed, named_right}
+use Rattle.club_opening.proofs.KnownLemmas.{fault_failed, named_damage, named_failed, named_right}
 use Rattle.club_opening.proofs.opening.name_untyped.Goals as goal
 
 pub returns-in-Err-clause-named : goal.returns-in-Err-clause-named

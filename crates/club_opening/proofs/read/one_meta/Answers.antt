@@ -1,6 +1,6 @@
 use Rattle.std.proofs.Common.{◌≡◌, rules, get_or}
 use Rattle.store_tables.specs.Cells.{IsMeta}
-use Rattle.club_opening.proofs.BlameLemmas.{one_is_meta}
+use Rattle.club_opening.proofs.ClubLemmas.{one_is_meta}
 use Rattle.club_opening.proofs.read.one_meta.Goals as goal
 
 pub returns-in-Err-Mistyped-clause-none : goal.returns-in-Err-Mistyped-clause-none

@@ -1,5 +1,5 @@
 use Rattle.sqlite.specs.Held.{state}
-use Rattle.club_opening.proofs.BlameLemmas.{blames_told}
+use Rattle.club_opening.proofs.ClubLemmas.{blames_told}
 use Rattle.club_opening.proofs.read.read.Goals as goal
 
 pub returns-in-Err-clause-blames : goal.returns-in-Err-clause-blames

@@ -3,12 +3,11 @@ use Rattle.std.proofs.Common.{ap, inl, inr, subst, sym}
 use Rattle.sqlite.specs.Effect.{Database}
 use Rattle.sqlite.specs.Held.{state}
 use Rattle.store_tables.specs.Placed.{HasTablesOf}
-use Rattle.club_opening.proofs.BlameLemmas.{stays, foreign_named, meta_before, refused_named}
-use Rattle.club_opening.proofs.BlameLemmas.{still, still_of, told_blamed}
 use Rattle.club_opening.proofs.StoredLemmas.{first_stand}
 use Rattle.club_opening.specs.Blames.{IsMetaRead, NamesForeign, NamesSchema}
+use Rattle.club_opening.proofs.ClubLemmas.{stays, foreign_named, meta_before, refused_named, still}
+use Rattle.club_opening.proofs.ClubLemmas.{still_of, told_blamed}
 use Rattle.club_opening.proofs.read.read_head.Goals as goal
-use Rattle.club_opening.proofs.UndamagedLemmas.{foreign_undamaged, schema_undamaged, store_undamaged, told_undamaged}
 
 pub returns-in-Err-clause-blames : goal.returns-in-Err-clause-blames
 returns-in-Err-clause-blames g c clean has =
@@ -78,31 +77,26 @@ returns-in-Ok-check_tables-clause-same g c clean has =
     let same2 = stays same1 (c.in-Ok-check_rules.ensures.same clean2 (still same1 has)) in
     stays same2 (c.in-Ok-check_tables.ensures.same clean (first_stand _ (still same2 has)))
 
-pub returns-in-Ok-check_tables-clause-taken : goal.returns-in-Ok-check_tables-clause-taken
-returns-in-Ok-check_tables-clause-taken g c is = c.refused.ensures.none c.in-None.is is
-
 pub returns-in-Err-clause-undamaged : goal.returns-in-Err-clause-undamaged
-returns-in-Err-clause-undamaged g c clean has =
-    told_undamaged (state g.S.Store c.args.conn.now).now c.in-Err.fault (c.in-Err.ensures.blames clean has)
-
-pub returns-in-Err-check_rules-clause-undamaged : goal.returns-in-Err-check_rules-clause-undamaged
-returns-in-Err-check_rules-clause-undamaged g c clean has = elim (c.in-Err-check_rules.ensures.blames clean) [
-  | inl store ↦ store_undamaged c.in-Err-check_rules.fault store
-  | inr (foreign, other) ↦ foreign_undamaged c.in-Err-check_rules.fault foreign
+returns-in-Err-clause-undamaged g c clean has t is = elim (c.in-Err.ensures.blames clean has) [
+  | inl store ↦ cc
+  | inr (inl memory) ↦ cc
+  | inr (inr (n, named, none, number)) ↦ cc
 ]
 
-pub returns-in-Some-clause-undamaged : goal.returns-in-Some-clause-undamaged
-returns-in-Some-clause-undamaged g c clean has =
-    schema_undamaged _ c.in-Some.fault c.in-Some.ensures.some.0
+pub returns-in-Err-check_rules-clause-undamaged : goal.returns-in-Err-check_rules-clause-undamaged
+returns-in-Err-check_rules-clause-undamaged g c clean has t is = elim (c.in-Err-check_rules.ensures.blames clean) [
+  | inl store ↦ cc
+  | inr (foreign, other) ↦ cc
+]
 
 pub returns-in-Err-check_tables-clause-undamaged : goal.returns-in-Err-check_tables-clause-undamaged
-returns-in-Err-check_tables-clause-undamaged g c clean has =
+returns-in-Err-check_tables-clause-undamaged g c clean has t is =
     let clean2 = clean_before c.check_tables.ensures.reads clean in
     let clean1 = clean_before c.check_rules.ensures.reads clean2 in
     let same1 = c.in-Ok.ensures.same clean1 has in
     let same2 = stays same1 (c.in-Ok-check_rules.ensures.same clean2 (still same1 has)) in
-    store_undamaged c.in-Err-check_tables.fault (c.in-Err-check_tables.ensures.blames clean (first_stand _
-    (still same2 has)))
+    cc (c.in-Err-check_tables.ensures.blames clean (first_stand _ (still same2 has)))
 
 pub returns-in-Ok-check_tables-clause-reads : goal.returns-in-Ok-check_tables-clause-reads
 returns-in-Ok-check_tables-clause-reads g c =

@@ -1,13 +1,11 @@
 use Rattle.store_tables.proofs.Proved.{clean_before, reads_on}
-use Rattle.std.proofs.Common.{sym}
-use Rattle.sqlite.specs.Held.{state}
-use Rattle.club_opening.specs.RightTables.{NamesWrong}
-use Rattle.club_opening.proofs.BlameLemmas.{before, meta_before, read_after, read_before}
-use Rattle.club_opening.proofs.BlameLemmas.{rows_blamed_before, rules_after, rules_unchanged, stays, still, still_of}
-use Rattle.club_opening.proofs.ClubLemmas.{has_events}
-use Rattle.club_opening.proofs.FirstLemmas.{events_right, first_before, first_events, first_members, first_none}
-use Rattle.club_opening.proofs.FirstLemmas.{first_rules, members_right, tells_events}
-use Rattle.store_tables.specs.declared.names.Table.TheVariants.{Events, EventRules}
+use Rattle.std.proofs.Common.{sym, arith, refl}
+use Rattle.club_opening.specs.RightTables.{NamesFirst, NamesWrong}
+use Rattle.store_tables.specs.declared.names.Table.TheVariants.{Events, EventRules, Members}
+use Rattle.club_opening.proofs.FirstWrong.{has_events, events_right, members_right, tells_events, after_people}
+use Rattle.club_opening.proofs.ClubLemmas.{before, meta_before, read_after, read_before}
+use Rattle.club_opening.proofs.FirstWrong.{first_wrong}
+use Rattle.club_opening.proofs.ClubLemmas.{rows_blamed_before, rules_after, rules_unchanged, stays, still, still_of}
 use Rattle.club_opening.proofs.read.read_people.Goals as goal
 
 -- ---- what was read
@@ -80,14 +78,15 @@ returns-in-Err-read_rules-clause-blames g c clean has =
     (rw c.deref.ensures.value are) (rw c.deref.ensures.value (has_events _ _ _ are_events)))
 
 pub returns-in-Err-clause-first : goal.returns-in-Err-clause-first
-returns-in-Err-clause-first g c clean has =
-    first_none (state g.S.Store c.args.conn.now).now c.in-Err.fault (c.in-Err.ensures.undamaged clean has)
+returns-in-Err-clause-first g c clean has t is = absurd (c.in-Err.ensures.undamaged clean has t is)
 
 pub returns-in-Err-read_members-clause-first : goal.returns-in-Err-read_members-clause-first
 returns-in-Err-read_members-clause-first g c clean has =
     let same1 = c.in-Ok.ensures.same (clean_before c.read_members.ensures.reads clean) has in
     let e = c.in-Err-read_members.fault in
-    first_before e same1 (first_members _ e (c.in-Err-read_members.ensures.wrong clean (still same1 has)))
+    before (λ d. NamesFirst d e) same1
+    (first_wrong Members _ e (c.in-Err-read_members.ensures.wrong clean (still same1 has))
+    (λ version content holds u low. absurd (omega (arith, low))))
 
 pub returns-in-Err-read_events-clause-first : goal.returns-in-Err-read_events-clause-first
 returns-in-Err-read_events-clause-first g c clean has =
@@ -97,7 +96,7 @@ returns-in-Err-read_events-clause-first g c clean has =
     let same2 = stays same1 are_members.same in
     let (ms, are_ms) = c.in-Ok-read_members.ensures.are in
     let e = c.in-Err-read_events.fault in
-    first_events _ e
+    after_people Members Events (omega arith) refl _ e
     (before (λ d. NamesWrong Events d e) same2 (c.in-Err-read_events.ensures.wrong clean (still same2 has)))
     (λ version content holds. members_right version content _ holds ms _ are_ms (read_after same1 are_members).keeps)
 
@@ -117,6 +116,7 @@ returns-in-Err-read_rules-clause-first g c clean has =
     let e = c.in-Err-read_rules.fault in
     let wrong = c.in-Err-read_rules.ensures.wrong clean (still_of c.in-Ok.told.version same3 schema)
     (rw c.deref.ensures.value (tells_events _ _ _ are_events)) in
-    first_rules _ e (before (λ d. NamesWrong EventRules d e) same3 wrong)
+    after_people Events EventRules (omega arith) refl _ e
+    (before (λ d. NamesWrong EventRules d e) same3 wrong)
     (λ version content holds. events_right version content _ holds ms _ are_ms (read_after same1 are_members).keeps _
     (read_after same2 are_events).keeps es are_es)

@@ -1,27 +1,21 @@
-use Rattle.std.proofs.Common.{inl, map, refl}
+use Rattle.std.proofs.Common.{inl, map, refl, arith}
 use Rattle.club_audit.specs.Audit.{HasPeople}
 use Rattle.sqlite.specs.Held.{state}
 use Rattle.store_tables.specs.Placed.{club_trees}
 use Rattle.store_tables.proofs.Proved.{ids_of, clean_before, reads_on}
 use Rattle.store_tables.specs.Cells.{IsChallenge, event_cells, member_cells}
-use Rattle.store_tables.specs.Changes.{HaveSame}
-use Rattle.store_tables.specs.Contents.{Content}
 use Rattle.store_tables.specs.Rows.{HaveIds}
 use Rattle.store_tables.specs.Tables.{challenges, events, games, members}
-use Rattle.store_tables.specs.declared.names.Table.TheVariants.{Challenges}
-use Rattle.store_tables.specs.declared.names.Version.{Version}
+use Rattle.store_tables.specs.declared.names.Table.TheVariants.{Challenges, EventRules}
 use Rattle.store_tables.specs.declared.rows.Rows.{Rows}
 use Rattle.club_opening.specs.KnownGames.{NamesUntyped}
-use Rattle.club_opening.specs.RightTables.{NamesWrong}
-use Rattle.club_opening.specs.Versions.{HoldsRows}
-use Rattle.club_opening.proofs.BlameLemmas.{before, meta_before, names_both, read_after, read_before}
-use Rattle.club_opening.proofs.BlameLemmas.{rows_blamed_before, rules_before, stays, still}
-use Rattle.club_opening.proofs.FirstLemmas.{held_same, challenge_types_wrong, first_before, first_challenges}
-use Rattle.club_opening.proofs.FirstLemmas.{has_people, people_read}
-use Rattle.club_opening.proofs.JudgedLemmas.{judged_ids, judged_in}
-use Rattle.club_opening.proofs.KnownLemmas.{first_untyped, have_known, known_before, pass_known, untyped_blamed}
-use Rattle.club_opening.proofs.MovesToldLemmas.{judged_back, judged_told}
-use Rattle.club_opening.proofs.StoredLemmas.{challenges_stand}
+use Rattle.club_opening.specs.RightTables.{NamesFirst, NamesWrong}
+use Rattle.club_opening.proofs.KnownLemmas.{judged_ids, judged_in, first_untyped, known_before, untyped_blamed}
+use Rattle.club_opening.proofs.KnownLemmas.{judged_known, judged_moves}
+use Rattle.club_opening.proofs.StoredLemmas.{stands}
+use Rattle.club_opening.proofs.FirstWrong.{held_same, challenge_types_wrong, has_people, people_read, after_people}
+use Rattle.club_opening.proofs.ClubLemmas.{before, meta_before, names_both, read_after, read_before, rows_blamed_before}
+use Rattle.club_opening.proofs.ClubLemmas.{rules_before, stays, still}
 use Rattle.club_opening.proofs.read.read_rows.Goals as goal
 
 pub returns-then-are_typed-clause-reads : goal.returns-then-are_typed-clause-reads
@@ -33,7 +27,7 @@ returns-then-are_typed-clause-rows g c clean has =
     let version = c.in-Ok.people.version in
     let clean2 = clean_before c.read_games.ensures.reads clean in
     let people = c.in-Ok.ensures.rows (clean_before c.read.ensures.reads clean2) has in
-    let are_challenges = c.in-Ok-read.ensures.rows clean2 (challenges_stand _ (still people.same has)) in
+    let are_challenges = c.in-Ok-read.ensures.rows clean2 (stands Challenges tt (still people.same has)) in
     let same2 = stays people.same are_challenges.same in
     let are_games = c.in-Ok-read_games.ensures.rows clean c.if-are_typed.true (still same2 has) in
     let after1 = stays are_challenges.same are_games.same in (
@@ -55,16 +49,15 @@ pub returns-in-Err-read-clause-blames : goal.returns-in-Err-read-clause-blames
 returns-in-Err-read-clause-blames g c clean has =
     let same1 = (c.in-Ok.ensures.rows (clean_before c.read.ensures.reads clean) has).same in
     rows_blamed_before c.args.oldest c.in-Err-read.fault same1
-    (inl
-    (names_both Challenges (challenges 6) 3 IsChallenge (state g.S.Store c.read_people.new.conn) c.in-Err-read.fault
-    refl refl (λ content all. all)
-    (c.in-Err-read.ensures.blames clean (challenges_stand _ (still same1 has)))))
+    (inl (names_both Challenges (challenges 6) 3 IsChallenge (state g.S.Store c.read_people.new.conn) _ refl refl
+    (λ content all. all)
+    (c.in-Err-read.ensures.blames clean (stands Challenges tt (still same1 has)))))
 
 pub returns-in-Err-read_games-clause-blames : goal.returns-in-Err-read_games-clause-blames
 returns-in-Err-read_games-clause-blames g c clean has =
     let clean2 = clean_before c.read_games.ensures.reads clean in
     let same1 = (c.in-Ok.ensures.rows (clean_before c.read.ensures.reads clean2) has).same in
-    let same2 = stays same1 (c.in-Ok-read.ensures.rows clean2 (challenges_stand _ (still same1 has))).same in
+    let same2 = stays same1 (c.in-Ok-read.ensures.rows clean2 (stands Challenges tt (still same1 has))).same in
     rows_blamed_before c.args.oldest c.in-Err-read_games.fault same2
     (inl (c.in-Err-read_games.ensures.blames clean (still same2 has)))
 
@@ -75,8 +68,9 @@ returns-in-Err-read-clause-first g c clean has =
     let (es, are_es) = c.in-Ok.ensures.events in
     let e = c.in-Err-read.fault in
     let wrong = challenge_types_wrong (state g.S.Store c.read_people.new.conn) e
-    (c.in-Err-read.ensures.blames clean (challenges_stand _ (still people.same has))) in
-    first_challenges _ e (before (λ d. NamesWrong Challenges d e) people.same wrong)
+    (c.in-Err-read.ensures.blames clean (stands Challenges tt (still people.same has))) in
+    after_people EventRules Challenges (omega arith) refl _ e
+    (before (λ d. NamesWrong Challenges d e) people.same wrong)
     (people_read c.in-Ok.people.version _ _ _ _ _ people.schema people.members people.events people.rules ms are_ms es
     are_es c.in-Ok.ensures.rules)
 
@@ -84,8 +78,8 @@ pub returns-in-Err-read_games-clause-first : goal.returns-in-Err-read_games-clau
 returns-in-Err-read_games-clause-first g c clean has =
     let clean2 = clean_before c.read_games.ensures.reads clean in
     let same1 = (c.in-Ok.ensures.rows (clean_before c.read.ensures.reads clean2) has).same in
-    let same2 = stays same1 (c.in-Ok-read.ensures.rows clean2 (challenges_stand _ (still same1 has))).same in
-    first_before c.in-Err-read_games.fault same2 (λ t is version content holds.
+    let same2 = stays same1 (c.in-Ok-read.ensures.rows clean2 (stands Challenges tt (still same1 has))).same in
+    before (λ d. NamesFirst d c.in-Err-read_games.fault) same2 (λ t is version content holds.
     absurd (c.in-Err-read_games.ensures.torn clean t is (still same2 has) version content holds tt))
 
 -- ---- games that have values of other types
@@ -100,7 +94,7 @@ returns-else-are_typed-clause-blames g c clean has =
     let clean3 = clean_before c.name_untyped.ensures.reads clean in
     let clean2 = clean_before c.read_games.ensures.reads clean3 in
     let same1 = (c.in-Ok.ensures.rows (clean_before c.read.ensures.reads clean2) has).same in
-    let same2 = stays same1 (c.in-Ok-read.ensures.rows clean2 (challenges_stand _ (still same1 has))).same in
+    let same2 = stays same1 (c.in-Ok-read.ensures.rows clean2 (stands Challenges tt (still same1 has))).same in
     let known = known_before same2 (c.in-Ok-read_games.ensures.known clean3 c.if-are_typed.false (still same2 has)) in
     untyped_blamed c.args.oldest _ c.name_untyped.result known.untyped
     (c.name_untyped.ensures.faults clean (still known.same has))
@@ -113,7 +107,7 @@ returns-else-are_typed-clause-first g c clean has =
     let clean3 = clean_before c.name_untyped.ensures.reads clean in
     let clean2 = clean_before c.read_games.ensures.reads clean3 in
     let people = c.in-Ok.ensures.rows (clean_before c.read.ensures.reads clean2) has in
-    let are_challenges = c.in-Ok-read.ensures.rows clean2 (challenges_stand _ (still people.same has)) in
+    let are_challenges = c.in-Ok-read.ensures.rows clean2 (stands Challenges tt (still people.same has)) in
     let same2 = stays people.same are_challenges.same in
     let known = known_before same2 (c.in-Ok-read_games.ensures.known clean3 c.if-are_typed.false (still same2 has)) in
     let version = c.in-Ok.people.version in
@@ -133,9 +127,6 @@ returns-else-are_typed-clause-first g c clean has =
     record { members = has_rows.members; events = has_rows.events; rules = has_rows.rules } in
     let challenges_read = read_after people.same are_challenges in
     let rules_read = rules_before version _ _ _ people.rules are_challenges.same in
-    let same_games : (v : Version) (content : Content) → HoldsRows v content s0.now
-    → HaveSame (content 10) known.shown = λ v content holds.
-    held_same (games 10) 5 refl refl holds known.keeps in
     let ids : HaveIds judged = record {
       members = ids_of (members 1) (club_trees s0.now 1) (map member_cells rows.members.items) (λ r. refl)
           people.members.once people.members.apart;
@@ -147,13 +138,10 @@ returns-else-are_typed-clause-first g c clean has =
     first_untyped rows judged s0.now c.name_untyped.result known.untyped
     (people_read version rows.members.items rows.events.items rows.event_rules.items s0 s1 people.schema people.members
     people.events people.rules ms are_ms es are_es c.in-Ok.ensures.rules)
-    (have_known rows s0 s2 ms are_ms es are_es people.members.keeps people.events.keeps challenges_read known.shown
-    known.keeps known.seats)
-    (pass_known rows s0 s2 ms are_ms es are_es people.members.keeps people.events.keeps challenges_read known.shown
-    known.keeps known.seats)
-    (λ v content holds. judged_told judged version s0 s2 people.events.keeps rules_read people.schema s there v content
-    holds (judged_in (content 10) known.shown judged.games.items (same_games v content holds) known.ids known.judged))
-    (λ v content holds. judged_back judged version s0 s2 people.events.keeps rules_read people.schema s there v content
-    holds (judged_in (content 10) known.shown judged.games.items (same_games v content holds) known.ids known.judged))
+    (judged_known rows s0 s2 s has_rows people.members.keeps people.events.keeps challenges_read known.shown known.keeps
+    known.seats)
+    (λ v content holds. judged_moves judged version s0 s2 people.events.keeps rules_read people.schema s there v content
+    holds (judged_in (content 10) known.shown judged.games.items
+    (held_same (games 10) 5 refl refl holds known.keeps) known.ids known.judged))
     (before (λ d. NamesUntyped rows judged d c.name_untyped.result) known.same
     (c.name_untyped.ensures.named clean (still known.same has) s has_rows ids))

@@ -1,12 +1,8 @@
 use Rattle.std.proofs.Common.{◌≡◌, false, inl, inr, sym, ◌∙◌}
 use Rattle.sqlite.specs.Held.{state}
 use Rattle.table_shapes.specs.Shapes.{is_of_club}
-use Rattle.club_opening.proofs.BlameLemmas.{shape_named}
+use Rattle.club_opening.proofs.ClubLemmas.{shape_named}
 use Rattle.club_opening.proofs.read.read_shaped.Goals as goal
-
-pub returns-then-fits-clause-shape : goal.returns-then-fits-clause-shape
-returns-then-fits-clause-shape g c =
-    sym (c.in-Ok.ensures c.in-Ok-read_head.told.version) ∙ sym c.has-fits.ensures ∙ c.if-fits.true
 
 pub returns-else-fits-clause-blames : goal.returns-else-fits-clause-blames
 returns-else-fits-clause-blames g c clean has =

@@ -1,16 +1,7 @@
-use Rattle.std.proofs.Common.{inl, inr, refl, rules}
+use Rattle.std.proofs.Common.{inr, rules, refl}
 use Rattle.sqlite.specs.Held.{state}
-use Rattle.club_opening.proofs.BlameLemmas.{has_number}
+use Rattle.club_opening.proofs.ClubLemmas.{has_number}
 use Rattle.club_opening.proofs.read.read_version.Goals as goal
-
-pub returns-in-Ok-None-clause-found : goal.returns-in-Ok-None-clause-found
-returns-in-Ok-None-clause-found g c clean has =
-    inr (refl, c.no_meta.ensures, c.in-Ok-None.ensures.none clean c.in-Ok-None.field-0-is)
-
-pub returns-in-Some-clause-found : goal.returns-in-Some-clause-found
-returns-in-Some-clause-found g c clean has =
-    let it = (rw c.in-Ok-Some.field-0-is at (c.in-Ok-Some.ensures.some clean)) has in
-    inl (it.0, it.1, search rules)
 
 pub returns-in-None-clause-blames : goal.returns-in-None-clause-blames
 returns-in-None-clause-blames g c clean has =
@@ -23,3 +14,7 @@ returns-in-None-clause-blames g c clean has =
       search rules,
       has_number found (state g.S.Store c.args.conn.now) (state g.S.Store c.read_meta.new.conn) it.0 it.1,
     ))
+
+pub returns-in-Ok-None-clause-found : goal.returns-in-Ok-None-clause-found
+returns-in-Ok-None-clause-found g c clean has =
+    inr (refl, c.no_meta.ensures, c.in-Ok-None.ensures.none clean c.in-Ok-None.field-0-is)
