@@ -1,6 +1,6 @@
 -- A path as a pattern of `matchit` with a part at each of its parameters.
 use Rattle.std.proofs.Common.{◌≡◌, ℕ, zero, suc, ◌<◌, List, [], ◌∷◌, ◌++◌, length, take, drop}
-use Rattle.std.proofs.Common.{Bool, true, false, cond, ◌&&◌, ◌==◌, ltb, if◌then◌else◌, refl, ap, arith}
+use Rattle.std.proofs.Common.{Bool, true, false, cond, ◌&&◌, ◌==◌, ltb, if◌then◌else◌, refl, ap, arith, true≢false}
 use Rattle.std.proofs.lemmas.List.{take-append-drop}
 use Rattle.std.proofs.lemmas.Bool.Decides.{nat_tests}
 use Rattle.matchit.specs.Rows.{param_token}
@@ -39,31 +39,20 @@ abbrev pub is_plain : List ℕ → Bool
 is_plain [] = true
 is_plain (x ∷ rest) = (if x == param_token then ends_part rest else ltb x 128) && is_plain rest
 
-pub and_right : (a b : Bool) → (a && b) ≡ true → b ≡ true
-and_right true b is = is
-and_right false b is = absurd (arith-no is)
-  where
-    arith-no : false ≡ true → ⊥
-    arith-no is = cc
-
-pub and_left : (a b : Bool) → (a && b) ≡ true → a ≡ true
-and_left true b is = refl
-and_left false b is = is
+-- neither of the two holds
+pub cond_none : (v w : Bool) → cond v true w ≡ false → (v ≡ false) × (w ≡ false)
+cond_none true w is = absurd (true≢false is)
+cond_none false w is = (refl, is)
 
 pub nothing_filled : IsFilled [] []
 nothing_filled = record { parts = λ _. []; whole = λ _. refl; same = refl }
-
-parts_with : (part : List ℕ) (parts : ℕ → List ℕ) → has_slash part ≡ false → HaveNoSlash parts
-    → HaveNoSlash (earlier part parts)
-parts_with part parts one all zero = one
-parts_with part parts one all (suc i) = all i
 
 -- a part before a path that is filled
 pub with_part : (rest part path : List ℕ) → has_slash part ≡ false → IsFilled rest path
     → IsFilled (param_token ∷ rest) (part ++ path)
 with_part rest part path one f = record {
   parts = earlier part f.parts;
-  whole = parts_with part f.parts one f.whole;
+  whole = λ i. elim i as (λ k. has_slash (earlier part f.parts k) ≡ false) [ zero ↦ one | suc i ↦ f.whole i ];
   same = ap (λ (p : List ℕ). part ++ p) f.same;
 }
 
@@ -85,12 +74,9 @@ with_byte b rest path f = by (b == param_token) refl
 pub no_slash-take : (path : List ℕ) (n : ℕ) → n < length (segment path) → has_slash (take n path) ≡ false
 no_slash-take [] n is = absurd (omega arith)
 no_slash-take (b ∷ path) zero is = refl
-no_slash-take (b ∷ path) (suc n) is = by (b == slash) refl is (no_slash-take path n)
-  where
-    by : (v : Bool) → (b == slash) ≡ v → suc n < length (cond v (b ∷ []) (b ∷ segment path))
-        → (n < length (segment path) → has_slash (take n path) ≡ false) → has_slash (b ∷ take n path) ≡ false
-    by true e less rest = absurd (omega arith)
-    by false e less rest = rw e (rest (omega arith))
+no_slash-take (b ∷ path) (suc n) is =
+    let rest = no_slash-take path n in
+    grind (arith, nat_tests, rest)
 
 -- some bytes that have no slash, before a path that is filled
 pub with_front : (rest path : List ℕ) (n : ℕ) → has_slash (take n path) ≡ false → IsFilled rest (drop n path)

@@ -1,5 +1,5 @@
 -- What a router holds after its routes were put in.
-use Rattle.std.proofs.Common.{◌≡◌, ◌∙◌, ◌<◌, ◌≤◌, ◌+◌, ℕ, suc, List, map, length, drop, get_or, Result, Ok, Err}
+use Rattle.std.proofs.Common.{◌≡◌, ◌∙◌, ◌<◌, ◌≤◌, ◌+◌, ℕ, List, map, length, drop, get_or, Result, Ok, Err}
 use Rattle.std.proofs.Common.{sym, ap, add-one, drop-cons}
 use Rattle.std.proofs.Math.ListN.{drop_of_length-le}
 use Rattle.matchit.specs.Rows.{RowsOf}
@@ -21,11 +21,7 @@ module _ {A : Type 0} where
       → new ≡ with_route (parse_route (entry (get_or items i other)).0) (entry (get_or items i other)).1 old
       → with_routes (map entry (drop i items)) old ≡ all → with_routes (map entry (drop (i + 1) items)) new ≡ all
   put_next items entry i other old new all inside put so_far =
-      let next : with_routes (map entry (drop i items)) old
-      ≡ with_routes (map entry (drop (suc i) items))
-      (with_route (parse_route (entry (get_or items i other)).0) (entry (get_or items i other)).1 old) =
-      ap (λ more. with_routes (map entry more) old) (drop-cons items i other inside) in
-      rw (add-one, put) (sym next ∙ so_far)
+      rw (add-one, put) (rw (drop-cons items i other inside) at so_far)
 
   -- all routes of the list were put in
   pub put_all : (items : List A) (entry : A → List ℕ × Page) (i : ℕ) (rows all : RowsOf (RouteOf Page))

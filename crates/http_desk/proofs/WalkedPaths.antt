@@ -1,13 +1,14 @@
 -- What the walk over a pattern that is filled takes: the parts that it is filled with.
 use Rattle.std.proofs.Common.{◌≡◌, ◌∙◌, ℕ, suc, ◌+◌, ◌-◌, ◌<◌, ◌≤◌, List, [], ◌∷◌, ◌++◌, length, drop, get_or}
-use Rattle.std.proofs.Common.{Bool, true, false, cond, ◌&&◌, ◌==◌, ltb, leb, if◌then◌else◌, refl, sym, ap, arith}
+use Rattle.std.proofs.Common.{Bool, true, false, ◌==◌, ltb, leb, refl, sym, ap, arith}
 use Rattle.std.proofs.Common.{get_or-drop, length-drop, length-append, drop-drop}
+use Rattle.std.proofs.lemmas.Bool.{and_parts}
 use Rattle.std.proofs.lemmas.Bool.Decides.{nat_tests}
 use Rattle.std.proofs.Math.Seq.{take-append_seam, drop-append_seam}
 use Rattle.matchit.specs.Rows.{param_token}
 use Rattle.matchit.specs.Params.{walk, part_of, wild_from, wild_stop, after_token}
 use Rattle.matchit.specs.Seek.{slash, segment, has_slash}
-use Rattle.http_desk.proofs.FilledPaths.{filled, later, is_plain, ends_part, and_left, and_right, HaveNoSlash}
+use Rattle.http_desk.proofs.FilledPaths.{filled, later, is_plain, ends_part, cond_none, HaveNoSlash}
 use Rattle.http_desk.proofs.PartTexts.{parameters}
 
 -- the names of a route with these parts
@@ -26,9 +27,9 @@ within token x pattern rest at =
     omega (arith, left)
 
 first_token : (token x : ℕ) (pattern rest : List ℕ) → drop token pattern ≡ x ∷ rest → get_or pattern token 0 ≡ x
-first_token token x pattern rest at =
+first_token token x pattern rest is =
     let same : token + 0 ≡ token = omega arith in
-    sym (ap (λ n. get_or pattern n 0) same) ∙ sym (get_or-drop token pattern 0 0) ∙ ap (λ l. get_or l 0 0) at
+    sym (rw (is, same) at (get_or-drop token pattern 0 0))
 
 -- a byte of a pattern is passed by
 over_byte : (pattern rest path : List ℕ) (x token at : ℕ) → x < 128 → drop token pattern ≡ x ∷ rest → at < length path
@@ -43,15 +44,9 @@ over_byte pattern rest path x token at low is inside =
 segment_of_part : (part rest : List ℕ) → has_slash part ≡ false
     → length (segment (part ++ slash ∷ rest)) ≡ length part + 1
 segment_of_part [] rest none = refl
-segment_of_part (b ∷ part) rest none = by (b == slash) none (segment_of_part part rest)
-  where
-    by : (v : Bool) → cond v true (has_slash part) ≡ false
-        → (has_slash part ≡ false → length (segment (part ++ slash ∷ rest)) ≡ length part + 1)
-        → length (cond v (b ∷ []) (b ∷ segment (part ++ slash ∷ rest))) ≡ suc (length part) + 1
-    by true none more = cc
-    by false none more =
-        let same = more none in
-        omega (arith, same)
+segment_of_part (b ∷ part) rest none =
+    let e = cond_none (b == slash) _ none in
+    rw (e.0, segment_of_part part rest e.1) (omega arith)
 
 -- a part ends where the rest of the pattern begins
 part_stop : (rest pattern path part : List ℕ) (parts : ℕ → List ℕ) (token at : ℕ) → ends_part rest ≡ true
@@ -65,9 +60,8 @@ part_stop [] pattern path part parts token at ends none is from long =
     rw (here, first_token token param_token pattern [] is, last) end
 part_stop (x ∷ rest) pattern path part parts token at ends none is from long =
     let same : x ≡ slash = grind (arith, nat_tests) in
-    let is_slash : drop token pattern ≡ param_token ∷ slash ∷ rest = is ∙ ap (λ x. param_token ∷ x ∷ rest) same in
-    let from_slash : drop at path ≡ part ++ slash ∷ filled rest parts =
-    from ∙ ap (λ x. part ++ filled (x ∷ rest) parts) same in
+    let is_slash : drop token pattern ≡ param_token ∷ slash ∷ rest = rw same at is in
+    let from_slash : drop at path ≡ part ++ slash ∷ filled rest parts = rw same at from in
     let len = within token param_token pattern (slash ∷ rest) is_slash in
     let here : ltb token (length pattern) ≡ true = grind (arith, nat_tests, len) in
     let more : ltb (token + 1) (length pattern) ≡ true = grind (arith, nat_tests, len) in
@@ -90,54 +84,47 @@ part_taken path part rest at from long =
     let some : at + length part - at ≡ length part = omega arith in
     rw (one, two, some, from) (take-append_seam part rest)
 
--- the walk on, from where the next parameter is
-abbrev walk_from : List ℕ → List ℕ → List ℕ → ℕ × ℕ → List (ℕ × ℕ) → ℕ × ℕ → List (List ℕ × List ℕ)
-walk_from pattern text path name names wild =
-    (part_of text name.0 name.1, part_of path wild.1 (wild_stop pattern wild.0 path wild.1))
-    ∷ walk pattern text path names (after_token wild.0) (wild_stop pattern wild.0 path wild.1)
+-- what the walk from there on takes, wherever it is in the path
+abbrev pub Walks : List ℕ → List ℕ → List ℕ → List ℕ → ℕ → Type 0
+Walks rest text pattern path token =
+    (names : List (ℕ × ℕ)) (at : ℕ) (parts : ℕ → List ℕ) → HaveNoSlash parts → drop at path ≡ filled rest parts
+    → length path ≡ at + length (filled rest parts) → length names ≤ parameters rest
+    → walk pattern text path names token at ≡ named_parts text names parts
 
-pub walked : (rest text : List ℕ) (names : List (ℕ × ℕ)) (pattern path : List ℕ) (token at : ℕ) (parts : ℕ → List ℕ)
-    → is_plain rest ≡ true → HaveNoSlash parts → drop token pattern ≡ rest → drop at path ≡ filled rest parts
-    → length path ≡ at + length (filled rest parts) → length pattern ≤ 18446744073709551615
-    → length names ≤ parameters rest → walk pattern text path names token at ≡ named_parts text names parts
-walked rest text [] pattern path token at parts plain none is from long word few = refl
-walked [] text (name ∷ names) pattern path token at parts plain none is from long word few = absurd (omega arith)
-walked (x ∷ rest) text (name ∷ names) pattern path token at parts plain none is from long word few =
-    by (x == param_token) refl plain from long few
-    (λ names at parts none from long few.
-    walked rest text names pattern path (token + 1) at parts (and_right _ _ plain) none
-    (drop_next token x pattern rest is) from long word few)
+pub walked : (rest text pattern path : List ℕ) (token : ℕ) → is_plain rest ≡ true → drop token pattern ≡ rest
+    → length pattern ≤ 18446744073709551615 → Walks rest text pattern path token
+walked rest text pattern path token plain is word [] at parts none from long few = refl
+walked [] text pattern path token plain is word (name ∷ names) at parts none from long few = absurd (omega arith)
+walked (x ∷ rest) text pattern path token plain is word (name ∷ names) at parts none from long few =
+    by (x == param_token) refl
+    (walked rest text pattern path (token + 1) (and_parts _ _ plain).1 (drop_next token x pattern rest is) word)
   where
-    by : (v : Bool) → (x == param_token) ≡ v
-        → ((if v then ends_part rest else ltb x 128) && is_plain rest) ≡ true
-        → drop at path ≡ (if v then parts 0 ++ filled rest (later parts) else x ∷ filled rest parts)
-        → length path ≡ at + length (if v then parts 0 ++ filled rest (later parts) else x ∷ filled rest parts)
-        → suc (length names) ≤ (if v then suc (parameters rest) else parameters rest)
-        → ((names : List (ℕ × ℕ)) (at : ℕ) (parts : ℕ → List ℕ) → HaveNoSlash parts
-        → drop at path ≡ filled rest parts → length path ≡ at + length (filled rest parts)
-        → length names ≤ parameters rest
-        → walk pattern text path names (token + 1) at ≡ named_parts text names parts)
+    by : (v : Bool) → (x == param_token) ≡ v → Walks rest text pattern path (token + 1)
         → walk pattern text path (name ∷ names) token at ≡ named_parts text (name ∷ names) parts
-    by true e plain from long few more =
+    by true e more =
         let same : x ≡ param_token = grind (arith, nat_tests) in
         let here : drop token pattern ≡ param_token ∷ rest = is ∙ ap (λ x. x ∷ rest) same in
         let len = within token param_token pattern rest here in
-        let stop =
-        part_stop rest pattern path (parts 0) (later parts) token at (and_left _ _ plain) (none 0) here from long in
-        let part = part_taken path (parts 0) (filled rest (later parts)) at from long in
+        let ends : ends_part rest ≡ true = (and_parts _ (is_plain rest) (rw e at plain)).0 in
+        let whole = rw e at from in
+        let size = rw e at long in
+        let stop = part_stop rest pattern path (parts 0) (later parts) token at ends (none 0) here whole size in
+        let part = part_taken path (parts 0) (filled rest (later parts)) at whole size in
         let next : after_token token ≡ token + 1 = omega (arith, len) in
         let behind : drop (at + length (parts 0)) path ≡ filled rest (later parts) =
-        sym (drop-drop (length (parts 0)) at path) ∙ ap (drop (length (parts 0))) from
+        sym (drop-drop (length (parts 0)) at path) ∙ ap (drop (length (parts 0))) whole
         ∙ drop-append_seam (parts 0) (filled rest (later parts)) in
         let left : length path ≡ at + length (parts 0) + length (filled rest (later parts)) =
-        omega (arith, long, length-append (parts 0) (filled rest (later parts))) in
+        omega (arith, size, length-append (parts 0) (filled rest (later parts))) in
+        let fewer : suc (length names) ≤ suc (parameters rest) = rw e at few in
         let on = more names (at + length (parts 0)) (later parts) (λ i. none (suc i)) behind left (omega arith) in
-        rw (here, stop, part, next) (ap (λ l. (part_of text name.0 name.1, parts 0) ∷ l) on)
-    by false e plain from long few more =
-        let byte = and_left (ltb x 128) (is_plain rest) plain in
+        rw (here, stop, part, next, on) refl
+    by false e more =
+        let byte : ltb x 128 ≡ true = (and_parts _ (is_plain rest) (rw e at plain)).0 in
         let low : x < 128 = grind (arith, nat_tests) in
-        let inside : at < length path = omega (arith, long) in
-        let behind : drop (at + 1) path ≡ filled rest parts = drop_next at x path (filled rest parts) from in
-        let left : length path ≡ at + 1 + length (filled rest parts) = omega (arith, long) in
-        ap (walk_from pattern text path name names) (over_byte pattern rest path x token at low is inside)
-        ∙ more (name ∷ names) (at + 1) parts none behind left few
+        let size = rw e at long in
+        let inside : at < length path = omega (arith, size) in
+        let behind : drop (at + 1) path ≡ filled rest parts = drop_next at x path (filled rest parts) (rw e at from) in
+        let left : length path ≡ at + 1 + length (filled rest parts) = omega (arith, size) in
+        rw (over_byte pattern rest path x token at low is inside)
+        (more (name ∷ names) (at + 1) parts none behind left (rw e at few))

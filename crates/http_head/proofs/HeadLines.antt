@@ -1,6 +1,7 @@
 -- A head of httparse's grammar has one line for its start and one for each field, none of them empty.
-use Rattle.std.proofs.Common.{◌≡◌, ◌≢◌, ℕ, nat_lt, ◌+◌, ◌<◌, ◌≤◌, Bool, true, false, List, [], ◌∷◌, ◌++◌, length, Some}
-use Rattle.std.proofs.Common.{None, Option, ◌==◌, IsTrue, sym, ◌∙◌, ap, refl, append_assoc, arith, rules}
+use Rattle.std.proofs.Common.{◌≡◌, ◌≢◌, ℕ, suc, nat_lt, ◌+◌, ◌<◌, Bool, true, false, List, [], ◌∷◌, ◌++◌, length}
+use Rattle.std.proofs.Common.{Some, None, Option, ◌==◌, IsTrue, sym, ◌∙◌, ap, refl, append_assoc, arith}
+use Rattle.std.proofs.Common.{rules, true≢false}
 use Rattle.std.specs.List.{AllByRecursion, flat_map}
 use Rattle.std.proofs.lemmas.List.Elements.{recursion_from_All, All-weaker}
 use Rattle.std.proofs.lemmas.Bool.{false_from_ne_true}
@@ -52,48 +53,25 @@ then_comes : (n k : ℕ) (l : Line) (bytes : List ℕ) (middle : ℕ) (rest : Li
     → Comes n k l bytes middle rest → ((at : ℕ) → Comes at middle Fresh rest lines last) → Comes n k l bytes lines last
 then_comes n k l bytes middle rest lines last first second = ((second first.0).0, first.1 ∙ (second first.0).1)
 
--- the same from other bytes and to another count
-comes_as : (n k : ℕ) (l : Line) (bytes others : List ℕ) (lines count : ℕ) (rest : List ℕ) → bytes ≡ others
-    → lines ≡ count → Comes n k l bytes lines rest → Comes n k l others count rest
-comes_as n k l bytes others lines count rest e f h =
-    (h.0, ap (end_from (at_line n k l)) (sym e) ∙ h.1 ∙ ap (λ (m : ℕ). end_from (at_line h.0 m Fresh) rest) f)
-
 plain_of : (test : ℕ → Bool) → test 10 ≡ false → (bytes : List ℕ) → AllPass test bytes → Plain bytes
 plain_of test never bytes h = recursion_from_All (λ b. b ≢ 10) bytes
-    (All-weaker (λ b. IsTrue (test b)) (λ b. b ≢ 10) differs bytes h)
-  where
-    differs : (b : ℕ) → IsTrue (test b) → b ≡ 10 → ⊥
-    differs b passes e = let p : test b ≡ true = passes in let q : test b ≡ test 10 = ap test e in cc
+    (All-weaker (λ b. IsTrue (test b)) (λ b. b ≢ 10) (λ b passes e. true≢false (sym passes ∙ (ap test e ∙ never)))
+    bytes h)
 
 plain_append : (a b : List ℕ) → Plain a → Plain b → Plain (a ++ b)
 plain_append [] b p q = q
 plain_append (x ∷ a) b p q = (p.0, plain_append a b p.1 q)
 
-pub token_is_plain : (bytes : List ℕ) → AllPass is_token_byte bytes → Plain bytes
-unfolding is_token_byte
-token_is_plain bytes h = plain_of is_token_byte refl bytes h
-
--- a token begins with no CR
-no_return : (x : ℕ) (bytes : List ℕ) → AllPass is_token_byte (x ∷ bytes) → x ≢ 13
-unfolding is_token_byte
-no_return x bytes h e = let p : is_token_byte x ≡ true = h 0 x (omega arith) in
-    let q : is_token_byte x ≡ is_token_byte 13 = ap is_token_byte e in let r : is_token_byte 13 ≡ false = refl in cc
-
-value_is_plain : (bytes : List ℕ) → AllPass is_value_byte bytes → Plain bytes
-value_is_plain bytes h = plain_of is_value_byte refl bytes h
-
-target_is_plain : (bytes : List ℕ) → AllPass is_uri_byte bytes → Plain bytes
-target_is_plain bytes h = plain_of is_uri_byte refl bytes h
-
 -- a line that begins with a token
 token_line : (n k : ℕ) (token more : List ℕ) (e : LineEnd) (rest : List ℕ) → IsToken token → Plain more
     → Comes n k Fresh (token ++ (more ++ (print_end e ++ rest))) (k + 1) rest
+unfolding is_token_byte
 token_line n k [] more e rest h p = absurd (omega (arith, h.0))
 token_line n k (x ∷ token) more e rest h p =
-    let q = token_is_plain (x ∷ token) h.1 in
-    comes_as n k Fresh (x ∷ ((token ++ more) ++ (print_end e ++ rest))) _ _ _ rest
-    (ap (λ (b : List ℕ). x ∷ b) (append_assoc token more (print_end e ++ rest))) refl
-    (line n k x (token ++ more) e rest q.0 (no_return x token h.1) (plain_append token more q.1 p))
+    let q = plain_of is_token_byte refl (x ∷ token) h.1 in
+    let no_return : x ≢ 13 = λ e. true≢false (sym (h.1 0 x (omega arith)) ∙ ap is_token_byte e) in
+    rw (← append_assoc token more (print_end e ++ rest))
+    (line n k x (token ++ more) e rest q.0 no_return (plain_append token more q.1 p))
 
 blanks : (n : ℕ) (ends : List LineEnd) (rest : List ℕ) → Comes n 0 Fresh (print_blank ends ++ rest) 0 rest
 blanks n [] rest = (n, refl)
@@ -102,33 +80,26 @@ blanks n (lf ∷ ends) rest = blanks (n + 1) ends rest
 
 fields_lines : (n k : ℕ) (fields : List Field) (rest : List ℕ) → AllByRecursion IsField fields
     → Comes n k Fresh (flat_map print_field fields ++ rest) (k + length fields) rest
-fields_lines n k [] rest h = comes_as n k Fresh rest _ k _ rest refl (omega arith) (n, refl)
+fields_lines n k [] rest h =
+    let same : k + 0 ≡ k = omega arith in
+    rw same (n, refl)
 fields_lines n k (f ∷ fields) rest h =
     let after_first : List ℕ = flat_map print_field fields ++ rest in
-    let bytes : List ℕ = f.name ++ ((58 ∷ f.raw) ++ (print_end f.end ++ after_first)) in
-    comes_as n k Fresh bytes (flat_map print_field (f ∷ fields) ++ rest) (k + 1 + length fields)
-    (k + length (f ∷ fields)) rest (simp append_assoc) (omega arith)
-    (then_comes n k Fresh bytes (k + 1) after_first (k + 1 + length fields) rest
-    (token_line n k f.name (58 ∷ f.raw) f.end after_first h.0.name (omega arith, value_is_plain f.raw h.0.raw))
-    (λ at. fields_lines at (k + 1) fields rest h.1))
+    let same : k + suc (length fields) ≡ k + 1 + length fields = omega arith in
+    rw same (simp append_assoc (then_comes n k Fresh (f.name ++ ((58 ∷ f.raw) ++ (print_end f.end ++ after_first)))
+    (k + 1) after_first (k + 1 + length fields) rest
+    (token_line n k f.name (58 ∷ f.raw) f.end after_first h.0.name
+    (omega arith, plain_of is_value_byte refl f.raw h.0.raw))
+    (λ at. fields_lines at (k + 1) fields rest h.1)))
 
 the_end : (n k : ℕ) (last : LineEnd) → 0 < k → (at : ℕ)
     × (end_from (at_line n k Fresh) (print_end last ++ []) ≡ Some (at, k))
 the_end n k crlf h = let e : nat_lt 0 k ≡ true = search (rules, h) in (n + 1 + 1, rw e refl)
 the_end n k lf h = let e : nat_lt 0 k ≡ true = search (rules, h) in (n + 1, rw e refl)
 
-version_is_plain : (minor : ℕ) → minor ≤ 1 → Plain (print_version minor)
-version_is_plain minor h = (
-  omega arith,
-  (omega arith, (omega arith, (omega arith, (omega arith, (omega arith, (omega arith, (omega arith, tt))))))),
-)
-
 abbrev second : Option (ℕ × ℕ) → ℕ
 second None = 0
 second (Some p) = p.1
-
-counted : (a b c n : ℕ) → ◌≡◌ {A = Option (ℕ × ℕ)} (Some (a, b)) (Some (c, 0 + 1 + n)) → b ≡ n + 1
-counted a b c n h = let e = ap second h in omega (arith, e)
 
 -- how many lines of a head are not empty
 pub lines_of_head : (bytes : List ℕ) (h : RequestHead) (length_is lines : ℕ) → ReadsRequest bytes h []
@@ -137,8 +108,8 @@ lines_of_head bytes h length_is lines reads found =
     let more : List ℕ = (32 ∷ h.target) ++ (32 ∷ print_version h.minor) in
     let p : Plain more = (
       omega arith,
-      plain_append h.target (32 ∷ print_version h.minor) (target_is_plain h.target reads.0.target.1)
-          (omega arith, version_is_plain h.minor reads.0.minor),
+      plain_append h.target (32 ∷ print_version h.minor) (plain_of is_uri_byte refl h.target reads.0.target.1)
+          (omega (arith, reads.0.minor)),
     ) in
     let last : List ℕ = print_end h.last ++ [] in
     let fields : List ℕ = flat_map print_field h.fields ++ last in
@@ -146,10 +117,10 @@ lines_of_head bytes h length_is lines reads found =
     let whole : bytes ≡ print_blank h.blank ++ first = reads.1 ∙ print_request-append h [] ∙ simp append_assoc in
     let count : ℕ = 0 + 1 + length h.fields in
     let comes : Comes 0 0 Fresh bytes count last =
-    comes_as 0 0 Fresh (print_blank h.blank ++ first) bytes count count last (sym whole) refl
-    (then_comes 0 0 Fresh (print_blank h.blank ++ first) 0 first count last (blanks 0 h.blank first) (λ at.
+    rw whole (then_comes 0 0 Fresh (print_blank h.blank ++ first) 0 first count last (blanks 0 h.blank first) (λ at.
     then_comes at 0 Fresh first (0 + 1) fields count last
     (token_line at 0 h.method more h.line_end fields reads.0.method p) (λ later.
     fields_lines later (0 + 1) h.fields last (recursion_from_All IsField h.fields reads.0.fields)))) in
     let ends = the_end comes.0 count h.last (omega arith) in
-    counted length_is lines ends.0 (length h.fields) (sym found ∙ comes.1 ∙ ends.1)
+    let same : lines ≡ count = ap second (sym found ∙ comes.1 ∙ ends.1) in
+    omega (arith, same)

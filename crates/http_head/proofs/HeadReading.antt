@@ -1,9 +1,9 @@
 -- A head as it is read, whole or refused.
-use Rattle.std.proofs.Common.{◌≡◌, ℕ, ◌≤◌, false, List, [], length, drop, take, map, nat_lt, Some, None, Option, Result}
+use Rattle.std.proofs.Common.{◌≡◌, ℕ, ◌≤◌, false, List, [], length, drop, nat_lt, Some, None, Option, Result}
 use Rattle.std.proofs.Common.{Err, ap, refl, arith, rules, length-drop, append-nil}
 use Rattle.std.proofs.lemmas.List.{drop_all}
 use Rattle.httparse.specs.Grammar.{RequestHead, ReadsRequest}
-use Rattle.httparse.specs.Spans.{IsRequestAt, RequestOverflows, span_bytes, header_bytes}
+use Rattle.httparse.specs.Spans.{IsRequestAt, RequestOverflows}
 use Rattle.httparse.specs.declared.spans.HeaderSpan.{HeaderSpan}
 use Rattle.httparse.specs.declared.spans.RequestSpans.{RequestSpans}
 use Rattle.httparse.proofs.GrammarLemmas.{request_unique}
@@ -13,27 +13,24 @@ use Rattle.http_head.specs.Framing.{end_from, scan_start}
 use Rattle.http_head.specs.Head.{Outline, outline_of, outline_from, fields_of, IsHead, IsReadAs}
 use Rattle.http_head.proofs.HeadLines.{lines_of_head}
 
-abbrev Gives : ℕ → List ℕ → Result Outline HeadRefusal → Type 0
+abbrev pub Gives : ℕ → List ℕ → Result Outline HeadRefusal → Type 0
 Gives lines bytes given = (read : Option RequestHead) × IsReadAs lines bytes read × (given ≡ outline_of lines read)
 
-is_few : (lines : ℕ) → lines ≤ 65 → nat_lt 65 lines ≡ false
-is_few lines h = search (rules, h)
-
 pub refused : (lines : ℕ) (bytes : List ℕ) → lines ≤ 65 → IsHead bytes None → Gives lines bytes (Err BadHead)
-refused lines bytes h none = let e = is_few lines h in (None, rw e none, rw e refl)
+refused lines bytes h none = let e : nat_lt 65 lines ≡ false = search (rules, h) in (None, rw e none, rw e refl)
 
 pub taken : (lines : ℕ) (bytes : List ℕ) (head : RequestHead) (given : Result Outline HeadRefusal) → lines ≤ 65
     → ReadsRequest bytes head [] → given ≡ outline_from head.method head.target head.minor (fields_of head)
     → Gives lines bytes given
-taken lines bytes head given h reads e = let f = is_few lines h in (Some head, rw f reads, rw f e)
+taken lines bytes head given h reads e =
+    let f : nat_lt 65 lines ≡ false = search (rules, h) in (Some head, rw f reads, rw f e)
 
 -- of a head that ends before the bytes do, no other takes them all
 pub ends_early : (bytes : List ℕ) (headers : List HeaderSpan) (r : RequestSpans) (h : RequestHead)
     → IsRequestAt bytes headers r h → r.len ≤ length bytes → (r.len ≡ length bytes → ⊥) → IsHead bytes None
 ends_early bytes headers r h at fits short other reads =
     let same = request_unique bytes h other (drop r.len bytes) [] at.reads reads in
-    let rest : drop r.len bytes ≡ [] = same.1 in
-    short (omega (arith, length-drop r.len bytes, ap length rest))
+    short (omega (arith, length-drop r.len bytes, ap length same.1))
 
 -- no head has more fields than its lines allow
 pub overflows : (bytes : List ℕ) (lines : ℕ) → lines ≤ 65 → end_from scan_start bytes ≡ Some (length bytes, lines)
@@ -47,9 +44,3 @@ overflows bytes lines few found over h reads =
 pub whole : (bytes : List ℕ) (headers : List HeaderSpan) (r : RequestSpans) (h : RequestHead)
     → IsRequestAt bytes headers r h → r.len ≡ length bytes → ReadsRequest bytes h []
 whole bytes headers r h at e = rw (← drop_all r.len bytes (omega arith)) at.reads
-
-pub shown : (bytes : List ℕ) (headers : List HeaderSpan) (r : RequestSpans) (h : RequestHead)
-    → IsRequestAt bytes headers r h
-    → outline_from (span_bytes bytes r.method) (span_bytes bytes r.path) r.version
-    (map (header_bytes bytes) (take r.headers headers)) ≡ outline_from h.method h.target h.minor (fields_of h)
-shown bytes headers r h at = rw (at.method, at.path, at.version, at.fields) refl

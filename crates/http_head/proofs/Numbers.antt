@@ -20,9 +20,6 @@ one_digit_more n i d small digit = rw (pow_more 10 i) (omega arith)
 pub few_digits : (text : List ℕ) → is_number text ≡ true → length text < 10
 few_digits text h = grind (arith, common_steps)
 
-pub are_digits : (text : List ℕ) → is_number text ≡ true → list_all is_ascii_digit text ≡ true
-are_digits text h = grind (arith, common_steps)
-
 -- the first of digits alone is a digit, and so are the others
 pub first_digit : (x : ℕ) (rest : List ℕ) → list_all is_ascii_digit (x ∷ rest) ≡ true → (48 ≤ x) × (x < 58)
     × (list_all is_ascii_digit rest ≡ true)

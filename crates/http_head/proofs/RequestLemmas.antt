@@ -1,46 +1,37 @@
 -- What bytes amount to: the parts of a reading put together, one answer alone, and none that more bytes change.
-use Rattle.std.proofs.Common.{◌≡◌, ℕ, ◌+◌, ◌-◌, ◌<◌, ◌≤◌, Bool, true, false, List, [], ◌++◌, length, take, drop, min}
+use Rattle.std.proofs.Common.{◌≡◌, ℕ, ◌-◌, ◌<◌, ◌≤◌, Bool, true, false, List, [], ◌∷◌, ◌++◌, length, take}
 use Rattle.std.proofs.Common.{nat_lt, Some, None, Option, Result, Ok, Err, sym, ◌∙◌, ap, refl, arith, append-nil}
-use Rattle.std.proofs.Common.{take_all, length-append, length-drop}
+use Rattle.std.proofs.Common.{drop, min, zero, suc, take_all, length-append, length-drop}
 use Rattle.std.proofs.lemmas.List.{take_min, length-take, take-take, take-append-le, drop-append-le, length-take-le}
-use Rattle.std.proofs.Math.Seq.{take-append-add}
 use Rattle.httparse.specs.Grammar.{RequestHead}
 use Rattle.httparse.proofs.GrammarLemmas.{request_unique}
 use Rattle.http_head.specs.declared.refusals.HeadRefusal.{HeadRefusal}
 use Rattle.http_head.specs.declared.framing.Scan.{Scan}
 use Rattle.http_head.specs.Framing.{end_from, scan_start, head_end, head_limit, past_limit}
 use Rattle.http_head.specs.Head.{Outline, outline_of, IsReadAs, IsReadIf, IsHead, line_limit}
-use Rattle.http_head.specs.Request.{Seen, unfinished, refused, whole, body_seen, seen_after, IsHeadRead, Sees}
+use Rattle.http_head.specs.Request.{Seen, unfinished, body_seen, seen_after, IsHeadRead, Sees}
 use Rattle.http_head.specs.Request.{begin_with_head, asks_head, asks_head_by}
 use Rattle.http_head.proofs.FramingLemmas.{end_append, ends}
+use Rattle.http_head.proofs.HeadReading.{Gives}
+
+same_front : (n : ℕ) (bytes : List ℕ) (limit : ℕ) → limit ≡ min (length bytes) n → take limit bytes ≡ take n bytes
+same_front n bytes limit e = let other : limit ≡ min n (length bytes) = omega arith in rw other (take_min n bytes)
 
 -- the head's end, as a search over the first bytes finds it
-end_is_at : (n : ℕ) (bytes : List ℕ) (limit : ℕ) (found : Option (ℕ × ℕ)) → limit ≡ min (length bytes) n
-    → end_from scan_start (take limit bytes ++ []) ≡ found → end_from scan_start (take n bytes) ≡ found
-end_is_at n bytes limit found e h =
-    let other : limit ≡ min n (length bytes) = omega arith in
-    let same : take limit bytes ≡ take n bytes = rw other (take_min n bytes) in
-    rw (← same) (rw (append-nil (take limit bytes)) at h)
-
 pub end_is : (bytes : List ℕ) (limit : ℕ) (found : Option (ℕ × ℕ)) → limit ≡ min (length bytes) 16384
     → end_from scan_start (take limit bytes ++ []) ≡ found → head_end bytes ≡ found
 unfolding head_end
-end_is bytes limit found e h = end_is_at head_limit bytes limit found e h
-
-alone_at : (n : ℕ) (bytes : List ℕ) (end : ℕ × ℕ) → end_from scan_start (take n bytes) ≡ Some end
-    → (end.0 ≤ length bytes) × (end_from scan_start (take end.0 bytes) ≡ Some end)
-alone_at n bytes end h =
-    let e = ends scan_start (take n bytes) end h in
-    let short : end.0 ≤ n = omega (arith, e.within, length-take n bytes) in
-    let same : take (end.0 - 0) (take n bytes) ≡ take end.0 bytes = let z : end.0 - 0 ≡ end.0 = omega arith in
-    rw z (take-take end.0 n bytes short) in
-    (omega (arith, e.within, length-take n bytes), rw (← same) e.alone)
+end_is bytes limit found e h = rw (same_front head_limit bytes limit e, append-nil (take head_limit bytes)) at h
 
 -- the bytes of a head alone
 pub head_alone : (bytes : List ℕ) (end : ℕ × ℕ) → head_end bytes ≡ Some end → (end.0 ≤ length bytes)
     × (end_from scan_start (take end.0 bytes) ≡ Some end)
 unfolding head_end
-head_alone bytes end h = alone_at head_limit bytes end h
+head_alone bytes end h =
+    let e = ends scan_start (take head_limit bytes) end h in
+    let short : end.0 ≤ head_limit = omega (arith, e.within, length-take head_limit bytes) in
+    let z : end.0 - 0 ≡ end.0 = omega arith in
+    (omega (arith, e.within, length-take head_limit bytes), rw (z, take-take end.0 head_limit bytes short) at e.alone)
 
 pub no_end : (bytes : List ℕ) → head_end bytes ≡ None → (seen : Seen) → seen ≡ seen_after bytes None None
     → Sees bytes seen
@@ -53,39 +44,22 @@ with_end bytes end read seen found reads e = record { read = read; is_read = rw 
 
 -- ---- more bytes
 
--- a search that found an end finds it whatever follows
-more_at : (n : ℕ) (bytes more : List ℕ) (end : ℕ × ℕ) → end_from scan_start (take n bytes) ≡ Some end
-    → end_from scan_start (take n (bytes ++ more)) ≡ Some end
-more_at n bytes more end h = by (nat_lt (length bytes) n) refl
-  where
-    by : (b : Bool) → nat_lt (length bytes) n ≡ b → end_from scan_start (take n (bytes ++ more)) ≡ Some end
-    by false e =
-        let fits : n ≤ length bytes = grind arith in
-        rw (take-append-le n bytes more fits) h
-    by true e =
-        let whole_bytes : take n bytes ≡ bytes = take_all n bytes (grind arith) in
-        let places : n ≡ length bytes + (n - length bytes) = grind arith in
-        let parts : take n (bytes ++ more) ≡ bytes ++ take (n - length bytes) more =
-        ap (λ (k : ℕ). take k (bytes ++ more)) places ∙ take-append-add bytes more (n - length bytes) in
-        rw parts (end_append scan_start bytes (take (n - length bytes) more) end (rw whole_bytes at h))
+take_append : (n : ℕ) (xs ys : List ℕ) → (k : ℕ) × (take n (xs ++ ys) ≡ take n xs ++ take k ys)
+take_append zero xs ys = (0, refl)
+take_append (suc n) [] ys = (suc n, refl)
+take_append (suc n) (x ∷ xs) ys = let more = take_append n xs ys in (more.0, ap (λ (l : List ℕ). x ∷ l) more.1)
 
+-- a search that found an end finds it whatever follows
 pub end_more : (bytes more : List ℕ) (end : ℕ × ℕ) → head_end bytes ≡ Some end → head_end (bytes ++ more) ≡ Some end
 unfolding head_end
-end_more bytes more end h = more_at head_limit bytes more end h
-
-same_at : (n : ℕ) (bytes more : List ℕ) → n < length bytes
-    → end_from scan_start (take n (bytes ++ more)) ≡ end_from scan_start (take n bytes)
-same_at n bytes more long = rw (take-append-le n bytes more (omega arith)) refl
+end_more bytes more end h =
+    let parts = take_append head_limit bytes more in
+    rw parts.1 (end_append scan_start (take head_limit bytes) (take parts.0 more) end h)
 
 -- beyond the limit nothing more is looked at
 pub end_same : (bytes more : List ℕ) → 16384 < length bytes → head_end (bytes ++ more) ≡ head_end bytes
 unfolding head_end
-end_same bytes more long = same_at head_limit bytes more long
-
-abbrev is_unfinished : Seen → Bool
-is_unfinished unfinished = true
-is_unfinished (refused refusal) = false
-is_unfinished (whole request) = false
+end_same bytes more long = rw (take-append-le head_limit bytes more (omega arith)) refl
 
 -- a body that is whole stays so
 body_more : (behind more : List ℕ) (given : Result Outline HeadRefusal) → (body_seen behind given ≡ unfinished → ⊥)
@@ -102,18 +76,11 @@ body_more behind more (Ok o) h = by (nat_lt (length behind) o.length) refl
 
 over_limit : (bytes : List ℕ) (seen : Seen) → seen ≡ seen_after bytes None None → (seen ≡ unfinished → ⊥)
     → 16384 < length bytes
-over_limit bytes seen e decided = by (nat_lt 16384 (length bytes)) refl
-  where
-    by : (b : Bool) → nat_lt 16384 (length bytes) ≡ b → 16384 < length bytes
-    by true t = grind arith
-    by false t = absurd (decided (e ∙ rw t refl))
+over_limit bytes seen e decided = grind arith
 
 late_same : (bytes more : List ℕ) → 16384 < length bytes
     → seen_after bytes None None ≡ seen_after (bytes ++ more) None None
-late_same bytes more long =
-    let first : nat_lt 16384 (length bytes) ≡ true = grind arith in
-    let later : nat_lt 16384 (length (bytes ++ more)) ≡ true = grind (arith, length-append {A = ℕ}) in
-    rw (first, later) refl
+late_same bytes more long = grind (arith, length-append {A = ℕ})
 
 -- what does not wait for more is not changed by it
 pub sees_more : (bytes more : List ℕ) (seen : Seen) → Sees bytes seen → (seen ≡ unfinished → ⊥)
@@ -128,14 +95,11 @@ sees_more bytes more seen sees decided = by (head_end bytes) refl
     by (Some end) e =
         let later = end_more bytes more end e in
         let alone = head_alone bytes end e in
-        let front : take end.0 (bytes ++ more) ≡ take end.0 bytes = take-append-le end.0 bytes more alone.0 in
         let is_seen : seen ≡ body_seen (drop end.0 bytes) (outline_of end.1 sees.read) = rw e at sees.is_seen in
         let is_read : IsReadAs end.1 (take end.0 bytes) sees.read = rw e at sees.is_read in
-        let behind : drop end.0 (bytes ++ more) ≡ drop end.0 bytes ++ more = drop-append-le end.0 bytes more alone.0 in
-        with_end (bytes ++ more) end sees.read seen later (rw front is_read)
-        (rw behind
-        (is_seen
-        ∙ sym (body_more (drop end.0 bytes) more (outline_of end.1 sees.read) (λ q. decided (is_seen ∙ q)))))
+        with_end (bytes ++ more) end sees.read seen later (rw (take-append-le end.0 bytes more alone.0) is_read)
+        (rw (drop-append-le end.0 bytes more alone.0)
+        (is_seen ∙ sym (body_more (drop end.0 bytes) more (outline_of end.1 sees.read) (λ q. decided (is_seen ∙ q)))))
 
 -- ---- one answer
 
@@ -165,57 +129,51 @@ sees_once bytes seen other p q = p.is_seen
 -- ---- the reading itself
 
 -- a search that came to no end
-pub none_found : (bytes : List ℕ) (limit : ℕ) (s : Scan) → limit ≡ min (length bytes) 16384
+pub none_found : (bytes : List ℕ) {limit : ℕ} {s : Scan} → limit ≡ min (length bytes) 16384
     → ((more : List ℕ) → end_from scan_start (take limit bytes ++ more) ≡ end_from s more) → head_end bytes ≡ None
-none_found bytes limit s e h = end_is bytes limit None e (h [])
+none_found bytes e h = end_is bytes _ None e (h [])
+
+-- a search that came to one
+pub end_found : (bytes : List ℕ) {limit n lines : ℕ} → limit ≡ min (length bytes) 16384
+    → ((more : List ℕ) → end_from scan_start (take limit bytes ++ more) ≡ Some (n, lines))
+    → head_end bytes ≡ Some (n, lines)
+end_found bytes e h = end_is bytes _ _ e (h [])
 
 -- the head's bytes are all of a head
-pub is_head_alone : (bytes : List ℕ) (limit n lines : ℕ) → limit ≡ min (length bytes) 16384
+pub is_head_alone : (bytes : List ℕ) {limit n lines : ℕ} → limit ≡ min (length bytes) 16384
     → ((more : List ℕ) → end_from scan_start (take limit bytes ++ more) ≡ Some (n, lines))
     → end_from scan_start (take n bytes) ≡ Some (length (take n bytes), lines)
-is_head_alone bytes limit n lines e h =
-    let pair : ℕ × ℕ = (n, lines) in
-    let alone = head_alone bytes pair (end_is bytes limit (Some pair) e (h [])) in
-    let same : length (take n bytes) ≡ n = length-take-le n bytes alone.0 in
-    rw same alone.1
+is_head_alone bytes {n = n} e h =
+    let alone = head_alone bytes _ (end_found bytes e h) in
+    rw (length-take-le n bytes alone.0) alone.1
 
 -- what a head and the bytes behind it amount to, by what the head gave
-pub sees_by : (bytes : List ℕ) (limit n lines : ℕ) (given : Result Outline HeadRefusal) (behind : List ℕ) (seen : Seen)
+pub sees_by : (bytes : List ℕ) {limit n lines : ℕ} (given : Result Outline HeadRefusal) (behind : List ℕ) (seen : Seen)
     → limit ≡ min (length bytes) 16384
     → ((more : List ℕ) → end_from scan_start (take limit bytes ++ more) ≡ Some (n, lines))
-    → ((read : Option RequestHead) × IsReadAs lines (take n bytes) read × (given ≡ outline_of lines read))
-    → behind ≡ take (length bytes - n) (drop n bytes) → seen ≡ body_seen behind given → Sees bytes seen
-sees_by bytes limit n lines given behind seen e h reads shown is_seen =
-    let pair : ℕ × ℕ = (n, lines) in
-    let rest : behind ≡ drop n bytes = shown
-    ∙ take_all (length bytes - n) (drop n bytes) (omega (arith, length-drop n bytes)) in
-    with_end bytes pair reads.0 seen (end_is bytes limit (Some pair) e (h [])) reads.1
-    (is_seen ∙ ap (λ (b : List ℕ). body_seen b given) rest ∙ ap (body_seen (drop n bytes)) reads.2)
+    → Gives lines (take n bytes) given → behind ≡ take (length bytes - n) (drop n bytes)
+    → seen ≡ body_seen behind given → Sees bytes seen
+sees_by bytes {n = n} given behind seen e h reads shown is_seen =
+    let rest = take_all (length bytes - n) (drop n bytes) (omega (arith, length-drop n bytes)) in
+    with_end bytes _ reads.0 seen (end_found bytes e h) reads.1
+    (rw (shown, rest) at is_seen ∙ ap (body_seen (drop n bytes)) reads.2)
 
 -- ---- replies without a body
 
-same_front : (n : ℕ) (bytes : List ℕ) (limit : ℕ) → limit ≡ min (length bytes) n → take limit bytes ≡ take n bytes
-same_front n bytes limit e = let other : limit ≡ min n (length bytes) = omega arith in rw other (take_min n bytes)
-
-pub asks_none : (bytes : List ℕ) (limit front : ℕ) (s : Scan) (asks : Bool) → limit ≡ min (length bytes) 16384
+pub asks_none : (bytes : List ℕ) {limit front : ℕ} {s : Scan} {asks : Bool} → limit ≡ min (length bytes) 16384
     → front ≡ min (length bytes) 16385
     → ((more : List ℕ) → end_from scan_start (take limit bytes ++ more) ≡ end_from s more)
     → asks ≡ begin_with_head (take front bytes) → asks ≡ asks_head bytes
 unfolding asks_head
-asks_none bytes limit front s asks e is_front h is =
+asks_none bytes {front = front} e is_front h is =
     is ∙ ap begin_with_head (same_front past_limit bytes front is_front)
-    ∙ sym (ap (asks_head_by bytes) (none_found bytes limit s e h))
+    ∙ sym (ap (asks_head_by bytes) (none_found bytes e h))
 
-pub asks_some : (bytes : List ℕ) (limit n lines : ℕ) (asks : Bool) → limit ≡ min (length bytes) 16384
+pub asks_some : (bytes : List ℕ) {limit n lines : ℕ} {asks : Bool} → limit ≡ min (length bytes) 16384
     → ((more : List ℕ) → end_from scan_start (take limit bytes ++ more) ≡ Some (n, lines))
     → asks ≡ begin_with_head (take n bytes) → asks ≡ asks_head bytes
 unfolding asks_head
-asks_some bytes limit n lines asks e h is = let pair : ℕ × ℕ = (n, lines) in
-    is ∙ sym (ap (asks_head_by bytes) (end_is bytes limit (Some pair) e (h [])))
-
-asks_long : (n : ℕ) (bytes more : List ℕ) → n ≤ length bytes
-    → begin_with_head (take n (bytes ++ more)) ≡ begin_with_head (take n bytes)
-asks_long n bytes more long = ap begin_with_head (take-append-le n bytes more (omega arith))
+asks_some bytes e h is = is ∙ sym (ap (asks_head_by bytes) (end_found bytes e h))
 
 -- more bytes do not change it, where something stands decided
 pub asks_more : (bytes more : List ℕ) (seen : Seen) → Sees bytes seen → (seen ≡ unfinished → ⊥)
@@ -229,7 +187,7 @@ asks_more bytes more seen sees decided = by (head_end bytes) refl
         let is_seen : seen ≡ seen_after bytes None None = rw e at sees.is_seen in
         let long = over_limit bytes seen is_seen decided in
         let later : head_end (bytes ++ more) ≡ None = end_same bytes more long ∙ e in
-        rw (later, e) (asks_long past_limit bytes more long)
+        rw (later, e) (ap begin_with_head (take-append-le past_limit bytes more long))
     by (Some end) e =
         let later = end_more bytes more end e in
         let alone = head_alone bytes end e in

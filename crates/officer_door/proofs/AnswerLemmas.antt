@@ -2,23 +2,18 @@
 use Rattle.std.proofs.Common.{◌≡◌, ◌≢◌, ◌<◌, ◌^◌, ℕ, Bool, true, false, List, [], ◌∷◌, ◌++◌, Option, Some, None}
 use Rattle.std.proofs.Common.{length, drop, decimal, refl, sym, ap, ◌∙◌, arith, append_assoc, append-nil}
 use Rattle.std.proofs.Common.{length-append}
+use Rattle.std.proofs.lemmas.List.{nil_from_length}
 use Rattle.officer_door.specs.Answers.{Hears, IsAnswerIn, Tells, status_text, told}
 use Rattle.officer_door.specs.declared.answers.Answered.{Answered}
-use Rattle.officer_door.proofs.ReadingLemmas.{heads, number_unique, other}
+use Rattle.officer_door.proofs.ReadingLemmas.{apart, number_unique}
 
 pub status_cut : (d e : Bool) (x y : List ℕ) → status_text d ++ x ≡ status_text e ++ y → (d ≡ e) × (x ≡ y)
 status_cut true true x y h = (refl, ap (drop 2) h)
 status_cut false false x y h = (refl, ap (drop 2) h)
-status_cut true false x y h = absurd (other 48 49 (omega arith) (sym (heads 48 49 (32 ∷ x) (32 ∷ y) h)))
-status_cut false true x y h = absurd (other 48 49 (omega arith) (heads 49 48 (32 ∷ x) (32 ∷ y) h))
+status_cut true false x y h = absurd (apart 48 49 _ _ (omega arith) h)
+status_cut false true x y h = absurd (apart 49 48 _ _ (omega arith) h)
 
 -- ---- where it is no answer
-
-pub no_number : (d : Bool) (said rest : List ℕ) → said ≡ status_text d ++ rest
-    → ((n : ℕ) (more : List ℕ) → n < 2 ^ 64 → rest ≢ decimal n ++ 10 ∷ more)
-    → IsAnswerIn said None
-no_number d said rest is none done text fits e =
-    none (length text) text fits (status_cut d done rest _ (sym is ∙ e)).1
 
 pub other_length : (d : Bool) (n : ℕ) (said rest text : List ℕ) → said ≡ status_text d ++ rest
     → rest ≡ decimal n ++ 10 ∷ text → n < 2 ^ 64 → n ≢ length text → IsAnswerIn said None
@@ -27,17 +22,7 @@ other_length d n said rest text is number fits differs done given small e =
     (sym number ∙ (status_cut d done rest _ (sym is ∙ e)).1) in
     differs (same.0 ∙ sym (ap length same.1))
 
-pub is_answer : (d : Bool) (n : ℕ) (said rest text shown : List ℕ) → said ≡ status_text d ++ rest
-    → rest ≡ decimal n ++ 10 ∷ text → n ≡ length text → shown ≡ text → said ≡ told d shown
-is_answer d n said rest text shown is number same shows =
-    is ∙ ap (λ (l : List ℕ). status_text d ++ l)
-    (number ∙ (λ i. decimal ((same ∙ sym (ap length shows)) i) ++ 10 ∷ sym shows i))
-
 -- ---- a part of an answer
-
-none_of_length : (xs : List ℕ) → length xs ≡ 0 → xs ≡ []
-none_of_length [] e = refl
-none_of_length (x ∷ xs) e = absurd (omega arith)
 
 pub record AreSame (d e : Bool) (t u m : List ℕ) : Type 0 where
   pub done : d ≡ e
@@ -47,25 +32,16 @@ pub record AreSame (d e : Bool) (t u m : List ℕ) : Type 0 where
 pub told_cut : (d e : Bool) (t u more : List ℕ) → length t < 2 ^ 64 → length u < 2 ^ 64
     → told d t ++ more ≡ told e u → AreSame d e t u more
 told_cut d e t u more ft fu h =
-    let parts : told d t ++ more ≡ status_text d ++ (decimal (length t) ++ 10 ∷ (t ++ more)) =
-    append_assoc (status_text d) (decimal (length t) ++ 10 ∷ t) more
-    ∙ ap (λ (l : List ℕ). status_text d ++ l) (append_assoc (decimal (length t)) (10 ∷ t) more) in
-    let status = status_cut d e _ _ (sym parts ∙ h) in
+    let status = status_cut d e _ _ (simp append_assoc at h) in
     let same = number_unique 10 (length t) (length u) (t ++ more) u (omega arith) ft fu status.1 in
-    let none : more ≡ [] =
-    none_of_length more (omega (arith, same.0, ap length same.1, length-append t more)) in
-    record {
-      done = status.0;
-      text = sym (ap (λ (m : List ℕ). t ++ m) none ∙ append-nil t) ∙ same.1;
-      more = none;
-    }
+    let none = nil_from_length more (omega (arith, same.0, ap length same.1, length-append t more)) in
+    record { done = status.0; text = rw (none, append-nil t) at same.1; more = none }
 
 no_part : (said : List ℕ) (answer : Option Answered) → IsAnswerIn said answer → (done : Bool) (text more : List ℕ)
     → length text < 2 ^ 64 → 0 < length more → said ++ more ≡ told done text → answer ≡ None
 no_part said None is done text more fits some e = refl
 no_part said (Some a) is done text more fits some e =
-    let same = told_cut a.is_done done a.text.items text more is.1 fits
-    (sym (ap (λ (l : List ℕ). l ++ more) is.0) ∙ e) in
+    let same = told_cut a.is_done done a.text.items text more is.1 fits (rw is.0 at e) in
     absurd (omega (arith, some, ap length same.more))
 
 tells : (said : List ℕ) (answer : Option Answered) → IsAnswerIn said answer → (done : Bool) (text : List ℕ)

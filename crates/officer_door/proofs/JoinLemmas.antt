@@ -2,8 +2,7 @@
 use Rattle.std.proofs.Common.{◌≡◌, ◌<◌, ◌==◌, ℕ, List, [], ◌∷◌, ◌++◌, length, map, take, get_or, refl, sym, ap}
 use Rattle.std.proofs.Common.{◌∙◌, arith}
 use Rattle.std.proofs.Common.{append_assoc, ne_eqb, string_bytes, zero, suc, ◌+◌, add-one}
-use Rattle.std.proofs.lemmas.List.{length-map}
-use Rattle.std.proofs.lemmas.List.{length-take-le}
+use Rattle.std.proofs.lemmas.List.{length-map, length-take-le, map-append}
 use Rattle.std.specs.declared.alloc.Global.{Global}
 use Rattle.std.specs.Prelude.{String}
 use Rattle.std.proofs.Math.Seq.{take-suc}
@@ -25,30 +24,16 @@ parted_joined (x ∷ y ∷ words) are =
     slice_split_at (λ b. b == 0) x 0 (joined (y ∷ words)) (λ k d h. ne_eqb (get_or x k d) 0 (are.0 k d h)) refl
     ∙ ap (λ (l : List (List ℕ)). x ∷ l) (parted_joined (y ∷ words) are.1)
 
-map_more : (xs : List (String Global)) (w : String Global)
-    → map string_bytes (xs ++ w ∷ []) ≡ map string_bytes xs ++ string_bytes w ∷ []
-map_more [] w = refl
-map_more (x ∷ xs) w = ap (λ (l : List (List ℕ)). string_bytes x ∷ l) (map_more xs w)
-
 -- one word more
 pub join_step : (words : List (String Global)) (k : ℕ) (w : String Global) (before after : List ℕ) → k < length words
     → get_or words k w ≡ w → (k ≡ 0 → after ≡ before ++ string_bytes w)
     → (0 < k → after ≡ before ++ 0 ∷ string_bytes w) → before ≡ joined (map string_bytes (take k words))
     → after ≡ joined (map string_bytes (take (k + 1) words))
 join_step words zero w before after lt is first next was =
-    let one : take 1 words ≡ w ∷ [] = take-suc words 0 w lt ∙ ap (λ (x : String Global). x ∷ []) is in
-    first refl
-    ∙ (ap (λ (b : List ℕ). b ++ string_bytes w) was
-    ∙ sym (ap (λ (l : List (String Global)). joined (map string_bytes l)) one))
+    rw (first refl, was, take-suc words 0 w lt, is) refl
 join_step words (suc k) w before after lt is first next was =
     let so_far = map string_bytes (take (suc k) words) in
     let some : 0 < length so_far =
     omega (arith, length-map (take (suc k) words) string_bytes, length-take-le (suc k) words (omega arith)) in
-    let more : take (suc (suc k)) words ≡ take (suc k) words ++ w ∷ [] =
-    take-suc words (suc k) w lt ∙ ap (λ (x : String Global). take (suc k) words ++ x ∷ []) is in
-    next (omega arith)
-    ∙ (ap (λ (b : List ℕ). b ++ 0 ∷ string_bytes w) was
-    ∙ (sym (join_more so_far (string_bytes w) some)
-    ∙ (ap joined (sym (map_more (take (suc k) words) w))
-    ∙ sym (ap (λ (l : List (String Global)). joined (map string_bytes l))
-    (ap (λ (n : ℕ). take n words) (add-one (suc k)) ∙ more)))))
+    let more = map-append string_bytes (take (suc k) words) (w ∷ []) in
+    rw (next (omega arith), was, add-one, take-suc words (suc k) w lt, is, more, join_more so_far _ some) refl

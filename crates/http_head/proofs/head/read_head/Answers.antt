@@ -1,5 +1,5 @@
-use Rattle.std.proofs.Common.{arith, ◌∙◌}
-use Rattle.http_head.proofs.HeadReading.{refused, taken, ends_early, overflows, whole, shown}
+use Rattle.std.proofs.Common.{arith}
+use Rattle.http_head.proofs.HeadReading.{refused, taken, ends_early, overflows, whole}
 use Rattle.http_head.proofs.head.read_head.Goals as goal
 
 pub returns-then-found-head : goal.returns-then-found-head
@@ -7,7 +7,7 @@ returns-then-found-head c =
     let at = rw c.in-Ok-Complete.field-0-is at c.in-Ok-Complete.ensures.complete in
     taken c.args.lines c.args.head.now at.0 _ (omega arith)
     (whole c.args.head.now _ c.in-Ok-Complete.found at.0 at.1 c.if-found-head.true)
-    (c.outline_from.ensures ∙ shown c.args.head.now _ c.in-Ok-Complete.found at.0 at.1)
+    (rw (at.1.method, at.1.path, at.1.version, at.1.fields) at c.outline_from.ensures)
 
 pub returns-else-found-head : goal.returns-else-found-head
 returns-else-found-head c =

@@ -1,8 +1,8 @@
-use Rattle.std.proofs.Common.{◌≡◌, ℕ, sym, subst}
-use Rattle.std.proofs.lemmas.Fmt.{IsAscii-decimal}
+use Rattle.std.proofs.Common.{◌≡◌, ℕ, Err, ap, is_ok, sym, subst, true≢false}
+use Rattle.std.proofs.lemmas.Fmt.{IsAscii-decimal, parse-decimal}
 use Rattle.std.proofs.lemmas.Str.{IsUtf8-from_ascii}
 use Rattle.std.specs.Str.{IsUtf8}
-use Rattle.officer_door.proofs.ReadingLemmas.{padded_no_decimal, plain_parsed, unparsed_no_decimal}
+use Rattle.officer_door.proofs.ReadingLemmas.{padded_no_decimal, plain_parsed}
 use Rattle.officer_door.proofs.reading.number_in.Goals as goal
 
 pub returns-then-is_padded : goal.returns-then-is_padded
@@ -19,6 +19,7 @@ returns-in-Ok-parse c =
     plain_parsed ℕ c.args.bytes.now c.in-Ok-parse.number (rw same at c.in-Ok-parse.ensures.value.0) plain.0 plain.1
 
 pub returns-in-Err-parse : goal.returns-in-Err-parse
-returns-in-Err-parse c n fits =
+returns-in-Err-parse c n fits is =
     let same : c.in-Ok.text.now ≡ c.args.bytes.now = c.in-Ok.ensures.cases.0 in
-    unparsed_no_decimal ℕ 0 n c.args.bytes.now fits (rw same at c.in-Err-parse.ensures.value.0)
+    let read = rw same at c.in-Err-parse.ensures.value.0 in
+    true≢false (sym (ap is_ok (parse-decimal {E = ℕ} 64 n c.args.bytes.now (Err 0) fits fits is read)))

@@ -16,28 +16,20 @@ returns-in-None-heading_of c =
 
 pub returns-in-None-moment_at : goal.returns-in-None-moment_at
 returns-in-None-moment_at c more whole =
-    let rest = whole_rest c.args.said.now _ _ _ _ _ c.in-Some.ensures c.in-Some-heading_of.ensures more whole in
-    omega (arith, c.in-None-moment_at.ensures, rest.within.moment)
+    omega (arith, c.in-None-moment_at.ensures, whole_rest c.in-Some.ensures c.in-Some-heading_of.ensures more whole)
 
 pub returns-then-heading-gt-MOST_WORDS : goal.returns-then-heading-gt-MOST_WORDS
 returns-then-heading-gt-MOST_WORDS c more whole =
-    let rest = whole_rest c.args.said.now _ _ _ _ _ c.in-Some.ensures c.in-Some-heading_of.ensures more whole in
-    omega (arith, c.if-heading-gt-MOST_WORDS.true, rest.within.words)
+    omega (arith, c.if-heading-gt-MOST_WORDS.true, whole_rest c.in-Some.ensures c.in-Some-heading_of.ensures more whole)
 
 pub returns-then-heading-gt-MOST_TEXT : goal.returns-then-heading-gt-MOST_TEXT
 returns-then-heading-gt-MOST_TEXT c more whole =
-    let rest = whole_rest c.args.said.now _ _ _ _ _ c.in-Some.ensures c.in-Some-heading_of.ensures more whole in
-    omega (arith, c.if-heading-gt-MOST_TEXT.true, rest.within.text)
+    omega (arith, c.if-heading-gt-MOST_TEXT.true, whole_rest c.in-Some.ensures c.in-Some-heading_of.ensures more whole)
 
 pub returns-then-rest-words : goal.returns-then-rest-words
 returns-then-rest-words c whole =
-    omega (
-      arith,
-      c.if-rest-words.true,
-      whole_now c.args.said.now _ _ _ _ _ c.in-Some.ensures c.in-Some-heading_of.ensures whole,
-    )
+    omega (arith, c.if-rest-words.true, whole_now c.in-Some.ensures c.in-Some-heading_of.ensures whole)
 
 pub returns-then-rest-words-2 : goal.returns-then-rest-words-2
 returns-then-rest-words-2 c more whole =
-    let rest = whole_rest c.args.said.now _ _ _ _ _ c.in-Some.ensures c.in-Some-heading_of.ensures more whole in
-    omega (arith, c.if-rest-words-2.true, rest.long)
+    omega (arith, c.if-rest-words-2.true, whole_rest c.in-Some.ensures c.in-Some-heading_of.ensures more whole)

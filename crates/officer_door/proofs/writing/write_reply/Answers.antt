@@ -1,4 +1,4 @@
-use Rattle.std.proofs.Common.{◌-◌, length, drop, arith, length-drop}
+use Rattle.std.proofs.Common.{ℕ, arith, length-drop}
 use Rattle.std.proofs.lemmas.List.{length-take}
 use Rattle.http_head.proofs.Proved.{appends_slice, appends_still}
 use Rattle.officer_door.proofs.writing.write_reply.Goals as goal
@@ -9,14 +9,7 @@ loop-preserved g c =
     elim c.match-write.branch [
       | in-Ok+else-n-eq0 w ↦ record {
         within =
-            omega (
-              arith,
-              w.at-is,
-              w.in-Ok.ensures.bound,
-              c.loop.invariant.within,
-              length-take (length c.args.bytes.now - c.loop.at) (drop c.loop.at c.args.bytes.now),
-              length-drop c.loop.at c.args.bytes.now,
-            );
+            omega (arith, w.at-is, w.in-Ok.ensures, c.loop.invariant.within, length-take {A = ℕ}, length-drop {A = ℕ});
         written = appends_slice _ _ _ c.args.bytes.now c.loop.at w.in-Ok.n c.match-write.at w.at-is
             c.loop.invariant.written w.in-Ok.ensures.bytes;
       }
