@@ -1,5 +1,5 @@
 -- What is shown of a game's board.
-use Rattle.std.proofs.Common.{◌≡◌, ℕ, List, map, Option, Some, None, sym, ◌∙◌, subst}
+use Rattle.std.proofs.Common.{◌≡◌, ℕ, List, map, Option, Some, None}
 use Rattle.std.specs.Prelude.{string_bytes}
 use Rattle.std.specs.Option.{option_map}
 use Rattle.club_core.specs.Events.{Event}
@@ -15,12 +15,12 @@ use Rattle.club_answers.specs.Boards.{moves_in}
 pub event_is : (event : Option Event) (name : List ℕ) → Some name ≡ option_map (λ e. e.name) event
     → name ≡ event_name event
 event_is None name is = cc
-event_is (Some event) name is = let same : name ≡ event.name = cc in same
+event_is (Some event) name is = cc
 
 pub member_is : (member : Option Member) (name : List ℕ) → Some name ≡ option_map (λ m. m.name) member
     → name ≡ member_name member
 member_is None name is = cc
-member_is (Some member) name is = let same : name ≡ member.name = cc in same
+member_is (Some member) name is = cc
 
 pub moves_are : (s : ClubState) (game : ClubGame) (played : Played) → IsPlayedIn s game played
     → map (λ t. string_bytes t) played.moves.items ≡ moves_in game
@@ -31,6 +31,4 @@ moves_are s (shogi game) played is = is.moves
 pub view_is : (s : ClubState) (id : ℕ) (game : ClubGame) (viewed : ViewedGame) → place s.games id ≡ Some game
     → IsViewed s id (Some viewed) → IsViewOf s game viewed
 view_is s id game viewed at (other, there, is) =
-    let same : ◌≡◌ {A = Option ClubGame} (Some other) (Some game) = sym there ∙ at in
-    let one : other ≡ game = cc in
-    subst (λ g. IsViewOf s g viewed) one is
+    let one : game ≡ other = cc in rw one is

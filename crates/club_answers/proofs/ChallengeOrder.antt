@@ -1,7 +1,7 @@
 -- Challenges in their order.
-use Rattle.std.proofs.Common.{◌≡◌, ℕ, zero, suc, ◌+◌, ◌-◌, ◌<◌, List, [], ◌∷◌, ◌++◌, length, map, take, get_or, Some}
-use Rattle.std.proofs.Common.{ap, sym, subst, ◌∙◌, arith, inl, inr}
-use Rattle.std.specs.Prelude.{slice_get, Result, Ok, Err, IfOk}
+use Rattle.std.proofs.Common.{◌≡◌, ℕ, suc, ◌+◌, ◌-◌, ◌<◌, List, [], ◌∷◌, ◌++◌, length, map, take, get_or, Some}
+use Rattle.std.proofs.Common.{ap, sym, arith}
+use Rattle.std.specs.Prelude.{slice_get}
 use Rattle.std.specs.List.{AllByRecursion}
 use Rattle.std.proofs.lemmas.List.{map-append, take_more}
 use Rattle.sqlite_trees.specs.Tree.{IsAscending}
@@ -18,34 +18,25 @@ use Rattle.store_tables.specs.declared.rows.ChallengeRow.{ChallengeRow}
 use Rattle.club_answers.specs.Challenges.{AreChallengesOf, ComesBefore}
 
 before_then : (a b c : Challenge) → ComesBefore a b → ComesBefore b c → ComesBefore a c
-before_then a b c (inl one) (inl two) = inl (omega (arith, one, two))
-before_then a b c (inl one) (inr (same, two)) = inl (omega (arith, one, same))
-before_then a b c (inr (same, one)) (inl two) = inl (omega (arith, same, two))
-before_then a b c (inr (same, one)) (inr (also, two)) = inr (same ∙ also, omega (arith, one, two))
+before_then a b c one two = grind (arith, one, two)
 
 -- what comes after the last one comes after all
-after_last : (all : List Challenge) (n : ℕ) (last next : Challenge) → n + 1 ≡ length all
-    → slice_get all n ≡ Some last → ComesBefore last next → IsAscending ComesBefore all
-    → AllByRecursion (λ c. ComesBefore c next) all
-after_last [] n last next count at before up = tt
-after_last (x ∷ []) zero last next count at before up = let is : last ≡ x = cc in
-    (subst (λ w. ComesBefore w next) is before, tt)
-after_last (x ∷ y ∷ rest) zero last next count at before up = absurd (omega (arith, count))
-after_last (x ∷ rest) (suc n) last next count at before up = (
-  before_then x last next (all_has (ComesBefore x) rest last up.0 (has_got rest n last at)) before,
-  after_last rest n last next (omega (arith, count)) at before up.1,
-)
-
 pub after_all : (all : List Challenge) (last next : Challenge) → Some last ≡ slice_get all (length all - 1)
     → ComesBefore last next → IsAscending ComesBefore all → AllByRecursion (λ c. ComesBefore c next) all
 after_all [] last next at before up = tt
-after_all (x ∷ rest) last next at before up =
-    after_last (x ∷ rest) (length (x ∷ rest) - 1) last next (omega arith) (sym at) before up
+after_all (x ∷ []) last next at before up = let is : x ≡ last = cc in (rw is before, tt)
+after_all (x ∷ y ∷ rest) last next at before up =
+    let less : (k : ℕ) → suc k - 1 ≡ k = λ k. omega arith in
+    let there : Some last ≡ slice_get (y ∷ rest) (length rest) = rw (less (suc (length rest))) at at in
+    let has = has_got (y ∷ rest) (length rest) last (sym there) in (
+      before_then x last next (all_has (ComesBefore x) (y ∷ rest) last up.0 has) before,
+      after_all (y ∷ rest) last next (rw (less (length rest)) there) before up.1,
+    )
 
 pub one_more : (all news : List Challenge) (next : Challenge) → news ≡ all ++ next ∷ [] → IsAscending ComesBefore all
     → AllByRecursion (λ c. ComesBefore c next) all → IsAscending ComesBefore news
 one_more all news next is up after =
-    subst (IsAscending ComesBefore) (sym is)
+    rw is
     (ascending-append ComesBefore all (next ∷ []) up (tt, tt)
     (all_weaker (λ x. ComesBefore x next) (λ x. AllByRecursion (ComesBefore x) (next ∷ []))
     (λ x before. (before, tt)) all after))
@@ -56,30 +47,19 @@ pub more_read : (rows : List ChallengeRow) (k : ℕ) (d : ChallengeRow) (done ne
     → challenge_cells (get_or rows k d) ≡ challenge_row x → news ≡ done ++ x ∷ []
     → map challenge_cells (take (k + 1) rows) ≡ map challenge_row news
 more_read rows k d done news x so_far within tells more =
-    ap (map challenge_cells) (take_more rows k d within)
-    ∙ (map-append challenge_cells (take k rows) (get_or rows k d ∷ [])
-    ∙ ((λ i. so_far i ++ tells i ∷ [])
-    ∙ (sym (map-append challenge_row done (x ∷ [])) ∙ ap (map challenge_row) (sym more))))
+    rw (more, take_more rows k d within, map-append challenge_cells (take k rows), map-append challenge_row, so_far)
+    (ap (λ r. map challenge_row done ++ r ∷ []) tells)
+
+-- a challenge whose row is among those of others is one of them
+among : (others : List Challenge) (x : Challenge) → Has (map challenge_row others) (challenge_row x) → Has others x
+among others x row =
+    let (y, had, alike) = mapped_had challenge_row others (challenge_row x) row in rw (challenges-alike x y alike) had
 
 pub challenges_are : (s : ClubState) (rows : List ChallengeRow) (all : List Challenge)
     → HaveSame (map challenge_cells rows) (tables s 6) → map challenge_cells rows ≡ map challenge_row all
     → IsAscending ComesBefore all → AreChallengesOf s all
 challenges_are s rows all same is up = record {
-  there = λ x has.
-      let row = subst (λ l. Has l (challenge_row x)) (sym is) (mapped_has challenge_row all x has) in
-      let (y, had, alike) = mapped_had challenge_row s.challenges (challenge_row x)
-      (same.there (challenge_row x) row) in
-      subst (Has s.challenges) (sym (challenges-alike x y alike)) had;
-  back = λ x has.
-      let row = same.back (challenge_row x) (mapped_has challenge_row s.challenges x has) in
-      let (y, had, alike) = mapped_had challenge_row all (challenge_row x) (subst (λ l. Has l (challenge_row x)) is row)
-      in
-      subst (Has all) (sym (challenges-alike x y alike)) had;
+  there = λ x has. among s.challenges x (same.there (challenge_row x) (rw is (mapped_has challenge_row all x has)));
+  back = λ x has. among all x (rw is at (same.back (challenge_row x) (mapped_has challenge_row s.challenges x has)));
   order = up;
 }
-
--- what two facts of an answer tell together
-pub both_ok : {T E : Type 0} {P Q R : T → Type 0} (r : Result T E) → IfOk r P → IfOk r Q → ((x : T) → P x → Q x → R x)
-    → IfOk r R
-both_ok (Ok x) p q f = f x p q
-both_ok (Err e) p q f = tt

@@ -1,7 +1,6 @@
-mod AnswerTextLemmas
 mod BoardLemmas
+mod CallLemmas
 mod ChallengeOrder
 mod OverdueLemmas
 mod RecordLemmas
-mod RecordsFound
 mod ToldRows

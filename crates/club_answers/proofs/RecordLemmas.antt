@@ -1,18 +1,21 @@
 -- The records of an event as they are written, one after another.
 use Rattle.std.proofs.Common.{◌≡◌, ◌⊎◌, ℕ, ◌+◌, ◌<◌, List, [], ◌∷◌, ◌++◌, length, take, get_or, Bool, true, false}
-use Rattle.std.proofs.Common.{refl, ap}
-use Rattle.std.proofs.Common.{sym, subst, ◌∙◌, append_assoc, append-nil, Option, None, inl, inr, arith}
+use Rattle.std.proofs.Common.{refl, ap, sym, ◌∙◌, append_assoc, append-nil, Option, Some, None, inl, inr, arith}
 use Rattle.std.specs.Io.KnownBytes.{Appends}
 use Rattle.std.proofs.KnownBytes.{Appends-trans}
 use Rattle.std.proofs.lemmas.List.{take_all, take_more}
 use Rattle.record_writer.specs.Pieces.{AppendsSome}
+use Rattle.club_requests.specs.declared.refusals.Refusal.{Refusal}
 use Rattle.club_rules.specs.declared.names.GameKind.{GameKind}
 use Rattle.club_core.specs.State.{draughts, shogi}
-use Rattle.club_rows.specs.Club.{ClubGame, ClubState}
-use Rattle.club_views.specs.Exported.{AddsGame, BeginsGame, IsExported, IsWrittenSome}
-use Rattle.club_views.specs.declared.exported.Names.{Names}
+use Rattle.club_rows.specs.Club.{ClubState}
+use Rattle.club_views.specs.Exported.{IsExported, IsWrittenSome}
+use Rattle.club_questions.specs.declared.questions.Question.{Question}
+use Rattle.club_questions.specs.declared.questions.Question.TheVariants.{EventRecords}
+use Rattle.club_answers.specs.AnswerTexts.{BeginsShown, HasShown, HasShownSome, IsText}
 use Rattle.club_answers.specs.EventRecords.{AreRecords, BeginsRecords, opening, parting}
-use Rattle.club_answers.specs.Records.{IsRecordAt, IsRecordOf}
+use Rattle.club_answers.specs.Found.{AsksRecords}
+use Rattle.club_answers.specs.Records.{IsRecordAt}
 use Rattle.club_answers.specs.Writing.{AddsRecord, BeginsRecord, HasRecords}
 
 -- ---- beginnings
@@ -40,115 +43,89 @@ all_of before now text added = record { done = text; left = []; parts = append-n
 
 -- ---- one record more
 
-abbrev pub is_none : List ℕ → Bool
-is_none [] = true
-is_none (x ∷ xs) = false
+-- whether the next of these is the first of all
+abbrev pub opens : Bool → List ℕ → Bool
+opens is_first [] = is_first
+opens is_first (x ∷ xs) = false
 
-some-none : (ids : List ℕ) (id : ℕ) → is_none (ids ++ id ∷ []) ≡ false
-some-none [] id = refl
-some-none (x ∷ ids) id = refl
+opens_later : (ids : List ℕ) → opens false ids ≡ false
+opens_later [] = refl
+opens_later (x ∷ ids) = refl
 
-pub not_first : (ids : List ℕ) (k : ℕ) → k < length ids → false ≡ is_none (take (k + 1) ids)
-not_first ids k within = sym (some-none (take k ids) (get_or ids k 0)) ∙ ap is_none (sym (take_more ids k 0 within))
+opens_no_more : (ids : List ℕ) (id : ℕ) → opens true (ids ++ id ∷ []) ≡ false
+opens_no_more [] id = refl
+opens_no_more (x ∷ ids) id = refl
+
+pub not_first : (ids : List ℕ) (k : ℕ) → k < length ids → false ≡ opens true (take (k + 1) ids)
+not_first ids k within = rw (take_more ids k 0 within) (sym (opens_no_more (take k ids) (get_or ids k 0)))
 
 -- ---- a record behind a text
-
-adds_text : (names : Names) (game : ClubGame) (before now : Option (List ℕ)) → AddsGame names game before now
-    → (text : List ℕ) × IsRecordOf names game text × Appends before now text
-adds_text names (draughts game) before now (title, its, (text, is, appended)) = (text, (title, its, is), appended)
-adds_text names (shogi game) before now (title, its, (text, is, appended)) = (text, (title, its, is), appended)
-
-begins_text : (names : Names) (game : ClubGame) (before now : Option (List ℕ)) → BeginsGame names game before now
-    → (text : List ℕ) × IsRecordOf names game text × AppendsSome before now text
-begins_text names (draughts game) before now (title, its, (text, is, some)) = (text, (title, its, is), some)
-begins_text names (shogi game) before now (title, its, (text, is, some)) = (text, (title, its, is), some)
 
 -- the record of the game of this number
 pub record_added : (s : ClubState) (id : ℕ) (before now : Option (List ℕ)) → IsExported s id true before now
     → (text : List ℕ) × IsRecordAt s id text × Appends before now text
-record_added s id before now (game, at, names, named, adds) =
-    let (text, is, appended) = adds_text names game before now adds in
-    (text, (game, at, names, named, is), appended)
+record_added s id before now (draughts game, at, names, named, (title, its, (text, is, added))) =
+    (text, (draughts game, at, names, named, (title, its, is)), added)
+record_added s id before now (shogi game, at, names, named, (title, its, (text, is, added))) =
+    (text, (shogi game, at, names, named, (title, its, is)), added)
 
 -- a beginning of it
 pub record_begun : (s : ClubState) (id : ℕ) (before now : Option (List ℕ)) → IsWrittenSome s id before now
     → (now ≡ before) ⊎ ((text : List ℕ) × IsRecordAt s id text × AppendsSome before now text)
 record_begun s id before now (inl same) = inl same
-record_begun s id before now (inr (game, at, names, named, begins)) =
-    let (text, is, some) = begins_text names game before now begins in
-    inr (text, (game, at, names, named, is), some)
+record_begun s id before now (inr (draughts game, at, names, named, (title, its, (text, is, some)))) =
+    inr (text, (draughts game, at, names, named, (title, its, is)), some)
+record_begun s id before now (inr (shogi game, at, names, named, (title, its, (text, is, some)))) =
+    inr (text, (shogi game, at, names, named, (title, its, is)), some)
 
 module _ (s : ClubState) (id : ℕ) (front : List ℕ) (before mid now : Option (List ℕ)) (first : Appends before mid front)
   where
-    pub behind_added : IsExported s id true mid now → AddsRecord s id front before now
-    behind_added exported =
-        let (text, is, added) = record_added s id mid now exported in
+    pub behind_added : {asked : ℕ} {found : Bool} → asked ≡ id → found ≡ true → IsExported s asked found mid now
+        → AddsRecord s id front before now
+    behind_added same there exported =
+        let (text, is, added) = record_added s id mid now (rw (same, there) at exported) in
         (text, is, Appends-trans before mid now front text first added)
 
     behind : (now ≡ mid) ⊎ ((text : List ℕ) × IsRecordAt s id text × AppendsSome mid now text)
         → BeginsRecord s id front before now
-    behind (inl same) = inl (all_of before now front (subst (λ held. Appends before held front) (sym same) first))
+    behind (inl same) = inl (rw same (all_of before mid front first))
     behind (inr (text, is, some)) = inr (text, is, some_after before mid now front text first some)
 
-    pub behind_begun : IsWrittenSome s id mid now → BeginsRecord s id front before now
-    behind_begun written = behind (record_begun s id mid now written)
+    pub behind_begun : {asked : ℕ} → asked ≡ id → IsWrittenSome s asked mid now → BeginsRecord s id front before now
+    behind_begun same written = behind (record_begun s id mid now (rw same at written))
 
 -- ---- the records of an event
 
 module _ (s : ClubState) (kind : GameKind) where
-  following : (ids : List ℕ) (id : ℕ) (text its : List ℕ) → AreRecords s kind false ids text → IsRecordAt s id its
-      → AreRecords s kind false (ids ++ id ∷ []) (text ++ (parting kind ++ its))
-  following [] id text its are at = (
-    its,
-    [],
-    at,
-    refl,
-    ap (λ t. t ++ (parting kind ++ its)) are ∙ ap (λ t. parting kind ++ t) (sym (append-nil its)),
-  )
-  following (x ∷ ids) id text its (one, rest, at_one, are, is) at = (
+  one_more : (is_first : Bool) (ids : List ℕ) (id : ℕ) (text its : List ℕ) → AreRecords s kind is_first ids text
+      → IsRecordAt s id its
+      → AreRecords s kind is_first (ids ++ id ∷ []) (text ++ (opening (opens is_first ids) kind ++ its))
+  one_more is_first [] id text its are at = (its, [], at, refl, rw (are, append-nil its) refl)
+  one_more is_first (x ∷ ids) id text its (one, rest, at_one, are, is) at = (
     one,
     rest ++ (parting kind ++ its),
     at_one,
-    following ids id rest its are at,
-    ap (λ t. t ++ (parting kind ++ its)) is
-        ∙ (append_assoc (parting kind) (one ++ rest) (parting kind ++ its)
-        ∙ ap (λ t. parting kind ++ t) (append_assoc one rest (parting kind ++ its))),
-  )
-
-  one_more : (ids : List ℕ) (id : ℕ) (text its : List ℕ) → AreRecords s kind true ids text → IsRecordAt s id its
-      → AreRecords s kind true (ids ++ id ∷ []) (text ++ (opening (is_none ids) kind ++ its))
-  one_more [] id text its are at = (its, [], at, refl, ap (λ t. t ++ its) are ∙ sym (append-nil its))
-  one_more (x ∷ ids) id text its (one, rest, at_one, are, is) at = (
-    one,
-    rest ++ (parting kind ++ its),
-    at_one,
-    following ids id rest its are at,
-    ap (λ t. t ++ (parting kind ++ its)) is ∙ append_assoc one rest (parting kind ++ its),
+    rw (opens_later ids) at (one_more false ids id rest its are at),
+    rw is (simp append_assoc),
   )
 
   -- what parts it, if anything, is within what parts a record from the next
   front_within : (is_first : Bool) (before now : Option (List ℕ)) (text : List ℕ)
       → AppendsSome before now (text ++ opening is_first kind) → AppendsSome before now (text ++ parting kind)
   front_within true before now text some =
-      subst (λ t. AppendsSome before now (t ++ parting kind)) (append-nil text)
-      (some_wider before now (text ++ []) (parting kind) some)
+      some_wider before now text (parting kind) (rw (append-nil text) at some)
   front_within false before now text some = some
 
   module _ (ids : List ℕ) (k d : ℕ) (is_first : Bool) (front : List ℕ) (before mid now : Option (List ℕ))
-      (within : k < length ids) (first : is_first ≡ is_none (take k ids))
+      (within : k < length ids) (first : is_first ≡ opens true (take k ids))
       (front_is : front ≡ opening is_first kind) where
     abbrev id : ℕ
     id = get_or ids k d
 
-    grown : take k ids ++ id ∷ [] ≡ take (k + 1) ids
-    grown = sym (take_more ids k d within)
-
     more_records : (text its : List ℕ) → AreRecords s kind true (take k ids) text → IsRecordAt s id its
         → AreRecords s kind true (take (k + 1) ids) (text ++ (front ++ its))
     more_records text its are at =
-        subst (λ l. AreRecords s kind true l (text ++ (front ++ its))) grown
-        (subst (λ f. AreRecords s kind true (take k ids ++ id ∷ []) (text ++ (f ++ its)))
-        (ap (λ b. opening b kind) (sym first) ∙ sym front_is) (one_more (take k ids) id text its are at))
+        rw (take_more ids k d within, front_is, first) (one_more true (take k ids) id text its are at)
 
     pub more_written : HasRecords s kind (take k ids) None before mid → AddsRecord s (get_or ids k d) front mid now
         → HasRecords s kind (take (k + 1) ids) None before now
@@ -162,8 +139,7 @@ module _ (s : ClubState) (kind : GameKind) where
       k,
       text,
       are,
-      front_within is_first before now text
-          (subst (λ f. AppendsSome before now (text ++ f)) front_is (some_after before mid now text front added some)),
+      front_within is_first before now text (rw front_is at (some_after before mid now text front added some)),
     )
     more_begun (text, are, added) (inr (its, at, some)) = (
       k + 1,
@@ -185,6 +161,27 @@ module _ (s : ClubState) (kind : GameKind) where
   records_begun ids text before now are some = (
     length ids,
     text,
-    subst (λ l. AreRecords s kind true l text) (sym (take_all (length ids) ids (omega arith))) are,
+    rw (take_all (length ids) ids (omega arith)) are,
     some_wider before now text (parting kind) some,
   )
+
+-- ---- what is shown
+
+-- a beginning of a text that is shown
+pub text_begun : (s : ClubState) (moment : ℕ) (question : Question) (text : List ℕ) (before now : Option (List ℕ))
+    → IsText s moment question text → AppendsSome before now text → BeginsShown s moment question before now
+text_begun s moment (EventRecords name) text before now (there, are) some =
+    (there, records_begun s _ _ text before now are some)
+text_begun s moment question text before now is some = (text, is, some)
+
+module _ (s : ClubState) (moment : ℕ) (asked : Question) (kind : GameKind) (ids given : List ℕ)
+    (asks : AsksRecords s asked kind ids) (same : given ≡ ids) (before now : Option (List ℕ)) where
+  pub records_shown : (refusal : Option Refusal) → HasRecords s kind given refusal before now
+      → HasShown s moment asked refusal before now
+  records_shown None (text, are, added) =
+      rw asks.asked_is (text, (asks.there, rw (asks.kind_is, same ∙ asks.ids_are) at are), added)
+  records_shown (Some refusal) none = absurd none
+
+  pub some_records_shown : BeginsRecords s kind given before now → HasShownSome s moment asked before now
+  some_records_shown begun =
+      rw asks.asked_is (inr (asks.there, rw (asks.kind_is, same ∙ asks.ids_are) at begun))

@@ -1,9 +1,9 @@
 -- What the rows of games tell.
 use Rattle.std.proofs.Common.{◌≡◌, ℕ, ◌+◌, ◌≤◌, suc, zero, List, [], ◌∷◌, ◌++◌, length, map, drop, Option, Some, None}
-use Rattle.std.proofs.Common.{refl, ap, sym, ◌∙◌, arith, append-nil}
+use Rattle.std.proofs.Common.{refl, ap, sym, ◌∙◌, arith, add-one, append-nil, append_assoc}
 use Rattle.std.specs.Prelude.{slice_get}
 use Rattle.std.specs.Option.{option_map}
-use Rattle.std.proofs.lemmas.List.{drop_all, length-map}
+use Rattle.std.proofs.lemmas.List.{drop_all, length-map, map-append}
 use Rattle.sqlite.specs.Order.{Row}
 use Rattle.squares.specs.declared.sides.Side.{Side}
 use Rattle.club_rules.specs.GameRules.{GameRules}
@@ -44,18 +44,19 @@ told_by_columns c = record {
   over = over_with c.end c.result;
 }
 
-module _ {P M E T : Type 0} (laws : GameRules P M E T) (are : AreRules laws) (terms : Terms) (id : ℕ) (game : Game M) where
-  over_is : (turn : Side) (ended : Option (GameEnd E))
-      → over_with (option_map (end_name_text laws) ended) (score_with laws ended turn) ≡ over_of laws turn ended
-  over_is turn None = refl
-  over_is turn (Some end) = refl
+module _ {P M E T : Type 0} (laws : GameRules P M E T) (are : AreRules laws) (terms : Terms) (id : ℕ) (game : Game M)
+  where
+    over_is : (turn : Side) (ended : Option (GameEnd E))
+        → over_with (option_map (end_name_text laws) ended) (score_with laws ended turn) ≡ over_of laws turn ended
+    over_is turn None = refl
+    over_is turn (Some end) = refl
 
-  told_is : IsLegalLine laws laws.start (moves_of game)
-      → told_by_columns (columns_of laws terms id game) ≡ told_by_rules laws terms id game
-  told_is line =
-      let turn = sym (turn-of-game laws are.turn_passes are.first_starts game line) in
-      let over = over_is (turn_of laws game) (end_of laws game) in
-      λ i. record (told_by_rules laws terms id game) { turn = turn i; over = over i }
+    told_is : IsLegalLine laws laws.start (moves_of game)
+        → told_by_columns (columns_of laws terms id game) ≡ told_by_rules laws terms id game
+    told_is line =
+        let turn = sym (turn-of-game laws are.turn_passes are.first_starts game line) in
+        let over = over_is (turn_of laws game) (end_of laws game) in
+        λ i. record (told_by_rules laws terms id game) { turn = turn i; over = over i }
 
 pub told_row : (s : ClubState) (id : ℕ) (game : ClubGame) (row : Row) (c : Columns) → IsLegalIn both_games s game
     → row ≡ game_in s id game → row ≡ stored_cells c → told_by_columns c ≡ told_of s id game
@@ -75,10 +76,9 @@ abbrev pub TellsOf : GameRecord → ToldGame → Type 0
 TellsOf row told = (s : ClubState) (id : ℕ) (game : ClubGame) → IsLegalIn both_games s game
     → game_cells row ≡ game_in s id game → told_by told ≡ told_of s id game
 
-told_push : {A B : Type 0} (f : A → B) (xs : List A) (x : A) (ys : List B) → map f (xs ++ x ∷ []) ++ ys
-    ≡ map f xs ++ (f x ∷ ys)
-told_push f [] x ys = refl
-told_push f (z ∷ xs) x ys = ap (λ l. f z ∷ l) (told_push f xs x ys)
+told_push : {A B : Type 0} (f : A → B) (xs : List A) (x : A) (y : B) (ys : List B) → f x ≡ y
+    → map f (xs ++ x ∷ []) ++ ys ≡ map f xs ++ (y ∷ ys)
+told_push f xs x y ys is = rw (map-append f xs, is, append_assoc (map f xs)) refl
 
 drop_here : {A : Type 0} (xs : List A) (k : ℕ) (x : A) → slice_get xs k ≡ Some x → drop k xs ≡ x ∷ drop (suc k) xs
 drop_here [] k x at = cc
@@ -94,18 +94,12 @@ module _ (s : ClubState) (rows : List GameRecord) (same : map game_cells rows �
     told_more is_club k row at games after told before grown tells =
         let (game, stands, cells) = numbered_at (game_in s) game_cells 1 rows s.games same k row at in
         let is = tells s (1 + k) game (is_club.games k game stands) cells in
-        let next : k + 1 ≡ suc k = omega arith in
         let id : 1 + (k + 1) ≡ suc (1 + k) = omega arith in
-        (λ i. all_by (grown i) ++ told_from s (id i) (drop (next i) s.games))
-        ∙ (told_push told_by games told (told_from s (suc (1 + k)) (drop (suc k) s.games))
-        ∙ (ap (λ t. all_by games ++ (t ∷ told_from s (suc (1 + k)) (drop (suc k) s.games))) is
-        ∙ (ap (λ l. all_by games ++ told_from s (1 + k) l) (sym (drop_here s.games k game stands)) ∙ before)))
+        rw (grown, id, add-one) (told_push told_by games told _ _ is ∙ (rw (drop_here s.games k game stands) at before))
 
     pub told_all : (k : ℕ) (games : List ToldGame) → length rows ≤ k
         → all_by games ++ told_from s (1 + k) (drop k s.games) ≡ told_games s → all_by games ≡ told_games s
     told_all k games past whole =
         let count : length rows ≡ length s.games = sym (length-map rows game_cells)
         ∙ (ap length same ∙ numbered_length (game_in s) 1 s.games) in
-        let none : drop k s.games ≡ [] = drop_all k s.games (omega (arith, past, count)) in
-        sym (append-nil (all_by games))
-        ∙ (ap (λ l. all_by games ++ told_from s (1 + k) l) (sym none) ∙ whole)
+        rw (drop_all k s.games (omega (arith, past, count)), append-nil (all_by games)) at whole

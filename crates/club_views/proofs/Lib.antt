@@ -1,4 +1,3 @@
 pub mod CrossTableLemmas
-pub mod EntryRows
 pub mod Proved
 pub mod ViewedLemmas

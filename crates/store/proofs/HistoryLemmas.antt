@@ -3,7 +3,7 @@ use Rattle.store_tables.specs.Placed.{HasClubTables, HasTablesOf}
 use Rattle.store_tables.specs.Tables.{schema_after}
 use Rattle.std.proofs.Common.{◌≡◌, ◌⊎◌, ℕ, zero, suc, ◌+◌, ◌≤◌, Bool, true, false, List, [], ◌∷◌, ◌++◌, map, length}
 use Rattle.std.proofs.Common.{take, Option, Some, None, IsSome, IsTrue, is_none, refl, sym, ap, subst, ◌∙◌, inl, inr}
-use Rattle.std.proofs.Common.{arith}
+use Rattle.std.proofs.Common.{arith, true≢false}
 use Rattle.std.specs.Prelude.{if◌then◌else◌}
 use Rattle.std.specs.List.{count_by}
 use Rattle.std.proofs.lemmas.List.{take-map, take-take, take_all}
@@ -14,15 +14,15 @@ use Rattle.sqlite.specs.State.{State, Opens, IsLive}
 use Rattle.club_requests.specs.declared.requests.Request as given_request
 use Rattle.club_requests.specs.declared.answers.Outcome as given_outcome
 use Rattle.club_core.specs.Answer.{answered, outcome_of, request_of}
-use Rattle.club_requests.specs.Outcome.{Outcome, accepted, repeated, refused}
+use Rattle.club_requests.specs.Outcome.{Outcome, accepted}
 use Rattle.club_core.specs.State.{Request, opening_state, is_accepted}
 use Rattle.club_laws.proofs.Proved.{folds-accepted}
 use Rattle.club_rows.specs.Club.{both_games, ClubState, IsClub, tables}
 use Rattle.store_tables.specs.Contents.{Content, IsEmpty, IsExactlyEmpty}
-use Rattle.store_tables.specs.Club.{IsExactly, Leaves}
+use Rattle.store_tables.specs.Club.{Leaves}
 use Rattle.store_tables.specs.Over.{alone, IsBesideThem, IsFirstBeside, LeavesBeside, Neighbours, over}
 use Rattle.store_tables.specs.Reading.{KeepsContent}
-use Rattle.store_tables.proofs.Proved.{beside_alone, club_held, leaves_beside, leaves_first, left_alone, still_beside}
+use Rattle.store_tables.proofs.Proved.{club_held, leaves_beside, leaves_first, left_alone, still_beside}
 use Rattle.store_tables.proofs.Proved.{first_held, versions_apart}
 use Rattle.store.specs.declared.club.run.Run.{Run}
 use Rattle.store.specs.declared.fault.StoreFault.{StoreFault}
@@ -41,26 +41,23 @@ use Rattle.store_tables.specs.declared.names.Version.TheVariants.{First, Current
 first_accepted : (s : ClubState) (rs : List Request) (j : ℕ)
     → take (length (club_accepted s (take j rs))) (club_accepted s rs) ≡ club_accepted s (take j rs)
 first_accepted s [] zero = refl
-first_accepted s [] (suc j) = refl
-first_accepted s (r ∷ rs) zero = refl
 first_accepted s (r ∷ rs) (suc j) = elim (cases_Bool (is_accepted (club_step s r))) [
   | inl took ↦ rw took (ap (λ l. r ∷ l) (first_accepted (club_next s r) rs j))
   | inr left ↦ rw left (first_accepted (club_next s r) rs j)
 ]
+first_accepted s _ _ = refl
 
 abbrev Counted : ClubState → List Request → ℕ → ℕ
 Counted s rs j = length (club_accepted s (take j rs))
 
-one_more : (s : ClubState) (rs : List Request) (j n : ℕ) → n ≡ j + 1 → (Counted s rs j ≤ Counted s rs n)
-    × (Counted s rs n ≤ Counted s rs j + 1)
-one_more s rs j zero e = absurd (omega arith)
-one_more s [] zero (suc n) e = (omega arith, omega arith)
-one_more s [] (suc j) (suc n) e = (omega arith, omega arith)
-one_more s (r ∷ rs) zero (suc zero) e = elim (cases_Bool (is_accepted (club_step s r)))
+one_more : (s : ClubState) (rs : List Request) (j : ℕ) → (Counted s rs j ≤ Counted s rs (suc j))
+    × (Counted s rs (suc j) ≤ Counted s rs j + 1)
+one_more s [] zero = (omega arith, omega arith)
+one_more s [] (suc j) = (omega arith, omega arith)
+one_more s (r ∷ rs) zero = elim (cases_Bool (is_accepted (club_step s r)))
     [ inl took ↦ rw took (omega arith, omega arith) | inr left ↦ rw left (omega arith, omega arith) ]
-one_more s (r ∷ rs) zero (suc (suc n)) e = absurd (omega arith)
-one_more s (r ∷ rs) (suc j) (suc n) e =
-    let more = one_more (club_next s r) rs j n (omega arith) in
+one_more s (r ∷ rs) (suc j) =
+    let more = one_more (club_next s r) rs j in
     elim (cases_Bool (is_accepted (club_step s r)))
     [ inl took ↦ rw took (omega (arith, more.0), omega (arith, more.1)) | inr left ↦ rw left more ]
 
@@ -68,30 +65,29 @@ after : (s : ClubState) (rs : List Request) (j : ℕ)
     → club_fold s (take j rs) ≡ club_fold s (take (Counted s rs j) (club_accepted s rs))
 after s rs j = sym (folds-accepted both_games s (take j rs)) ∙ ap (club_fold s) (sym (first_accepted s rs j))
 
--- where so many were answered as accepted, the state after these, or after one more, is one that the session leads to
-leads_on : (s : ClubState) (rs : List Request) (j a : ℕ) (whole : Bool) → a ≡ Counted s rs j
-    → SessionReaches s (record { requests = rs; returned = a; is_whole = whole }) (club_fold s (take j rs))
-leads_on s rs j a whole is =
-    record {
-      k = a;
-      effect = record { least = omega arith; most = omega arith; whole = λ _. refl };
-      is = after s rs j ∙ ap (λ n. club_fold s (take n (club_accepted s rs))) (sym is);
-    }
-
-leads_further : (s : ClubState) (rs : List Request) (j a : ℕ) (whole : Bool) → whole ≡ false → a ≡ Counted s rs j
-    → SessionReaches s (record { requests = rs; returned = a; is_whole = whole }) (club_fold s (take (j + 1) rs))
-leads_further s rs j a true stopped is = absurd (let x = stopped in cc)
-leads_further s rs j a false stopped is =
-    let more = one_more s rs j (j + 1) refl in
-    record {
-      k = Counted s rs (j + 1);
-      effect = record {
-        least = omega (arith, more.0, is);
-        most = omega (arith, more.1, is);
-        whole = λ e. absurd (let x = e in cc);
-      };
-      is = after s rs (j + 1);
-    }
+-- where so many of the first j were answered as accepted, the session leads to the state after these, and where it was
+-- stopped, to the state after one more
+leads_on : (s : ClubState) (rs : List Request) (j n a : ℕ) (whole : Bool) → a ≡ Counted s rs j
+    → (n ≡ j) ⊎ ((whole ≡ false) × (n ≡ j + 1))
+    → SessionReaches s (record { requests = rs; returned = a; is_whole = whole }) (club_fold s (take n rs))
+leads_on s rs j n a whole is by = record {
+  k = Counted s rs n;
+  effect = elim by [
+    | inl same ↦
+        let e = ap (Counted s rs) same in
+        record { least = omega (arith, is, e); most = omega (arith, is, e); whole = λ _. e ∙ sym is }
+    | inr (stopped, next) ↦
+        let more = one_more s rs j in
+        let here : n ≡ suc j = omega (arith, next) in
+        let e = ap (Counted s rs) here in
+        record {
+          least = omega (arith, more.0, is, e);
+          most = omega (arith, more.1, is, e);
+          whole = λ e. absurd (true≢false (sym e ∙ stopped));
+        }
+  ];
+  is = after s rs n;
+}
 
 -- in the last version
 abbrev pub at_state : ClubState → Place
@@ -102,12 +98,29 @@ pub leads_then : (s t u : Place) (xs : List Chapter) (x : Chapter) → Reaches s
 leads_then s t u [] x led one = (u, subst (λ v. Leads v x u) led one, refl)
 leads_then s t u (y ∷ xs) x led one = (led.0, led.1, leads_then led.0 t u xs x led.2 one)
 
+-- a session of a club of the last version leads on
+session_then : (from : Version) (xs : List Chapter) {s u : ClubState} {session : Session}
+    → Reaches (opens_as from) xs (at_state s) → SessionReaches s session u
+    → Reaches (opens_as from) (xs ++ served session ∷ []) (at_state u)
+session_then from xs led one = leads_then _ _ _ xs _ led (refl, one)
+
+session_reached : (from : Version) (xs : List Chapter) {them : Neighbours} {s u : ClubState} {session : Session}
+    {db : Trees} → Reaches (opens_as from) xs (at_state s) → SessionReaches s session u → IsClub u
+    → LeavesBeside them (tables u) db → IsReachable them (xs ++ served session ∷ []) db
+session_reached from xs led one legal left =
+    record { from = from; after = at_state _; legal = legal; leads = session_then from xs led one; leaves = left }
+
+session_stood : {them : Neighbours} {old now : State} {xs : List Chapter} {session : Session} {u : ClubState}
+    → (at : IsHistory them xs old) → SessionReaches at.after session u → IsClub u
+    → IsBesideThem them (tables u) now → IsHistory them (xs ++ served session ∷ []) now
+session_stood at one legal exactly =
+    record { from = at.from; after = _; legal = legal; leads = session_then _ _ at.leads one; exactly = exactly }
+
 -- ---- what was answered
 
 told_same : {S : Type 0} (o : Outcome S) → is_accepted (answered o) ≡ is_accepted o
 told_same (accepted new reply) = refl
-told_same (repeated reply) = refl
-told_same (refused refusal) = refl
+told_same _ = refl
 
 abbrev count : List (Outcome (Unit {0})) → ℕ
 count [] = 0
@@ -125,16 +138,6 @@ count_machine s (r ∷ rs) = elim (cases_Bool (is_accepted (club_step s r))) [
   | inr left ↦ rw (told_same (club_step s r)) (rw left (count_machine (club_next s r) rs))
 ]
 
--- as many were answered as accepted as the machine accepts of the answered requests
-returned_is : (s : ClubState) (rs : List given_request.Request) (os : List given_outcome.Outcome) (n : ℕ)
-    → map outcome_of os ≡ map answered (club_outcomes s (map request_of (take n rs)))
-    → count_by is_taken os ≡ Counted s (map request_of rs) n
-returned_is s rs os n told =
-    sym (count_outcomes os)
-    ∙ (ap count told
-    ∙ (count_machine s (map request_of (take n rs))
-    ∙ ap (λ xs. length (club_accepted s xs)) (sym (take-map request_of n rs))))
-
 is_stopped : (fault : Option StoreFault) → IsSome fault → is_none fault ≡ false
 is_stopped None failed = absurd (let x = failed in cc)
 is_stopped (Some fault) failed = refl
@@ -146,136 +149,74 @@ abbrev pub Told : ClubState → List given_request.Request → Run → Type 0
 Told s rs run = map outcome_of run.outcomes.items ≡ map answered
     (club_outcomes s (map request_of (take (length run.outcomes.items) rs)))
 
--- a session of these requests, with the outcomes of the run
-abbrev with_requests : List given_request.Request → Run → Session
-with_requests rs run = record {
-  requests = map request_of rs;
-  returned = count_by is_taken run.outcomes.items;
-  is_whole = is_none run.fault;
-}
+-- the first of a run's requests
+first_given : (rs : List given_request.Request) (n m : ℕ) → n ≤ m
+    → take n (map request_of (take m rs)) ≡ map request_of (take n rs)
+first_given rs n m within = take-map request_of n (take m rs) ∙ ap (map request_of) (take-take n m rs within)
 
--- the state after the answered requests is one that the session leads to
-answered_leads : (s : ClubState) (rs : List given_request.Request) (run : Run) → Told s rs run
-    → SessionReaches s (with_requests rs run) (club_fold s (map request_of (take (length run.outcomes.items) rs)))
-answered_leads s rs run told =
-    subst (λ xs. SessionReaches s (with_requests rs run) (club_fold s xs))
-    (take-map request_of (length run.outcomes.items) rs)
-    (leads_on s (map request_of rs) (length run.outcomes.items) _ (is_none run.fault)
-    (returned_is s rs run.outcomes.items (length run.outcomes.items) told))
-
--- with a fault, so is the state after one more
-further_leads : (s : ClubState) (rs : List given_request.Request) (run : Run) → IsSome run.fault → Told s rs run
-    → SessionReaches s (with_requests rs run) (club_fold s (map request_of (take (length run.outcomes.items + 1) rs)))
-further_leads s rs run failed told =
-    subst (λ xs. SessionReaches s (with_requests rs run) (club_fold s xs))
-    (take-map request_of (length run.outcomes.items + 1) rs)
-    (leads_further s (map request_of rs) (length run.outcomes.items) _ (is_none run.fault) (is_stopped run.fault failed)
-    (returned_is s rs run.outcomes.items (length run.outcomes.items) told))
-
--- the requests up to the stop are answered alike
-told_up_to : (s : ClubState) (rs : List given_request.Request) (run : Run) → Told s rs run
-    → Told s (take (length run.outcomes.items + 1) rs) run
-told_up_to s rs run told =
-    subst
-    (λ xs. map outcome_of run.outcomes.items ≡ map answered (club_outcomes s (map request_of xs)))
-    (sym (take-take (length run.outcomes.items) (length run.outcomes.items + 1) rs (omega arith))) told
-
-run_leads : (s : ClubState) (rs : List given_request.Request) (run : Run) → Told s rs run
-    → SessionReaches s (run_session rs run) (club_fold s (map request_of (take (length run.outcomes.items) rs)))
-run_leads s rs run told =
-    subst (λ xs. SessionReaches s (run_session rs run) (club_fold s (map request_of xs)))
-    (take-take (length run.outcomes.items) (length run.outcomes.items + 1) rs (omega arith))
-    (answered_leads s (take (length run.outcomes.items + 1) rs) run (told_up_to s rs run told))
-
-run_leads_further : (s : ClubState) (rs : List given_request.Request) (run : Run) → IsSome run.fault → Told s rs run
-    → SessionReaches s (run_session rs run) (club_fold s (map request_of (take (length run.outcomes.items + 1) rs)))
-run_leads_further s rs run failed told =
-    subst (λ xs. SessionReaches s (run_session rs run) (club_fold s (map request_of xs)))
-    (take-take (length run.outcomes.items + 1) (length run.outcomes.items + 1) rs (omega arith))
-    (further_leads s (take (length run.outcomes.items + 1) rs) run failed (told_up_to s rs run told))
+-- the state after the answered requests is one that the session leads to; with a fault, so is the state after one more
+run_leads : (s : ClubState) (rs : List given_request.Request) (run : Run) (n : ℕ) → Told s rs run
+    → (n ≡ length run.outcomes.items) ⊎ (IsSome run.fault × (n ≡ length run.outcomes.items + 1))
+    → SessionReaches s (run_session rs run) (club_fold s (map request_of (take n rs)))
+run_leads s rs run n told by =
+    let os = run.outcomes.items in
+    let j = length os in
+    let counted = sym (count_outcomes os) ∙ (ap count told ∙ (count_machine s (map request_of (take j rs))
+    ∙ ap (λ xs. length (club_accepted s xs)) (sym (first_given rs j (j + 1) (omega arith))))) in
+    subst (λ xs. SessionReaches s (run_session rs run) (club_fold s xs))
+    (first_given rs n (j + 1) (elim by [ inl e ↦ omega (arith, e) | inr e ↦ (let x = e.1 in omega (arith, x)) ]))
+    (leads_on s _ j n _ _ counted
+    (elim by [ inl e ↦ inl e | inr (failed, e) ↦ inr (is_stopped run.fault failed, e) ]))
 
 -- what a stop leaves is led to with this session added
-pub session_leads : (from : Version) (them : Neighbours) (s : ClubState) (sessions : List Chapter)
-    (rs : List given_request.Request) (run : Run) (db : Trees) → Reaches (opens_as from) sessions (at_state s)
-    → Told s rs run →
-    IsAfter them s rs (length run.outcomes.items) db
-    ⊎ (IsSome run.fault × IsAfter them s rs (length run.outcomes.items + 1) db)
+pub session_leads : {them : Neighbours} {sessions : List Chapter} {rs : List given_request.Request} (run : Run)
+    {old : State} {db : Trees} → (at : IsHistory them sessions old) → Told at.after rs run →
+    IsAfter them at.after rs (length run.outcomes.items) db
+    ⊎ (IsSome run.fault × IsAfter them at.after rs (length run.outcomes.items + 1) db)
     → IsReachable them (sessions ++ session_of rs run ∷ []) db
-session_leads from them s sessions rs run db led told left = elim left [
-  | inl here ↦ record {
-    from = from;
-    after = at_state (club_fold s (map request_of (take (length run.outcomes.items) rs)));
-    legal = here.legal;
-    leads = leads_then (opens_as from) (at_state s) _ sessions (session_of rs run) led
-        (refl, run_leads s rs run told);
-    leaves = here.leaves;
-  }
-  | inr later ↦ record {
-    from = from;
-    after = at_state (club_fold s (map request_of (take (length run.outcomes.items + 1) rs)));
-    legal = later.1.legal;
-    leads = leads_then (opens_as from) (at_state s) _ sessions (session_of rs run) led
-        (refl, run_leads_further s rs run later.0 told);
-    leaves = later.1.leaves;
-  }
-]
+session_leads run at told (inl here) =
+    session_reached _ _ at.leads (run_leads _ _ run _ told (inl refl)) here.legal here.leaves
+session_leads run at told (inr (failed, later)) =
+    session_reached _ _ at.leads (run_leads _ _ run _ told (inr (failed, refl))) later.legal later.leaves
 
 -- without a fault, the tables are led to with this session added
-pub session_stands : (from : Version) (them : Neighbours) (s : ClubState) (sessions : List Chapter)
-    (rs : List given_request.Request) (run : Run) (now : State) → Reaches (opens_as from) sessions (at_state s)
-    → Told s rs run → length run.outcomes.items ≡ length rs →
-    IsClub (club_fold s (map request_of rs)) → IsBesideThem them (tables (club_fold s (map request_of rs))) now
+pub session_stands : {them : Neighbours} {sessions : List Chapter} (rs : List given_request.Request) (run : Run)
+    {old now : State} → (at : IsHistory them sessions old) → Told at.after rs run
+    → length run.outcomes.items ≡ length rs → IsClub (club_fold at.after (map request_of rs))
+    → IsBesideThem them (tables (club_fold at.after (map request_of rs))) now
     → IsHistory them (sessions ++ session_of rs run ∷ []) now
-session_stands from them s sessions rs run now led told whole legal exactly = record {
-  from = from;
-  after = club_fold s (map request_of rs);
-  legal = legal;
-  leads = leads_then (opens_as from) (at_state s) _ sessions (session_of rs run) led (
-    refl,
-    subst (λ xs. SessionReaches s (run_session rs run) (club_fold s (map request_of xs)))
-        (take_all (length run.outcomes.items) rs (omega (arith, whole))) (run_leads s rs run told),
-  );
-  exactly = exactly;
-}
+session_stands rs run at told whole legal exactly =
+    session_stood at
+    (subst (λ xs. SessionReaches at.after (run_session rs run) (club_fold at.after (map request_of xs)))
+    (take_all (length run.outcomes.items) rs (omega (arith, whole))) (run_leads at.after rs run _ told (inl refl)))
+    legal exactly
 
 -- ---- one request
 
-taken_told : (s : ClubState) (r : Request) (o : given_outcome.Outcome) → outcome_of o ≡ answered (club_step s r)
-    → is_taken o ≡ is_accepted (club_step s r)
-taken_told s r o told = ap is_accepted told ∙ told_same (club_step s r)
-
 one_counted : (s : ClubState) (r : Request) → (if is_accepted (club_step s r) then 1 else 0) ≡ Counted s (r ∷ []) 1
 one_counted s r = elim (cases_Bool (is_accepted (club_step s r))) [ inl took ↦ rw took refl | inr left ↦ rw left refl ]
-
--- a request that was answered leads, as a session of its own, to the state after it
-pub one_stands : (from : Version) (them : Neighbours) (s : ClubState) (sessions : List Chapter) (r : Request)
-    (o : given_outcome.Outcome) (now : State) → Reaches (opens_as from) sessions (at_state s)
-    → outcome_of o ≡ answered (club_step s r)
-    → IsClub (club_next s r) → IsBesideThem them (tables (club_next s r)) now
-    → IsHistory them (sessions ++ answered_session r o ∷ []) now
-one_stands from them s sessions r o now led told legal exactly = record {
-  from = from;
-  after = club_next s r;
-  legal = legal;
-  leads = leads_then (opens_as from) (at_state s) _ sessions (answered_session r o) led (
-    refl,
-    leads_on s (r ∷ []) 1 _ true (ap (λ b. if b then 1 else 0) (taken_told s r o told) ∙ one_counted s r),
-  );
-  exactly = exactly;
-}
 
 -- the session of one request, as the machine takes it
 abbrev pub taken_session : ClubState → Request → Chapter
 taken_session s r =
     served (record { requests = r ∷ []; returned = if is_accepted (club_step s r) then 1 else 0; is_whole = true })
 
+-- a request that was answered leads, as a session of its own, to the state after it
+pub one_stands : {them : Neighbours} {sessions : List Chapter} (r : Request) (o : given_outcome.Outcome)
+    {old now : State} → (at : IsHistory them sessions old) → outcome_of o ≡ answered (club_step at.after r)
+    → IsClub (club_next at.after r) → IsBesideThem them (tables (club_next at.after r)) now
+    → IsHistory them (sessions ++ answered_session r o ∷ []) now
+one_stands r o at told =
+    session_stood at (leads_on at.after (r ∷ []) 1 1 _ true
+    (ap (λ b. if b then 1 else 0) (ap is_accepted told ∙ told_same (club_step at.after r)) ∙ one_counted at.after r)
+    (inl refl))
+
 -- a request leads, as a session of its own, to the state after it
 pub one_leads : (from : Version) (s : ClubState) (sessions : List Chapter) (r : Request)
     → Reaches (opens_as from) sessions (at_state s)
     → Reaches (opens_as from) (sessions ++ taken_session s r ∷ []) (at_state (club_next s r))
 one_leads from s sessions r led =
-    leads_then (opens_as from) (at_state s) _ sessions (taken_session s r) led
-    (refl, leads_on s (r ∷ []) 1 _ true (one_counted s r))
+    session_then from sessions led (leads_on s (r ∷ []) 1 1 _ true (one_counted s r) (inl refl))
 
 -- a request that a fault cut off leads to the state before it or to the one after
 pub one_cut : (from : Version) (them : Neighbours) (s : ClubState) (sessions : List Chapter) (r : Request) (db : Trees)
@@ -283,41 +224,15 @@ pub one_cut : (from : Version) (them : Neighbours) (s : ClubState) (sessions : L
     → IsClub s → IsClub (club_next s r)
     → LeavesBeside them (tables s) db ⊎ LeavesBeside them (tables (club_next s r)) db
     → IsReachable them (sessions ++ cut_session r ∷ []) db
-one_cut from them s sessions r db led before after (inl kept) = record {
-  from = from;
-  after = at_state s;
-  legal = before;
-  leads = leads_then (opens_as from) (at_state s) _ sessions (cut_session r) led
-      (refl, leads_on s (r ∷ []) 0 0 false refl);
-  leaves = kept;
-}
-one_cut from them s sessions r db led before after (inr changed) = record {
-  from = from;
-  after = at_state (club_next s r);
-  legal = after;
-  leads = leads_then (opens_as from) (at_state s) _ sessions (cut_session r) led
-      (refl, leads_further s (r ∷ []) 0 0 false refl refl);
-  leaves = changed;
-}
+one_cut from them s sessions r db led before after (inl kept) =
+    session_reached from sessions led (leads_on s (r ∷ []) 0 0 0 false refl (inl refl)) before kept
+one_cut from them s sessions r db led before after (inr changed) =
+    session_reached from sessions led (leads_on s (r ∷ []) 0 1 0 false refl (inr (refl, refl))) after changed
 
 -- ---- openings
 
 opening_legal : IsClub opening_state
-opening_legal = record {
-  last = omega arith;
-  members = λ n x at. absurd (let h = at in cc);
-  member_count = omega arith;
-  member_names = λ i j x y at. absurd (let h = at in cc);
-  member_keys = λ i j x y at. absurd (let h = at in cc);
-  events = λ n x at. absurd (let h = at in cc);
-  event_count = omega arith;
-  event_names = λ i j x y at. absurd (let h = at in cc);
-  games = λ n x at. absurd (let h = at in cc);
-  game_count = omega arith;
-  game_keys = λ i j x y b at. absurd (let h = at in cc);
-  challenges = λ n x at. absurd (let h = at in cc);
-  challenge_numbers = λ i j x y at. absurd (let h = at in cc);
-}
+opening_legal = search arith
 
 -- a club that was just made, beside whatever neighbours, has a history with no session
 pub made_led : (them : Neighbours) (trees : Trees) → LeavesBeside them (tables opening_state) trees
@@ -334,9 +249,6 @@ made_stands them now exactly =
 pub opening_led : (trees : Trees) → Leaves (tables opening_state) trees → IsReachable alone [] trees
 opening_led trees left = made_led alone trees (left_alone (tables opening_state) trees left)
 
-pub opening_stands : (now : State) → IsExactly (tables opening_state) now → IsHistory alone [] now
-opening_stands now exactly = made_stands alone now (beside_alone (tables opening_state) now exactly)
-
 -- what a stop leaves of a place in a history
 pub left_at : (version : Version) (them : Neighbours) (after : ClubState) (now : State)
     → IsExactlyAt version them after now → (trees : Trees) → now.may_leave trees → LeavesAt version them after trees
@@ -351,6 +263,26 @@ stops_led version them chapters now at trees left = record {
   legal = at.legal;
   leads = at.leads;
   leaves = left_at version them at.after now at.exactly trees left;
+}
+
+-- a history whose tables were taken as those of the last schema, if they are a club's, is one of the last version
+pub current_taken : (them : Neighbours) (chapters : List Chapter) (s : State)
+    → (HasClubTables s.now.schema → HasTablesOf Current s.now.schema)
+    → (version : Version) × IsHistoryAt version them chapters s → IsHistory them chapters s
+current_taken them chapters s taken (First, at) =
+    let first = subst (HasTablesOf First) (sym at.exactly.exactly.now.schema) at.exactly.before.tables in
+    absurd (versions_apart s.now.schema first (taken (inl first)))
+current_taken them chapters s taken (Current, at) = at
+
+-- what keeps the tables keeps where they stand
+pub still_stands : (them : Neighbours) (chapters : List Chapter) (old new : State) → KeepsContent old new
+    → IsHistory them chapters old → IsHistory them chapters new
+still_stands them chapters old new kept at = record {
+  from = at.from;
+  after = at.after;
+  legal = at.legal;
+  leads = at.leads;
+  exactly = still_beside old new kept them (tables at.after) at.exactly;
 }
 
 -- what a connection finds that was just opened, where a stop leaves what was committed
@@ -387,6 +319,13 @@ module _ (s : State) (opens : Opens s) (live : IsLive s)
     },
   )
 
+  -- what keeps the tables of a connection that was taken as the last schema's stands where the chapters lead
+  pub opens_taken : {them : Neighbours} {chapters : List Chapter} {now : State}
+      → IsReachable them chapters s.committed.trees
+      → (HasClubTables s.now.schema → HasTablesOf Current s.now.schema) → KeepsContent s now
+      → IsHistory them chapters now
+  opens_taken led taken kept = still_stands _ _ s _ kept (current_taken _ _ s taken (opens_led _ _ led))
+
   -- a connection that opens on trees with no table is empty
   pub opens_empty : IsEmpty s.committed.trees → IsExactlyEmpty s
   opens_empty empty =
@@ -403,26 +342,6 @@ module _ (s : State) (opens : Opens s) (live : IsLive s)
             };
         may_leave = λ db left. subst IsEmpty (sym (settled db opens.is_open left)) empty;
       }
-
--- a history whose tables were taken as those of the last schema, if they are a club's, is one of the last version
-pub current_taken : (them : Neighbours) (chapters : List Chapter) (s : State)
-    → (HasClubTables s.now.schema → HasTablesOf Current s.now.schema)
-    → (version : Version) × IsHistoryAt version them chapters s → IsHistory them chapters s
-current_taken them chapters s taken (First, at) =
-    let first = subst (HasTablesOf First) (sym at.exactly.exactly.now.schema) at.exactly.before.tables in
-    absurd (versions_apart s.now.schema first (taken (inl first)))
-current_taken them chapters s taken (Current, at) = at
-
--- what keeps the tables keeps where they stand
-pub still_stands : (them : Neighbours) (chapters : List Chapter) (old new : State) → KeepsContent old new
-    → IsHistory them chapters old → IsHistory them chapters new
-still_stands them chapters old new kept at = record {
-  from = at.from;
-  after = at.after;
-  legal = at.legal;
-  leads = at.leads;
-  exactly = still_beside old new kept them (tables at.after) at.exactly;
-}
 
 -- ---- the rows of a club among those of all tables
 

@@ -1,18 +1,14 @@
 -- The rows of a club that was just made are the tables of the machine's opening state; and which tables were taken.
-use Rattle.std.proofs.Common.{◌≡◌, ◌∙◌, ℕ, ◌+◌, Bool, true, false, List, [], ◌∷◌, inl, inr, refl, subst, sym}
-use Rattle.std.proofs.Common.{true≢false}
+use Rattle.std.proofs.Common.{◌≡◌, ◌∙◌, ℕ, ◌+◌, Bool, true, false, List, [], ◌∷◌, inl, inr, refl, sym, true≢false}
 use Rattle.std.proofs.lemmas.Bool.{and_parts, cases_Bool, or_parts}
 use Rattle.std.specs.List.{list_any, position_from}
 use Rattle.std.specs.Prelude.{if◌then◌else◌, ◌==◌, is_some}
 use Rattle.sqlite.specs.Order.{Row}
 use Rattle.sqlite.specs.Schema.{Schema}
 use Rattle.sqlite.specs.Table.{Table}
-use Rattle.sqlite.specs.Tree.{Trees}
-use Rattle.sqlite.specs.State.{State}
 use Rattle.club_core.specs.State.{opening_state}
 use Rattle.store_tables.specs.Placed.{HasClubTables, HasTablesOf}
 use Rattle.store_tables.specs.Names.{table_name}
-use Rattle.store_tables.specs.Over.{IsBesideThem, LeavesBeside, Neighbours}
 use Rattle.store_tables.specs.declared.names.Table.TheVariants.{EventRules}
 use Rattle.store_tables.specs.declared.names.Version.TheVariants.{First, Current}
 use Rattle.sqlite_catalog.proofs.SoundLemmas.{lowered}
@@ -20,47 +16,23 @@ use Rattle.sqlite_schema.specs.Names.{same_name}
 use Rattle.table_shapes.specs.Shapes.{answers_as, is_of_club}
 use Rattle.club_rows.specs.Club.{tables}
 use Rattle.store_tables.specs.Contents.{Content, opening}
-use Rattle.store_tables.specs.Club.{IsExactly, Leaves}
 use Rattle.store_tables.specs.Tables.{event_rules}
 
-nothing-else : (z a b c d e f g h : Bool) (rows : List Row)
-    → ◌≡◌ {A = List Row} (if z then rows else [])
-    (if
-    z then rows else (if
-    a then [] else (if
-    b then [] else (if
-    c then [] else (if d then [] else (if e then [] else (if f then [] else (if g then [] else
-    (if h then [] else [])))))))))
-nothing-else true a b c d e f g h rows = refl
-nothing-else false true b c d e f g h rows = refl
-nothing-else false false true c d e f g h rows = refl
-nothing-else false false false true d e f g h rows = refl
-nothing-else false false false false true e f g h rows = refl
-nothing-else false false false false false true f g h rows = refl
-nothing-else false false false false false false true g h rows = refl
-nothing-else false false false false false false false true h rows = refl
-nothing-else false false false false false false false false true rows = refl
-nothing-else false false false false false false false false false rows = refl
+skipped : (test : Bool) {rows : List Row} → rows ≡ [] → (if test then [] else rows) ≡ []
+skipped true none = refl
+skipped false none = none
+
+nothing-else : (test : Bool) (rows : List Row) {others : List Row} → others ≡ []
+    → (if test then rows else []) ≡ (if test then rows else others)
+nothing-else true rows none = refl
+nothing-else false rows none = sym none
 
 opening-at : (t : ℕ) → opening t ≡ tables opening_state t
-opening-at t = nothing-else (t == 0) (t == 1) (t == 4) (t == 6) (t == 8) (t == 10) (t == 12) (t == 14) (t == 16) _
+opening-at t = nothing-else (t == 0) _ (skipped (t == 1) (skipped (t == 4) (skipped (t == 6) (skipped (t == 8)
+    (skipped (t == 10) (skipped (t == 12) (skipped (t == 14) (skipped (t == 16) refl))))))))
 
 pub opening-is : ◌≡◌ {A = Content} opening (tables opening_state)
 opening-is = λ i t. opening-at t i
-
-pub opening-exactly : (s : State) → IsExactly opening s → IsExactly (tables opening_state) s
-opening-exactly s is = subst (λ c. IsExactly c s) opening-is is
-
-pub opening-left : (db : Trees) → Leaves opening db → Leaves (tables opening_state) db
-opening-left db is = subst (λ c. Leaves c db) opening-is is
-
-pub opening-beside : (them : Neighbours) (s : State) → IsBesideThem them opening s
-    → IsBesideThem them (tables opening_state) s
-opening-beside them s is = subst (λ c. IsBesideThem them c s) opening-is is
-
-pub opening-left_beside : (them : Neighbours) (db : Trees) → LeavesBeside them opening db
-    → LeavesBeside them (tables opening_state) db
-opening-left_beside them db is = subst (λ c. LeavesBeside them c db) opening-is is
 
 -- ---- which tables were taken
 

@@ -1,7 +1,7 @@
 -- What requests in turn make of a club.
 use Rattle.std.proofs.Common.{◌≡◌, ℕ, ◌+◌, ◌<◌, ◌≤◌, List, [], ◌∷◌, ◌++◌, map, length, take, get_or, refl}
 use Rattle.std.proofs.Common.{sym, ap, subst, ◌∙◌, ◌⊎◌, inl, inr}
-use Rattle.std.proofs.lemmas.List.{take_more, take_all, map-append, length_push}
+use Rattle.std.proofs.lemmas.List.{take_more, take_all, map-append}
 use Rattle.sqlite.specs.State.{State}
 use Rattle.sqlite.specs.Tree.{Trees}
 use Rattle.store_tables.specs.Over.{IsBesideThem, LeavesBeside, Neighbours}
@@ -24,122 +24,85 @@ pub outcomes-more : (s : ClubState) (rs : List Request) (r : Request)
 outcomes-more s [] r = refl
 outcomes-more s (x ∷ rs) r = ap (λ os. club_step s x ∷ os) (outcomes-more (club_next s x) rs r)
 
-pub count-more : (outcomes more : List given_outcome.Outcome) (outcome : given_outcome.Outcome) (k : ℕ)
-    → more ≡ outcomes ++ outcome ∷ [] → length outcomes ≡ k → length more ≡ k + 1
-count-more outcomes more outcome k pushed count = ap length pushed
-    ∙ (length_push outcomes outcome ∙ ap (λ n. n + 1) count)
-
 -- the first of the requests
 abbrev pub first_of : List given_request.Request → ℕ → List Request
 first_of rs n = map request_of (take n rs)
 
-pub first_of-more : (rs : List given_request.Request) (k : ℕ) (r : given_request.Request) → k < length rs
+first_of-more : (rs : List given_request.Request) (k : ℕ) {r : given_request.Request} → k < length rs
     → r ≡ get_or rs k r → first_of rs (k + 1) ≡ first_of rs k ++ request_of r ∷ []
-first_of-more rs k r within is = ap (map request_of) (take_more rs k r within ∙ ap (λ x. take k rs ++ x ∷ []) (sym is))
+first_of-more rs k {r} within is =
+    ap (map request_of) (take_more rs k r within ∙ ap (λ x. take k rs ++ x ∷ []) (sym is))
     ∙ map-append request_of (take k rs) (r ∷ [])
 
--- So many requests were served: the club is legal, its tables are the state's, beside their neighbours, and the
--- outcomes are the machine's.
-pub record Served (them : Neighbours) (s : ClubState) (rs : List given_request.Request) (k : ℕ)
-    (outcomes : List given_outcome.Outcome) (now : State) : Type 0 where
-  pub is_club : IsClub (club_fold s (first_of rs k))
-  pub exactly : IsBesideThem them (tables (club_fold s (first_of rs k))) now
-  pub answers : map outcome_of outcomes ≡ map answered (club_outcomes s (first_of rs k))
-
-pub served-none : (them : Neighbours) (s : ClubState) (rs : List given_request.Request)
-    (outcomes : List given_outcome.Outcome) (now : State) → IsClub s → IsBesideThem them (tables s) now
-    → outcomes ≡ [] → Served them s rs 0 outcomes now
-served-none them s rs outcomes now is_club exactly none =
-    record { is_club = is_club; exactly = exactly; answers = ap (map outcome_of) none }
-
--- the state after one more of the requests
-pub next-state : (s : ClubState) (rs : List given_request.Request) (k : ℕ) (r : given_request.Request) → k < length rs
-    → r ≡ get_or rs k r → club_fold s (first_of rs (k + 1)) ≡ club_next (club_fold s (first_of rs k)) (request_of r)
-next-state s rs k r within is = ap (club_fold s) (first_of-more rs k r within is)
-    ∙ fold-more s (first_of rs k) (request_of r)
+-- These requests were served: the club is legal, its tables are the state's, beside their neighbours, and the outcomes
+-- are the machine's.
+pub record Served (them : Neighbours) (s : ClubState) (rs : List Request) (outcomes : List given_outcome.Outcome)
+    (now : State) : Type 0 where
+  pub is_club : IsClub (club_fold s rs)
+  pub exactly : IsBesideThem them (tables (club_fold s rs)) now
+  pub answers : map outcome_of outcomes ≡ map answered (club_outcomes s rs)
 
 -- one more request is served
-pub served-next : (them : Neighbours) (s : ClubState) (rs : List given_request.Request) (k : ℕ)
-    (r : given_request.Request) (outcomes more : List given_outcome.Outcome) (outcome : given_outcome.Outcome)
-    (now new : State) →
-    k < length rs → r ≡ get_or rs k r → more ≡ outcomes ++ outcome ∷ [] → Served them s rs k outcomes now →
+pub served-next : {them : Neighbours} {s : ClubState} (rs : List given_request.Request) (k : ℕ)
+    {r : given_request.Request} {outcomes more : List given_outcome.Outcome} (outcome : given_outcome.Outcome)
+    {now new : State} →
+    k < length rs → r ≡ get_or rs k r → more ≡ outcomes ++ outcome ∷ [] → Served them s (first_of rs k) outcomes now →
     IsClub (club_next (club_fold s (first_of rs k)) (request_of r)) →
     IsBesideThem them (tables (club_next (club_fold s (first_of rs k)) (request_of r))) new →
     outcome_of outcome ≡ answered (club_step (club_fold s (first_of rs k)) (request_of r)) →
-    Served them s rs (k + 1) more new
-served-next them s rs k r outcomes more outcome now new within is pushed served legal exactly told =
+    Served them s (first_of rs (k + 1)) more new
+served-next {them} {s} rs k {r} {outcomes} {more} outcome {now} {new} within is pushed served legal exactly told =
     let before = first_of rs k in
-    let same : club_fold s (first_of rs (k + 1)) ≡ club_next (club_fold s before) (request_of r) =
-    next-state s rs k r within is in
-    record {
-      is_club = subst IsClub (sym same) legal;
-      exactly = subst (λ (u : ClubState). IsBesideThem them (tables u) new) (sym same) exactly;
+    subst (λ xs. Served them s xs more new) (sym (first_of-more rs k within is)) (record {
+      is_club = subst IsClub (sym (fold-more s before (request_of r))) legal;
+      exactly =
+          subst (λ (u : ClubState). IsBesideThem them (tables u) new) (sym (fold-more s before (request_of r))) exactly;
       answers =
           ap (map outcome_of) pushed
           ∙ (map-append outcome_of outcomes (outcome ∷ [])
-          ∙ (ap (λ xs. xs ++ outcome_of outcome ∷ []) served.answers
-          ∙ (ap (λ x. map answered (club_outcomes s before) ++ x ∷ []) told
+          ∙ ((λ i. served.answers i ++ told i ∷ [])
           ∙ (sym (map-append answered (club_outcomes s before) (club_step (club_fold s before) (request_of r) ∷ []))
-          ∙ (ap (map answered) (sym (outcomes-more s before (request_of r)))
-          ∙ ap (λ xs. map answered (club_outcomes s xs)) (sym (first_of-more rs k r within is)))))));
-    }
+          ∙ ap (map answered) (sym (outcomes-more s before (request_of r))))));
+    })
 
 -- the outcomes are those of as many requests
-pub served-outcomes : (them : Neighbours) (s : ClubState) (rs : List given_request.Request) (k : ℕ)
-    (outcomes : List given_outcome.Outcome) (now : State) → length outcomes ≡ k → Served them s rs k outcomes now →
-    map outcome_of outcomes ≡ map answered (club_outcomes s (first_of rs (length outcomes)))
-served-outcomes them s rs k outcomes now count served = served.answers
+pub served-outcomes : {them : Neighbours} {s : ClubState} (rs : List given_request.Request) {k : ℕ}
+    {outcomes : List given_outcome.Outcome} {now : State} → length outcomes ≡ k
+    → Served them s (first_of rs k) outcomes now
+    → map outcome_of outcomes ≡ map answered (club_outcomes s (first_of rs (length outcomes)))
+served-outcomes {s = s} rs count served = served.answers
     ∙ ap (λ n. map answered (club_outcomes s (first_of rs n))) (sym count)
 
--- what a stop leaves after so many outcomes, or after one request more
-abbrev pub LeavesBy : Neighbours → ClubState → List given_request.Request → ℕ → Trees → Type 0
-LeavesBy them s rs n db = LeavesBeside them (tables (club_fold s (first_of rs n))) db
-    ⊎ LeavesBeside them (tables (club_fold s (first_of rs (n + 1)))) db
-
-pub served-leaves : (them : Neighbours) (s : ClubState) (rs : List given_request.Request) (k n : ℕ)
-    (r : given_request.Request) (db : Trees) → n ≡ k → k < length rs → r ≡ get_or rs k r →
-    LeavesBeside them (tables (club_fold s (first_of rs k))) db
-    ⊎ LeavesBeside them (tables (club_next (club_fold s (first_of rs k)) (request_of r))) db → LeavesBy them s rs n db
-served-leaves them s rs k n r db count within is left =
-    subst (λ m. LeavesBy them s rs m db) (sym count)
-    (elim left [
-      | inl before ↦ inl before
-      | inr after ↦ inr
-          (subst (λ (u : ClubState). LeavesBeside them (tables u) db) (sym (next-state s rs k r within is)) after)
-    ])
-
 -- all of the requests were served
-pub served-all : (them : Neighbours) (s : ClubState) (rs : List given_request.Request) (k : ℕ)
-    (outcomes : List given_outcome.Outcome) (now : State) → length rs ≤ k → Served them s rs k outcomes now
-    → IsBesideThem them (tables (club_fold s (map request_of rs))) now
-served-all them s rs k outcomes now all served =
-    subst (λ xs. IsBesideThem them (tables (club_fold s (map request_of xs))) now) (take_all k rs all) served.exactly
+pub served-all : {them : Neighbours} {s : ClubState} (rs : List given_request.Request) (k : ℕ)
+    {outcomes : List given_outcome.Outcome} {now : State} → length rs ≤ k
+    → Served them s (first_of rs k) outcomes now → Served them s (map request_of rs) outcomes now
+served-all {them} {s} rs k {outcomes} {now} all =
+    subst (λ xs. Served them s (map request_of xs) outcomes now) (take_all k rs all)
 
-pub legal-all : (them : Neighbours) (s : ClubState) (rs : List given_request.Request) (k : ℕ)
-    (outcomes : List given_outcome.Outcome) (now : State) → length rs ≤ k → Served them s rs k outcomes now
-    → IsClub (club_fold s (map request_of rs))
-legal-all them s rs k outcomes now all served =
-    subst (λ xs. IsClub (club_fold s (map request_of xs))) (take_all k rs all) served.is_club
+-- the state after as many requests as there are outcomes, and after one more
+pub state-at : (s : ClubState) (rs : List given_request.Request) {n k : ℕ} → n ≡ k
+    → club_fold s (first_of rs n) ≡ club_fold s (first_of rs k)
+state-at s rs count = ap (λ m. club_fold s (first_of rs m)) count
+
+pub state-next : (s : ClubState) (rs : List given_request.Request) {n k : ℕ} {r : given_request.Request} → n ≡ k
+    → k < length rs → r ≡ get_or rs k r
+    → club_fold s (first_of rs (n + 1)) ≡ club_next (club_fold s (first_of rs k)) (request_of r)
+state-next s rs {k = k} {r = r} count within is = ap (λ m. club_fold s (first_of rs (m + 1))) count
+    ∙ (ap (club_fold s) (first_of-more rs _ within is) ∙ fold-more s (first_of rs k) (request_of r))
 
 -- what a stop leaves of so many served requests is of a legal state
-pub after-served : (them : Neighbours) (s : ClubState) (rs : List given_request.Request) (k n : ℕ) (db : Trees)
-    → n ≡ k → IsClub (club_fold s (first_of rs k)) → LeavesBeside them (tables (club_fold s (first_of rs k))) db
-    → IsAfter them s rs n db
-after-served them s rs k n db count legal leaves =
-    subst (λ m. IsAfter them s rs m db) (sym count) (record { legal = legal; leaves = leaves })
+pub after-by : {them : Neighbours} {s u : ClubState} {rs : List given_request.Request} {n : ℕ} {db : Trees}
+    → club_fold s (first_of rs n) ≡ u → IsClub u → LeavesBeside them (tables u) db → IsAfter them s rs n db
+after-by {them = them} {db = db} is legal leaves = record {
+  legal = subst IsClub (sym is) legal;
+  leaves = subst (λ (v : ClubState). LeavesBeside them (tables v) db) (sym is) leaves;
+}
 
--- so is it of one request more
-pub after-next : (them : Neighbours) (s : ClubState) (rs : List given_request.Request) (k n : ℕ)
-    (r : given_request.Request) (db : Trees) → n ≡ k → k < length rs → r ≡ get_or rs k r →
-    IsClub (club_next (club_fold s (first_of rs k)) (request_of r))
-    → LeavesBeside them (tables (club_next (club_fold s (first_of rs k)) (request_of r))) db
-    → IsAfter them s rs (n + 1) db
-after-next them s rs k n r db count within is legal leaves =
-    let same : club_fold s (first_of rs (k + 1)) ≡ club_next (club_fold s (first_of rs k)) (request_of r) =
-    next-state s rs k r within is in
-    subst (λ m. IsAfter them s rs (m + 1) db) (sym count)
-    (record {
-      legal = subst IsClub (sym same) legal;
-      leaves =
-          subst (λ (u : ClubState). LeavesBeside them (tables u) db) (sym same) leaves;
-    })
+-- what a stop leaves after so many outcomes, or after one request more
+pub leaves-by : {them : Neighbours} {s : ClubState} {rs : List given_request.Request} {n : ℕ} {db : Trees}
+    {Failed : Type 0} → IsAfter them s rs n db ⊎ (Failed × IsAfter them s rs (n + 1) db)
+    → LeavesBeside them (tables (club_fold s (first_of rs n))) db
+    ⊎ LeavesBeside them (tables (club_fold s (first_of rs (n + 1)))) db
+leaves-by (inl here) = inl here.leaves
+leaves-by (inr (failed, next)) = inr next.leaves

@@ -1,7 +1,6 @@
 -- From the tables of schema 1 to those of schema 2 with the same state.
 use Rattle.std.proofs.Common.{◌≡◌, ◌⊎◌, ◌+◌, ℕ, pos, true, false, List, [], ◌∷◌, ◌++◌, map, refl, sym, ap, subst}
-use Rattle.std.proofs.Common.{◌∙◌, subst₂}
-use Rattle.std.proofs.Common.{arith, inl, inr}
+use Rattle.std.proofs.Common.{◌∙◌, subst₂, arith, inl, inr}
 use Rattle.std.specs.Prelude.{slice_get}
 use Rattle.std.proofs.lemmas.Option.{same_Some}
 use Rattle.sqlite.specs.Order.{Row, column}
@@ -29,7 +28,7 @@ use Rattle.club_rows.specs.Club.{ClubState, tables}
 use Rattle.club_rows.specs.FirstSchema.{first_tables}
 use Rattle.club_rows.specs.Tables.{meta_row, numbered_from, rule_row}
 use Rattle.club_opening.proofs.Proved.{club_of_version}
-use Rattle.store.specs.Histories.{Chapter, IsHistory, IsHistoryAt, IsReachable, LeavesAt, opens_as, upgraded}
+use Rattle.store.specs.Histories.{Chapter, IsHistory, IsHistoryAt, IsReachable, LeavesAt, Place, upgraded}
 use Rattle.store.proofs.HistoryLemmas.{at_state, holds_beside, leads_then}
 
 -- ---- the tables
@@ -51,23 +50,18 @@ rules_put events = record {
       x_is ∙ ((λ i. rule_row (1 + here i) (event i)) ∙ sym y_is);
 }
 
+only : {row x : Row} → (x ≡ row) ⊎ ⊥ → x ≡ row
+only (inl is) = is
+only (inr none) = absurd none
+
 -- the row of `meta` is put for the one that is there
 meta_put : (last : ℕ) → Alters (0 ∷ []) (meta_row 2 last ∷ []) (meta_row 1 last ∷ []) (meta_row 2 last ∷ [])
 meta_put last = record {
   among = λ z h. h;
   from = λ z h. inr h;
-  stays = λ z h. elim h [
-    | inl is ↦ inr (
-      meta_row 2 last,
-      inl refl,
-      ids_agree z (meta_row 2 last) 1 (ap (λ w. column w 0) is) refl,
-    )
-    | inr none ↦ absurd none
-  ];
-  one = λ x y has_x has_y same. elim has_x [
-    | inl x_is ↦ elim has_y [ inl y_is ↦ x_is ∙ sym y_is | inr none ↦ absurd none ]
-    | inr none ↦ absurd none
-  ];
+  stays = λ z h.
+      inr (meta_row 2 last, inl refl, ids_agree z (meta_row 2 last) 1 (ap (λ w. column w 0) (only h)) refl);
+  one = λ x y has_x has_y same. only has_x ∙ sym (only has_y);
 }
 
 -- the rows of the rules of its events, and the row of `meta`, put into the tables of schema 1, make those of schema 2
@@ -104,48 +98,47 @@ found_widened s found rules meta register same cells =
 
 -- ---- histories
 
-pub not_newer : (found : Version) → found ≡ First → ¬ (found ≡ Current)
-not_newer found first current = absurd (let x = sym first ∙ current in cc)
+pub not_newer : {found : Version} → found ≡ First → ¬ (found ≡ Current)
+not_newer first current = absurd (let x = sym first ∙ current in cc)
 
 -- a history by tables that were found to be those of schema 1 is one of the first version
-pub first_history : (them : Neighbours) (chapters : List Chapter) (s : State) (found : Version) → found ≡ First
+pub first_history : {them : Neighbours} {chapters : List Chapter} {s : State} {found : Version} → found ≡ First
     → (HasTablesOf Current s.now.schema → found ≡ Current)
     → (version : Version) × IsHistoryAt version them chapters s → IsHistoryAt First them chapters s
-first_history them chapters s found first newer (First, at) = at
-first_history them chapters s found first newer (Current, at) =
-    absurd (not_newer found first (newer (holds_beside them (tables at.after) s at.exactly).schema))
+first_history first newer (First, at) = at
+first_history {them} {s = s} first newer (Current, at) =
+    absurd (not_newer first (newer (holds_beside them (tables at.after) s at.exactly).schema))
 
 -- an upgrade that was answered leads to the last version
-pub upgraded_stands : (version : Version) (them : Neighbours) (chapters : List Chapter) (old new : State)
+pub upgraded_stands : {version : Version} {them : Neighbours} {chapters : List Chapter} {old new : State}
     → (at : IsHistoryAt version them chapters old) → IsBesideThem them (tables at.after) new
     → IsHistory them (chapters ++ upgraded true ∷ []) new
-upgraded_stands version them chapters old new at exactly = record {
+upgraded_stands {version} at exactly = record {
   from = at.from;
   after = at.after;
   legal = club_of_version version at.after at.legal;
-  leads = leads_then (opens_as at.from) (record { version = version; state = at.after }) (at_state at.after) chapters
-      (upgraded true) at.leads (refl, inl refl);
+  leads = leads_then _ _ (at_state at.after) _ _ at.leads (refl, inl refl);
   exactly = exactly;
 }
 
 -- one that was cut off leads to it, or stays where it was
-pub upgraded_cut : (version : Version) (them : Neighbours) (chapters : List Chapter) (old : State)
-    → (at : IsHistoryAt version them chapters old) → (db : Trees)
+pub upgraded_cut : {version : Version} {them : Neighbours} {chapters : List Chapter} {old : State} {db : Trees}
+    → (at : IsHistoryAt version them chapters old)
     → LeavesAt version them at.after db ⊎ LeavesBeside them (tables at.after) db
     → IsReachable them (chapters ++ upgraded false ∷ []) db
-upgraded_cut version them chapters old at db (inl before) = record {
-  from = at.from;
-  after = record { version = version; state = at.after };
-  legal = at.legal;
-  leads = leads_then (opens_as at.from) (record { version = version; state = at.after })
-      (record { version = version; state = at.after }) chapters (upgraded false) at.leads (refl, inr (refl, refl));
-  leaves = before;
-}
-upgraded_cut version them chapters old at db (inr after) = record {
+upgraded_cut {version} at (inl before) =
+    let stays : Place = record { version = version; state = at.after } in
+    record {
+      from = at.from;
+      after = stays;
+      legal = at.legal;
+      leads = leads_then _ stays stays _ _ at.leads (refl, inr (refl, refl));
+      leaves = before;
+    }
+upgraded_cut {version} at (inr after) = record {
   from = at.from;
   after = at_state at.after;
   legal = club_of_version version at.after at.legal;
-  leads = leads_then (opens_as at.from) (record { version = version; state = at.after }) (at_state at.after) chapters
-      (upgraded false) at.leads (refl, inl refl);
+  leads = leads_then _ _ (at_state at.after) _ _ at.leads (refl, inl refl);
   leaves = after;
 }

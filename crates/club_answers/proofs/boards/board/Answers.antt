@@ -1,10 +1,9 @@
-use Rattle.store_tables.proofs.Proved.{clean_before, rows_after, reads_on, ended}
-use Rattle.std.proofs.Common.{ap, refl, subst, ◌∙◌}
+use Rattle.store_tables.proofs.Proved.{reads_on, ended}
+use Rattle.std.proofs.Common.{ap, refl, ◌∙◌}
 use Rattle.std.specs.Prelude.{max}
-use Rattle.club_rows.specs.Club.{tables}
-use Rattle.club_changes.specs.Stored.{IsFoundGame}
 use Rattle.club_changes.proofs.Proved.{place_at}
 use Rattle.club_lists.specs.Board.{board_text}
+use Rattle.club_answers.proofs.CallLemmas.{between, between_three}
 use Rattle.club_answers.proofs.boards.board.Goals as goal
 
 pub returns-in_err-text-in-Some-clause-reads : goal.returns-in_err-text-in-Some-clause-reads
@@ -21,12 +20,9 @@ returns-in-None-clause-reads g c = reads_on c.in_ok-last.ensures.reads c.in_ok-s
 
 pub returns-in_ok-text-in-Some-clause-found : goal.returns-in_ok-text-in-Some-clause-found
 returns-in_ok-text-in-Some-clause-found g c clean s is_club k =
-    let second = clean_before c.board_in.ensures.reads clean in
-    let first = clean_before c.stored_game.ensures.reads second in
-    let one = rows_after c.in_ok-last.ensures.reads first (tables s) k in
-    let two = rows_after c.in_ok-stored.ensures.reads second (tables s) one in
-    let (game, at, stored) = subst (IsFoundGame s c.args.game) c.in-Some.is
-    (c.in_ok-stored.ensures.found second s is_club one) in
+    let (first, one, second, two) = between_three s c.in_ok-last.ensures.reads c.in_ok-stored.ensures.reads
+    c.board_in.ensures.reads clean k in
+    let (game, at, stored) = rw c.in-Some.is at (c.in_ok-stored.ensures.found second s is_club one) in
     let (n, id_is, there) = place_at s.games c.args.game game at in
     let told = c.in_ok-told-in-Some.ensures s c.args.game game (is_club.games n game there) stored.row in
     let shown = c.in_ok-shown-in-Some.ensures.shown clean s c.args.game game is_club at stored two in
@@ -35,6 +31,5 @@ returns-in_ok-text-in-Some-clause-found g c clean s is_club k =
 
 pub returns-in-None-clause-found : goal.returns-in-None-clause-found
 returns-in-None-clause-found g c clean s is_club k =
-    let first = clean_before c.stored_game.ensures.reads clean in
-    let one = rows_after c.in_ok-last.ensures.reads first (tables s) k in
-    (subst (IsFoundGame s c.args.game) c.in-None.is (c.in_ok-stored.ensures.found clean s is_club one), refl)
+    let (first, one) = between s c.in_ok-last.ensures.reads c.stored_game.ensures.reads clean k in
+    (rw c.in-None.is at (c.in_ok-stored.ensures.found clean s is_club one), refl)

@@ -1,8 +1,7 @@
 use Rattle.store_tables.proofs.Proved.{ended}
-use Rattle.std.proofs.Common.{map, ap, sym, ◌∙◌}
-use Rattle.store_tables.specs.Cells.{challenge_cells}
 use Rattle.club_rows.specs.Club.{tables}
-use Rattle.club_answers.proofs.ChallengeOrder.{both_ok, challenges_are}
+use Rattle.club_answers.proofs.CallLemmas.{both_ok}
+use Rattle.club_answers.proofs.ChallengeOrder.{challenges_are}
 use Rattle.club_answers.proofs.challenges.all_challenges.Goals as goal
 
 pub returns-clause-reads : goal.returns-clause-reads
@@ -13,4 +12,4 @@ returns-clause-found g c clean =
     both_ok c.challenges_in.result c.challenges_in.ensures.rows c.challenges_in.ensures.order (λ all rows up s k.
     challenges_are s c.in_ok-rows.rows.items all.items
     (c.in_ok-rows.ensures.same clean (tables s) k)
-    (ap (map challenge_cells) (sym c.deref.ensures.value) ∙ rows) up)
+    (rw c.deref.ensures.value at rows) up)

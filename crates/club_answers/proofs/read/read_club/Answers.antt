@@ -1,7 +1,5 @@
-use Rattle.store_tables.proofs.Proved.{clean_before, rows_after, reads_on}
-use Rattle.std.proofs.Common.{ap, ◌∙◌}
-use Rattle.std.specs.Prelude.{max}
-use Rattle.club_rows.specs.Club.{tables}
+use Rattle.store_tables.proofs.Proved.{reads_on}
+use Rattle.club_answers.proofs.CallLemmas.{between, between_three}
 use Rattle.club_answers.proofs.read.read_club.Goals as goal
 
 pub returns-clause-reads : goal.returns-clause-reads
@@ -11,14 +9,13 @@ returns-clause-reads g c =
 
 pub returns-clause-read : goal.returns-clause-read
 returns-clause-read g c clean s is_club k =
-    let third = clean_before c.games_of.ensures.reads clean in
-    let second = clean_before c.all_events.ensures.reads third in
-    let first = clean_before c.all_members.ensures.reads second in
-    let one = rows_after c.in_ok-last.ensures.reads first (tables s) k in
-    let two = rows_after c.in_ok-members.ensures.reads second (tables s) one in
-    let three = rows_after c.in_ok-events.ensures.reads third (tables s) two in
+    let last = c.in_ok-last.ensures.reads in
+    let members = c.in_ok-members.ensures.reads in
+    let events = c.in_ok-events.ensures.reads in
+    let (third, three) = between s (reads_on last (reads_on members events)) c.games_of.ensures.reads clean k in
+    let (first, one, second, two) = between_three s last members events third k in
     record {
-      moment_is = c.later.ensures ∙ ap (λ m. max c.args.moment m) (c.in_ok-last.ensures.last first s k);
+      moment_is = cc (c.later.ensures, c.in_ok-last.ensures.last first s k);
       members_are = c.in_ok-members.ensures.values second s one;
       events_are = c.in_ok-events.ensures.values third s is_club two;
       games_are = c.in_ok-games.ensures.told clean s is_club three;

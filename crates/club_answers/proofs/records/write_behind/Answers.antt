@@ -1,5 +1,4 @@
-use Rattle.std.proofs.Common.{inl, true, subst}
-use Rattle.club_views.specs.Exported.{IsExported, IsWrittenSome}
+use Rattle.std.proofs.Common.{inl}
 use Rattle.club_answers.proofs.RecordLemmas.{behind_added, behind_begun}
 use Rattle.sqlite.specs.Held.{state}
 use Rattle.store_tables.proofs.Proved.{read_nothing}
@@ -13,30 +12,20 @@ returns-in_err-write_front-clause-begun g c clean s is_club k = inl c.write_fron
 
 pub returns-in-Ok-true-clause-written : goal.returns-in-Ok-true-clause-written
 returns-in-Ok-true-clause-written g c clean s is_club k =
-    let mid = g.W.Write.contents c.write_front.new.writer in
-    let now = g.W.Write.contents c.export_of.new.writer in
-    let written = subst (λ found. IsExported s c.from.result found mid now) c.in-Ok-true.field-0-test
-    (c.in-Ok-true.ensures.written clean s is_club k) in
-    behind_added s c.args.id _ _ _ _ c.in_ok-write_front.ensures.written
-    (subst (λ id. IsExported s id true mid now) c.from.ensures written)
+    behind_added s c.args.id _ _ _ _ c.in_ok-write_front.ensures.written c.from.ensures c.in-Ok-true.field-0-test
+    (c.in-Ok-true.ensures.written clean s is_club k)
 
 pub returns-in-Ok-true-clause-begun : goal.returns-in-Ok-true-clause-begun
 returns-in-Ok-true-clause-begun g c clean s is_club k =
-    let mid = g.W.Write.contents c.write_front.new.writer in
-    let now = g.W.Write.contents c.export_of.new.writer in
-    behind_begun s c.args.id _ _ _ _ c.in_ok-write_front.ensures.written
-    (subst (λ id. IsWrittenSome s id mid now) c.from.ensures (c.export_of.ensures.begun clean s is_club k))
+    behind_begun s c.args.id _ _ _ _ c.in_ok-write_front.ensures.written c.from.ensures
+    (c.export_of.ensures.begun clean s is_club k)
 
 pub returns-in-Ok-false-clause-begun : goal.returns-in-Ok-false-clause-begun
 returns-in-Ok-false-clause-begun g c clean s is_club k =
-    let mid = g.W.Write.contents c.write_front.new.writer in
-    let now = g.W.Write.contents c.export_of.new.writer in
-    behind_begun s c.args.id _ _ _ _ c.in_ok-write_front.ensures.written
-    (subst (λ id. IsWrittenSome s id mid now) c.from.ensures (c.export_of.ensures.begun clean s is_club k))
+    behind_begun s c.args.id _ _ _ _ c.in_ok-write_front.ensures.written c.from.ensures
+    (c.export_of.ensures.begun clean s is_club k)
 
 pub returns-in-Err-clause-begun : goal.returns-in-Err-clause-begun
 returns-in-Err-clause-begun g c clean s is_club k =
-    let mid = g.W.Write.contents c.write_front.new.writer in
-    let now = g.W.Write.contents c.export_of.new.writer in
-    behind_begun s c.args.id _ _ _ _ c.in_ok-write_front.ensures.written
-    (subst (λ id. IsWrittenSome s id mid now) c.from.ensures (c.export_of.ensures.begun clean s is_club k))
+    behind_begun s c.args.id _ _ _ _ c.in_ok-write_front.ensures.written c.from.ensures
+    (c.export_of.ensures.begun clean s is_club k)

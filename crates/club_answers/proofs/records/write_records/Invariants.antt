@@ -5,12 +5,12 @@ use Rattle.store_tables.specs.Over.{HasRows}
 use Rattle.store_tables.specs.Reading.{Reads}
 use Rattle.club_rows.specs.Club.{ClubState, IsClub, tables}
 use Rattle.club_answers.specs.Writing.{HasRecords}
-use Rattle.club_answers.proofs.RecordLemmas.{is_none}
+use Rattle.club_answers.proofs.RecordLemmas.{opens}
 use Rattle.club_answers.proofs.records.write_records.Given as goal
 
 abbrev pub invariant-loop-id : goal.invariant-loop-id
 invariant-loop-id g l = record {
-  first : l.is_first ≡ is_none (take l.id-index l.ids);
+  first : l.is_first ≡ opens true (take l.id-index l.ids);
   reads : Reads true (state g.S.Store l.fn.conn) (state g.S.Store l.conn);
   written : HasCleanDisk (state g.S.Store l.conn) → (s : ClubState) → IsClub s
       → HasRows (tables s) (state g.S.Store l.fn.conn)

@@ -1,11 +1,10 @@
-use Rattle.store_tables.proofs.Proved.{clean_before, rows_after, reads_on, ended}
-use Rattle.std.proofs.Common.{ap, refl, subst, ◌∙◌}
+use Rattle.store_tables.proofs.Proved.{reads_on, ended}
+use Rattle.std.proofs.Common.{ap, refl, ◌∙◌}
 use Rattle.std.specs.Prelude.{max}
 use Rattle.club_core.specs.Answer.{members_of}
-use Rattle.club_rows.specs.Club.{tables}
-use Rattle.club_changes.specs.Stored.{IsFoundGame}
 use Rattle.club_changes.proofs.Proved.{place_at}
 use Rattle.club_lists.specs.Clock.{clock_text}
+use Rattle.club_answers.proofs.CallLemmas.{between_three}
 use Rattle.club_answers.proofs.shows.clock.Goals as goal
 
 pub returns-in_err-text-in-Some-clause-reads : goal.returns-in_err-text-in-Some-clause-reads
@@ -23,12 +22,9 @@ returns-clause-reads g c =
 
 pub returns-in-Some-clause-found : goal.returns-in-Some-clause-found
 returns-in-Some-clause-found g c clean s is_club k =
-    let second = clean_before c.stored_game.ensures.reads clean in
-    let first = clean_before c.all_members.ensures.reads second in
-    let one = rows_after c.in_ok-last.ensures.reads first (tables s) k in
-    let two = rows_after c.in_ok-members.ensures.reads second (tables s) one in
-    let (game, at, stored) = subst (IsFoundGame s c.args.game) c.in-Some.is
-    (c.in_ok-stored.ensures.found clean s is_club two) in
+    let (first, one, second, two) = between_three s c.in_ok-last.ensures.reads c.in_ok-members.ensures.reads
+    c.stored_game.ensures.reads clean k in
+    let (game, at, stored) = rw c.in-Some.is at (c.in_ok-stored.ensures.found clean s is_club two) in
     let (n, id_is, there) = place_at s.games c.args.game game at in
     let told = c.in_ok-told-in-Some.ensures s c.args.game game (is_club.games n game there) stored.row in
     let members = ap members_of c.deref.ensures.value ∙ c.in_ok-members.ensures.values second s one in
@@ -37,8 +33,6 @@ returns-in-Some-clause-found g c clean s is_club k =
 
 pub returns-clause-found : goal.returns-clause-found
 returns-clause-found g c clean s is_club k =
-    let second = clean_before c.stored_game.ensures.reads clean in
-    let first = clean_before c.all_members.ensures.reads second in
-    let one = rows_after c.in_ok-last.ensures.reads first (tables s) k in
-    let two = rows_after c.in_ok-members.ensures.reads second (tables s) one in
-    (subst (IsFoundGame s c.args.game) c.in-None.is (c.in_ok-stored.ensures.found clean s is_club two), refl)
+    let (first, one, second, two) = between_three s c.in_ok-last.ensures.reads c.in_ok-members.ensures.reads
+    c.stored_game.ensures.reads clean k in
+    (rw c.in-None.is at (c.in_ok-stored.ensures.found clean s is_club two), refl)

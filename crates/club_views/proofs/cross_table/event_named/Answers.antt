@@ -1,4 +1,4 @@
-use Rattle.std.proofs.Common.{map, sym, ◌∙◌}
+use Rattle.std.proofs.Common.{map, refl, sym, ◌∙◌}
 use Rattle.store_tables.specs.Cells.{event_cells}
 use Rattle.club_rows.specs.Club.{tables}
 use Rattle.club_views.proofs.CrossTableLemmas.{event_some, event_none}
@@ -16,5 +16,5 @@ returns-in_ok-event_in-in-Some-clause-found g c clean s is_club k =
 pub returns-in-None-clause-found : goal.returns-in-None-clause-found
 returns-in-None-clause-found g c clean s is_club k =
     let rows = c.in_ok-find.field-0.items in
-    event_none s is_club c.args.name.now (map event_cells rows) (c.in_ok-find.ensures.rows clean (tables s) k)
-    (none_mapped event_cells rows (sym c.first.ensures ∙ c.in-None.is))
+    event_none s is_club c.args.name.now (map event_cells rows) _ (c.in_ok-find.ensures.rows clean (tables s) k)
+    (none_mapped event_cells rows (sym c.first.ensures ∙ c.in-None.is)) refl

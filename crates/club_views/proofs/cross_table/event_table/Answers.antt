@@ -1,10 +1,9 @@
 use Rattle.store_tables.proofs.Proved.{clean_before, rows_after, reads_on, ended}
-use Rattle.std.proofs.Common.{◌∷◌, ap, subst, ◌∙◌}
+use Rattle.std.proofs.Common.{◌∷◌, ap, ◌∙◌}
 use Rattle.std.proofs.lemmas.Result.{IfOk-weaker}
 use Rattle.club_core.specs.Answer.{members_of}
 use Rattle.club_rows.specs.Club.{tables}
 use Rattle.cross_tables.specs.Lines.{header_text}
-use Rattle.cross_tables.specs.Totals.{AreTotals}
 use Rattle.club_views.specs.CrossTable.{lines_from}
 use Rattle.club_views.proofs.cross_table.event_table.Goals as goal
 
@@ -24,7 +23,7 @@ returns-clause-table g c clean =
       scores = c.in_ok-scores.scores.items;
       scores_are = c.in_ok-scores.ensures.scores looked s k;
       standings = standings;
-      totals = subst (AreTotals standings) c.deref.ensures.value c.in_ok-standings.ensures.totals;
+      totals = rw c.deref.ensures.value at c.in_ok-standings.ensures.totals;
       ranked = c.in_ok-standings.ensures.ranked;
       lines_are = are ∙ (λ i. header_text c.args.name.now ∷ lines_from (members i) (scores i) standings 1 standings);
     }) c.lines_of.ensures

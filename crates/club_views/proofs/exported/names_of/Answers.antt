@@ -1,9 +1,5 @@
 use Rattle.store_tables.proofs.Proved.{clean_before, rows_after, reads_on}
-use Rattle.std.proofs.Common.{Some, ap, sym, ◌∙◌}
-use Rattle.std.specs.Option.{option_map}
-use Rattle.club_core.specs.Events.{Event}
-use Rattle.club_core.specs.Members.{Member}
-use Rattle.club_core.specs.State.{place}
+use Rattle.std.proofs.Common.{Some, ap}
 use Rattle.club_rows.specs.Club.{tables}
 use Rattle.club_changes.proofs.Proved.{event_stands, players_stand, pairing_same}
 use Rattle.club_views.proofs.exported.names_of.Goals as goal
@@ -23,14 +19,8 @@ returns-clause-named g c clean s id game is_club at is k =
     let (event, event_at) = event_stands s is_club id game at in
     let (first, second, first_at, second_at) = players_stand s is_club id game at in
     record {
-      event =
-          ap Some
-          (ap (λ e. e.name)
-          (c.in_ok-event.ensures.found one s is_club k event (ap (λ p. place s.events p.event) same ∙ event_at)))
-          ∙ sym (ap (option_map (λ (e : Event). e.name)) event_at);
-      first = ap Some (c.in_ok-first.ensures.found two s k1 first (ap (λ p. place s.members p.first) same ∙ first_at))
-          ∙ sym (ap (option_map (λ (m : Member). m.name)) first_at);
-      second =
-          ap Some (c.in_ok-second.ensures.found clean s k2 second (ap (λ p. place s.members p.second) same ∙ second_at))
-          ∙ sym (ap (option_map (λ (m : Member). m.name)) second_at);
+      event = rw event_at
+          (ap (λ e. Some e.name) (c.in_ok-event.ensures.found one s is_club k event (rw same event_at)));
+      first = rw first_at (ap Some (c.in_ok-first.ensures.found two s k1 first (rw same first_at)));
+      second = rw second_at (ap Some (c.in_ok-second.ensures.found clean s k2 second (rw same second_at)));
     }

@@ -1,5 +1,5 @@
 use Rattle.store_tables.proofs.Proved.{clean_before, rows_after, reads_on}
-use Rattle.std.proofs.Common.{inl, inr, refl}
+use Rattle.std.proofs.Common.{inl, inr}
 use Rattle.std.proofs.lemmas.Result.{on_ok_weaker}
 use Rattle.club_rows.specs.Club.{tables}
 use Rattle.club_views.proofs.exporting.export_stored.Goals as goal
@@ -28,6 +28,3 @@ returns-clause-begun g c clean s id game is_club at is k =
       | inr begun ↦
           inr (game, at, c.in_ok-names.names, c.in_ok-names.ensures.named looked s id game is_club at is k, begun)
     ]
-
-pub returns-in_err-names-clause-begun : goal.returns-in_err-names-clause-begun
-returns-in_err-names-clause-begun g c clean s id game is_club at is k = inl refl

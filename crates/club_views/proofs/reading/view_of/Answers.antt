@@ -1,7 +1,5 @@
 use Rattle.store_tables.proofs.Proved.{clean_before, rows_after, reads_on}
-use Rattle.std.proofs.Common.{subst}
 use Rattle.club_rows.specs.Club.{tables}
-use Rattle.club_changes.specs.Stored.{IsFoundGame}
 use Rattle.club_views.proofs.reading.view_of.Goals as goal
 
 pub returns-in_ok-viewed-in-Some-clause-reads : goal.returns-in_ok-viewed-in-Some-clause-reads
@@ -12,10 +10,5 @@ pub returns-in_ok-viewed-in-Some-clause-viewed : goal.returns-in_ok-viewed-in-So
 returns-in_ok-viewed-in-Some-clause-viewed g c clean s is_club k =
     let looked = clean_before c.viewed.ensures.reads clean in
     let kept = rows_after c.in_ok-found.ensures.reads looked (tables s) k in
-    let (game, at, stored) = subst (IsFoundGame s c.args.game) c.in-Some.is
-    (c.in_ok-found.ensures.found looked s is_club k) in
+    let (game, at, stored) = rw c.in-Some.is at (c.in_ok-found.ensures.found looked s is_club k) in
     (game, at, c.in_ok-viewed-in-Some.ensures.viewed clean s c.args.game game is_club at stored kept)
-
-pub returns-in-None-clause-viewed : goal.returns-in-None-clause-viewed
-returns-in-None-clause-viewed g c clean s is_club k =
-    subst (IsFoundGame s c.args.game) c.in-None.is (c.in_ok-found.ensures.found clean s is_club k)

@@ -1,7 +1,8 @@
-use Rattle.std.proofs.Common.{◌≡◌, ◌+◌, ◌++◌, ◌∷◌, [], pos, length, string_bytes, Some, ap, ◌∙◌, slice_get, rules, refl}
-use Rattle.std.proofs.Common.{arith}
-use Rattle.std.proofs.lemmas.Option.{slice_get_read, slice_get_within}
-use Rattle.club_views.proofs.ViewedLemmas.{one_more_ply, one_more_text}
+use Rattle.std.proofs.Common.{◌≡◌, ◌+◌, ◌++◌, ◌∷◌, [], pos, length, string_bytes, Some, ap, sym, ◌∙◌, slice_get, rules}
+use Rattle.std.proofs.Common.{arith, inl, inr, refl}
+use Rattle.std.proofs.lemmas.Bool.{cases_lt}
+use Rattle.std.proofs.lemmas.Option.{same_Some, slice_get_read}
+use Rattle.club_views.proofs.ViewedLemmas.{one_more}
 use Rattle.club_views.proofs.viewed.texts.Goals as goal
 
 pub loop-row-preserved : goal.loop-row-preserved
@@ -17,12 +18,12 @@ loop-row-preserved c =
     let same : string_bytes c.in_ok-clone.field-0 ≡ string_bytes row.text = search rules in
     record {
       count = search rules;
-      order = one_more_ply rows i row c.loop-row.invariant.order here ply;
-      texts = one_more_text (λ t. string_bytes t) rows i row c.loop-row.texts.items c.push.new.self.items
-          c.in_ok-clone.field-0 c.loop-row.invariant.texts here more same;
+      order = λ n r low at. elim (cases_lt n i) [
+        | inl less ↦ c.loop-row.invariant.order n r less at
+        | inr past ↦
+            let n_is : n ≡ i = omega (arith, low, past) in
+            rw (n_is, same_Some r row (sym at ∙ ap (slice_get rows) n_is ∙ here)) ply
+      ];
+      texts = sym (one_more (λ r. string_bytes r.text) (λ t. string_bytes t) rows i row c.loop-row.texts.items
+          c.push.new.self.items c.in_ok-clone.field-0 (sym c.loop-row.invariant.texts) here (sym same) more);
     }
-
-pub returns-clause-order : goal.returns-clause-order
-returns-clause-order c n row at =
-    let low = slice_get_within c.args.rows.now n row at in
-    c.loop-row.invariant.order n row (omega (arith, low, c.loop-row-test.false)) at

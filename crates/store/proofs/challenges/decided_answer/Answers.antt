@@ -1,26 +1,22 @@
-use Rattle.std.proofs.Common.{ap, ◌∙◌, arith, refl}
-use Rattle.sqlite.specs.Held.{state}
-use Rattle.sqlite.specs.State.{HasCleanDisk}
+use Rattle.std.proofs.Common.{ap, ◌∙◌}
 use Rattle.club_core.specs.Challenges.{challenge_by, answer_step}
 use Rattle.club_core.specs.Members.{find_id}
 use Rattle.club_requests.specs.Outcome.{by_member}
 use Rattle.club_core.specs.Seats.{has_member_name}
 use Rattle.club_rows.specs.Club.{tables}
-use Rattle.store_tables.proofs.Proved.{read_then, still_rows}
+use Rattle.store_tables.proofs.Proved.{clean_before, reads_on, rows_after}
 use Rattle.store.proofs.challenges.decided_answer.Goals as goal
 
 pub returns-clause-decided : goal.returns-clause-decided
 returns-clause-decided g c clean s is_club ms k =
-    let looked : HasCleanDisk (state g.S.Store c.challenge_by.new.conn) =
-    omega (arith, c.games_in.ensures.reads.clean) in
+    let looked = clean_before c.games_in.ensures.reads clean in
     let number = c.args.command.now.number in
     let found = c.find_member-challenger.ensures ∙ (λ i. find_id (has_member_name (c.as_str.ensures.value i)) (ms i)) in
     let under = c.in_ok-under.ensures.found looked s is_club k ∙ ap (λ o. challenge_by s.challenges o number) found in
     let games = c.in_ok-games.ensures.count clean s
-    (still_rows _ _ (c.in_ok-under.ensures.reads.kept refl looked) (tables s) k) in
+    (rows_after c.in_ok-under.ensures.reads looked (tables s) k) in
     c.answer_challenge.ensures
     ∙ (λ i. by_member c.args.caller (λ m. answer_step (under i) (games i) m c.args.command.now.accept))
 
 pub returns-clause-reads : goal.returns-clause-reads
-returns-clause-reads g c =
-    read_then _ _ _ _ c.in_ok-under.ensures.reads c.in_ok-games.ensures.reads
+returns-clause-reads g c = reads_on c.in_ok-under.ensures.reads c.in_ok-games.ensures.reads

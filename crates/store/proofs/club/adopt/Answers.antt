@@ -7,9 +7,6 @@ use Rattle.store.proofs.HistoryLemmas.{holds_first}
 use Rattle.store.proofs.OpeningLemmas.{current_by_shape, first_answers}
 use Rattle.store.proofs.club.adopt.Goals as goal
 
-pub returns-in-Err-clause-good : goal.returns-in-Err-clause-good
-returns-in-Err-clause-good g c = λ clean s club holds shape. c.in-Err.ensures.good clean s club holds shape
-
 pub returns-in-Ok-clause-older : goal.returns-in-Ok-clause-older
 returns-in-Ok-clause-older g c = λ clean them s club exactly.
     let old = state g.S.Store c.args.conn in
@@ -26,9 +23,6 @@ returns-in-Err-clause-first g c = λ clean them s club exactly shape.
       | inr (inr (named, other)) ↦ inl named
     ]
 
-pub returns-in-Ok-clause-kept : goal.returns-in-Ok-clause-kept
-returns-in-Ok-clause-kept g c = c.in-Ok.ensures.reads
-
 pub returns-in-Ok-clause-unchanged : goal.returns-in-Ok-clause-unchanged
 returns-in-Ok-clause-unchanged g c = λ clean known.
     let old = state g.S.Store c.args.conn in
@@ -39,9 +33,3 @@ pub returns-in-Ok-clause-held : goal.returns-in-Ok-clause-held
 returns-in-Ok-clause-held g c = λ clean known sound.
     let old = state g.S.Store c.args.conn in
     c.in-Ok.ensures.held clean (current_by_shape old.now.schema c.in-Ok.ensures.shape known) sound
-
-pub returns-in-Err-clause-blames : goal.returns-in-Err-clause-blames
-returns-in-Err-clause-blames g c = λ clean known. c.in-Err.ensures.blames clean known
-
-pub returns-in-Err-clause-named : goal.returns-in-Err-clause-named
-returns-in-Err-clause-named g c = λ clean known. c.in-Err.ensures.first clean known

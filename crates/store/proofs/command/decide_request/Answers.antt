@@ -1,43 +1,36 @@
-use Rattle.std.proofs.Common.{ap, sym, ◌∙◌, arith, refl}
+use Rattle.std.proofs.Common.{ap, sym, ◌∙◌, arith}
 use Rattle.std.specs.Prelude.{max}
 use Rattle.std.proofs.lemmas.Result.{IfOk-weaker}
-use Rattle.sqlite.specs.Held.{state}
-use Rattle.sqlite.specs.State.{HasCleanDisk}
 use Rattle.club_rows.specs.Club.{tables}
 use Rattle.club_changes.proofs.Proved.{caller_decided, nobody_decided}
-use Rattle.store_tables.proofs.Proved.{read_then, still_rows}
+use Rattle.store_tables.proofs.Proved.{clean_before, reads_on, rows_after}
 use Rattle.store.proofs.command.decide_request.Goals as goal
 
 pub returns-in-Some-clause-step : goal.returns-in-Some-clause-step
 returns-in-Some-clause-step g c clean =
-    let after_caller : HasCleanDisk (state g.S.Store c.caller_by.new.conn) =
-    omega (arith, c.decide.ensures.reads.clean) in
-    let after_last : HasCleanDisk (state g.S.Store c.last_moment.new.conn) =
-    omega (arith, c.caller_by.ensures.reads.clean, c.decide.ensures.reads.clean) in
+    let after_caller = clean_before c.decide.ensures.reads clean in
+    let after_last = clean_before c.caller_by.ensures.reads after_caller in
     IfOk-weaker c.decide.result _ _ (λ d step s is_club k.
-    let kept = still_rows _ _ (c.in_ok-last.ensures.reads.kept refl after_last) (tables s) k in
+    let kept = rows_after c.in_ok-last.ensures.reads after_last (tables s) k in
     let last = c.in_ok-last.ensures.last after_last s k in
     let moment = c.later.ensures ∙ ap (max c.args.moment) last in
     let caller = sym c.in-Some.is ∙ c.in_ok-caller.ensures.found after_caller s is_club kept in
     caller_decided s c.args.moment c.later.result c.args.who.now c.in-Some.caller c.args.command.now d moment caller
     (step s is_club (omega (arith, moment))
-    (still_rows _ _ (c.in_ok-caller.ensures.reads.kept refl after_caller) (tables s) kept)))
+    (rows_after c.in_ok-caller.ensures.reads after_caller (tables s) kept)))
     (c.decide.ensures.step clean)
 
 pub returns-in-None-clause-step : goal.returns-in-None-clause-step
 returns-in-None-clause-step g c clean s is_club k =
-    let after_last : HasCleanDisk (state g.S.Store c.last_moment.new.conn) =
-    omega (arith, c.caller_by.ensures.reads.clean) in
-    let kept = still_rows _ _ (c.in_ok-last.ensures.reads.kept refl after_last) (tables s) k in
+    let after_last = clean_before c.caller_by.ensures.reads clean in
+    let kept = rows_after c.in_ok-last.ensures.reads after_last (tables s) k in
     let caller = sym c.in-None.is ∙ c.in_ok-caller.ensures.found clean s is_club kept in
     nobody_decided s c.args.moment c.args.who.now c.args.command.now c.unchanged.result caller
     c.unchanged.ensures.outcome c.unchanged.ensures.none
 
 pub returns-in-Some-clause-reads : goal.returns-in-Some-clause-reads
 returns-in-Some-clause-reads g c =
-    read_then _ _ _ _ c.in_ok-last.ensures.reads
-    (read_then _ _ _ _ c.in_ok-caller.ensures.reads c.decide.ensures.reads)
+    reads_on c.in_ok-last.ensures.reads (reads_on c.in_ok-caller.ensures.reads c.decide.ensures.reads)
 
 pub returns-in-None-clause-reads : goal.returns-in-None-clause-reads
-returns-in-None-clause-reads g c =
-    read_then _ _ _ _ c.in_ok-last.ensures.reads c.in_ok-caller.ensures.reads
+returns-in-None-clause-reads g c = reads_on c.in_ok-last.ensures.reads c.in_ok-caller.ensures.reads

@@ -1,8 +1,6 @@
-use Rattle.std.proofs.Common.{◌≤◌, sym, subst, arith, refl}
+use Rattle.std.proofs.Common.{◌≤◌, sym, subst}
 use Rattle.std.specs.Prelude.{IsTrue}
 use Rattle.std.proofs.lemmas.Result.{IfOk-weaker}
-use Rattle.sqlite.specs.Held.{state}
-use Rattle.sqlite.specs.State.{HasCleanDisk}
 use Rattle.club_core.specs.Game.{clocks_of}
 use Rattle.club_core.specs.Legal.{IsLegalGame}
 use Rattle.club_core.specs.Answer.{game_command_of}
@@ -11,12 +9,12 @@ use Rattle.club_core.specs.Step.{game_step}
 use Rattle.club_core.specs.View.{ShowsPly}
 use Rattle.club_rows.specs.Replay.{terms_given}
 use Rattle.club_changes.specs.Steps.{IsDecidedIn}
-use Rattle.store_tables.proofs.Proved.{read_then, still_rows}
+use Rattle.store_tables.proofs.Proved.{clean_before, reads_on, rows_after}
 use Rattle.store.proofs.game.act.Goals as goal
 
 pub returns-clause-step : goal.returns-clause-step
 returns-clause-step g c clean =
-    let looked : HasCleanDisk (state g.S.Store c.asked_view.new.conn) = omega (arith, c.on_view.ensures.reads.clean) in
+    let looked = clean_before c.on_view.ensures.reads clean in
     IfOk-weaker c.on_view.result _ _ (λ d step content old k tells plays of since.
     let laws = g.R.Rules.rules in
     let terms = terms_given c.args.stored.now.terms in
@@ -24,7 +22,7 @@ returns-clause-step g c clean =
     let view = c.in_ok-view.view in
     let (shows, asked) = c.in_ok-view.ensures.shows looked content old k tells plays of in
     let is = c.in_ok-view.ensures.terms in
-    let kept = still_rows _ _ (c.in_ok-view.ensures.reads.kept refl looked) content k in
+    let kept = rows_after c.in_ok-view.ensures.reads looked content k in
     let asked_for = subst (λ n. ShowsPly laws old n view) c.asked_ply-ply.ensures asked in
     subst
     (λ t. IsDecidedIn laws t c.args.stored.now.id c.args.moment (content 14) old
@@ -35,5 +33,4 @@ returns-clause-step g c clean =
     (subst (λ t. (clocks_of old t).since ≤ c.args.moment) (sym is) since))) (c.on_view.ensures.step clean)
 
 pub returns-clause-reads : goal.returns-clause-reads
-returns-clause-reads g c =
-    read_then _ _ _ _ c.in_ok-view.ensures.reads c.on_view.ensures.reads
+returns-clause-reads g c = reads_on c.in_ok-view.ensures.reads c.on_view.ensures.reads

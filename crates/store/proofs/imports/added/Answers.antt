@@ -1,33 +1,28 @@
-use Rattle.std.proofs.Common.{◌≡◌, Some, ap, sym, subst, ◌∙◌}
+use Rattle.std.proofs.Common.{◌≡◌, Some, ap, sym, ◌∙◌}
 use Rattle.club_rules.specs.Records.{recorded_of}
 use Rattle.club_core.specs.Answer.{events_of}
 use Rattle.club_core.specs.Imports.{imported}
 use Rattle.club_core.specs.State.{place, terms_at}
 use Rattle.club_laws.proofs.Proved.{imported-result}
 use Rattle.club_rows.specs.Replay.{terms_given}
-use Rattle.club_changes.specs.NewGames.{AreNewRows}
 use Rattle.club_changes.specs.Steps.{score_list}
 use Rattle.club_changes.proofs.Proved.{put_as}
 use Rattle.store.proofs.imports.added.Goals as goal
 
 pub returns-clause-puts : goal.returns-clause-puts
 returns-clause-puts g c clean content k apart =
-    let changes = c.in_ok-put_rows.field-0 in
-    let puts = c.in_ok-put_rows.ensures in
     let laws = g.R.Rules.rules in
     let new = c.args.new.now in
     let r = recorded_of new.recorded in
     let key = Some c.args.key.now in
-    let pairing = new.pairing in
-    let game = imported laws key pairing c.args.moment r in
+    let scores = score_list (Some c.in_ok-scores.scores) in
     let terms : terms_given c.terms_of-terms.result ≡ terms_at (place (events_of c.args.events.now) new.pairing.event) =
     c.terms_of-terms.ensures ∙ ap terms_at (sym c.in_ok-event.ensures.at) in
-    let rows = subst (λ t. AreNewRows laws t new.game game c.in_ok-rows.rows) terms c.in_ok-rows.ensures in
     record {
       score = new.recorded.score;
-      ended = imported-result laws key pairing c.args.moment r c.requires;
-      scores = score_list (Some c.in_ok-scores.scores);
+      ended = imported-result laws key new.pairing c.args.moment r c.requires;
+      scores = scores;
       scores_are = c.in_ok-scores.ensures.puts clean content k apart;
-      puts = put_as laws _ new.game c.args.moment game c.in_ok-rows.rows (score_list (Some c.in_ok-scores.scores))
-          changes rows puts;
+      puts = put_as laws _ new.game c.args.moment (imported laws key new.pairing c.args.moment r) c.in_ok-rows.rows
+          scores c.in_ok-put_rows.field-0 (rw terms at c.in_ok-rows.ensures) c.in_ok-put_rows.ensures;
     }

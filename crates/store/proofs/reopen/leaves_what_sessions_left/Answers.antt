@@ -1,7 +1,5 @@
-use Rattle.sqlite.specs.Held.{state}
 use Rattle.store.proofs.HistoryLemmas.{stops_led}
 use Rattle.store.proofs.reopen.leaves_what_sessions_left.Goals as goal
 
 pub returns : goal.returns
-returns g c version them chapters at db left =
-    stops_led version them chapters (state g.S.Store c.args.conn.now) at db left
+returns g c version them chapters = stops_led version them chapters _

@@ -1,5 +1,4 @@
 use Rattle.std.proofs.lemmas.Result.{IfOk-weaker}
-use Rattle.club_exports.specs.Title.{title_of}
 use Rattle.club_exports.proofs.PdnLemmas.{pdn-tags}
 use Rattle.club_exports.proofs.draughts.DraughtsExports.begin_record.Goals as goal
 
@@ -10,5 +9,4 @@ returns-clause-written g c =
 
 pub returns-clause-begun : goal.returns-clause-begun
 returns-clause-begun g c plies =
-    pdn-tags c.written_moves_begin_games.ensures.tags (title_of c.args.heading.now) _ _ _ c.head_of-head.ensures
-    c.start.ensures.begun plies
+    pdn-tags c.head_of-head.ensures plies c.written_moves_begin_games.ensures.tags c.start.ensures.begun

@@ -4,10 +4,10 @@ use Rattle.club_exports.proofs.draughts.DraughtsExports.finish_record.Goals as g
 
 pub returns-clause-written : goal.returns-clause-written
 returns-clause-written g c = λ title plies before written fits.
-    (refl, pdn-finished _ _ _ c.in_ok-finish.ensures.written title plies before written)
+    (refl, pdn-finished written c.in_ok-finish.ensures.written)
 
 pub returns-clause-begun : goal.returns-clause-begun
-returns-clause-begun g c = pdn-ending _ _ _ c.finish.ensures.begun
+returns-clause-begun g c = λ title plies before written. pdn-ending written c.finish.ensures.begun
 
 pub returns-in_err-finish-clause-begun : goal.returns-in_err-finish-clause-begun
-returns-in_err-finish-clause-begun g c = pdn-ending _ _ _ c.finish.ensures.begun
+returns-in_err-finish-clause-begun g c = λ title plies before written. pdn-ending written c.finish.ensures.begun

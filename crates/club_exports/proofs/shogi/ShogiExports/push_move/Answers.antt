@@ -4,8 +4,8 @@ use Rattle.club_exports.proofs.shogi.ShogiExports.push_move.Goals as goal
 
 pub returns-clause-written : goal.returns-clause-written
 returns-clause-written g c =
-    on_ok_weaker c.push.result (λ adds. csa-adds _ _ (c.args.made.now, c.args.seconds) _ _ adds) c.push.ensures.written
+    on_ok_weaker c.push.result (λ adds title plies before h. csa-adds h adds) c.push.ensures.written
 
 pub returns-clause-begun : goal.returns-clause-begun
-returns-clause-begun g c =
-    csa-move c.written_moves_begin_games.ensures.moves _ (c.args.made.now, c.args.seconds) _ _ c.push.ensures.begun
+returns-clause-begun g c title plies more before h =
+    csa-move h (c.args.made.now, c.args.seconds) c.written_moves_begin_games.ensures.moves more c.push.ensures.begun

@@ -1,6 +1,4 @@
-use Rattle.std.proofs.Common.{ℕ, ap, sym, subst, ◌∙◌, arith, length, string_bytes, refl}
-use Rattle.sqlite.specs.Held.{state}
-use Rattle.sqlite.specs.State.{HasCleanDisk}
+use Rattle.std.proofs.Common.{ℕ, ap, sym, subst, ◌∙◌, length, string_bytes}
 use Rattle.club_core.specs.declared.challenges.Challenge.{Challenge}
 use Rattle.club_core.specs.Answer.{events_of, members_of}
 use Rattle.club_core.specs.Challenges.{challenge_by, answer_step}
@@ -12,19 +10,15 @@ use Rattle.club_rows.specs.Club.{tables}
 use Rattle.club_changes.specs.Challenged.{AnswersTo}
 use Rattle.club_changes.specs.Steps.{IsDecided}
 use Rattle.club_changes.proofs.Proved.{member_answers, member_mapped}
-use Rattle.store_tables.proofs.Proved.{read_then, still_rows}
+use Rattle.store_tables.proofs.Proved.{clean_before, reads_on, rows_after}
 use Rattle.store.proofs.challenges.AnswerChallengeDecides.decide.Goals as goal
 
 pub returns-clause-step : goal.returns-clause-step
 returns-clause-step g c clean s is_club later k =
-    let d = c.in_ok-put_answered.field-0 in
-    let step = c.in_ok-put_answered.ensures.step in
-    let at_events : HasCleanDisk (state g.S.Store c.all_events.new.conn) =
-    omega (arith, c.decided_answer.ensures.reads.clean) in
-    let at_members : HasCleanDisk (state g.S.Store c.all_members.new.conn) =
-    omega (arith, at_events, c.all_events.ensures.reads.clean) in
-    let one = still_rows _ _ (c.in_ok-members.ensures.reads.kept refl at_members) (tables s) k in
-    let two = still_rows _ _ (c.in_ok-events.ensures.reads.kept refl at_events) (tables s) one in
+    let at_events = clean_before c.decided_answer.ensures.reads clean in
+    let at_members = clean_before c.all_events.ensures.reads at_events in
+    let one = rows_after c.in_ok-members.ensures.reads at_members (tables s) k in
+    let two = rows_after c.in_ok-events.ensures.reads at_events (tables s) one in
     let ms = ap members_of c.deref.ensures.value ∙ c.in_ok-members.ensures.values at_members s k in
     let es = ap events_of c.deref-2.ensures.value ∙ c.in_ok-events.ensures.values at_events s is_club one in
     let command = c.args.self.now in
@@ -36,10 +30,11 @@ returns-clause-step g c clean s is_club later k =
     let f = with_answer s c.args.moment accept in
     let leaves = subst (AnswersTo (length s.games) accept) (sym is)
     (member_answers c.args.caller under (length s.games) accept) in
-    subst (λ o. IsDecided s o d) (ap (map_outcome f) is ∙ sym (member_mapped f c.args.caller wanted))
-    (step s accept is_club es leaves)
+    subst (λ o. IsDecided s o c.in_ok-put_answered.field-0)
+    (ap (map_outcome f) is ∙ sym (member_mapped f c.args.caller wanted))
+    (c.in_ok-put_answered.ensures.step s accept is_club es leaves)
 
 pub returns-clause-reads : goal.returns-clause-reads
 returns-clause-reads g c =
-    read_then _ _ _ _ c.in_ok-members.ensures.reads
-    (read_then _ _ _ _ c.in_ok-events.ensures.reads c.in_ok-decision.ensures.reads)
+    reads_on c.in_ok-members.ensures.reads
+    (reads_on c.in_ok-events.ensures.reads c.in_ok-decision.ensures.reads)

@@ -9,8 +9,6 @@ use Rattle.store.proofs.challenges.WithdrawDecides.decide.Goals as goal
 
 pub returns-clause-step : goal.returns-clause-step
 returns-clause-step g c clean s is_club later k =
-    let d = c.in_ok-put_challenge.field-0 in
-    let step = c.in_ok-put_challenge.ensures.step in
     let under = c.in_ok-under.ensures.found clean s is_club k in
     let number = c.args.self.now.number in
     let f = with_challenge s c.args.moment in
@@ -18,5 +16,5 @@ returns-clause-step g c clean s is_club later k =
     let same = member_same c.args.caller _ wanted
     (λ id is. ap withdrawal_step (under ∙ ap (λ o. challenge_by s.challenges o number) (c.member_id.ensures id is)))
     in
-    subst (λ o. IsDecided s o d) (ap (map_outcome f) (c.withdraw.ensures ∙ same)
-    ∙ sym (member_mapped f c.args.caller wanted)) (step s is_club)
+    subst (λ o. IsDecided s o c.in_ok-put_challenge.field-0) (ap (map_outcome f) (c.withdraw.ensures ∙ same)
+    ∙ sym (member_mapped f c.args.caller wanted)) (c.in_ok-put_challenge.ensures.step s is_club)

@@ -4,15 +4,12 @@ use Rattle.store_tables.specs.Over.{HasRows}
 use Rattle.store_tables.specs.Reading.{Reads}
 use Rattle.club_rows.specs.Club.{tables}
 use Rattle.store.specs.Clubs.{Kept}
-use Rattle.club_views.specs.Exported.{is_output}
 use Rattle.store.proofs.club.Club.ask.Goals as goal
 
 pub returns-in-Err-Output-clause-reads : goal.returns-in-Err-Output-clause-reads
 returns-in-Err-Output-clause-reads g c =
     let inside : Reads true (state g.S.Store c.self.inside.connection) (state g.S.Store c.answer.new.conn) =
-    subst
-    (λ why. Reads (is_output why) (state g.S.Store c.self.inside.connection) (state g.S.Store c.answer.new.conn))
-    c.in-Err-Output.field-0-is c.in-Err-Output.ensures.reads in
+    rw c.in-Err-Output.field-0-is at c.in-Err-Output.ensures.reads in
     search rules
 
 pub returns-in-Ok-clause-shown : goal.returns-in-Ok-clause-shown

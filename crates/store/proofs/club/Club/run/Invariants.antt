@@ -4,7 +4,7 @@ use Rattle.sqlite.specs.Held.{state}
 use Rattle.sqlite_trees.specs.View.{doubt}
 use Rattle.store_tables.specs.Over.{IsBesideThem, Neighbours}
 use Rattle.club_rows.specs.Club.{ClubState, IsClub, tables}
-use Rattle.store.proofs.RunLemmas.{Served}
+use Rattle.store.proofs.RunLemmas.{Served, first_of}
 use Rattle.store.proofs.club.Club.run.Given as goal
 
 -- as many requests were served as there are outcomes
@@ -15,4 +15,4 @@ invariant-loop-request g l =
     × (length l.outcomes.items ≡ l.request-index)
     × (HasCleanDisk (state g.S.Store l.self.connection) → (them : Neighbours) (s : ClubState) → IsClub s
     → IsBesideThem them (tables s) (state g.S.Store l.fn.self.connection) →
-    Served them s l.requests l.request-index l.outcomes.items (state g.S.Store l.self.connection))
+    Served them s (first_of l.requests l.request-index) l.outcomes.items (state g.S.Store l.self.connection))

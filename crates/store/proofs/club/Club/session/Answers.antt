@@ -1,17 +1,14 @@
-use Rattle.sqlite.specs.Held.{state}
 use Rattle.store.proofs.HistoryLemmas.{session_leads, session_stands}
 use Rattle.store.proofs.club.Club.session.Goals as goal
 
 pub returns-clause-history : goal.returns-clause-history
 returns-clause-history g c clean usable them sessions at db left =
-    session_leads at.from them at.after sessions c.args.requests.now c.run.result db at.leads
-    (c.run.ensures.outcomes clean them at.after at.legal at.exactly)
+    session_leads c.run.result at (c.run.ensures.outcomes clean them at.after at.legal at.exactly)
     (c.run.ensures.left clean usable them at.after at.legal at.exactly db left)
 
 pub returns-clause-stands : goal.returns-clause-stands
 returns-clause-stands g c clean none them sessions at =
-    session_stands at.from them at.after sessions c.args.requests.now c.run.result
-    (state g.S.Store c.run.new.self.connection)
-    at.leads (c.run.ensures.outcomes clean them at.after at.legal at.exactly) (c.run.ensures.whole none)
+    session_stands c.args.requests.now c.run.result at
+    (c.run.ensures.outcomes clean them at.after at.legal at.exactly) (c.run.ensures.whole none)
     (c.run.ensures.legal clean none them at.after at.legal at.exactly)
     (c.run.ensures.stored clean none them at.after at.legal at.exactly)

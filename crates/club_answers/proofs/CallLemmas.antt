@@ -1,0 +1,28 @@
+-- What calls tell together.
+use Rattle.std.proofs.Common.{Bool, true}
+use Rattle.std.specs.Prelude.{Result, Ok, Err, IfOk}
+use Rattle.sqlite.specs.State.{State, HasCleanDisk}
+use Rattle.store_tables.specs.Over.{HasRows}
+use Rattle.store_tables.specs.Reading.{Reads}
+use Rattle.store_tables.proofs.Proved.{clean_before, rows_after, reads_on}
+use Rattle.club_rows.specs.Club.{ClubState, tables}
+
+-- between two calls that only read the disk was in no doubt, and it had the rows
+pub between : {answered : Bool} {a b c : State} (s : ClubState) → Reads true a b → Reads answered b c → HasCleanDisk c
+    → HasRows (tables s) a → HasCleanDisk b × HasRows (tables s) b
+between s one two clean k = let first = clean_before two clean in (first, rows_after one first (tables s) k)
+
+-- the same between three
+pub between_three : {answered : Bool} {a b c d : State} (s : ClubState) → Reads true a b → Reads true b c
+    → Reads answered c d → HasCleanDisk d → HasRows (tables s) a
+    → HasCleanDisk b × HasRows (tables s) b × HasCleanDisk c × HasRows (tables s) c
+between_three s one two three clean k =
+    let (first, kept) = between s one (reads_on two three) clean k in
+    let (second, more) = between s two three clean kept in
+    (first, kept, second, more)
+
+-- what two facts of an answer tell
+pub both_ok : {T E : Type 0} {P Q R : T → Type 0} (r : Result T E) → IfOk r P → IfOk r Q → ((x : T) → P x → Q x → R x)
+    → IfOk r R
+both_ok (Ok x) p q f = f x p q
+both_ok (Err e) p q f = tt
