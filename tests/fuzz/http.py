@@ -1,0 +1,207 @@
+"""Requests at the desk, whole, cut, parted and changed by a seed: what is replied is what the documents say.
+
+`reply_to` says for any bytes which reply must come, or that none comes, by docs/http.md alone.
+"""
+import re
+import socket
+
+from models import json as json_model
+from models.club import NAMES, refusal, status_of
+from models.draughts import Refused
+
+HEAD_LIMIT, FIELD_LIMIT, BODY_LIMIT = 16384, 64, 65536
+START = re.compile(rb"([!#$%&'*+.^_`|~0-9A-Za-z-]+) ([!-~\x80-\xff]+) HTTP/1\.([01])")
+FIELD = re.compile(rb"([!#$%&'*+.^_`|~0-9A-Za-z-]+):([\t -~\x80-\xff]*)")
+NUMBER = re.compile(rb"[0-9]{1,9}")
+ROUTES = (  # method, path, name, and the keys of its body with their kinds
+    ("GET", "/games/ID", "game", ()),
+    ("GET", "/games/ID/legal", "legal", ()),
+    ("GET", "/games/ID/clock", "clock", ()),
+    ("GET", "/games/ID/record", "record", ()),
+    ("GET", "/events/NAME/table", "table", ()),
+    ("GET", "/events/NAME/games", "games_in", ()),
+    ("GET", "/me", "me", ()),
+    ("GET", "/me/events", "inviting", ()),
+    ("POST", "/games/ID/moves/ID", "move", (("move", str),)),
+    ("POST", "/games/ID/draw/ID/offer", "offer", ()),
+    ("POST", "/games/ID/draw/ID/accept", "accept", ()),
+    ("POST", "/games/ID/resign", "resign", ()),
+    ("POST", "/games/ID/claim-time", "claim", ()),
+    ("POST", "/games/ID/declare/ID", "declare", ()),
+    ("POST", "/challenges/ID", "challenge", (("event", str), ("first", bool), ("other", str))),
+    ("POST", "/challenges/ID/withdraw", "withdraw", ()),
+    ("POST", "/answers/NAME/ID", "answer", (("accept", bool),)),
+)
+
+
+class Reply:
+    """The number of the status line, the fields behind the usual three, their kind, and the body."""
+
+    def __init__(self, status, body, kind="application/json", further="", has_body=True, caller="-"):
+        self.status, self.body, self.kind, self.further, self.has_body = status, body, kind, further, has_body
+        self.caller = caller  # the name of the member who asked, as the log has it
+
+    def __eq__(self, got):
+        """Whether bytes that were got are this reply; its phrase may be any."""
+        head, found, rest = got.partition(b"\r\n")
+        length = len(self.body.encode())
+        wanted = (f"Content-Type: {self.kind}\r\nContent-Length: {length}\r\nConnection: close\r\n{self.further}\r\n"
+                  f"{self.body if self.has_body else ''}")
+        phrase = re.fullmatch(rb"HTTP/1\.1 ([0-9]{3}) [A-Z][A-Za-z ]*", head)
+        return bool(found and phrase) and int(phrase[1]) == self.status and rest == wanted.encode()
+
+    def __repr__(self):
+        return f"{self.status} {self.further!r} {self.body if self.has_body else 'without'} {self.body!r}"
+
+
+def head_end(data):
+    """The length of the head and how many of its lines are not empty, or None where it has no end."""
+    at = lines = 0
+    while (end := data.find(b"\n", at)) >= 0:
+        if data[at:end] in (b"", b"\r"):
+            if lines:
+                return end + 1, lines
+        else:
+            lines += 1
+        at = end + 1
+    return None
+
+
+def lines_of(head):
+    """The lines of a head without their ends."""
+    return [line[:-1] if line.endswith(b"\r") else line for line in head.split(b"\n")[:-1]]
+
+
+def head_of(head):
+    """The method, target, version and fields of a head; 80 where it is none."""
+    lines = lines_of(head)
+    while lines and not lines[0]:
+        lines.pop(0)
+    start = START.fullmatch(lines[0])
+    fields = [FIELD.fullmatch(line) for line in lines[1:-1]]
+    if not start or not all(fields):
+        raise Refused(80)
+    try:
+        start[2].decode()
+    except UnicodeDecodeError:
+        raise Refused(80) from None
+    return start[1], start[2], start[3], [(it[1].lower(), it[2].strip(b" \t")) for it in fields]
+
+
+def values(fields, name):
+    return [value for it, value in fields if it == name]
+
+
+def length_of(method, version, fields):
+    """The length of the body, or what the head is refused as."""
+    named = values(fields, b"content-length")
+    if len(named) > 1 or named and not NUMBER.fullmatch(named[0]):
+        raise Refused(80)
+    hosts = len(values(fields, b"host"))
+    if hosts > 1 or version == b"1" and not hosts:
+        raise Refused(88)
+    if values(fields, b"transfer-encoding"):
+        raise Refused(87)
+    if method == b"POST" and not named:
+        raise Refused(84)
+    length = int(named[0]) if named else 0
+    if length > BODY_LIMIT:
+        raise Refused(85)
+    return length
+
+
+def route_of(target):
+    """The method that a path asks for, its route, the values in the path and the keys of the body."""
+    path = target.partition(b"?")[0]
+    if path.startswith(b"http://"):
+        authority, slash, rest = path[len(b"http://"):].partition(b"/")
+        path = slash + rest if authority else b""
+    words = path.split(b"/")
+    for method, pattern, name, keys in ROUTES:
+        parts = pattern.encode().split(b"/")
+        if len(parts) == len(words) and all(part == word or part in (b"ID", b"NAME") and word
+                                            for part, word in zip(parts, words)):
+            found = [(part, word) for part, word in zip(parts, words) if part in (b"ID", b"NAME")]
+            if not all(part == b"NAME" or NUMBER.fullmatch(word) for part, word in found):
+                raise Refused(82)
+            return method, name, [int(word) if part == b"ID" else word.decode() for part, word in found], keys
+    raise Refused(82)
+
+
+def body_values(body, keys):
+    """The values of a route's keys in a body."""
+    if not keys:
+        return []
+    try:
+        found = json_model.read(body)
+    except json_model.NoJson:
+        raise Refused(81) from None
+    if not isinstance(found, dict) or not all(isinstance(found.get(key), kind) for key, kind in keys):
+        raise Refused(81)
+    return [found[key] for key, _ in keys]
+
+
+def refused(number, has_body, further="", caller="-"):
+    if number == 50:
+        further = "WWW-Authenticate: Member-Key\r\n"
+    assert number in NAMES
+    return Reply(status_of(number), refusal(number), further=further, has_body=has_body, caller=caller)
+
+
+def reply_to(club, data):
+    """The reply to the bytes of a connection, after which the input ends; None where none comes."""
+    has_body, caller = not data.lstrip(b"\r\n").startswith(b"HEAD "), "-"
+    end = head_end(data[:HEAD_LIMIT])
+    try:
+        if end is None:
+            if len(data) > HEAD_LIMIT:
+                raise Refused(86)
+            return None
+        if end[1] > FIELD_LIMIT + 1:
+            raise Refused(86)
+        method, target, version, fields = head_of(data[:end[0]])
+        length = length_of(method, version, fields)
+        if len(data) < end[0] + length:
+            return None
+        wanted, route, named, keys = route_of(target)
+        if method != wanted.encode():
+            return refused(83, has_body, f"Allow: {wanted}\r\n")
+        shown = values(fields, b"member-key")
+        key = shown[0].decode("latin-1") if len(shown) == 1 else ""
+        if key not in club.keys:
+            raise Refused(50)
+        caller = club.keys[key]
+        body = body_values(data[end[0]:end[0] + length], keys)
+        kind, text = club.answer(key, route, named, body)
+        return Reply(200, text, kind, caller=caller)
+    except Refused as refusing:
+        return refused(refusing.args[0], has_body, caller=caller)
+
+
+def ask(port, pieces, ends):
+    """What is replied to bytes that are sent in pieces, after which the input ends or not."""
+    with socket.create_connection(("127.0.0.1", port), 30) as peer:
+        peer.setsockopt(socket.IPPROTO_TCP, socket.TCP_NODELAY, 1)
+        try:
+            for piece in pieces:
+                peer.sendall(piece)
+            if ends:
+                peer.shutdown(socket.SHUT_WR)
+        except TimeoutError:
+            return b"the desk does not read"
+        except OSError:
+            pass  # the desk has answered before it had all
+        return received(peer)
+
+
+def received(peer):
+    """What comes up to the end, or until the peer is cut off."""
+    got = b""
+    try:
+        while part := peer.recv(65536):
+            got += part
+    except TimeoutError:
+        got += b", and no end"
+    except ConnectionError:
+        pass
+    return got

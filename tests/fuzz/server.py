@@ -1,0 +1,173 @@
+"""Asks a desk by requests of all kinds, and holds each reply and the club's rows to what the documents say."""
+import contextlib
+import copy
+import pathlib
+import random
+import re
+import shutil
+import signal
+import socket
+import sqlite3
+import subprocess
+import tempfile
+import time
+
+from models.club import Club
+from fuzz.http import ask, reply_to
+from fuzz.requests import WHOLE, changed, parted, whole
+
+MOMENT = 2000
+BATCH = 250
+PATIENCE = 8  # seconds; where this machine was slower to send than the desk waits, the desk is asked again
+ROUND = 3000
+MEMBERS = ("anna", "keyanna1"), ("bert", "keybert2"), ("cara", "keycara3")
+EVENTS = ("autumn", "draughts", 86400, 5), ("fuji", "shogi", 86400, 0), ("short", "draughts", 60, 0)
+LOGGED = re.compile(rb"%d [!-~\x80-\xff]+ [!-~\x80-\xff]+ ((?:[0-9]{3}|-) [!-~]+)" % MOMENT)
+SEATS = "autumn anna bert", "fuji anna bert", "short bert anna", "autumn cara anna", "fuji bert cara", "short anna bert"
+
+
+def copy_club(file, to):
+    """Copies the file of a club with its log."""
+    for end in ("", "-wal"):
+        pathlib.Path(to + end).unlink(missing_ok=True)
+        if pathlib.Path(file + end).exists():
+            shutil.copyfile(file + end, to + end)
+
+
+def rows(file):
+    """All rows of a club, read by sqlite3 from a copy of the file and of its log."""
+    with tempfile.TemporaryDirectory() as room:
+        copy_club(file, f"{room}/c.db")
+        with contextlib.closing(sqlite3.connect(f"{room}/c.db")) as found:
+            tables = "meta members events event_rules challenges moves games seen scores".split()
+            return {table: found.execute(f"SELECT * FROM {table} ORDER BY 1, 2").fetchall() for table in tables}
+
+
+def order(program, file, moment, *words):
+    ran = subprocess.run([program, "--now", str(moment), file, *map(str, words)], capture_output=True, check=True)
+    return ran.stdout.decode()
+
+
+def begun(program, file):
+    """A club in a new file, and what it must be."""
+    club = Club(MOMENT)
+    order(program, file, 1000, "init")
+    for member in MEMBERS:
+        order(program, file, 1000, "member", *member)
+        club.member(*member)
+    for event in EVENTS:
+        order(program, file, 1000, "event", *event)
+        club.event(*event)
+    for number, words in enumerate(SEATS, 1):
+        order(program, file, 1000, "seat", f"g{number}", *words.split())
+        club.seat(f"g{number}", *words.split(), 1000)
+    club.last = 1000
+    return club
+
+
+@contextlib.contextmanager
+def desk(program, file, moment=MOMENT):
+    """A desk over the file at a moment, and its port; what it logs stands beside the file."""
+    with socket.socket() as free:
+        free.bind(("127.0.0.1", 0))
+        port = free.getsockname()[1]
+    words = [program, "--now", str(moment), file, "serve", "--log", str(port)]
+    with open(f"{file}.log", "wb") as log, subprocess.Popen(words, stdout=subprocess.PIPE, stderr=log) as served:
+        if not served.stdout.readline():
+            raise OSError("the desk did not listen")
+        try:
+            yield port
+        finally:
+            served.send_signal(signal.SIGKILL)
+
+
+class Asking:
+    """Requests of one round, over one club."""
+
+    def __init__(self, test, club, file, port):
+        self.test, self.club, self.file, self.port = test, club, file, port
+        self.statuses, self.wanted_log = {}, []
+
+    def ask(self, name, data, pieces, ends):
+        """Whether the reply is that of the documents."""
+        wanted, begun = reply_to(self.club, data), time.monotonic()
+        got = ask(self.port, pieces, ends or wanted is None)
+        if wanted and not got and time.monotonic() - begun > PATIENCE:
+            self.wanted_log.append("- -")
+            got = ask(self.port, pieces, ends)
+        self.statuses[wanted and wanted.status] = self.statuses.get(wanted and wanted.status, 0) + 1
+        self.wanted_log.append(f"{wanted.status} {wanted.caller}" if wanted else "- -")
+        return self.test.check(got == b"" if wanted is None else wanted == got, name, wanted, got, data)
+
+    def are_rows_kept(self, name):
+        """The rows are those of the documents; read once more where the desk may just have copied its log."""
+        wanted = self.club.rows()
+        for pause in (0, 1, 3):
+            time.sleep(pause)
+            got = rows(self.file)
+            differing = {table: (wanted[table], got[table]) for table in wanted if wanted[table] != got[table]}
+            if not differing:
+                break
+        return self.test.check(not differing, f"{name}, rows", "those of the documents", differing)
+
+    def is_logged(self, name):
+        """Each connection has its line, with the status of its reply and who asked, and never a key of a field."""
+        late = time.monotonic() + 10
+        while len(lines := self.logged()) < len(self.wanted_log) and time.monotonic() < late:
+            time.sleep(0.02)
+        found = [LOGGED.fullmatch(line) for line in lines]
+        bad = [(line, wanted) for line, it, wanted in zip(lines, found, self.wanted_log)
+               if not it or it[1] != wanted.encode()]
+        is_well = len(lines) == len(self.wanted_log) and not bad
+        return self.test.check(is_well, f"{name}: the log", len(self.wanted_log), (len(lines), bad[:3]))
+
+    def logged(self):
+        return pathlib.Path(f"{self.file}.log").read_bytes().split(b"\n")[:-1]
+
+    def beginnings(self):
+        """Each beginning of a whole request of each route has no reply, and changes nothing."""
+        for method, target, body in WHOLE:
+            data = whole(method, target, body)
+            for size in range(len(data)):
+                if self.test.is_over() or not self.ask(f"{method} {target}, {size} bytes", data[:size],
+                                                       [data[:size]] if size else [], True):
+                    return
+        self.are_rows_kept("beginnings")
+
+    def changed(self, number, chance):
+        """Requests that are changed; in the first round the beginnings of whole ones come behind the first batch."""
+        for index in range(ROUND):
+            name = f"round {number} request {index}"
+            data = changed(chance, self.club)
+            pieces, ends = parted(chance, data), chance.random() < 0.5
+            if self.test.is_over() or not self.ask(name, data, pieces, ends):
+                break
+            if index % BATCH == BATCH - 1 and not self.are_rows_kept(name):
+                return
+            if (number, index) == (0, BATCH - 1):
+                self.beginnings()
+        self.are_rows_kept(f"round {number}")
+
+
+def run(test):
+    """Rounds of requests until the time is over; each begins with the same club."""
+    statuses = {}
+    with tempfile.TemporaryDirectory() as room:
+        base = f"{room}/base.db"
+        club = begun(test.program, base)
+        number = 0
+        while number == 0 or not test.is_over():
+            file = f"{room}/c{number}.db"
+            copy_club(base, file)
+            with desk(test.program, file) as port:
+                asking = Asking(test, copy.deepcopy(club), file, port)
+                asking.changed(number, random.Random(f"{test.seed} desk {number}"))
+                asking.is_logged(f"round {number}")
+            for status, count in asking.statuses.items():
+                statuses[status] = statuses.get(status, 0) + count
+            ran = subprocess.run([test.program, file, "verify"], capture_output=True)
+            test.check(ran.stdout == b"sound\n", f"round {number}: verify", "sound", ran.stdout + ran.stderr)
+            number += 1
+    told = ", ".join(f"{count} {status or 'without reply'}" for status, count in
+                     sorted(statuses.items(), key=lambda it: it[0] or 0))
+    return f"requests at the desk: {told}"

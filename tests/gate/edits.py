@@ -1,0 +1,298 @@
+#!/usr/bin/env python3
+"""Tries the must-fail edits of crates many at a time: `tests/gate/edits.py CRATE ..`, over what `rt check` proved there.
+
+Each file of crates/NAME/must-fail/ is an edit that the prover must refuse. A proof rests on the contracts of what a
+function calls and never on their bodies, so edits of the bodies of different functions say nothing of one another: all
+of them go into one copy of the crate, which is checked once. An edit is refused where a goal of the very function that
+it changes is refused. That a function calls another which is not proved says nothing yet: such an edit waits for the
+next round, without those that were refused. What no round tells is tried alone, as the kit's `rt must-fail` does: edits
+of specs/ or of a table that is no function, and edits that no goal of their own function refuses. Such an edit may name
+the function whose proof it breaks by a line `# seen by: MODULE::NAME`, which spares it the rest of the crate.
+"""
+import os
+import re
+import shutil
+import subprocess
+import sys
+import tempfile
+
+sys.path[0] = os.path.dirname(os.path.dirname(os.path.abspath(__file__)))
+from lib import kit
+
+HEAD = re.compile(r"^(\s*)(?:pub(?:\([^)]*\))? )?(?:const )?(?:unsafe )?fn (\w+)")
+IMPL = re.compile(r"^impl\b")
+CYCLE = re.compile(r"^\s*#\[cycle\((\w+)\)\]")
+PROOF = re.compile(r"^(?:\./)?proofs/(\S+)/(?:Answers|Invariants|Proof)\.antt:\d+:\d+: error: (.*)")
+GOAL = re.compile(r"^(?:note: )?(?:\./)?(src/\S+?):(\d+):\d+: it is not proved ")
+OF_PROOFS = re.compile(r"^(?:\./)?proofs/\S+:\d+:\d+: error: ")
+# what an answer says of a name that is gone, or of a lemma or a callee that was refused before it
+OF_ANOTHER = re.compile(r"which was (not admitted|rejected)|has no field|is not in scope|has no `")
+
+
+class Place:
+    """The function whose body an edit changes: its file, its lines there with what stands over its head, and the folder of
+    its proof."""
+
+    def __init__(self, file, first, last, folder):
+        self.file, self.first, self.last, self.folder = file, first, last, folder
+
+    def path(self):
+        """The name that a check prints, without the crate's."""
+        return self.folder.replace("/", "::")
+
+
+class Edit:
+    """A file of must-fail/: its lines `file`, `old`, `new`, and where they stand in the crate's files."""
+
+    def __init__(self, file, sources):
+        self.file, self.pairs, self.seen_by, path, old = file, [], None, "", None
+        with open(file, encoding="utf-8", errors="replace") as it:
+            lines = it.read().split("\n")
+        for line in lines:
+            if line.startswith("file: "):
+                path = line[len("file: "):].strip()
+            elif line.startswith("old: "):
+                old = line[len("old: "):]
+            elif line.startswith("new:"):
+                self.pairs.append((path, old, line[len("new:"):].removeprefix(" ")))
+            elif line.startswith("# seen by: "):
+                self.seen_by = line[len("# seen by: "):].strip()
+        self.places = [place_of(path, old, sources.text(path)) for path, old, _ in self.pairs]
+
+    def stands_in_bodies(self):
+        return bool(self.places) and None not in self.places
+
+    def functions(self):
+        return {place.folder for place in self.places}
+
+    def put_into(self, texts, sources):
+        """The texts with this edit in them, or None where an old text does not stand there once."""
+        made = dict(texts)
+        for path, old, new in self.pairs:
+            text = made.get(path, sources.text(path))
+            if not old or text is None or text.count(old) != 1:
+                return None
+            made[path] = text.replace(old, new)
+        return made
+
+
+class Sources:
+    """The files of a crate, read once."""
+
+    def __init__(self, folder):
+        self.folder, self.read = folder, {}
+
+    def text(self, path):
+        if path not in self.read:
+            file = f"{self.folder}/{path}"
+            self.read[path] = None
+            if os.path.isfile(file):
+                with open(file, encoding="utf-8") as it:
+                    self.read[path] = it.read()
+        return self.read[path]
+
+
+def place_of(path, old, text):
+    """Where an old text stands, or None where that is in no function's body."""
+    if not path.startswith("src/") or not old or text is None or text.count(old) != 1:
+        return None
+    lines, at = text.split("\n"), text[: text.index(old)].count("\n")
+    head = next((it for it in range(at, -1, -1) if HEAD.match(lines[it])), None)
+    if head is None:
+        return None
+    indent, name = HEAD.match(lines[head]).groups()
+    body = next((it for it in range(head, len(lines)) if opens_body(lines[it], indent)), len(lines))
+    last = next((it for it in range(body, len(lines)) if lines[it] == indent + "}"), len(lines))
+    if not body <= at <= last < len(lines):
+        return None
+    first = head
+    while first and re.match(r"\s*(#\[|///)", lines[first - 1]):
+        first -= 1
+    return Place(path, first + 1, last + 1, folder_of(path, lines, head, indent, name))
+
+
+def opens_body(line, indent):
+    """Whether the body of a function with that indent begins at the end of this line."""
+    own = line.startswith(indent) and not line.startswith(indent + " ")
+    return own and line.endswith("{") and not re.match(r"\s*(requires|ensures|ghost)\b", line)
+
+
+def folder_of(path, lines, head, indent, name):
+    """The folder of a function's proof below proofs/: `board/SBoard/put` for `put` of `impl SBoard` in src/board.rt."""
+    parts = path[len("src/"): -len(".rt")].removesuffix("/mod").split("/")
+    parts = [] if parts in (["lib"], ["main"]) else parts
+    owner = next((owner_of(lines[it]) for it in range(head, -1, -1) if IMPL.match(lines[it])), "") if indent else ""
+    cycle = next((CYCLE.match(it)[1] for it in lines[max(head - 4, 0): head] if CYCLE.match(it)), None)
+    return "/".join([*parts, *([owner] if owner else []), f"+{cycle}" if cycle else name])
+
+
+def owner_of(line):
+    """The name under which a check prints the methods of an `impl`: the type, then the trait with its arguments."""
+    text = re.sub(r"^impl\s*", "", line.rstrip(" {"))
+    if text.startswith("<"):
+        text = text[closing(text) + 1:].strip()
+    trait, _, owner = text.rpartition(" for ")
+    return "".join(words_of(owner or text)[:1] + (words_of(trait) if owner and trait else []))
+
+
+def closing(text):
+    """Where the bracket closes that a text begins with."""
+    depth = 0
+    for at, letter in enumerate(text):
+        depth += (letter == "<") - (letter == ">")
+        if not depth:
+            return at
+    return len(text)
+
+
+def words_of(path):
+    """The last name of a path, and those of its arguments: `From`, `AllocFailed` of `From<AllocFailed<T>>`."""
+    head, _, rest = path.partition("<")
+    names = [head.split("::")[-1].strip()]
+    argument = rest.partition("<")[0].rstrip(">").split(",")[0].split("::")[-1].strip()
+    return names + ([argument] if len(argument) > 1 else [])
+
+
+def goals_refused(said):
+    """The folders of functions whose answers were refused, and the lines of sources whose goals were not proved."""
+    folders, lines = set(), set()
+    for line in said.split("\n"):
+        answer, goal = PROOF.match(line), GOAL.match(line)
+        if answer and not OF_ANOTHER.search(answer[2]):
+            folders.add(answer[1])
+        if goal:
+            lines.add((goal[1], int(goal[2])))
+    return folders, lines
+
+
+def is_refused(edit, folders, lines):
+    """Whether a goal of a function that the edit changes is refused."""
+    return any(
+        place.folder in folders or any(file == place.file and place.first <= at <= place.last for file, at in lines)
+        for place in edit.places
+    )
+
+
+def next_round(edits, sources):
+    """The texts of a copy of the crate with as many of the edits as change different functions, and these edits."""
+    texts, taken, functions = {}, [], set()
+    for edit in edits:
+        if not edit.stands_in_bodies() or edit.functions() & functions:
+            continue
+        made = edit.put_into(texts, sources)
+        if made is not None:
+            texts, functions = made, functions | edit.functions()
+            taken.append(edit)
+    return texts, taken
+
+
+class Trial:
+    """The tries of one crate's edits, each over what those before it proved."""
+
+    def __init__(self, rt, crate, kept, files):
+        self.rt, self.crate, self.kept = rt, crate, kept
+        self.sources = Sources(crate.folder)
+        self.edits = [Edit(file, self.sources) for file in files]
+        self.found = {}
+
+    def only(self, edits):
+        """The flags that have a check look at the functions of these edits alone."""
+        paths = sorted({place.path() for edit in edits for place in edit.places})
+        return [] if any("+" in it for it in paths) else [word for it in paths for word in ("--only", it)]
+
+    def checked(self, texts, edits):
+        ran = self.rt.checked(self.crate, texts, ["--jobs", "1", *self.only(edits)], self.kept)
+        if ran.returncode == 2 and re.search(r"has no function|several functions", ran.stdout):
+            ran = self.rt.checked(self.crate, texts, ["--jobs", "1"], self.kept)
+        return ran
+
+    def round(self, edits):
+        """Tries the edits at once, and returns those that are told to be refused. Where the copy does not reach the
+        prover, it tries each half of them."""
+        texts, taken = next_round(edits, self.sources)
+        if not taken:
+            return []
+        ran = self.checked(texts, taken)
+        lines = ran.stdout.split("\n")
+        is_read = not any(self.rt.unread(it, texts) for it in lines)
+        if ran.returncode == 1 and is_read and re.search(r"^(logic=not-proved|only=)", ran.stdout, re.M):
+            found = goals_refused(ran.stdout)
+            return [edit for edit in taken if is_refused(edit, *found)]
+        if ran.returncode == 0 or len(taken) == 1:
+            return []
+        half = len(taken) // 2
+        return self.round(taken[:half]) + self.round(taken[half:])
+
+    def label(self, edit):
+        return f"must-fail {self.crate.name}/{os.path.basename(edit.file)}"
+
+    def in_rounds(self):
+        left = list(self.edits)
+        while True:
+            refused = self.round(left)
+            for edit in refused:
+                said = f"{self.label(edit)}: refused, as it must be, by a goal of its function"
+                self.found[edit.file] = self.rt.REFUSED, said
+            left = [edit for edit in left if edit not in refused]
+            if not refused:
+                return left
+
+    def alone(self, edit):
+        flags = ["--jobs", "1"]
+        if edit.seen_by and self.is_seen(edit):
+            return self.rt.REFUSED, f"{self.label(edit)}: refused, as it must be, by a goal of {edit.seen_by}"
+        tried = self.rt.must_fail(self.crate, edit.file, flags, self.kept)
+        return tried if tried[0] in self.rt.SETTLED else self.rt.must_fail(self.crate, edit.file, flags)
+
+    def is_seen(self, edit):
+        """Whether the function that the edit names is refused, over what was proved so far, for a goal of its own."""
+        texts, why = self.rt.read_edit(edit.file, self.crate.folder)
+        if why:
+            return False
+        ran = self.rt.checked(self.crate, texts, ["--jobs", "1", "--only", edit.seen_by], self.kept)
+        lines = ran.stdout.split("\n")
+        is_read = not any(self.rt.unread(it, texts) for it in lines)
+        is_goal = any(GOAL.match(it) or OF_PROOFS.match(it) and not OF_ANOTHER.search(it) for it in lines)
+        named = re.search(rf"^fn \w+::{re.escape(edit.seen_by)}: (not proved|no proof)", ran.stdout, re.M)
+        return ran.returncode == 1 and is_read and is_goal and bool(named)
+
+    def results(self):
+        """What each edit came to, in their order."""
+        for edit in self.in_rounds():
+            self.found[edit.file] = self.alone(edit)
+        return [self.found[edit.file] for edit in self.edits]
+
+
+def tried(rt, crate, files, start=None):
+    """What the edits in these files come to, over a copy of what a check kept in the folder start, if there is one."""
+    with tempfile.TemporaryDirectory(prefix=f"rt-edits-{os.getpid()}-") as room:
+        if start and os.path.isdir(start):
+            rt.linked(start, f"{room}/kept")
+        else:
+            os.mkdir(f"{room}/kept")
+        return Trial(rt, crate, f"{room}/kept", files).results()
+
+
+def main(names):
+    rt = kit.load()
+    top = os.path.dirname(os.path.dirname(os.path.abspath(__file__)))
+    os.chdir(top)
+    rt.share_work(False)
+    crates = {crate.name: crate for crate in rt.rtlib.crates_below(top)}
+    worst = 0
+    for name in names:
+        crate = crates[name]
+        if any(below.build_rlib(["--jobs", "1"], anew=False) for below in crate.below()):
+            return 1
+        files, bad = rt.edits_of(crate)
+        for kind, text in tried(rt, crate, files, f"{crate.folder}/out/incremental"):
+            print(text, flush=True)
+            worst |= kind not in (rt.REFUSED, rt.AT_LIMIT)
+        for file in bad:
+            print(f"{file}: BAD EDIT: an edit stands right in must-fail/, and its name ends in .edit")
+            worst = 1
+    return worst
+
+
+if __name__ == "__main__":
+    sys.exit(main(sys.argv[1:]))

@@ -1,0 +1,399 @@
+"""What a club answers to its members as docs/rules.md and docs/http.md say it, at one moment that stands still."""
+import json
+
+from models import draughts, shogi
+from models.draughts import Refused
+from models.records import record_of
+
+LAST_MOMENT = 253402300799
+
+NAMES = {
+    10: "NoSuchMove", 11: "MustCapture", 12: "NotLongest", 13: "NoSuchMove", 14: "NotInHand", 15: "MustPromote",
+    16: "DeadDrop", 17: "TwoPawns", 18: "KingAttacked", 19: "DropMate", 20: "BadText", 21: "Ambiguous", 22: "Illegal",
+    23: "OtherType", 24: "OtherOpening", 25: "Unfinished", 26: "AfterEnd", 27: "ResultDiffers", 30: "BadText",
+    40: "BadText", 41: "Version", 42: "OtherOpening", 43: "Illegal", 44: "Unfinished", 45: "AfterEnd",
+    46: "ResultDiffers",
+    50: "UnknownKey", 51: "NotAllowed", 52: "UnknownEvent", 53: "UnknownGame", 54: "UnknownChallenge",
+    55: "NotAPlayer", 56: "GameOver", 57: "WrongPly", 58: "Conflict", 59: "NotYourTurn", 60: "OutOfTime",
+    61: "TimeLeft", 62: "NoOffer", 63: "NotInThisGame", 64: "NameTaken", 65: "BadValue", 66: "Full",
+    67: "NotDeclarable",
+    80: "BadHead", 81: "BadBody", 82: "NoRoute", 83: "WrongMethod", 84: "NoLength", 85: "TooLong", 86: "HeadTooLong",
+    87: "NotImplemented", 88: "BadHost",
+}
+STATUSES = {50: 401, 51: 403, 55: 403, 52: 404, 53: 404, 54: 404, 63: 422, 65: 422, 80: 400, 81: 400, 82: 404, 83: 405,
+            84: 411, 85: 413, 86: 431, 87: 501, 88: 400}
+STATES = ["open", "withdrawn", "refused", "accepted"]
+RULES = {"draughts": draughts, "shogi": shogi}
+
+
+def status_of(number):
+    return STATUSES.get(number, 422 if number < 50 else 409)
+
+
+def told(values):
+    return json.dumps(values, separators=(",", ":"), sort_keys=True)
+
+
+def refusal(number):
+    return told({"error": number, "name": NAMES[number]})
+
+
+class Game:
+    def __init__(self, number, key, event, first, second, moment):
+        self.number, self.key, self.event, self.players = number, key, event, (first, second)
+        self.start = self.since = moment
+        self.line = RULES[event["game"]].Line()
+        self.left, self.texts, self.replies, self.moments = [event["budget"]] * 2, [], [], []
+        self.offer = self.end = self.result = None
+
+    def side(self, member):
+        if member not in self.players:
+            raise Refused(55)
+        return self.players.index(member)
+
+    def plies(self):
+        return len(self.texts)
+
+    def turn(self):
+        return self.plies() % 2
+
+    def deadline(self):
+        """The last second in which the side to move is in time."""
+        return self.since + self.left[self.turn()]
+
+    def deadline_told(self):
+        return None if self.end or self.deadline() > LAST_MOMENT else self.deadline()
+
+    def mover_told(self):
+        return None if self.end else self.players[self.turn()]
+
+    def offerer_told(self):
+        return self.offer and self.players[self.offer[0]]
+
+    def lost_by(self, side, end):
+        self.end, self.result = end, ("0-2", "2-0")[side]
+        return {"end": end, "game": self.number, "result": self.result}
+
+    def is_lost_by(self, side, end):
+        return self.end == end and self.result == ("0-2", "2-0")[side]
+
+    def must_run(self):
+        if self.end:
+            raise Refused(56)
+
+    def ended(self):
+        return {"end": self.end, "game": self.number, "result": self.result}
+
+    def move(self, member, ply, text, moment):
+        side = self.side(member)
+        if 1 <= ply <= self.plies() and (ply - 1) % 2 == side and self.is_repeat(ply, text):
+            return self.replies[ply - 1]
+        self.must_run()
+        if not 1 <= ply <= self.plies() + 1:
+            raise Refused(57)
+        if ply <= self.plies():
+            raise Refused(58)
+        if side != self.turn():
+            raise Refused(59)
+        spent = moment - self.since
+        if spent > self.left[side]:
+            raise Refused(60)
+        if len(text.encode()) > 200:
+            raise Refused(65)
+        self.played(side, self.line.read(text), spent)
+        self.moments.append(moment)
+        self.since = moment
+        return self.replies[-1]
+
+    def is_repeat(self, ply, text):
+        line = RULES[self.event["game"]].Line()
+        for move in self.line.moves[:ply - 1]:
+            line.push(move)
+        try:
+            return line.read(text) == self.line.moves[ply - 1]
+        except Refused:
+            return False
+
+    def played(self, side, move, spent):
+        self.texts.append(self.line.write(move))
+        self.line.push(move)
+        self.left[side] += self.event["increment"] - spent
+        self.offer = None
+        end = self.line.end()
+        if end:
+            self.end, self.result = end
+        self.replies.append({"end": self.end, "game": self.number, "left": self.left[side], "move": self.texts[-1],
+                             "ply": self.plies(), "position": self.line.position_text()})
+
+    def offer_draw(self, member, ply):
+        side = self.side(member)
+        self.must_be_draughts()
+        if self.offer != (side, ply):
+            self.must_run()
+            self.must_be_next(ply)
+            if self.offer:
+                raise Refused(58)
+            self.offer = side, ply
+        return {"draw": "offered", "game": self.number, "ply": ply}
+
+    def accept_draw(self, member, ply):
+        side = self.side(member)
+        self.must_be_draughts()
+        if self.end == "Agreed" and self.offer == (1 - side, ply):
+            return self.ended()
+        self.must_run()
+        self.must_be_next(ply)
+        if self.offer != (1 - side, ply):
+            raise Refused(62)
+        self.end, self.result = "Agreed", "1-1"
+        return self.ended()
+
+    def must_be_draughts(self):
+        if self.event["game"] != "draughts":
+            raise Refused(63)
+
+    def must_be_next(self, ply):
+        if ply != self.plies() + 1:
+            raise Refused(57)
+
+    def resign(self, member):
+        side = self.side(member)
+        if self.is_lost_by(side, "Resigned"):
+            return self.ended()
+        self.must_run()
+        if side != self.turn():
+            raise Refused(59)
+        return self.lost_by(side, "Resigned")
+
+    def claim(self, member, moment):
+        side = self.side(member)
+        if self.is_lost_by(1 - side, "Time"):
+            return self.ended()
+        self.must_run()
+        if side == self.turn():
+            raise Refused(59)
+        if moment - self.since <= self.left[1 - side]:
+            raise Refused(61)
+        return self.lost_by(1 - side, "Time")
+
+    def declare(self, member, ply):
+        """Of a king that has entered: each event has declarations."""
+        side = self.side(member)
+        if ply == self.plies() + 1 and self.is_lost_by(1 - side, "Declared"):
+            return self.ended()
+        self.must_run()
+        self.must_be_next(ply)
+        if side != self.turn():
+            raise Refused(59)
+        if self.event["game"] != "shogi" or not shogi.may_declare(self.line.position):
+            raise Refused(67)
+        return self.lost_by(1 - side, "Declared")
+
+    def shown(self):
+        return {"end": self.end, "event": self.event["name"], "first": self.players[0], "game": self.number,
+                "left": self.left, "moves": self.texts, "offer": self.offerer_told(),
+                "ply": self.plies(), "position": self.line.position_text(), "result": self.result,
+                "second": self.players[1]}
+
+    def clock(self, moment):
+        now = list(self.left)
+        if not self.end:
+            now[self.turn()] = max(self.deadline() - moment, 0)
+        return {"deadline": self.deadline_told(), "game": self.number, "left": self.left, "moment": moment,
+                "now": now, "since": self.since, "turn": self.mover_told()}
+
+    def mine(self):
+        return {"deadline": self.deadline_told(), "event": self.event["name"], "first": self.players[0],
+                "game": self.number, "offer": self.offerer_told(), "ply": self.plies(), "second": self.players[1],
+                "turn": self.mover_told()}
+
+    def in_event(self):
+        return {"end": self.end, "first": self.players[0], "game": self.number, "ply": self.plies(),
+                "result": self.result, "second": self.players[1]}
+
+    def legal(self):
+        if self.end:
+            return {"moves": []}
+        return {"moves": [self.line.write(it) for it in self.line.legal()]}
+
+
+class Club:
+    def __init__(self, moment):
+        self.moment, self.keys, self.events, self.games, self.challenges = moment, {}, {}, [], {}
+        self.last = 0
+
+    def member(self, name, key):
+        self.keys[key] = name
+
+    def event(self, name, game, budget, increment):
+        self.events[name] = {"name": name, "game": game, "budget": budget, "increment": increment}
+
+    def seat(self, key, event, first, second, moment):
+        self.games.append(Game(len(self.games) + 1, key, self.events[event], first, second, moment))
+        return self.games[-1]
+
+    def answer(self, key, route, values, body):
+        """The kind of the reply and its text, for one who shows a key; values are those of the path."""
+        if key not in self.keys:
+            raise Refused(50)
+        if route == "table":
+            return "text/plain", self.table(self.event_of(values[0]))
+        if route == "record":
+            return "text/plain", record_of(self.game_of(values[0]))
+        before = self.state()
+        text = told(getattr(self, f"do_{route}")(self.keys[key], *values, *body))
+        if self.state() != before:
+            self.last = self.moment
+        return "application/json", text
+
+    def state(self):
+        """What differs after each command that is accepted."""
+        return [(it.plies(), it.offer, it.end) for it in self.games], [it["state"] for it in self.challenges.values()]
+
+    def event_of(self, name):
+        if name not in self.events:
+            raise Refused(52)
+        return self.events[name]
+
+    def game_of(self, number):
+        if not 1 <= number <= len(self.games):
+            raise Refused(53)
+        return self.games[number - 1]
+
+    def do_game(self, _, number):
+        return self.game_of(number).shown()
+
+    def do_legal(self, _, number):
+        return self.game_of(number).legal()
+
+    def do_clock(self, _, number):
+        return self.game_of(number).clock(max(self.last, self.moment))
+
+    def games_in(self, event):
+        return [it for it in self.games if it.event is event]
+
+    def do_games_in(self, _, name):
+        return {"games": [it.in_event() for it in self.games_in(self.event_of(name))]}
+
+    def do_inviting(self, member):
+        events = [{"budget": it["budget"], "event": it["name"], "game": it["game"], "increment": it["increment"]}
+                  for it in self.events.values()]
+        return {"events": events, "members": [it for it in self.keys.values() if it != member]}
+
+    def do_me(self, member):
+        ids = {name: at for at, name in enumerate(self.keys.values())}
+        games = [it.mine() for it in self.games if member in it.players and not it.end]
+        challenges = [self.challenge_told(*it) for it in sorted(self.challenges, key=lambda it: (ids[it[0]], it[1]))]
+        mine = [it for it in challenges if it["state"] == "open" and member in (it["from"], it["to"])
+                or it["state"] == "accepted" and member == it["from"]]
+        return {"challenges": mine, "games": games, "member": member, "moment": max(self.last, self.moment)}
+
+    def challenge_told(self, member, number):
+        found = self.challenges[member, number]
+        event, other, is_first = found["asked"]
+        first, second = (member, other) if is_first else (other, member)
+        return {"event": event, "first": first, "from": member, "game": found["game"], "number": number,
+                "second": second, "state": found["state"], "to": other}
+
+    def do_move(self, member, number, ply, text):
+        return self.game_of(number).move(member, ply, text, self.moment)
+
+    def do_offer(self, member, number, ply):
+        return self.game_of(number).offer_draw(member, ply)
+
+    def do_accept(self, member, number, ply):
+        return self.game_of(number).accept_draw(member, ply)
+
+    def do_resign(self, member, number):
+        return self.game_of(number).resign(member)
+
+    def do_claim(self, member, number):
+        return self.game_of(number).claim(member, self.moment)
+
+    def do_declare(self, member, number, ply):
+        return self.game_of(number).declare(member, ply)
+
+    def do_challenge(self, member, number, event, first, rival):
+        self.event_of(event)
+        asked = event, rival, first
+        found = self.challenges.get((member, number))
+        if not found or found["asked"] != asked:
+            if found:
+                raise Refused(58)
+            if not 1 <= number <= 9999 or rival not in self.keys.values() or rival == member:
+                raise Refused(65)
+            self.challenges[member, number] = {"asked": asked, "state": "open", "game": None}
+        return {"challenge": number, "state": "open"}
+
+    def do_withdraw(self, member, number):
+        found = self.challenges.get((member, number))
+        if not found:
+            raise Refused(54)
+        if found["state"] not in ("open", "withdrawn"):
+            raise Refused(58)
+        found["state"] = "withdrawn"
+        return {"challenge": number, "state": "withdrawn"}
+
+    def do_answer(self, member, challenger, number, accept):
+        found = self.challenges.get((challenger, number))
+        if not found or found["asked"][1] != member:
+            raise Refused(54)
+        state = "accepted" if accept else "refused"
+        if found["state"] not in ("open", state):
+            raise Refused(58)
+        if accept and found["state"] == "open":
+            event, _, first = found["asked"]
+            sides = (challenger, member) if first else (member, challenger)
+            found["game"] = self.seat(None, event, *sides, self.moment).number
+        found["state"] = state
+        return {"challenge": number, "state": state} | ({"game": found["game"]} if accept else {})
+
+    def table(self, event):
+        """The cross table of an event."""
+        met = {}
+        for game in self.games:
+            if game.event is event and game.end:
+                for side in (0, 1):
+                    points = {"2-0": (2, 0), "1-1": (1, 1), "0-2": (0, 2)}[game.result][side]
+                    row = met.setdefault(game.players[side], {})
+                    row.setdefault(game.players[1 - side], []).append(points)
+        sums = {member: [points for some in row.values() for points in some] for member, row in met.items()}
+        order = sorted(met, key=lambda it: (-sum(sums[it]), -sums[it].count(2), [*self.keys.values()].index(it)))
+        lines = [f"Event {event['name']}"]
+        for rank, member in enumerate(order, 1):
+            points = sums[member]
+            numbers = sum(points), len(points), points.count(2), points.count(1), points.count(0)
+            cells = ["-" if it == member else sum(met[member][it]) if it in met[member] else "." for it in order]
+            lines.append(f"{rank:>3} {member:<24}" + "".join(f"{it:>6}" for it in (*numbers, *cells)))
+        return "".join(f"{line}\n" for line in lines)
+
+    def scores(self, events, members):
+        met = {}
+        for game in self.games:
+            if game.end:
+                for side in (0, 1):
+                    points = {"2-0": (2, 0), "1-1": (1, 1), "0-2": (0, 2)}[game.result][side]
+                    pair = events[game.event["name"]], members[game.players[side]], members[game.players[1 - side]]
+                    met.setdefault(pair, []).append(points)
+        return sorted((*pair, sum(it), it.count(2), it.count(1), it.count(0)) for pair, it in met.items())
+
+    def rows(self):
+        """All rows that sqlite3 must read of the club."""
+        members = {name: number for number, name in enumerate(self.keys.values(), 1)}
+        events = {name: number for number, name in enumerate(self.events, 1)}
+        games = [(it.number, it.key, events[it.event["name"]], *(members[name] for name in it.players), it.start,
+                  it.since, it.plies(), *it.left, *(it.offer or (None, None)), it.end, it.result,
+                  it.line.position_text(), *it.line.track()) for it in self.games]
+        challenges = [(members[member], number, events[it["asked"][0]], members[it["asked"][1]], int(it["asked"][2]),
+                       STATES.index(it["state"]), it["game"]) for (member, number), it in self.challenges.items()]
+        moves = [(game.number, reply["ply"], reply["move"], moment, reply["left"], reply["position"])
+                 for game in self.games for moment, reply in zip(game.moments, game.replies)]
+        seen = [(game.number, position, *counted) for game in self.games
+                for position, counted in game.line.seen.items()]
+        return {"meta": [(1, 2, self.last)], "members": [(number, name, key) for number, (key, name)
+                                                         in enumerate(self.keys.items(), 1)],
+                "events": [(number, it["name"], int(it["game"] == "shogi"), it["budget"], it["increment"])
+                           for number, it in enumerate(self.events.values(), 1)],
+                "event_rules": [(number, 1) for number in events.values()],
+                "challenges": sorted(challenges), "moves": moves, "games": games, "seen": sorted(seen),
+                "scores": self.scores(events, members)}

@@ -1,0 +1,178 @@
+"""What the officer's words do to a club and print, as docs/rules.md and docs/formats.md say it."""
+import re
+import time
+
+from models import draughts, shogi
+from models.club import Club, LAST_MOMENT, NAMES
+from models.draughts import Refused
+from models.records import record_of
+
+NAME, KEY = re.compile(r"[A-Za-z0-9._-]{1,24}"), re.compile(r"[A-Za-z0-9]{8,64}")
+LIMIT = 65536
+SQUARE = draughts.SQUARE
+BEGINS = re.compile(rf"(?:0?|{SQUARE})|{SQUARE}-(?:0?|{SQUARE})|{SQUARE}(?:[x:]{SQUARE})*[x:](?:0?|{SQUARE})")
+USI_BEGINS = re.compile(r"[1-9]?|[1-9][a-i]|[1-9][a-i][1-9]|[1-9][a-i][1-9][a-i]\+?|[RBGSNLP](?:\*(?:[1-9][a-i]?)?)?")
+
+
+def bad_text(number, text):
+    """The refusal of a move's text: with the length of its longest beginning that also begins one."""
+    data = text.encode(errors="surrogateescape").decode("latin-1")
+    begins = BEGINS if number == 20 else USI_BEGINS
+    return Refused(number, next(size for size in range(len(data), -1, -1) if begins.fullmatch(data[:size])))
+
+
+def told_refusal(refusing):
+    number, *more = refusing.args
+    return " ".join(map(str, ("refused", number, NAMES[number], *more))) + "\n"
+
+
+def game_line(game):
+    """A game's line in a list, with the last second in which the side to move is in time."""
+    told = ["game", game.number, game.event["name"], *game.players, game.key or "=", "ply", game.plies()]
+    until = "never"
+    if game.deadline() <= LAST_MOMENT:
+        until = time.strftime("%Y-%m-%dT%H:%M:%SZ", time.gmtime(game.deadline()))
+    told += ["end", game.end, game.result] if game.end else ["turn", game.players[game.turn()], "until", until]
+    return " ".join(map(str, told)) + "\n"
+
+
+class OfficersClub(Club):
+    """A club with the moment of the next word; each word gives what is printed, or is refused."""
+
+    def accepted(self, text):
+        self.last = max(self.last, self.moment)
+        return f"accepted {text}\n"
+
+    def now(self):
+        return max(self.last, self.moment)
+
+    def do_init(self):
+        return "ready\n"
+
+    def do_upgrade(self):
+        return "repeated upgrade\n"
+
+    def do_verify(self):
+        return "sound\n"
+
+    def add_member(self, name, key):
+        if self.keys.get(key) == name:
+            return f"repeated member {self.member_id(name)}\n"
+        if name in self.keys.values() or key in self.keys:
+            raise Refused(64)
+        if not NAME.fullmatch(name) or not KEY.fullmatch(key):
+            raise Refused(65)
+        if len(self.keys) >= 200:
+            raise Refused(66)
+        self.member(name, key)
+        return self.accepted(f"member {self.member_id(name)}")
+
+    def member_id(self, name):
+        return [*self.keys.values()].index(name) + 1
+
+    def add_event(self, name, game, budget, increment):
+        asked = {"name": name, "game": game, "budget": budget, "increment": increment}
+        number = [*self.events].index(name) + 1 if name in self.events else len(self.events) + 1
+        if self.events.get(name) == asked:
+            return f"repeated event {number}\n"
+        if name in self.events:
+            raise Refused(64)
+        if not NAME.fullmatch(name) or not 1 <= budget <= 31536000 or not 0 <= increment <= 2592000:
+            raise Refused(65)
+        if len(self.events) >= 50:
+            raise Refused(66)
+        self.event(name, game, budget, increment)
+        return self.accepted(f"event {number}")
+
+    def keyed(self, key):
+        return next((game for game in self.games if game.key == key), None)
+
+    def must_be_free(self, key, first, second):
+        if self.keyed(key):
+            raise Refused(58)
+        known = self.keys.values()
+        if not NAME.fullmatch(key) or first not in known or second not in known or first == second:
+            raise Refused(65)
+
+    def add_seat(self, key, event, first, second):
+        wanted, found = self.event_of(event), self.keyed(key)
+        if found and found.event is wanted and found.players == (first, second):
+            return f"repeated game {found.number}\n"
+        self.must_be_free(key, first, second)
+        return self.accepted(f"game {self.seat(key, event, first, second, self.now()).number}")
+
+    def add_record(self, kind, part, key, event, first, second, text):
+        wanted, found = self.event_of(event), self.keyed(key)
+        try:
+            moves, score, line = self.record(kind, part, wanted, text)
+        except Refused as refusing:
+            self.must_be_free(key, first, second)
+            raise refusing
+        if (found and found.event is wanted and found.players == (first, second)
+                and (found.texts, found.result) == (moves, score)):
+            return f"repeated game {found.number}\n"
+        self.must_be_free(key, first, second)
+        game = self.seat(key, event, first, second, self.now())
+        for move in line.moves:
+            game.played(game.turn(), move, 0)
+            game.moments.append(game.start)
+        if not game.end:
+            game.end, game.result = "Recorded", score
+        return self.accepted(f"game {game.number}")
+
+    def record(self, kind, part, event, text):
+        if event["game"] != {"pdn": "draughts", "csa": "shogi"}[kind] or len(text) > LIMIT or part == 0:
+            raise Refused(65)
+        if kind == "pdn":
+            return draughts.read_record(text)
+        records = shogi.read_records(text)
+        if part > len(records):
+            raise Refused(65)
+        return records[part - 1]
+
+    def do_officers_move(self, number, ply, text):
+        game = self.game_of(number)
+        again = 1 <= ply <= game.plies()
+        before = game.plies()
+        try:
+            reply = game.move(game.players[(ply - 1) % 2], ply, text, self.now())
+        except Refused as refusing:
+            if refusing.args[0] in (20, 30):
+                raise bad_text(refusing.args[0], text) from None
+            raise Refused(21, ply) if refusing.args[0] == 21 else refusing
+        end = f" end {reply['end']}" if reply["end"] else ""
+        done = f"ply {ply} {reply['move']}{end}"
+        return f"repeated {done}\n" if again and before == game.plies() else self.accepted(done)
+
+    def do_sweep(self):
+        late = [it for it in self.games if not it.end and self.now() > it.deadline()]
+        for game in late:
+            game.lost_by(game.turn(), "Time")
+        return self.accepted(f"sweep {len(late)}")
+
+    def do_list(self, number):
+        return "".join(f"{move}\n" for move in self.game_of(number).legal()["moves"])
+
+    def do_export(self, number):
+        return record_of(self.game_of(number))
+
+    def do_table(self, name):
+        return self.table(self.event_of(name))
+
+    def do_members(self):
+        return "".join(f"member {number} {name}\n" for number, name in enumerate(self.keys.values(), 1))
+
+    def do_events(self):
+        lines = []
+        for number, event in enumerate(self.events.values(), 1):
+            ends = [game.end for game in self.games if game.event is event]
+            lines.append(f"event {number} {' '.join(map(str, event.values()))} {len(ends)} {ends.count(None)}\n")
+        return "".join(lines)
+
+    def do_games(self, event, member, flag):
+        games = self.games if event is None else self.games_in(self.event_of(event))
+        if member is not None and member not in self.keys.values():
+            raise Refused(65)
+        is_shown = {None: lambda it: True, "--running": lambda it: not it.end,
+                    "--overdue": lambda it: not it.end and self.now() > it.deadline()}[flag]
+        return "".join(game_line(it) for it in games if (member is None or member in it.players) and is_shown(it))

@@ -1,0 +1,208 @@
+#!/usr/bin/env python3
+"""Tests how a server and the command line share a file: the server executes commands and queries that it receives over
+its control socket, and releases the file to a command that needs it itself.
+
+    python3 tests/server/control_socket.py
+"""
+import contextlib
+import os
+import pathlib
+import signal
+import sqlite3
+import stat
+import subprocess
+import sys
+import tempfile
+import threading
+import time
+
+sys.path[0] = str(pathlib.Path(__file__).resolve().parents[1])
+import lib.club
+from lib.club import PROGRAM, TWO_MEMBERS
+from lib.report import check, exit_status
+from lib.server import SHOW_GAME, free_port, serve
+
+SOCKET = "c.db-desk"
+CREATE = *TWO_MEMBERS, "event cup draughts 86400 0", "seat g cup anna bert"
+
+
+def club(*words, now=None):
+    """A command at a timestamp, or else by the machine's clock."""
+    return lib.club.club(*words, now=now)
+
+
+def shown(server):
+    """The status of a reply that shows a game, or why there was none."""
+    try:
+        return int(server.send(SHOW_GAME).split()[1])
+    except OSError as error:
+        return str(error)
+
+
+@contextlib.contextmanager
+def busy(server, statuses):
+    """Three clients that send one request after another, and the statuses of the replies."""
+    done = threading.Event()
+
+    def send():
+        while not done.is_set():
+            statuses.append(shown(server))
+
+    clients = [threading.Thread(target=send) for _ in range(3)]
+    for it in clients:
+        it.start()
+    try:
+        yield
+    finally:
+        done.set()
+        for it in clients:
+            it.join()
+
+
+def commands_beside_requests():
+    statuses = []
+    with serve(now=None) as server, busy(server, statuses):
+        time.sleep(0.5)
+        began = time.monotonic()
+        printed = [club("c.db", "member", f"m{it}", f"keymember{it}") for it in range(20)]
+        took = time.monotonic() - began
+        mode = stat.S_IMODE(os.stat(SOCKET).st_mode)
+    expected = [(0, f"accepted member {it}") for it in range(3, 23)]
+    check("a busy server executes twenty commands", expected, printed)
+    check("commands do not wait for a busy server", True, took < 30)
+    check("a busy server answers each request between the commands", {200}, set(statuses))
+    check("a busy server goes on beside the commands", True, len(statuses) > 100)
+    check("only the owner may use the control socket", 0o600, mode)
+
+
+def commands_and_queries():
+    """The server executes what the command line sends, at the timestamp of the command; the output is the same."""
+    queries = ("members", "events", "games", "games --running", "table cup", "legal 1", "export 1", "legal 9",
+               "table nothing")
+    late = 2000000000
+    without = [club("c.db", *it.split(), now=late) for it in queries]
+    with open("log", "wb") as log, serve("c.db", "--log", now=None, stderr=log) as server:
+        check("a server with a log shows a game", 200, shown(server))
+        for it, expected in zip(queries, without):
+            check(f"`{it}` prints the same beside a server", expected, club("c.db", *it.split(), now=late))
+        check("the server executes a move", (0, "accepted ply 1 32-28"), club("c.db", "move", "1", "1", "32-28"))
+        check("the server repeats a move", (0, "repeated ply 1 32-28"), club("c.db", "move", "1", "1", "32-28"))
+        check("the server refuses another move of that ply", (1, "refused 58 Conflict"), club("c.db", "move", "1", "1", "31-27"))
+        check("the server refuses a name that is taken", (1, "refused 64 NameTaken"), club("c.db", "member", "anna", "keyanother"))
+        pathlib.Path("game.pdn").write_text('[Result "0-2"]\n1. 32-28 19-23\n0-2\n')
+        imported = "import-pdn", "old1", "cup", "anna", "bert", "game.pdn"
+        check("the server imports a record", (0, "accepted game 2"), club("c.db", *imported))
+        check("the server repeats an import", (0, "repeated game 2"), club("c.db", *imported))
+        check("the server executes a sweep", (0, "accepted sweep 0"), club("c.db", "sweep"))
+        check("the server shows a game after the commands", 200, shown(server))
+        time.sleep(0.1)
+    lines = [line.split()[1:] for line in pathlib.Path("log").read_text().splitlines()]
+    commands = [line[1:] for line in lines if line[0] == "officer"]
+    requests = [line for line in lines if line[0] != "officer"]
+    expected = [["question", "0"]] * 7 + [["question", "1"]] * 2
+    expected += [["move", "0"], ["move", "0"], ["move", "1"], ["member", "1"]]
+    expected += [["import-pdn", "0"], ["import-pdn", "0"], ["sweep", "0"]]
+    check("each command is in the log", expected, commands)
+    check("each request is in the log with its member", [["GET", "/games/1", "200", "anna"]] * 2, requests)
+    check("no key is in the log", False, "key" in pathlib.Path("log").read_text())
+
+
+def killed_servers():
+    """A server that is killed while it executes a command: the command is lost or done, and can be repeated."""
+    results = []
+    for it in range(12):
+        with serve(now=None) as server:
+            check(f"server {it + 1} shows a game before it is killed", 200, shown(server))
+            words = [PROGRAM, "c.db", "member", f"k{it}", f"keykilled{it}"]
+            with subprocess.Popen(words, stdout=subprocess.PIPE, stderr=subprocess.STDOUT, text=True) as command:
+                time.sleep(0.002 * it)
+                server.process.kill()
+                first = command.communicate()[0]
+        again = club("c.db", "member", f"k{it}", f"keykilled{it}")
+        number = again[1].split()[-1]
+        is_done = (first.split() or ["none"])[0] in ("accepted", "repeated")
+        results.append((is_done, again == (0, f"repeated member {number}")))
+    check("a command succeeds although its server is killed", [(True, True)] * 12, results)
+    check("the club is sound after servers were killed", (0, "sound"), club("c.db", "verify"))
+
+
+def dead_sockets():
+    """The socket of a server that was killed hinders nobody."""
+    check("a killed server leaves its socket", True, os.path.exists(SOCKET))
+    check("a command ignores the socket of a killed server", (0, "sound"), club("c.db", "verify"))
+    with serve(now=None) as server:
+        check("a new server replaces the socket of a killed one", 200, shown(server))
+        check("the new server executes a query", (0, "sound"), club("c.db", "verify"))
+        check("the new server shows a game", 200, shown(server))
+        server.process.send_signal(signal.SIGSTOP)
+        began = time.monotonic()
+        status, _ = club("c.db", "verify")
+        check("a command fails beside a stopped server", (3, True), (status, time.monotonic() - began < 40))
+        server.process.send_signal(signal.SIGCONT)
+        check("a command succeeds once the server continues", (0, "sound"), club("c.db", "verify"))
+        check("a game is shown once the server continues", 200, shown(server))
+    os.remove(SOCKET)
+    pathlib.Path(SOCKET).write_text("a letter")
+    with serve(now=None) as server:
+        check("a server works with a file at the path of its socket", 200, shown(server))
+        check("a command works with a file at the path of the socket", (0, "sound"), club("c.db", "verify"))
+    check("the file at the path of the socket is unchanged", "a letter", pathlib.Path(SOCKET).read_text())
+    os.remove(SOCKET)
+
+
+def two_servers():
+    with serve(now=None) as first, serve(now=None) as second:
+        statuses = [shown(server) for _ in range(5) for server in (first, second)]
+        check("two servers share a file", [200] * 10, statuses)
+        check("a command works beside two servers", (0, "sound"), club("c.db", "verify"))
+        first.process.kill()
+        first.process.wait()
+        check("the second server goes on when the first is killed", [200] * 3, [shown(second) for _ in range(3)])
+        check("a command works beside the second server", (0, "sound"), club("c.db", "verify"))
+
+
+def long_paths():
+    """If the path is too long for a socket's address the server releases the file from time to time."""
+    folder = pathlib.Path("a" * 60, "b" * 60)
+    folder.mkdir(parents=True)
+    file = str(folder / "c.db")
+    pathlib.Path(file).write_bytes(pathlib.Path("c.db").read_bytes())
+    statuses = []
+    with serve(file, now=None) as server, busy(server, statuses):
+        time.sleep(0.5)
+        check("a command works beside a server with a long path", (0, "sound"), club(file, "verify"))
+    check("a server with a long path answers requests", True, statuses.count(200) > 10)
+
+
+def idle_servers():
+    """Beside an idle server other programs can use the file."""
+    with serve(now=None) as server:
+        shown(server)
+        with contextlib.closing(sqlite3.connect("c.db", timeout=60)) as other:
+            count = other.execute("SELECT count(*) FROM members").fetchone()
+            check("sqlite3 reads the file beside an idle server", (34,), count)
+        check("an idle server shows a game after sqlite3 has read the file", 200, shown(server))
+
+
+def end_of_server():
+    words = [PROGRAM, "c.db", "serve", "--count", "0", str(free_port())]
+    with subprocess.Popen(words, stdout=subprocess.PIPE) as process:
+        process.communicate()
+    check("a server that ends removes its control socket", False, os.path.exists(SOCKET))
+
+
+PARTS = (commands_and_queries, commands_beside_requests, killed_servers, dead_sockets, two_servers, long_paths,
+         idle_servers, end_of_server)
+
+
+def main():
+    with tempfile.TemporaryDirectory(dir="/tmp") as folder, contextlib.chdir(folder):
+        for words in CREATE:
+            check(f"`{words}` succeeds without a server", 0, club("c.db", *words.split())[0])
+        for part in PARTS:
+            part()
+    return exit_status()
+
+
+if __name__ == "__main__":
+    sys.exit(main())
