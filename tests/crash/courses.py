@@ -1,10 +1,9 @@
 #!/usr/bin/env python3
-"""Runs the courses of tests/courses.txt over the program `trials`: each is stopped at each call of the disk.
+"""Stops the courses of tests/crash/courses.txt at each call of the disk, over a club in memory.
 
-    python3 tests/courses.py [TRIALS]
+    python3 tests/crash/courses.py
 
-Prints for each of them 'ok COURSE' with how many of its lines hold and at how many calls of the disk it was stopped, or
-'not ok COURSE' and the lines that do not hold. A course that was stopped nowhere is not ok.
+A program of tests runs them. A course that was stopped nowhere fails.
 """
 import concurrent.futures
 import pathlib
@@ -12,14 +11,16 @@ import re
 import subprocess
 import sys
 
-TOP = pathlib.Path(__file__).resolve().parent.parent
-SCRIPT = TOP / "tests/courses.txt"
-TRIALS = TOP / "crates/trials/out/trials"
+sys.path[0] = str(pathlib.Path(__file__).resolve().parents[1])
+from lib.club import STORE_SCRIPTS, TESTS
+from lib.report import exit_status, result
+
+SCRIPT = TESTS / "crash/courses.txt"
 STOPS = re.compile(r"(\d+) stops\n")
 
 
 def courses(text):
-    """Each course, which begins with a club."""
+    """Each course; it begins with a club."""
     starts = [it.start() for it in re.finditer(r"^club ", text, re.MULTILINE)]
     return [text[start:end] for start, end in zip(starts, [*starts[1:], len(text)])]
 
@@ -29,9 +30,9 @@ def name_of(course):
     return next(line for line in course.splitlines() if "stopped" in line)
 
 
-def told(program, course):
-    """What the program says of a course, at how many calls it was stopped, and whether all holds."""
-    ran = subprocess.run([program], input=course, capture_output=True, text=True)
+def run(course):
+    """What the program prints for a course, at how many calls it was stopped, and whether all lines hold."""
+    ran = subprocess.run([STORE_SCRIPTS], input=course, capture_output=True, text=True)
     lines = sum(1 for it in course.splitlines() if it and not it.startswith("#"))
     found = STOPS.fullmatch(ran.stderr)
     stops = int(found[1]) if found else 0
@@ -39,19 +40,17 @@ def told(program, course):
     return ran.stdout or ran.stderr, stops, holds and stops > 0
 
 
-def main(program):
-    given, whole, worst = courses(SCRIPT.read_text(encoding="utf-8")), 0, 0
+def main():
+    given, whole = courses(SCRIPT.read_text(encoding="utf-8")), 0
     with concurrent.futures.ThreadPoolExecutor() as lanes:
-        for course, (said, stops, is_well) in zip(given, lanes.map(lambda it: told(program, it), given)):
-            last = said.splitlines()[-1] if said else "nothing is said"
-            print(f"{'ok' if is_well else 'not ok'} {name_of(course)}: {last}, {stops} stops", flush=True)
-            if not is_well:
-                print("".join(f"  {it[:300]}\n" for it in said.splitlines()[:5]), end="")
-                worst = 1
+        for course, (printed, stops, is_well) in zip(given, lanes.map(run, given)):
+            last = printed.splitlines()[-1] if printed else "nothing is printed"
+            result(is_well, f"each stop of the course `{name_of(course)}` leaves a club ({last}, {stops} stops)",
+                   *(it[:300] for it in printed.splitlines()[:5]))
             whole += stops
     print(f"stopped at {whole} calls of the disk")
-    return worst
+    return exit_status()
 
 
 if __name__ == "__main__":
-    sys.exit(main(sys.argv[1] if sys.argv[1:] else str(TRIALS)))
+    sys.exit(main())

@@ -1,13 +1,12 @@
 #!/usr/bin/env python3
-"""Kills words and desks at random moments: what was acknowledged is there, and the rest is whole.
+"""Kills commands and servers at random times: what was answered is stored, and every command is atomic.
 
-    python3 tests/kill.py [--seconds N] [--seed N] [PROGRAM]
+    python3 tests/crash/kill.py [--seconds N] [--seed N]
 
-Clubs go through a list of commands, by words or at the desk. Each run of the program is killed (SIGKILL) at a moment
-that is drawn, or every second word, where strace is there, at a call on its files. Then the rows are those after all
-commands that were answered, or after one more, `verify` says sound, and the commands that come again are accepted or
-repeated, with the same answers. The rows are those of a club that went through the commands undisturbed. Prints
-'ok NAME' or 'not ok NAME', with how many were killed and what stood. By default it takes below 20 seconds.
+Clubs execute a list of commands, from the command line or over HTTP. Each process is killed (SIGKILL) at a random time,
+or, if strace is there, every second one at a call on its files. Then the rows are those after all commands that were
+answered, or after one more; `verify` prints `sound`; and the commands, given again, are accepted or repeated with the
+same answers. The expected rows are those of a club that was not disturbed.
 """
 import argparse
 import collections
@@ -15,6 +14,7 @@ import concurrent.futures
 import contextlib
 import http.client
 import os
+import pathlib
 import random
 import signal
 import subprocess
@@ -23,20 +23,24 @@ import tempfile
 import threading
 import time
 
-import clubs
-import disks
-from clubs import NO_CLUB, QUICK, Request, Word, copied, queried, rows
+sys.path[0] = str(pathlib.Path(__file__).resolve().parents[1])
+from lib import disks
+from lib.club import (
+    Command, FAST, NO_CLUB, TABLES, WAIT, arguments, copy_files, execute, input_of, query, read_rows, start, verify,
+)
+from lib.report import exit_status, result
+from lib.server import FAILURES, Request, post, serve
 
-WORKERS = 4  # two for words and two for desks, of each one where files are quick
-TURNS = 5  # times at most that a word is killed before it is let be
-REACH = 1.1  # how far the moments reach, where a run that is let be takes 1
-STRETCH = 0.2  # seconds at most in which a desk is killed that is kept busy
-IDLE = 0.9, 1.6  # seconds of one that then has nothing to do: it gives the file up
+WORKERS = 4  # two for commands and two for servers; one of each in a folder in which fsync takes no time
+TURNS = 5  # times at most that a command is killed before it may end
+REACH = 1.1  # the latest time of a kill, as a part of the time that a command takes
+BUSY = 0.2  # seconds after which a busy server is killed, at most
+IDLE = 0.9, 1.6  # seconds after which an idle server is killed: it releases the file then
 LATE = 100000
 CALLS = "pwrite64,ftruncate,fsync,fdatasync"  # on files
-MOST_CALLS = 32  # a little above what most words make; one that makes fewer ends by itself
+MOST_CALLS = 32  # a little more than most commands make; one that makes fewer ends by itself
 TRACED = ["strace", "-f", "-qq", "-o", os.devnull, "-e", f"trace={CALLS}", "-e"]
-VERIFY = Word("verify", "sound", "sound")
+VERIFY = Command("verify", "sound", "sound")
 GAME = 'SELECT plies, "end", result FROM games WHERE id = {}'
 ROOKS = ["2h3h", "8b7b", "3h2h", "7b8b"] * 3
 MEN = ["32-28", "19-23", "28x19", "14x23"]
@@ -54,26 +58,26 @@ ENDED = {1: (4, None, None), 2: (12, "Fourfold", "1-1"), 3: (0, "Time", "0-2"), 
 SERVED = {1: (4, "Agreed", "1-1"), 2: (12, "Fourfold", "1-1"), 5: (1, "Resigned", "2-0")}
 
 
-def word(text, **more):
-    words, told = text.split(" = ")
-    again = "store 70 Foreign" if words == "init" else told.replace("accepted", "repeated")
-    return Word(words, told, "accepted sweep 0" if words == "sweep" else again, **more)
+def command(text, **more):
+    words, printed = text.split(" = ")
+    again = "store 70 Foreign" if words == "init" else printed.replace("accepted", "repeated")
+    return Command(words, printed, "accepted sweep 0" if words == "sweep" else again, **more)
 
 
-def words():
-    """The commands of the officer's."""
-    yield from map(word, START.splitlines())
+def commands():
+    """The commands of the officer."""
+    yield from map(command, START.splitlines())
     for ply, made in enumerate(MEN, 1):
-        yield word(f"move 1 {ply} {made} = accepted ply {ply} {made}")
+        yield command(f"move 1 {ply} {made} = accepted ply {ply} {made}")
     for ply, made in enumerate(ROOKS, 1):
-        yield word(f"move 2 {ply} {made} = accepted ply {ply} {made}" + " end Fourfold" * (ply == 12))
-    yield word("import-pdn old1 cup anna bert - = accepted game 5", record="evening.pdn")
-    yield word("import-csa old2 fuji bert anna - = accepted game 6", record="checkmate.csa")
-    yield word("sweep = accepted sweep 2", now=LATE)
+        yield command(f"move 2 {ply} {made} = accepted ply {ply} {made}" + " end Fourfold" * (ply == 12))
+    yield command("import-pdn old1 cup anna bert - = accepted game 5", record="evening.pdn")
+    yield command("import-csa old2 fuji bert anna - = accepted game 6", record="checkmate.csa")
+    yield command("sweep = accepted sweep 2", now=LATE)
 
 
 def requests():
-    """The commands of members', whose replies an undisturbed desk gives."""
+    """The commands of members; an undisturbed server gives the expected replies."""
     keys = "keyanna1", "keybert2"
 
     def post(member, path, body=None):
@@ -95,233 +99,230 @@ def requests():
 
 def named(state):
     """Each row of a state with the name of its table."""
-    return {(name, row) for name, held in zip(clubs.TABLES, state) for row in held}
+    return {(name, row) for name, held in zip(TABLES, state) for row in held}
 
 
 class Wrong(Exception):
-    """What is not as it should be."""
+    """What differs from what is expected."""
 
 
 class Course:
-    """Commands, and the rows before them and after each of them where nothing is disturbed."""
+    """Commands, and the rows before them and after each of them if nothing is disturbed."""
 
-    def __init__(self, program, folder, steps, ends):
-        self.steps, self.states = [], [rows(folder)]
-        for step, told in zip(steps, self.told(program, folder, steps)):
+    def __init__(self, folder, steps, ends):
+        self.steps, self.states = [], [read_rows(folder)]
+        for step, printed in zip(steps, self.answers(folder, steps)):
             if isinstance(step, Request):
-                step = Request(step.key, step.path, step.body, told)
-            if told != step.told or isinstance(told, tuple):
-                raise Wrong(f"undisturbed {step} is told {told}")
+                step = Request(step.key, step.path, step.body, printed)
+            if printed != step.printed or isinstance(printed, tuple):
+                raise Wrong(f"undisturbed {step} prints {printed}")
             self.steps.append(step)
         if len(set(map(str, self.states))) != len(self.states):
-            raise Wrong("a command leaves the rows as they were")
+            raise Wrong("a command leaves the rows unchanged")
         for game, ended in ends.items():
-            if (found := queried(folder, GAME.format(game))) != ended:
-                raise Wrong(f"sqlite3 reads {found} of game {game}, wanted {ended}")
+            if (found := query(f"{folder}/c.db", GAME.format(game))) != [ended]:
+                raise Wrong(f"sqlite3 reads {found} of game {game}, expected {ended}")
 
-    def told(self, program, folder, steps):
-        """What each command is told, in turn; its rows are taken."""
+    def answers(self, folder, steps):
+        """The answer to each command, in turn; the rows after it are kept."""
         with contextlib.ExitStack() as stack:
             if isinstance(steps[0], Request):
-                _, port = stack.enter_context(program.desk(folder, steps[0].now, len(steps) + 1))
+                count = str(len(steps) + 1)
+                server = stack.enter_context(serve("c.db", "--count", count, now=steps[0].now, folder=folder))
             for step in steps:
-                told = program.give(folder, step) if isinstance(step, Word) else clubs.replied(port, step)
-                self.states.append(rows(folder))
-                yield told
+                printed = execute(folder, step) if isinstance(step, Command) else post(server.port, step)
+                self.states.append(read_rows(folder))
+                yield printed
 
     def nearest(self, found):
-        """How the rows differ from those of the state that has the most rows in common."""
+        """How the rows differ from the state with which they have most rows in common."""
         if not isinstance(found, list):
             return found
         held = named(found)
         apart = min(map(named, self.states[1:]), key=lambda it: len(it ^ held))
         return f"{sorted(held - apart)} in place of {sorted(apart - held)}"
 
-    def stood(self, found, least, most):
-        """How many of the commands the rows have, where so many at least and at most may stand."""
+    def count_done(self, found, least, most):
+        """How many of the commands the rows have; so many at least and at most are expected."""
         if found not in self.states:
             raise Wrong(f"the rows are of no state: {self.nearest(found)}")
-        stood = self.states.index(found)
-        if not least <= stood <= most:
-            raise Wrong(f"{stood} commands stand, wanted {least} to {most}")
-        return stood
+        done = self.states.index(found)
+        if not least <= done <= most:
+            raise Wrong(f"{done} commands are stored, expected {least} to {most}")
+        return done
 
 
 class Killer:
-    """Kills runs of the program until a moment, and counts them."""
+    """Kills processes until a time, and counts them."""
 
-    def __init__(self, program, course, start, place, draw, until):
-        self.program, self.course, self.start, self.place = program, course, start, place
+    def __init__(self, course, start, place, draw, until):
+        self.course, self.start, self.place = course, start, place
         self.draw, self.until = draw, until
         self.counts, self.faults = collections.Counter(), []
-        self.span = 0.05  # seconds that a word takes, about
+        self.span = 0.05  # seconds that a command takes, about
         self.can_trace = disks.traces() is not None
 
     def is_over(self):
         return time.monotonic() >= self.until
 
     def run(self):
-        """Goes through the commands, over one new club after another."""
+        """Executes the commands, over one new club after another."""
         while not self.is_over():
-            with tempfile.TemporaryDirectory(dir=self.place) as room:
-                copied(self.start, room)
+            with tempfile.TemporaryDirectory(dir=self.place) as folder:
+                copy_files(self.start, folder)
                 try:
-                    self.go_through(room)
-                except (Wrong, *clubs.FAILURES) as failure:
+                    self.execute_all(folder)
+                except (Wrong, *FAILURES) as failure:
                     self.faults.append(f"{type(failure).__name__}: {failure}")
         return self
 
     def found(self, folder, least, most, name):
-        """How many commands stand after a kill; `verify` finds the club sound, and changes nothing."""
+        """How many commands are stored after a kill; `verify` prints `sound`, and changes nothing."""
         try:
-            raw = rows(folder)
-            told = self.program.verify(folder)
-            if told == "store 70 Foreign" and least == 0 and self.course.states[0] == NO_CLUB:
+            raw = read_rows(folder)
+            printed = verify(folder)
+            if printed == "store 70 Foreign" and least == 0 and self.course.states[0] == NO_CLUB:
                 return 0
-            if told != "sound":
-                raise Wrong(f"verify says {told}")
-            stood = self.course.stood(rows(folder), least, most)
-            if raw != self.course.states[stood]:
-                raise Wrong(f"sqlite3 reads it otherwise: {str(raw)[:200]}")
+            if printed != "sound":
+                raise Wrong(f"verify prints {printed}")
+            done = self.course.count_done(read_rows(folder), least, most)
+            if raw != self.course.states[done]:
+                raise Wrong(f"sqlite3 reads other rows: {str(raw)[:200]}")
         except Wrong as wrong:
             raise Wrong(f"{name}: {wrong}") from None
-        return stood
+        return done
 
-    def cut_off(self, folder, step):
-        """Kills a word at a moment that is drawn, or as it makes a call on its files: when, and what it had printed."""
-        words, delay, call = self.program.words_of(step), self.draw.uniform(0, REACH * self.span), None
+    def kill_command(self, folder, step):
+        """Kills a command at a random time, or at a call on its files: when, and what it had printed."""
+        words, delay, call = arguments(step), self.draw.uniform(0, REACH * self.span), None
         if self.can_trace and self.draw.randrange(2):
             call = self.draw.randrange(1, MOST_CALLS)
             words = [*TRACED, f"inject={CALLS}:signal=SIGKILL:when={call}", *words]
-        with self.program.started(folder, words, stdin=subprocess.PIPE) as ran:
+        with start(folder, words, stdin=subprocess.PIPE) as ran:
             with contextlib.suppress(BrokenPipeError):
-                ran.stdin.write(clubs.record_of(step))
+                ran.stdin.write(input_of(step))
                 ran.stdin.close()
             if not call:
                 time.sleep(delay)
                 ran.kill()
-            said = ran.stdout.read().decode()
+            printed = ran.stdout.read().decode()
         self.counts["killed" if ran.returncode == -signal.SIGKILL else "ended"] += 1
-        return f"at call {call} on its files" if call else f"after {delay * 1000:.1f} ms", said
+        return f"at call {call} on its files" if call else f"after {delay * 1000:.1f} ms", printed
 
 
-class WordKiller(Killer):
-    """Kills each word some times, until its command stands, and then lets it come again."""
+class CommandKiller(Killer):
+    """Kills each command some times, until it is stored, and then repeats it."""
 
-    def go_through(self, folder):
+    def execute_all(self, folder):
         for number, step in enumerate(self.course.steps):
-            stood, turns = number, TURNS
-            while stood == number and turns:
+            done, turns = number, TURNS
+            while done == number and turns:
                 if self.is_over():
                     return
-                stood, turns = self.kill(folder, step, number), turns - 1
+                done, turns = self.kill(folder, step, number), turns - 1
             began = time.monotonic()
-            told = self.program.give(folder, step)
+            printed = execute(folder, step)
             self.span += (time.monotonic() - began - self.span) / 8
-            wanted = step.told if stood == number else step.again
-            if told != wanted:
-                raise Wrong(f"{step.words} that came again is told {told}, wanted {wanted}")
-            self.course.stood(rows(folder), number + 1, number + 1)
+            expected = step.printed if done == number else step.again
+            if printed != expected:
+                raise Wrong(f"{step.words}, repeated, prints {printed}, expected {expected}")
+            self.course.count_done(read_rows(folder), number + 1, number + 1)
 
     def kill(self, folder, step, number):
-        """How many commands stand after one was killed, before which so many stood."""
-        when, said = self.cut_off(folder, step)
-        is_answered = said.startswith(("accepted", "repeated", "ready"))
+        """How many commands are stored after one was killed, before which so many were stored."""
+        when, printed = self.kill_command(folder, step)
+        is_answered = printed.startswith(("accepted", "repeated", "ready"))
         name = f"{step.words} killed {when}"
-        stood = self.found(folder, number + is_answered, number + 1, name)
-        self.counts["before" if stood == number else "after"] += 1
-        self.counts["unanswered"] += stood > number and not is_answered
-        return stood
+        done = self.found(folder, number + is_answered, number + 1, name)
+        self.counts["before" if done == number else "after"] += 1
+        self.counts["unanswered"] += done > number and not is_answered
+        return done
 
 
-class DeskKiller(Killer):
-    """Kills desks, each of which goes on where the one before it was killed."""
+class ServerKiller(Killer):
+    """Kills servers, each of which continues from where the one before it was killed."""
 
-    def go_through(self, folder):
-        stood = 0
-        while stood < len(self.course.steps):
+    def execute_all(self, folder):
+        done = 0
+        while done < len(self.course.steps):
             if self.is_over():
                 return
-            stood = self.kill(folder, stood)
+            done = self.kill(folder, done)
 
-    def kill(self, folder, stood):
-        """How many commands stand after a desk was killed, which is asked first for the last that stands already."""
+    def kill(self, folder, done):
+        """How many commands are stored after a server was killed; it first receives the last one that is stored."""
         is_idle = self.draw.randrange(10) == 0
         most = self.draw.randrange(1, 4) if is_idle else len(self.course.steps)
-        delay = self.draw.uniform(*IDLE) if is_idle else self.draw.uniform(0, STRETCH)
-        answered, steps = stood, self.course.steps
-        with self.program.desk(folder, steps[0].now, len(steps) + 1) as (served, port):
-            timer = threading.Timer(delay, served.kill)
+        delay = self.draw.uniform(*IDLE) if is_idle else self.draw.uniform(0, BUSY)
+        answered, steps = done, self.course.steps
+        with serve("c.db", "--count", str(len(steps) + 1), now=steps[0].now, folder=folder) as server:
+            timer = threading.Timer(delay, server.process.kill)
             timer.start()
             with contextlib.suppress(OSError, http.client.HTTPException):
-                for number in range(max(stood - 1, 0), min(stood + most, len(steps))):
-                    told = clubs.replied(port, steps[number])
-                    if told != steps[number].told:
-                        raise Wrong(f"at the desk {steps[number]} is told {told}")
+                for number in range(max(done - 1, 0), min(done + most, len(steps))):
+                    reply = post(server.port, steps[number])
+                    if reply != steps[number].printed:
+                        raise Wrong(f"{steps[number]} receives {reply}")
                     answered = max(answered, number + 1)
-            served.wait(clubs.WAIT)
-        self.counts["desks"] += 1
-        name = f"the desk killed after {delay * 1000:.1f} ms and {answered - stood} new answers"
+            server.process.wait(WAIT)
+        self.counts["servers"] += 1
+        name = f"a server killed after {delay * 1000:.1f} ms and {answered - done} new answers"
         for _ in range(self.draw.randrange(3)):
-            name += f", and verify killed {self.cut_off(folder, VERIFY)[0]}"
+            name += f", and verify killed {self.kill_command(folder, VERIFY)[0]}"
         now = self.found(folder, answered, min(answered + 1, len(steps)), name)
-        self.counts["answered"] += answered - stood
+        self.counts["answered"] += answered - done
         self.counts["unanswered"] += now > answered
         return now
 
 
-def verdict(name, told, faults):
-    print(f"{'not ok' if faults else 'ok'} {name} ({told})", flush=True)
-    for fault in faults[:8]:
-        print(f"  {fault}")
-    return bool(faults)
-
-
-def told_of(killers):
+def totals(killers):
     """The counts and the faults of several."""
     counts = sum((it.counts for it in killers), collections.Counter())
     return counts, [fault for it in killers for fault in it.faults]
 
 
-def courses(program, room):
-    """The two lists of commands, each with what the folder holds at first."""
-    made = {it: f"{room}/{it}" for it in ("nothing", "words", "seated", "served")}
+def courses(room):
+    """The two lists of commands, each with the files of the folder before them."""
+    made = {it: f"{room}/{it}" for it in ("nothing", "commands", "seated", "served")}
     for folder in made.values():
         os.mkdir(folder)
-    yield WordKiller, Course(program, made["words"], list(words()), ENDED), made["nothing"]
-    for step in map(word, START.splitlines()):
-        program.give(made["seated"], step)
-    copied(made["seated"], made["served"])
-    yield DeskKiller, Course(program, made["served"], list(requests()), SERVED), made["seated"]
+    yield CommandKiller, Course(made["commands"], list(commands()), ENDED), made["nothing"]
+    for step in map(command, START.splitlines()):
+        execute(made["seated"], step)
+    copy_files(made["seated"], made["served"])
+    yield ServerKiller, Course(made["served"], list(requests()), SERVED), made["seated"]
 
 
 def main():
-    asked = argparse.ArgumentParser()
-    asked.add_argument("--seconds", type=float, default=13)
-    asked.add_argument("--seed", type=int, default=1)
-    asked.add_argument("program", nargs="?", default=clubs.HERE.parent / "build" / "club")
-    asked = asked.parse_args()
+    words = argparse.ArgumentParser()
+    words.add_argument("--seconds", type=float, default=13)
+    words.add_argument("--seed", type=int, default=1)
+    asked = words.parse_args()
     print(f"seed {asked.seed}", flush=True)
-    program, killers = clubs.Program(asked.program), []
-    with tempfile.TemporaryDirectory(dir=QUICK) as room:
+    killers = []
+    with tempfile.TemporaryDirectory(dir=FAST) as room:
         try:
-            found = list(courses(program, room))
-        except (Wrong, *clubs.FAILURES) as failure:
-            return int(verdict("commands that are not disturbed", "none was killed", [str(failure)]))
+            found = list(courses(room))
+        except (Wrong, *FAILURES) as failure:
+            result(False, "commands that are not disturbed are executed", failure)
+            return exit_status()
         until = time.monotonic() + asked.seconds
         for number in range(WORKERS):
-            kind, course, start = found[number % 2]
-            place, draw = None if number < 2 else QUICK, random.Random(f"{asked.seed} {number}")
-            killers.append(kind(program, course, start, place, draw, until))
+            kind, course, files = found[number % 2]
+            place, draw = None if number < 2 else FAST, random.Random(f"{asked.seed} {number}")
+            killers.append(kind(course, files, place, draw, until))
         with concurrent.futures.ThreadPoolExecutor(WORKERS) as workers:
             list(workers.map(lambda it: it.run(), killers))
-    counts, faults = told_of(killers[0::2])
-    told = "{killed} killed, {ended} ended first: {before} without the command, {after} with it, "
+    counts, faults = totals(killers[0::2])
+    told = "{killed} killed, {ended} ended before that; {before} without the command, {after} with it, "
     told += "{unanswered} of these before its answer"
-    is_bad = verdict("words that are killed", told.format_map(counts), faults)
-    counts, faults = told_of(killers[1::2])
-    told = "{desks} killed after {answered} answers, {unanswered} with a command more; and {killed} that verified"
-    return int(verdict("desks that are killed", told.format_map(counts), faults) | is_bad)
+    name = "a command that is killed at a random time is atomic"
+    result(not faults, f"{name} ({told.format_map(counts)})", *faults[:8])
+    counts, faults = totals(killers[1::2])
+    told = "{servers} killed after {answered} answers, {unanswered} with one command more; and {killed} of `verify`"
+    name = "every answered request is stored after its server is killed at a random time"
+    result(not faults, f"{name} ({told.format_map(counts)})", *faults[:8])
+    return exit_status()
 
 
 if __name__ == "__main__":

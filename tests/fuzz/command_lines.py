@@ -9,13 +9,12 @@ import sqlite3
 import subprocess
 import tempfile
 
-from fuzz.server import copy_club, rows
+from lib.club import RECORDS, copy_club, read_tables
 from models.draughts import Refused
 from models.officer import OfficersClub, told_refusal
 
 ROUND = 80
 LAST_MOMENT = 253402300799
-RECORDS = pathlib.Path(__file__).resolve().parent / "records"
 KINDS = {  # the kinds of each command's words
     "init": (), "member": ("name", "key"), "event": ("name", "game", "number", "number"),
     "seat": ("name", "name", "name", "name"), "import-pdn": ("name", "name", "name", "name", "record"),
@@ -305,7 +304,7 @@ class Wording:
         else:
             wanted = printed(self.club, order, standard_input)
             good = self.test.check(wanted == got, name, wanted, got, given)
-        kept = rows("c.db") == self.club.rows()
+        kept = read_tables("c.db") == self.club.rows()
         return self.test.check(kept, f"{name}: the rows", "those of the documents", "others", given) and good
 
     def open_case(self, name, words, standard_input):
@@ -315,7 +314,7 @@ class Wording:
         is_told = is_silent_but(got, got[0]) and (got[0] == 2 or got[2].count("\n") == 1)
         is_good = is_told or got[0] == 0 and not got[2] and not is_odd(words)
         self.test.check(is_good, name, "a status with its stream", got, (words, standard_input))
-        kept = got[0] == 0 or rows("open.db") == self.club.rows()
+        kept = got[0] == 0 or read_tables("open.db") == self.club.rows()
         return self.test.check(kept, f"{name}: the rows", "as before", "others", (words, standard_input))
 
     def at_files(self, chance, name):

@@ -13,12 +13,11 @@ import subprocess
 import tempfile
 
 from models import draughts, shogi
-from fuzz.server import copy_club, rows
+from lib.club import RECORDS, copy_club, read_tables
 from models.draughts import Refused
 from models.officer import LIMIT, told_refusal
 from models.records import csa_move
 
-RECORDS = pathlib.Path(__file__).resolve().parent / "records"
 GAMES = 12
 POOL_LASTS = 400  # cases
 PDN_PARTS = (
@@ -231,7 +230,7 @@ class Importing:
         for words in ("init", "member anna keyanna1", "member bert keybert2", "event autumn draughts 86400 0",
                       "event fuji shogi 86400 0", "seat g autumn anna bert"):
             subprocess.run([test.program, "--now", "1000", self.base, *words.split()], check=True, capture_output=True)
-        self.before = rows(self.base)
+        self.before = read_tables(self.base)
         self.told = {}
 
     def club(self, text, *words):
@@ -251,7 +250,7 @@ class Importing:
             self.count(refusing.args[0])
             line = told_refusal(refusing)
             self.test.check(got == (1, b"", line.encode()), name, line, got, given)
-            self.test.check(rows(self.file) == self.before, f"{name}: the rows", "as before", "others", given)
+            self.test.check(read_tables(self.file) == self.before, f"{name}: the rows", "as before", "others", given)
             return
         self.count("accepted")
         if self.test.check(got == (0, b"accepted game 2\n", b""), name, f"accepted {found[:2]}", got, given):

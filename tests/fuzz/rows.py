@@ -14,9 +14,10 @@ import subprocess
 import tempfile
 
 from models import draughts, shogi
-from fuzz.server import MEMBERS, desk, order
+from fuzz.server import MEMBERS, logged_server, order
 from models.draughts import Refused
 from fuzz.http import ask
+from lib.club import RECORDS
 from fuzz.requests import whole
 
 COLUMNS = {
@@ -36,7 +37,6 @@ TEXTS = {("members", "name"), ("members", "key"), ("events", "name"), ("moves", 
 NAME, KEY = re.compile(r"[A-Za-z0-9._-]{1,24}"), re.compile(r"[A-Za-z0-9]{8,64}")
 LAST_MOMENT = 253402300799
 LARGEST = 2 ** 63 - 1
-RECORDS = pathlib.Path(__file__).resolve().parent / "records"
 RULES = draughts, shogi
 POINTS = {"2-0": (2, 0), "1-1": (1, 1), "0-2": (0, 2)}
 
@@ -254,9 +254,9 @@ def made(program, file):
         order(program, file, 1500, f"import-{kind}", name, event, "bert", "cara", RECORDS / record)
     order(program, file, 1700, "sweep")
     for moment, asked in ((1800, MOVED), (2000, ASKED)):
-        with desk(program, file, moment) as port:
+        with logged_server(file, moment) as server:
             for key, path, body in asked:
-                got = ask(port, [whole("POST", path, body, key)], False)
+                got = ask(server.port, [whole("POST", path, body, key)], False)
                 assert got.startswith(b"HTTP/1.1 200 "), (path, got)
 
 

@@ -1,46 +1,27 @@
-"""Asks a desk by requests of all kinds, and holds each reply and the club's rows to what the documents say."""
+"""Sends requests of all kinds to a server, and compares each reply and the rows of the club with a model."""
 import contextlib
 import copy
 import pathlib
 import random
 import re
-import shutil
-import signal
-import socket
-import sqlite3
 import subprocess
 import tempfile
 import time
 
-from models.club import Club
 from fuzz.http import ask, reply_to
 from fuzz.requests import WHOLE, changed, parted, whole
+from lib.club import copy_club, read_tables
+from lib.server import serve
+from models.club import Club
 
 MOMENT = 2000
 BATCH = 250
-PATIENCE = 8  # seconds; where this machine was slower to send than the desk waits, the desk is asked again
+PATIENCE = 8  # seconds; if this machine is slower to send than the server waits, the request is sent again
 ROUND = 3000
 MEMBERS = ("anna", "keyanna1"), ("bert", "keybert2"), ("cara", "keycara3")
 EVENTS = ("autumn", "draughts", 86400, 5), ("fuji", "shogi", 86400, 0), ("short", "draughts", 60, 0)
 LOGGED = re.compile(rb"%d [!-~\x80-\xff]+ [!-~\x80-\xff]+ ((?:[0-9]{3}|-) [!-~]+)" % MOMENT)
 SEATS = "autumn anna bert", "fuji anna bert", "short bert anna", "autumn cara anna", "fuji bert cara", "short anna bert"
-
-
-def copy_club(file, to):
-    """Copies the file of a club with its log."""
-    for end in ("", "-wal"):
-        pathlib.Path(to + end).unlink(missing_ok=True)
-        if pathlib.Path(file + end).exists():
-            shutil.copyfile(file + end, to + end)
-
-
-def rows(file):
-    """All rows of a club, read by sqlite3 from a copy of the file and of its log."""
-    with tempfile.TemporaryDirectory() as room:
-        copy_club(file, f"{room}/c.db")
-        with contextlib.closing(sqlite3.connect(f"{room}/c.db")) as found:
-            tables = "meta members events event_rules challenges moves games seen scores".split()
-            return {table: found.execute(f"SELECT * FROM {table} ORDER BY 1, 2").fetchall() for table in tables}
 
 
 def order(program, file, moment, *words):
@@ -66,19 +47,10 @@ def begun(program, file):
 
 
 @contextlib.contextmanager
-def desk(program, file, moment=MOMENT):
-    """A desk over the file at a moment, and its port; what it logs stands beside the file."""
-    with socket.socket() as free:
-        free.bind(("127.0.0.1", 0))
-        port = free.getsockname()[1]
-    words = [program, "--now", str(moment), file, "serve", "--log", str(port)]
-    with open(f"{file}.log", "wb") as log, subprocess.Popen(words, stdout=subprocess.PIPE, stderr=log) as served:
-        if not served.stdout.readline():
-            raise OSError("the desk did not listen")
-        try:
-            yield port
-        finally:
-            served.send_signal(signal.SIGKILL)
+def logged_server(file, now=MOMENT):
+    """A server over the file at a timestamp; its log is beside the file."""
+    with open(f"{file}.log", "wb") as log, serve(file, "--log", now=now, stderr=log) as server:
+        yield server
 
 
 class Asking:
@@ -104,7 +76,7 @@ class Asking:
         wanted = self.club.rows()
         for pause in (0, 1, 3):
             time.sleep(pause)
-            got = rows(self.file)
+            got = read_tables(self.file)
             differing = {table: (wanted[table], got[table]) for table in wanted if wanted[table] != got[table]}
             if not differing:
                 break
@@ -159,8 +131,8 @@ def run(test):
         while number == 0 or not test.is_over():
             file = f"{room}/c{number}.db"
             copy_club(base, file)
-            with desk(test.program, file) as port:
-                asking = Asking(test, copy.deepcopy(club), file, port)
+            with logged_server(file) as server:
+                asking = Asking(test, copy.deepcopy(club), file, server.port)
                 asking.changed(number, random.Random(f"{test.seed} desk {number}"))
                 asking.is_logged(f"round {number}")
             for status, count in asking.statuses.items():
@@ -170,4 +142,4 @@ def run(test):
             number += 1
     told = ", ".join(f"{count} {status or 'without reply'}" for status, count in
                      sorted(statuses.items(), key=lambda it: it[0] or 0))
-    return f"requests at the desk: {told}"
+    return told

@@ -62,6 +62,30 @@ def club(*words, **how):
     return status, (out or err).strip()
 
 
+def start(folder, words, **how):
+    """A process in a folder, whose output is read."""
+    return subprocess.Popen(words, cwd=folder, stdout=subprocess.PIPE, stderr=subprocess.PIPE, **how)
+
+
+def arguments(command):
+    """The arguments of the process that executes a command over c.db."""
+    return command_line(["c.db", *command.words.split()], command.now)
+
+
+def execute(folder, command):
+    """What a command over c.db prints."""
+    with start(folder, arguments(command), stdin=subprocess.PIPE) as process:
+        try:
+            printed = process.communicate(input_of(command), WAIT)
+        finally:
+            process.kill()
+    return (printed[0] or printed[1]).decode().strip()
+
+
+def verify(folder):
+    return execute(folder, Command("verify"))
+
+
 def create(file="c.db", budget=86400):
     """Creates a club with two members and a game of draughts."""
     for words in (*TWO_MEMBERS, f"event cup draughts {budget} 0", "seat g cup anna bert"):

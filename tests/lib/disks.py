@@ -1,9 +1,9 @@
-"""What a disk may hold where the power is cut: a program's calls on its files, and each image that they may leave.
+"""What a disk may hold after a power failure: a program's calls on its files, and each image that they may leave.
 
 `recorded` runs a program under strace: its calls on the files of one folder, with the bytes that were written, and its
-answers. `images` tells what the folder may hold at a power cut at any of them: all that was synced, and some part of
-what was not: none, all, each call alone, each beginning, all but one, some that are drawn, and each write torn: cut in
-sectors, by halves, with noise or zeros in its place, the length of the file before it, after it or between.
+answers. `images` gives what the folder may hold if the power fails at any of them: all that was synced, and some part
+of what was not: none, all, each call alone, each beginning, all but one, some that are drawn, and each write torn: cut
+at sectors, by halves, with noise or zeros in its place, the length of the file before it, after it or between.
 """
 import dataclasses
 import itertools
@@ -49,7 +49,7 @@ class Image:
     parts: tuple  # of names, each with the bytes that were synced and the calls
     acknowledged: int
     how: str
-    moment: str = ""  # of the power cut
+    moment: str = ""  # of the power failure
 
     def files(self):
         return {name: after(kept, calls) for name, kept, calls in self.parts}
@@ -138,7 +138,7 @@ class Recorder:
     take_fdatasync = take_fsync
 
     def take_unlink(self, arguments, _):
-        """The desk's socket is taken away, which holds nothing."""
+        """The control socket of a server is removed, which holds no data."""
         if not text_in(arguments).endswith(b"-desk"):
             raise Unknown(f"unlink({arguments[:200]})")
 

@@ -8,7 +8,7 @@ import socket
 import subprocess
 import time
 
-from lib.club import DRAUGHTS_MOVES, FAULTS, WAIT, command_line
+from lib.club import DRAUGHTS_MOVES, FAULTS, WAIT, command_line, execute
 
 TRIES = 5  # ports at most, because another process may take a free port first
 KEYS = {"anna": "keyanna1", "bert": "keybert2", "cara": "keycara3", "dora": "keydora4"}
@@ -101,12 +101,17 @@ class Server:
         return self.request("POST", f"/games/{game}/moves/{ply}", {"move": DRAUGHTS_MOVES[ply - 1]}, key)
 
 
+def server_command(file, *options, now=1000):
+    """The arguments of the process of a server, and its port."""
+    port = free_port()
+    return command_line([file, "serve", *options, port], now), port
+
+
 @contextlib.contextmanager
 def serve(file="c.db", *options, now=1000, folder=None, stderr=subprocess.DEVNULL, tries=TRIES, **how):
     """Starts a server over a file, with options of `serve`; it is killed at the end, unless it has ended by itself."""
     for _ in range(tries):
-        port = free_port()
-        words = command_line([file, "serve", *options, port], now)
+        words, port = server_command(file, *options, now=now)
         with subprocess.Popen(words, cwd=folder, stdin=subprocess.DEVNULL, stdout=subprocess.PIPE, stderr=stderr,
                               **how) as process:
             try:
@@ -116,3 +121,20 @@ def serve(file="c.db", *options, now=1000, folder=None, stderr=subprocess.DEVNUL
             finally:
                 process.kill()
     raise RuntimeError("the server does not listen")
+
+
+def post_all(folder, requests, is_killed=False):
+    """The data of the replies to requests, one after another; the server then ends by itself, or is killed."""
+    count = str(len(requests) + is_killed)
+    with serve("c.db", "--count", count, now=requests[0].now, folder=folder) as server:
+        replies = [post(server.port, it) for it in requests]
+        if not is_killed:
+            server.process.wait(WAIT)
+    return replies
+
+
+def execute_all(folder, steps):
+    """What each of the commands prints, or the data of the replies to requests."""
+    if isinstance(steps[0], Request):
+        return post_all(folder, steps)
+    return [execute(folder, it) for it in steps]

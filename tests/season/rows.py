@@ -1,13 +1,13 @@
 """What each question must show, by SQL on the rows of a club's file: sqlite3 makes the lines and the JSON itself.
 
-The questions are those of season_club.Club: words by `printed`, paths by `body`. Where SQL has no say there is None.
+The queries are those of season.club.Club: commands by `printed`, paths by `body`; None if SQL cannot compute one.
 """
 import contextlib
 import shutil
 import sqlite3
 import tempfile
 
-from clubs import QUICK, copied
+from lib.club import FAST, copy_files
 
 GIVEN = """WITH given AS (SELECT max(:now, last) AS moment FROM meta),
 named AS (
@@ -72,8 +72,8 @@ class Rows:
     """The rows of a folder's club as they stand, read from a copy of the file and its log."""
 
     def __init__(self, folder):
-        self.room = tempfile.mkdtemp(dir=QUICK)
-        copied(folder, self.room)
+        self.room = tempfile.mkdtemp(dir=FAST)
+        copy_files(folder, self.room)
         self.found = sqlite3.connect(f"{self.room}/c.db")
         self.held = tables(self.found)
 
