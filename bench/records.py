@@ -25,7 +25,7 @@ def filled(front, piece, back):
 
 
 def shogi_moves():
-    with open(os.path.join(TOP, "tests", "records", "checkmate.csa")) as it:
+    with open(os.path.join(TOP, "tests", "data", "records", "checkmate.csa")) as it:
         return it.read()
 
 

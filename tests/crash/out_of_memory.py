@@ -1,12 +1,14 @@
 #!/usr/bin/env python3
 """Tests that a command is atomic if an allocation fails, for each allocation of a command over a real file.
 
-    python3 tests/crash/out_of_memory.py
+    python3 tests/crash/out_of_memory.py [--each N]
 
-A command runs over a copy of a club once for each of its allocations (or each eleventh), with that one failed. After a
+A command runs over a copy of a club once for each of its allocations (or each N-th; of an import, an
+export, a list and a sweep each 11*N-th), with that one failed. After a
 fault the tables are unchanged, what was printed is a beginning of what is expected, and the command succeeds when it is
 repeated (which is tried after each sixty-first). If the program could do without that memory, the command is complete.
 """
+import argparse
 import concurrent.futures
 import contextlib
 import os
@@ -105,17 +107,21 @@ def main():
     if not shutil.which("gcc"):
         skip("commands whose allocations fail", "no gcc")
         return 0
+    words = argparse.ArgumentParser()
+    words.add_argument("--each", type=int, default=1)
+    one = words.parse_args().each
+    few = 11 * one
     with tempfile.TemporaryDirectory() as folder, contextlib.chdir(folder):
         create("before.db", budget=60)
         move("before.db", 1)
         copy_club("before.db", "later.db")
         move("later.db", 2)
-        check_command("a move", 1, "before.db", 1000, "accepted ply 2 19-23", "move", 1, 2, "19-23")
+        check_command("a move", one, "before.db", 1000, "accepted ply 2 19-23", "move", 1, 2, "19-23")
         record = RECORDS / "evening.pdn"
-        check_command("an import", 11, "before.db", 1000, "accepted game 2", "import-pdn", "evening", "cup", "anna", "bert", record)
-        check_command("an export", 11, "before.db", 1000, club("before.db", "export", 1)[1], "export", 1)
-        check_command("a list of games", 11, "before.db", 1000, club("before.db", "games")[1], "games")
-        check_command("a sweep", 11, "later.db", 2000, "accepted sweep 1", "sweep")
+        check_command("an import", few, "before.db", 1000, "accepted game 2", "import-pdn", "evening", "cup", "anna", "bert", record)
+        check_command("an export", few, "before.db", 1000, club("before.db", "export", 1)[1], "export", 1)
+        check_command("a list of games", few, "before.db", 1000, club("before.db", "games")[1], "games")
+        check_command("a sweep", few, "later.db", 2000, "accepted sweep 1", "sweep")
     return exit_status()
 
 

@@ -1,6 +1,6 @@
 """Imports of PDN and CSA texts that are changed by a seed: each is refused, or accepted with the moves that it has.
 
-The texts come from tests/records and from games played by lot; what is read in them is read by the rules and formats of
+The texts come from tests/data/records and from games played by lot; what is read in them is read by the rules and formats of
 draughts and shogi.
 """
 import contextlib

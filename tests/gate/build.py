@@ -5,9 +5,9 @@
     tests/gate/build.py --take      build/club from what the gate has just proved and built in crates/club/out
     tests/gate/build.py --compare   says whether release/ has that very program; only where its sources are these
     tests/gate/build.py --release   puts build/club into release/, which ends a piece of work
-    tests/gate/build.py --stamp     prints the sum of the sources
+    tests/gate/build.py --stamp     prints the hash of the sources
 
-What was proved is kept on the machine, also where this is stopped, and the gate takes it. The words of the prover are
+What was proved is kept on the machine, also where this is stopped, and the gate takes it. The output of the prover is
 in build/club.log.
 """
 import contextlib
@@ -21,8 +21,9 @@ import time
 
 sys.path[0] = os.path.dirname(os.path.dirname(os.path.abspath(__file__)))
 from lib import kit
+from lib.report import result
 
-TOP = os.path.dirname(sys.path[0])
+TOP = os.path.dirname(os.path.dirname(os.path.dirname(os.path.abspath(__file__))))
 BUILT = f"{TOP}/build/club"
 RELEASE = f"{TOP}/release/club"
 MADE = f"{TOP}/crates/club/out/club"
@@ -57,7 +58,7 @@ def files_of(crate):
 
 
 def stamp():
-    """The sum of the sources that the program is made of."""
+    """The hash of the sources that the program is made of."""
     libraries, made = lines_of_crates(), hashlib.sha256()
     for crate in below():
         made.update(repr((crate, libraries[crate])).encode())
@@ -67,8 +68,8 @@ def stamp():
     return made.hexdigest()
 
 
-def told_of(program):
-    """What stands beside a program: the sum of its sources and the line of the kit that built it."""
+def origin_of(program):
+    """What the file beside a program says: the hash of its sources and the line of the kit that built it."""
     if not os.path.isfile(f"{program}.sources"):
         return [None, None]
     with open(f"{program}.sources", encoding="utf-8") as it:
@@ -76,14 +77,19 @@ def told_of(program):
 
 
 def keep(program, built_by):
-    """Puts a program where `./club` runs it, with the sum of its sources and the kit's line beside it."""
+    """Puts a program of the present sources where `./club` runs it."""
+    put(program, stamp(), built_by)
+
+
+def put(program, sources, built_by):
+    """Puts a program where `./club` runs it, with the hash of its sources and the kit's line in a file beside it."""
     os.makedirs(f"{TOP}/build", exist_ok=True)
     with open(f"{BUILT}.new", "wb") as it:
         it.write(program)
     os.chmod(f"{BUILT}.new", 0o755)
     os.replace(f"{BUILT}.new", BUILT)
     with open(f"{BUILT}.sources", "w", encoding="utf-8") as it:
-        it.write(f"{stamp()}\n{built_by}\n")
+        it.write(f"{sources}\n{built_by}\n")
 
 
 def bytes_of(file):
@@ -93,12 +99,12 @@ def bytes_of(file):
 
 def released():
     """The program in release/, or None where there is none of these sources."""
-    if not os.path.isfile(f"{RELEASE}.xz") or told_of(RELEASE)[0] != stamp():
+    if not os.path.isfile(f"{RELEASE}.xz") or origin_of(RELEASE)[0] != stamp():
         return None
     return lzma.decompress(bytes_of(f"{RELEASE}.xz"))
 
 
-def tell(text):
+def say(text):
     print(f"club: {text}", file=sys.stderr, flush=True)
 
 
@@ -110,7 +116,7 @@ class Progress:
         self.began, self.worked = time.time(), 0
 
     def see(self, text):
-        """Tells of a crate of which the kit's script has said that it is proved, or that it is kept."""
+        """Prints the progress once the kit's script has said that a crate is proved, or that it is kept."""
         found = re.match(r"(\w+) (proved|is kept)\b", text)
         if not found or found[1] not in self.left:
             return
@@ -120,29 +126,29 @@ class Progress:
         minutes = (time.time() - self.began) / 60
         left = minutes / self.worked * sum(self.left.values()) if self.worked else None
         more = f", some {left:.0f} min more" if left and self.left else ""
-        tell(f"{found[1]} is proved: {count} of {whole} after {minutes:.0f} min{more}")
+        say(f"{found[1]} is proved: {count} of {whole} after {minutes:.0f} min{more}")
 
 
 def build():
     """Proves the crates and builds the program, and returns whether that went well."""
     rt = kit.load()
     if rt is None:
-        tell("the Rattle kit is needed to build the program: there is no `rt` on the path")
+        say("the Rattle kit is needed to build the program: there is no `rt` on the path")
         return False
-    taken, say = [], rt.say
+    taken, rt_say = [], rt.say
     progress = Progress({it: 1 + sum(os.path.getsize(file) for file in files_of(it)) for it in below()})
 
-    def told(text, out=None):
+    def say_progress(text, out=None):
         progress.see(text)
-        say(text, out)
+        rt_say(text, out)
 
     compile_by = rt.Crate.compile_by
-    # a program that is only to be run wants neither edits nor tests, and one of the two compilers
+    # a program that is only run needs neither edits nor tests, and one of the two compilers
     rt.edits_of = lambda crate: ([], [])
     rt.Crate.has_tests = lambda crate: False
     rt.Crate.compile_by = lambda crate, by, words, to: compile_by(crate, by, words, to) if by == "llvm" else 0
     rt.run = lambda crate, tests, by="": taken.append(bytes_of(f"{crate.folder}/out/club")) or True
-    rt.say = told
+    rt.say = say_progress
     os.environ.pop("CI", None)
     os.chdir(TOP)
     status = rt.main(["ci", "club"])
@@ -152,11 +158,11 @@ def build():
 
 
 def build_aloud():
-    tell("there is no program for these sources yet; it is built by proving the crates that it stands on")
+    say("there is no program for these sources yet; it is built by proving the crates that it stands on")
     os.makedirs(f"{TOP}/build", exist_ok=True)
     with open(f"{TOP}/build/club.log", "w", encoding="utf-8") as log, contextlib.redirect_stdout(log):
         is_built = build()
-    tell("the program lies in build/club" if is_built else "the program was not built; build/club.log says why")
+    say("the program lies in build/club" if is_built else "the program was not built; build/club.log says why")
     return 0 if is_built else 70
 
 
@@ -164,8 +170,26 @@ def take_or_build():
     program = released()
     if program is None:
         return build_aloud()
-    keep(program, told_of(RELEASE)[1])
-    tell("the program in release/ is that of these sources; it was taken from there to build/club")
+    keep(program, origin_of(RELEASE)[1])
+    say("the program in release/ is that of these sources; it was taken from there to build/club")
+    return 0
+
+
+def take_any():
+    """Takes the program of build/ or of release/, and says so if it is of other sources."""
+    sources = stamp()
+    if os.path.isfile(BUILT) and origin_of(BUILT)[0] == sources:
+        return 0
+    if released() is not None:
+        return take_or_build()
+    if os.path.isfile(BUILT):
+        say("note: build/club is of other sources than these; the tests run over it")
+        return 0
+    if not os.path.isfile(f"{RELEASE}.xz"):
+        say("there is no program in build/ or release/; ./club builds one")
+        return 1
+    put(lzma.decompress(bytes_of(f"{RELEASE}.xz")), *origin_of(RELEASE))
+    say("note: the program in release/ is of other sources than these; the tests run over it")
     return 0
 
 
@@ -177,17 +201,16 @@ def take():
 
 def compare():
     program = released()
-    if program is None or told_of(RELEASE)[1] != kit.version():
-        print("ok release/ is of other sources or another kit, so it is not compared")
+    if program is None or origin_of(RELEASE)[1] != kit.version():
+        result(True, "release/ is of other sources or another kit, and is not compared")
         return 0
     is_same = os.path.isfile(MADE) and program == bytes_of(MADE)
-    print(f"{'ok' if is_same else 'not ok'} release/ has the program that was just built")
-    return 0 if is_same else 1
+    return 0 if result(is_same, "release/ has the program that was just built") else 1
 
 
 def release():
-    if told_of(BUILT)[0] != stamp():
-        tell("build/club is of other sources: ./club builds it")
+    if origin_of(BUILT)[0] != stamp():
+        say("build/club is of other sources: ./club builds it")
         return 1
     os.makedirs(os.path.dirname(RELEASE), exist_ok=True)
     with open(f"{RELEASE}.xz", "wb") as it:

@@ -1,5 +1,5 @@
 #!/usr/bin/env python3
-"""Tells whether tests/edits.py tells edits rightly: of a small crate that is made here, what each edit must come to.
+"""Tells whether tests/gate/edits.py tells edits rightly: of a small crate that is made here, what each edit must come to.
 
 One changes nothing, one only renames, one is let through by a weak contract, one is hidden behind an edit of what its
 function calls, two change one function, one changes no function but a constant, and one cannot be read. Prints

@@ -1,10 +1,10 @@
 #!/usr/bin/env python3
 """Tells whether members can play with the page: they click through it in Chromium, over the desk of the program.
 
-    python3 tests/page.py [--real] [--pictures] [PROGRAM [CASE ..]]
+    python3 tests/page/page.py [--real] [--pictures] [PROGRAM [CASE ..]]
 
 Pages come from the desk itself where it has all paths that they ask for; those that it lacks are answered by a stand-in
-(tests/page_desk.py), and with --real each of them is a fault. Prints 'ok NAME' or 'not ok NAME' for each thing, and
+(tests/page/page_desk.py), and with --real each of them is a fault. Prints 'ok NAME' or 'not ok NAME' for each thing, and
 where Chromium is not installed 'left out: CASE' for each case. With --pictures it writes those of docs/ instead.
 """
 import contextlib
@@ -283,7 +283,7 @@ def claim(room):
 
 def declaration(room):
     """A king that has entered; in a file of schema 1 no event has declarations."""
-    record = (TOP / "tests/records/entered.csa").read_text()
+    record = (TOP / "tests/data/records/entered.csa").read_text()
     pathlib.Path("resigned.csa").write_text(record.replace("%KACHI", "%TORYO"))
     moves = stored_moves(club("import-csa", "entered", "fuji", "anna", "bert", "resigned.csa").split()[-1])
     anna = room.member("anna", room.seat("fuji", "anna", "bert", moves))

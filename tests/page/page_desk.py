@@ -1,7 +1,7 @@
 #!/usr/bin/env python3
 """The desk of the program, and a stand-in before it for the paths of the page that a program does not answer itself.
 
-    python3 tests/page_desk.py PROGRAM FILE PORT [--now SECONDS]
+    python3 tests/page/page_desk.py PROGRAM FILE PORT [--now SECONDS]
 
 serves the page at PORT to try it by hand. A `Desk` is `PROGRAM FILE serve`; what of GET /play, /me, /me/events,
 /events/NAME/games, /games/ID/clock and /games/ID/record it refuses as no route is what it `lacks`. A `StandIn` answers
@@ -26,7 +26,7 @@ import sys
 import tempfile
 import time
 
-PAGE = pathlib.Path(__file__).resolve().parent.parent / "page"
+PAGE = pathlib.Path(__file__).resolve().parents[2] / "page"
 STATES = "open", "withdrawn", "refused", "accepted"
 GAMES = "draughts", "shogi"
 NAMES = {52: "UnknownEvent", 53: "UnknownGame", 73: "Store", 83: "WrongMethod"}

@@ -15,7 +15,7 @@ import urllib.request
 import page_browser as browser
 import page_desk
 
-TOP = pathlib.Path(__file__).resolve().parent.parent
+TOP = pathlib.Path(__file__).resolve().parents[2]
 WORDS = [it for it in sys.argv[1:] if it not in ("--pictures", "--real")]
 PROGRAM = str(pathlib.Path(WORDS[0] if WORDS else TOP / "build/club").resolve())
 KEYS = {"anna": "keyanna1", "bert": "keybert2", "cara": "keycara3", "king": "keyking4"}
