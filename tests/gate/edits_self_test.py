@@ -13,6 +13,7 @@ import tempfile
 sys.path[0] = os.path.dirname(os.path.dirname(os.path.abspath(__file__)))
 from gate import edits
 from lib import kit
+from lib.report import exit_status, result
 
 SOURCE = """//! Sums.
 #![tactic(auto)]
@@ -90,13 +91,11 @@ def main():
         files, _ = rt.edits_of(crate)
         found = edits.tried(rt, crate, files)
         worst = rt.checked(crate, {}, ["--jobs", "1"], None).returncode
-    print(f"{'not ok' if worst else 'ok'} the crate of the edits is proved")
+    result(not worst, "the crate of the edits is proved")
     for file, (kind, text) in zip(files, found):
         name = os.path.basename(file).removesuffix(".edit")
-        is_told = kind == EDITS[name][1]
-        print(f"{'ok' if is_told else 'not ok'} edit {name} is {kind}{'' if is_told else f': {text}'}")
-        worst |= not is_told
-    return int(bool(worst))
+        result(kind == EDITS[name][1], f"the edit {name} is {EDITS[name][1]}", f"{kind}: {text}")
+    return exit_status()
 
 
 if __name__ == "__main__":

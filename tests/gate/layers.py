@@ -1,14 +1,16 @@
 #!/usr/bin/env python3
-"""Tells whether each crate keeps to what others offer, and whether docs/architecture.md says what each may name.
+"""Tests that each crate uses only what others offer, and that docs/architecture.md says what each may name.
 
 Of another crate's proofs a crate names `Proved` alone; docs/architecture.md says why. The last column of its table has
 each library that crates.txt gives a crate: by name, as one of those below another (`club_rows` and below), as a crate of
-the games, or, of the kit, as one of a family (`sqlite`, `jiff`). Prints a line for each of the two, `ok` or `not ok`,
-and each place that does not hold.
+the games, or, of the kit, as one of a family (`sqlite`, `jiff`).
 """
 import pathlib
 import re
 import sys
+
+sys.path[0] = str(pathlib.Path(__file__).resolve().parents[1])
+from lib.report import exit_status, result
 
 TOP = pathlib.Path(__file__).resolve().parents[2]
 NAMED = re.compile(r"\bRattle\.(\w+)\.proofs\.(\w+)")
@@ -20,7 +22,7 @@ def libraries():
     """The libraries of each crate, by its name."""
     lines = (TOP / "crates.txt").read_text().splitlines()
     parted = (line.split(":") for line in lines if ":" in line and not line.startswith("#"))
-    return {crate: told.split() for crate, told in parted}
+    return {crate: names.split() for crate, names in parted}
 
 
 LIBRARIES = libraries()
@@ -41,7 +43,7 @@ def strays(crate):
                     yield f"{path.relative_to(TOP)}:{number}: {other}.proofs.{module}"
 
 
-def told_rows():
+def documented_rows():
     """The crates of each row of the table, and what its last column says."""
     for line in (TOP / "docs/architecture.md").read_text().splitlines():
         cells = [cell.strip() for cell in line.split("|")]
@@ -49,7 +51,7 @@ def told_rows():
             yield re.findall(r"`(\w+)`", cells[1]), cells[3]
 
 
-def said(text):
+def names_in(text):
     """The libraries that a last column says a crate may name."""
     names = set(re.findall(r"`(\w+)`", text))
     for crate in re.findall(r"`(\w+)` and below", text):
@@ -57,38 +59,36 @@ def said(text):
     return names | (set(GAMES) if "the crates of the games" in text else set())
 
 
-def is_said(library, names):
+def is_named(library, names):
     return library in names or any(it in names and library.startswith(f"{it}_") for it in FAMILIES)
 
 
-def untold():
-    told = {}
-    for crates, text in told_rows():
-        told |= {crate: text for crate in crates}
+def undocumented():
+    documented = {}
+    for crates, text in documented_rows():
+        documented |= {crate: text for crate in crates}
     for crate in LIBRARIES:
-        if crate not in told:
+        if crate not in documented:
             yield f"{crate} has no row"
             continue
-        if "crates that they test" in told[crate]:
+        if "crates that they test" in documented[crate]:
             continue
-        names = said(told[crate])
-        lacking = [it for it in LIBRARIES[crate] if not is_said(it, names)]
+        names = names_in(documented[crate])
+        lacking = [it for it in LIBRARIES[crate] if not is_named(it, names)]
         if lacking:
             yield f"{crate} may name {' '.join(lacking)} too"
-        surplus = [it for it in re.findall(r"`(\w+)`", told[crate])
+        surplus = [it for it in re.findall(r"`(\w+)`", documented[crate])
                    if it in LIBRARIES and it not in below(crate) - {crate}]
         if surplus:
             yield f"{crate} does not stand on {' '.join(surplus)}"
 
 
 def main():
-    status = 0
-    for name, found in (("of another crate's proofs a crate names what that offers",
-                         [stray for crate in LIBRARIES for stray in strays(crate)]),
-                        ("docs/architecture.md says what each crate may name", list(untold()))):
-        print(f"{'not ok' if found else 'ok'} {name}", *found, sep="\n  ")
-        status |= bool(found)
-    return status
+    found = [stray for crate in LIBRARIES for stray in strays(crate)]
+    result(not found, "a crate names of another crate's proofs only what that offers", *found)
+    found = list(undocumented())
+    result(not found, "docs/architecture.md says what each crate may name", *found)
+    return exit_status()
 
 
 if __name__ == "__main__":

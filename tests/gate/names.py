@@ -8,15 +8,17 @@
 3. No `use .. as ..` in src/*.rt renames an item of one of our crates.
 
 A function is public if it is `pub` or a method of a public trait. The exceptions are below, each with its reason. With
-`--all` the same rules apply to items that are `pub(crate)`, and exceptions are reported too. Prints one line for each of
-the three rules, `ok` or `not ok`, and below it the places that break the rule.
+`--all` the same rules apply to items that are `pub(crate)`, and exceptions are reported too.
 """
 import collections
 import pathlib
 import re
 import sys
 
-TOP = pathlib.Path(__file__).resolve().parent.parent.parent
+sys.path[0] = str(pathlib.Path(__file__).resolve().parents[1])
+from lib.report import exit_status, result
+
+TOP = pathlib.Path(__file__).resolve().parents[2]
 
 # Functions and types whose name is fixed by an interface that is not ours to change, and the reason.
 FIXED = "the papers fix this name"
@@ -148,12 +150,10 @@ def main():
         ("no name of a public type is defined twice", repeated_types(visibility, kept(TYPE_EXCEPTIONS))),
         ("no import renames an item of our own crates", aliases(kept(ALIAS_EXCEPTIONS))),
     )
-    status = 0
     for name, found in checks:
         found = list(found)
-        print(f"{'not ok' if found else 'ok'} {name}" + (f" ({len(found)} do)" if found else ""), *found, sep="\n  ")
-        status |= bool(found)
-    return status
+        result(not found, name + (f" ({len(found)} places)" if found else ""), *found)
+    return exit_status()
 
 
 if __name__ == "__main__":
