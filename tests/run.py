@@ -49,7 +49,7 @@ class Test:
 
 # The longest first.
 TESTS_OF_PROGRAM = [
-    Test("crash/out_of_memory.py", 900, quick="crash/out_of_memory.py --each 8"),
+    Test("crash/out_of_memory.py", 900, quick="crash/out_of_memory.py --each 4"),
     Test("page/page.py --real", 600),
     Test("gate/edits_self_test.py", 600, is_whole=True),
     Test("crash/courses.py", 1200, needs=STORE_SCRIPTS),

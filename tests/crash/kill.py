@@ -314,14 +314,14 @@ def main():
         with concurrent.futures.ThreadPoolExecutor(WORKERS) as workers:
             list(workers.map(lambda it: it.run(), killers))
     counts, faults = totals(killers[0::2])
-    told = "{killed} killed, {ended} ended before that; {before} without the command, {after} with it, "
-    told += "{unanswered} of these before its answer"
+    counted = "{killed} killed, {ended} ended before that; {before} without the command, {after} with it, "
+    counted += "{unanswered} of these before its answer"
     name = "a command that is killed at a random time is atomic"
-    result(not faults, f"{name} ({told.format_map(counts)})", *faults[:8])
+    result(not faults, f"{name} ({counted.format_map(counts)})", *faults[:8])
     counts, faults = totals(killers[1::2])
-    told = "{servers} killed after {answered} answers, {unanswered} with one command more; and {killed} of `verify`"
+    counted = "{servers} killed after {answered} answers, {unanswered} with one command more; and {killed} of `verify`"
     name = "every answered request is stored after its server is killed at a random time"
-    result(not faults, f"{name} ({told.format_map(counts)})", *faults[:8])
+    result(not faults, f"{name} ({counted.format_map(counts)})", *faults[:8])
     return exit_status()
 
 

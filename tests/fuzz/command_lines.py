@@ -1,4 +1,4 @@
-"""Lists of words by a seed: what the program does, prints and ends with is what the documents say of them."""
+"""Command lines by a seed: rows, output and status are compared with the model of the officer's commands."""
 import contextlib
 import os
 import pathlib
@@ -20,7 +20,7 @@ KINDS = {  # the kinds of each command's words
     "seat": ("name", "name", "name", "name"), "import-pdn": ("name", "name", "name", "name", "record"),
     "import-csa": ("name", "name", "name", "name", "record"), "move": ("number", "number", "move"), "sweep": (),
     "legal": ("number",), "export": ("number",), "table": ("name",), "verify": (), "upgrade": (),
-    "members": (), "events": (), "games": (),  # behind the last stand options
+    "members": (), "events": (), "games": (),  # options come after the last
 }
 POOLS = {
     "name": ("anna", "bert", "cara", "dora", "autumn", "fuji", "winter", "g1", "g2", "g3", "a", "a" * 24, "a" * 25,
@@ -55,7 +55,7 @@ class BadWords(Exception):
     """Words that are no order."""
 
 
-# ---- lists of words
+# ---- command lines
 
 def words_of(chance, club):
     """A command and its words, mostly such as may be accepted."""
@@ -144,7 +144,7 @@ def changed(chance, words):
 
 
 def moments(chance, club, command):
-    """The words of the moment, which mostly stands still or goes on a little; it may lack where nothing is changed."""
+    """The words of the timestamp, mostly that of before or a little later; it may be missing from a query."""
     if command in ("verify", "legal", "export", "table", "members", "events") and chance.random() < 0.2:
         return []
     if command == "games" and chance.random() < 0.5:
@@ -203,7 +203,7 @@ def is_open(word):
 
 
 def listed(options):
-    """The event and the member that options name, where they do, and the flag; each stands once, and one flag."""
+    """The event and the member that options name, if they do, and the flag; each option once, and one flag."""
     found, flags, words = {}, [], list(options)
     while words:
         option, is_joined, name = words.pop(0).partition("=")
@@ -220,7 +220,7 @@ def listed(options):
 
 
 def is_odd(words):
-    """Whether a word is no UTF-8."""
+    """Whether a word is not UTF-8."""
     return any("\udc00" <= letter <= "\udcff" for word in words for letter in word)
 
 
@@ -263,7 +263,7 @@ class Wording:
     """Words given one after another to one club."""
 
     def __init__(self, test, name):
-        self.test, self.name, self.club, self.told = test, name, OfficersClub(0), {}
+        self.test, self.name, self.club, self.statuses = test, name, OfficersClub(0), {}
 
     def run(self, words, standard_input):
         data = [os.fsencode(word) for word in (self.test.program, *words)]
@@ -274,9 +274,9 @@ class Wording:
         for words in ("init", "member anna keyanna1", "member bert keybert2", "event autumn draughts 86400 5",
                       "event fuji shogi 60 0", "seat g1 autumn anna bert", "seat g2 fuji bert anna"):
             order = order_of(["--now", "1000", "c.db", *words.split()])
-            wanted = (0, "ready\n", "") if words == "init" else printed(self.club, order, b"")
+            expected = (0, "ready\n", "") if words == "init" else printed(self.club, order, b"")
             got = self.run(["--now", "1000", "c.db", *words.split()], b"")
-            self.test.check(wanted == got, f"{self.name}: {words}", wanted, got)
+            self.test.check(expected == got, f"{self.name}: {words}", expected, got)
 
     def fill(self):
         """Members and events up to the last but one that a club may have."""
@@ -298,14 +298,14 @@ class Wording:
         if order is None:
             return self.open_case(name, words, standard_input)
         got = self.run(words, standard_input)
-        self.told[got[0]] = self.told.get(got[0], 0) + 1
+        self.statuses[got[0]] = self.statuses.get(got[0], 0) + 1
         if order == "bad":
             good = self.test.check(is_silent_but(got, 2), name, "bad words", got, given)
         else:
-            wanted = printed(self.club, order, standard_input)
-            good = self.test.check(wanted == got, name, wanted, got, given)
+            expected = printed(self.club, order, standard_input)
+            good = self.test.check(expected == got, name, expected, got, given)
         kept = read_tables("c.db") == self.club.rows()
-        return self.test.check(kept, f"{name}: the rows", "those of the documents", "others", given) and good
+        return self.test.check(kept, f"{name}: the rows", "those of the model", "others", given) and good
 
     def open_case(self, name, words, standard_input):
         """Words of which the documents do not say whether they are an order: nothing changes unless they are done."""
@@ -318,7 +318,7 @@ class Wording:
         return self.test.check(kept, f"{name}: the rows", "as before", "others", (words, standard_input))
 
     def at_files(self, chance, name):
-        """Where there is no club: a fault, after bad words, and nothing is made."""
+        """Without a club: a usage error or a fault, and no file is created."""
         file, fault = chance.choice(FILES)
         words = [*moments(chance, self.club, ""), file, *words_of(chance, self.club)]
         try:
@@ -329,27 +329,27 @@ class Wording:
             return True
         got = self.run(words, b"")
         is_read = order == "bad" or not order[1].startswith("import-") or record_of(order[2][-1], b"") is not None
-        wanted = (3, "", f"store {fault if is_read else '76 Input'}\n")
-        good = is_silent_but(got, 2) if order == "bad" else wanted == got
-        return self.test.check(good, name, "bad words" if order == "bad" else wanted, got, words)
+        expected = (3, "", f"store {fault if is_read else '76 Input'}\n")
+        good = is_silent_but(got, 2) if order == "bad" else expected == got
+        return self.test.check(good, name, "bad words" if order == "bad" else expected, got, words)
 
 
-def folder_told():
+def folder_content():
     files = (it for it in pathlib.Path(".").rglob("*") if it.name[:4] not in ("c.db", "open"))
     return sorted((str(it), it.stat().st_size) for it in files)
 
 
 def run(test):
     """Rounds of words until the time is over; each begins with a new club."""
-    told, number = {}, 0
+    statuses, number = {}, 0
     while number == 0 or not test.is_over():
         wording = Wording(test, f"round {number}")
         with tempfile.TemporaryDirectory() as room, contextlib.chdir(room):
             one_round(test, wording, number)
-        for status, count in wording.told.items():
-            told[status] = told.get(status, 0) + count
+        for status, count in wording.statuses.items():
+            statuses[status] = statuses.get(status, 0) + count
         number += 1
-    return "words, with their status: " + ", ".join(f"{count} {status}" for status, count in sorted(told.items()))
+    return "words, with their status: " + ", ".join(f"{count} {status}" for status, count in sorted(statuses.items()))
 
 
 def one_round(test, wording, number):
@@ -363,7 +363,7 @@ def one_round(test, wording, number):
     wording.begin()
     if number % 3 == 1:
         wording.fill()
-    before = folder_told()
+    before = folder_content()
     records = [path.read_bytes() for path in sorted(RECORDS.iterdir())]
     given = []
     for index in range(ROUND):
@@ -382,4 +382,4 @@ def one_round(test, wording, number):
         standard_input = chance.choice((b"", *records))
         if not wording.case(name, [*moments(chance, wording.club, (*words, "")[0]), "c.db", *words], standard_input):
             return
-    test.check(before == folder_told(), f"round {number}: other files", before, folder_told())
+    test.check(before == folder_content(), f"round {number}: other files", before, folder_content())

@@ -1,6 +1,6 @@
-"""Requests at the desk, whole, cut, parted and changed by a seed: what is replied is what the documents say.
+"""A model of the replies to requests that are whole, cut or changed.
 
-`reply_to` says for any bytes which reply must come, or that none comes, by docs/http.md alone.
+`reply_to` gives the expected reply to any bytes, or None, by docs/http.md alone.
 """
 import re
 import socket
@@ -45,10 +45,10 @@ class Reply:
         """Whether bytes that were got are this reply; its phrase may be any."""
         head, found, rest = got.partition(b"\r\n")
         length = len(self.body.encode())
-        wanted = (f"Content-Type: {self.kind}\r\nContent-Length: {length}\r\nConnection: close\r\n{self.further}\r\n"
+        expected = (f"Content-Type: {self.kind}\r\nContent-Length: {length}\r\nConnection: close\r\n{self.further}\r\n"
                   f"{self.body if self.has_body else ''}")
         phrase = re.fullmatch(rb"HTTP/1\.1 ([0-9]{3}) [A-Z][A-Za-z ]*", head)
-        return bool(found and phrase) and int(phrase[1]) == self.status and rest == wanted.encode()
+        return bool(found and phrase) and int(phrase[1]) == self.status and rest == expected.encode()
 
     def __repr__(self):
         return f"{self.status} {self.further!r} {self.body if self.has_body else 'without'} {self.body!r}"
@@ -149,7 +149,7 @@ def refused(number, has_body, further="", caller="-"):
 
 
 def reply_to(club, data):
-    """The reply to the bytes of a connection, after which the input ends; None where none comes."""
+    """The reply to the bytes of a connection, after which the input ends; None if there is none."""
     has_body, caller = not data.lstrip(b"\r\n").startswith(b"HEAD "), "-"
     end = head_end(data[:HEAD_LIMIT])
     try:
@@ -163,9 +163,9 @@ def reply_to(club, data):
         length = length_of(method, version, fields)
         if len(data) < end[0] + length:
             return None
-        wanted, route, named, keys = route_of(target)
-        if method != wanted.encode():
-            return refused(83, has_body, f"Allow: {wanted}\r\n")
+        expected, route, named, keys = route_of(target)
+        if method != expected.encode():
+            return refused(83, has_body, f"Allow: {expected}\r\n")
         shown = values(fields, b"member-key")
         key = shown[0].decode("latin-1") if len(shown) == 1 else ""
         if key not in club.keys:
@@ -180,25 +180,25 @@ def reply_to(club, data):
 
 def ask(port, pieces, ends):
     """What is replied to bytes that are sent in pieces, after which the input ends or not."""
-    with socket.create_connection(("127.0.0.1", port), 30) as peer:
-        peer.setsockopt(socket.IPPROTO_TCP, socket.TCP_NODELAY, 1)
+    with socket.create_connection(("127.0.0.1", port), 30) as connection:
+        connection.setsockopt(socket.IPPROTO_TCP, socket.TCP_NODELAY, 1)
         try:
             for piece in pieces:
-                peer.sendall(piece)
+                connection.sendall(piece)
             if ends:
-                peer.shutdown(socket.SHUT_WR)
+                connection.shutdown(socket.SHUT_WR)
         except TimeoutError:
-            return b"the desk does not read"
+            return b"the server does not read"
         except OSError:
-            pass  # the desk has answered before it had all
-        return received(peer)
+            pass  # the server has replied before it had all
+        return received(connection)
 
 
-def received(peer):
-    """What comes up to the end, or until the peer is cut off."""
+def received(connection):
+    """All bytes up to the end of a connection, or until it is reset."""
     got = b""
     try:
-        while part := peer.recv(65536):
+        while part := connection.recv(65536):
             got += part
     except TimeoutError:
         got += b", and no end"

@@ -148,7 +148,7 @@ def change_move(chance, kind, text):
 
 
 def change_result(chance, kind, text):
-    """Another end of the record, or something behind it."""
+    """Another end of the record, or something after it."""
     pattern = {"pdn": rb"(?:[012]-[012]|1/2-1/2|\*)\s*\Z", "csa": rb"%\S*\s*\Z"}[kind]
     end = re.search(pattern, text)
     kept = text[:end.start()] if end else text
@@ -156,7 +156,7 @@ def change_result(chance, kind, text):
 
 
 def change_head(chance, kind, text):
-    """Something in front, or behind the first line."""
+    """Something before the record, or after its first line."""
     part = chance.choice({"pdn": PDN_PARTS[-18:], "csa": CSA_PARTS}[kind])
     first = text.find(b"\n") + 1
     return chance.choice((part + b"\n" + text, text[:first] + part + b"\n" + text[first:]))
@@ -206,9 +206,9 @@ def whole_change(chance, text, texts):
     return text
 
 
-# ---- what must come
+# ---- what is expected
 
-def wanted_of(kind, text, part):
+def expected_of(kind, text, part):
     """The moves, the score and the line of a text, or its refusal."""
     if len(text) > LIMIT:
         raise Refused(65)
@@ -231,7 +231,7 @@ class Importing:
                       "event fuji shogi 86400 0", "seat g autumn anna bert"):
             subprocess.run([test.program, "--now", "1000", self.base, *words.split()], check=True, capture_output=True)
         self.before = read_tables(self.base)
-        self.told = {}
+        self.outcomes = {}
 
     def club(self, text, *words):
         words = [self.test.program, "--now", "1000", self.file, *words]
@@ -245,7 +245,7 @@ class Importing:
         got = self.club(text, *words)
         given = kind, part, text
         try:
-            found = wanted_of(kind, text, part)
+            found = expected_of(kind, text, part)
         except Refused as refusing:
             self.count(refusing.args[0])
             line = told_refusal(refusing)
@@ -257,18 +257,18 @@ class Importing:
             self.check_game(name, kind, found, given)
 
     def check_game(self, name, kind, found, given):
-        """The game stands in the tables as it was read, and its export says the same."""
+        """The tables have the game as it was read, and its export is the same."""
         moves, score, line = found
         end = line.end()
         with contextlib.closing(sqlite3.connect(self.file)) as club:
             stored = [text for text, in club.execute("SELECT text FROM moves WHERE game = 2 ORDER BY ply")]
-            told = club.execute('SELECT plies, "end", result, position, track_a, track_b FROM games '
+            game = club.execute('SELECT plies, "end", result, position, track_a, track_b FROM games '
                                 "WHERE id = 2").fetchone()
-        wanted = len(moves), end[0] if end else "Recorded", score, line.position_text(), *line.track()
-        self.test.check((stored, told) == (moves, wanted), f"{name}: stored", (moves, wanted), (stored, told), given)
+        expected = len(moves), end[0] if end else "Recorded", score, line.position_text(), *line.track()
+        self.test.check((stored, game) == (moves, expected), f"{name}: stored", (moves, expected), (stored, game), given)
         status, written, _ = self.club(None, "export", "2")
         try:
-            again = wanted_of(kind, written, 1)[:2]
+            again = expected_of(kind, written, 1)[:2]
         except Refused as refusing:
             again = refusing
         is_same = (status, again) == (0, (moves, score))
@@ -277,7 +277,7 @@ class Importing:
         self.test.check(found == (0, b"sound\n", b""), f"{name}: verify", "sound", found, given)
 
     def count(self, what):
-        self.told[what] = self.told.get(what, 0) + 1
+        self.outcomes[what] = self.outcomes.get(what, 0) + 1
 
 
 def run(test):
@@ -293,5 +293,5 @@ def run(test):
             part = chance.choice((0, 1, 2, 3)) if kind == "csa" and chance.random() < 0.2 else 1
             importing.case(f"text {index}", kind, text, part)
             index += 1
-    told = ", ".join(f"{count} {what}" for what, count in sorted(importing.told.items(), key=lambda it: str(it[0])))
-    return f"texts imported, with what they are refused as: {told}"
+    summary = ", ".join(f"{count} {what}" for what, count in sorted(importing.outcomes.items(), key=lambda it: str(it[0])))
+    return f"refusals: {summary}"

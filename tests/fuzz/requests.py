@@ -1,4 +1,4 @@
-"""Makes requests by a seed: whole ones, and ones that are changed, cut and parted in the ways that peers may do it."""
+"""Requests by a seed: whole ones, and ones that are changed, cut and sent in pieces, as clients may do it."""
 import json
 
 WHOLE = (  # each route once
@@ -81,7 +81,7 @@ def whole(method, target, body, key="keyanna1"):
 
 
 def path_of(chance, club):
-    """A method, a path that may well be one of the desk's, and a body, with what may be asked by them."""
+    """A method, a path that is often one of the server's, and a body that fits it."""
     number = chance.choice(NUMBERS) if chance.random() < 0.1 else str(chance.randint(1, len(club.games) + 1))
     game = game_of(club, number)
     ply = chance.choice(NUMBERS) if chance.random() < 0.1 else str(
@@ -205,7 +205,7 @@ def deepen(chance, request):
 
 
 def fill_body(chance, request):
-    """A body of a length around the limit, by blanks behind it or by more in front of its keys."""
+    """A body of a length around the limit, by blanks after it or by more before its keys."""
     length = 65536 + chance.choice((-1, 0, 0, 1, 2))
     more = length - len(bytes_of(request.body))
     kind = chance.choice((" ", "\n", '"a":1,', "\\n", "\ud7ff", "\U0001f600"))

@@ -197,9 +197,9 @@ class Audit:
                 and it["offer_side"] is None and all(move["moment"] == it["start"] for move in moves))
 
     def are_seen_good(self):
-        wanted = [(number, position, *counted) for number, game in self.games.items()
+        expected = [(number, position, *counted) for number, game in self.games.items()
                   for position, counted in self.line_of(game)[0].seen.items()]
-        return sorted(wanted) == sorted(tuple(it.values()) for it in self.rows["seen"])
+        return sorted(expected) == sorted(tuple(it.values()) for it in self.rows["seen"])
 
     def are_scores_good(self):
         met = {}
@@ -209,8 +209,8 @@ class Audit:
                 for side in (0, 1):
                     pair = game["event"], sides[side], sides[1 - side]
                     met.setdefault(pair, []).append(POINTS[game["result"]][side])
-        wanted = [(*pair, sum(it), it.count(2), it.count(1), it.count(0)) for pair, it in met.items()]
-        return sorted(wanted) == sorted(tuple(it.values()) for it in self.rows["scores"])
+        expected = [(*pair, sum(it), it.count(2), it.count(1), it.count(0)) for pair, it in met.items()]
+        return sorted(expected) == sorted(tuple(it.values()) for it in self.rows["scores"])
 
     def are_meta_good(self):
         meta = self.rows["meta"]
@@ -407,7 +407,7 @@ def sum_of(file):
 
 def run(test):
     """Changes until the time is over."""
-    told = {}
+    verdicts = {}
     with tempfile.TemporaryDirectory() as room:
         base, loose, file = f"{room}/base.db", f"{room}/loose.db", f"{room}/c.db"
         made(test.program, base)
@@ -423,11 +423,11 @@ def run(test):
             shutil.copyfile(loose if is_loose else base, file)
             changes = chance.choice((0, 1, 1, 1, 1, 1, 1, 1, 2, 3))
             given = [words for _ in range(changes) for words in change(chance, rows, is_loose)]
-            said = case(test, f"change {index}", file, given)
-            said = said.removeprefix("store ") if "Schema" not in said else "71 Schema"
-            told[said] = told.get(said, 0) + 1
+            printed = case(test, f"change {index}", file, given)
+            printed = printed.removeprefix("store ") if "Schema" not in printed else "71 Schema"
+            verdicts[printed] = verdicts.get(printed, 0) + 1
             index += 1
-    return "rows changed: " + ", ".join(f"{count} {said}" for said, count in sorted(told.items()))
+    return "rows changed: " + ", ".join(f"{count} {printed}" for printed, count in sorted(verdicts.items()))
 
 
 def opened(file):
@@ -444,12 +444,12 @@ def case(test, name, file, given):
             with contextlib.suppress(sqlite3.IntegrityError):
                 found.execute(*words)
                 done.append(words)
-        wanted = verdicts_on(read_rows(found))
+        expected = verdicts_on(read_rows(found))
     before = sum_of(file)
     ran = subprocess.run([test.program, file, "verify"], capture_output=True, timeout=60)
-    said = (ran.stdout + ran.stderr).decode(errors="replace").removesuffix("\n")
-    is_good = ran.stdout == b"" if said != "sound" else ran.stderr == b""
-    test.check(is_good and said in wanted and ran.returncode == (0 if said == "sound" else 3), name, wanted,
+    printed = (ran.stdout + ran.stderr).decode(errors="replace").removesuffix("\n")
+    is_good = ran.stdout == b"" if printed != "sound" else ran.stderr == b""
+    test.check(is_good and printed in expected and ran.returncode == (0 if printed == "sound" else 3), name, expected,
                (ran.returncode, ran.stdout, ran.stderr), done)
     test.check(before == sum_of(file), f"{name}: the file's bytes", "as before", "others", done)
-    return said
+    return printed

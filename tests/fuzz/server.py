@@ -58,40 +58,40 @@ class Asking:
 
     def __init__(self, test, club, file, port):
         self.test, self.club, self.file, self.port = test, club, file, port
-        self.statuses, self.wanted_log = {}, []
+        self.statuses, self.expected_log = {}, []
 
     def ask(self, name, data, pieces, ends):
-        """Whether the reply is that of the documents."""
-        wanted, begun = reply_to(self.club, data), time.monotonic()
-        got = ask(self.port, pieces, ends or wanted is None)
-        if wanted and not got and time.monotonic() - begun > PATIENCE:
-            self.wanted_log.append("- -")
+        """Whether the reply is that of the model."""
+        expected, begun = reply_to(self.club, data), time.monotonic()
+        got = ask(self.port, pieces, ends or expected is None)
+        if expected and not got and time.monotonic() - begun > PATIENCE:
+            self.expected_log.append("- -")
             got = ask(self.port, pieces, ends)
-        self.statuses[wanted and wanted.status] = self.statuses.get(wanted and wanted.status, 0) + 1
-        self.wanted_log.append(f"{wanted.status} {wanted.caller}" if wanted else "- -")
-        return self.test.check(got == b"" if wanted is None else wanted == got, name, wanted, got, data)
+        self.statuses[expected and expected.status] = self.statuses.get(expected and expected.status, 0) + 1
+        self.expected_log.append(f"{expected.status} {expected.caller}" if expected else "- -")
+        return self.test.check(got == b"" if expected is None else expected == got, name, expected, got, data)
 
     def are_rows_kept(self, name):
-        """The rows are those of the documents; read once more where the desk may just have copied its log."""
-        wanted = self.club.rows()
+        """The rows are those of the model; they are read again if the server may just have copied its log."""
+        expected = self.club.rows()
         for pause in (0, 1, 3):
             time.sleep(pause)
             got = read_tables(self.file)
-            differing = {table: (wanted[table], got[table]) for table in wanted if wanted[table] != got[table]}
+            differing = {table: (expected[table], got[table]) for table in expected if expected[table] != got[table]}
             if not differing:
                 break
-        return self.test.check(not differing, f"{name}, rows", "those of the documents", differing)
+        return self.test.check(not differing, f"{name}, rows", "those of the model", differing)
 
     def is_logged(self, name):
         """Each connection has its line, with the status of its reply and who asked, and never a key of a field."""
         late = time.monotonic() + 10
-        while len(lines := self.logged()) < len(self.wanted_log) and time.monotonic() < late:
+        while len(lines := self.logged()) < len(self.expected_log) and time.monotonic() < late:
             time.sleep(0.02)
         found = [LOGGED.fullmatch(line) for line in lines]
-        bad = [(line, wanted) for line, it, wanted in zip(lines, found, self.wanted_log)
-               if not it or it[1] != wanted.encode()]
-        is_well = len(lines) == len(self.wanted_log) and not bad
-        return self.test.check(is_well, f"{name}: the log", len(self.wanted_log), (len(lines), bad[:3]))
+        bad = [(line, expected) for line, it, expected in zip(lines, found, self.expected_log)
+               if not it or it[1] != expected.encode()]
+        is_well = len(lines) == len(self.expected_log) and not bad
+        return self.test.check(is_well, f"{name}: the log", len(self.expected_log), (len(lines), bad[:3]))
 
     def logged(self):
         return pathlib.Path(f"{self.file}.log").read_bytes().split(b"\n")[:-1]
@@ -107,7 +107,7 @@ class Asking:
         self.are_rows_kept("beginnings")
 
     def changed(self, number, chance):
-        """Requests that are changed; in the first round the beginnings of whole ones come behind the first batch."""
+        """Requests that are changed; in the first round the beginnings of whole ones come after the first batch."""
         for index in range(ROUND):
             name = f"round {number} request {index}"
             data = changed(chance, self.club)
@@ -140,6 +140,6 @@ def run(test):
             ran = subprocess.run([test.program, file, "verify"], capture_output=True)
             test.check(ran.stdout == b"sound\n", f"round {number}: verify", "sound", ran.stdout + ran.stderr)
             number += 1
-    told = ", ".join(f"{count} {status or 'without reply'}" for status, count in
+    summary = ", ".join(f"{count} {status or 'without reply'}" for status, count in
                      sorted(statuses.items(), key=lambda it: it[0] or 0))
-    return told
+    return summary

@@ -127,8 +127,8 @@ def whole(asked, name, event, line, end, result):
     """A game to its last ply, and commands after it."""
     game = seat(f"w-{event}", event)
     last = play(asked, game, line, len(line))
-    told = (last[0], last[1].get("ply"), last[1].get("end"))
-    check(f"{name} ends by {end} at ply {len(line)}", (200, len(line), end), told)
+    reply = (last[0], last[1].get("ply"), last[1].get("end"))
+    check(f"{name} ends by {end} at ply {len(line)}", (200, len(line), end), reply)
     shown = asked("bert", "GET", f"/games/{game}")[1]
     check(f"{name} is shown with its result", (end, result, line), (shown["end"], shown["result"], shown["moves"]))
     more = asked(mover(len(line) + 1), "POST", f"/games/{game}/moves/{len(line) + 1}", {"move": line[0]})

@@ -1,9 +1,8 @@
 #!/usr/bin/env python3
-"""Tells whether tests/gate/edits.py tells edits rightly: of a small crate that is made here, what each edit must come to.
+"""Tests tests/gate/edits.py over a small crate that is created here: each edit has the expected result.
 
 One changes nothing, one only renames, one is let through by a weak contract, one is hidden behind an edit of what its
-function calls, two change one function, one changes no function but a constant, and one cannot be read. Prints
-'ok EDIT' or 'not ok EDIT'.
+function calls, two change one function, one changes no function but a constant, and one cannot be read.
 """
 import contextlib
 import os
@@ -53,7 +52,7 @@ pub fn loosely_doubled(number: u8) -> Option<u32>
 }
 """
 
-# each edit's pairs, and what it must come to
+# the replacements of each edit, and its expected result
 EDITS = {
     "one_more": ([("    once + once", "    once + once + 1")], "refused"),
     "renames": (

@@ -115,8 +115,8 @@ def add_rounds(rt):
         def known():
             if "known" not in begun:
                 begun["names"] = {it: name_of(it) for it in files}
-                told = {it: kept.tried(begun["names"][it]) for it in files}
-                begun["known"] = {it: found for it, found in told.items() if found}
+                earlier = {it: kept.tried(begun["names"][it]) for it in files}
+                begun["known"] = {it: found for it, found in earlier.items() if found}
             return begun["known"]
 
         def call(given, jobs):

@@ -1,8 +1,7 @@
 #!/usr/bin/env python3
-"""Tells which libraries a line of crates.txt names without need: no file of the crate speaks of them.
+"""Prints the libraries of crates.txt that no file of the crate names, one line for each crate: `CRATE: LIBRARY ..`.
 
-Prints a line for each crate that has such, `CRATE: LIBRARY ..`. A library costs a crate its loading, and a change of it
-another check.
+A crate takes time to load each library, and is checked again when it changes.
 """
 import pathlib
 import re

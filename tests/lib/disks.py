@@ -22,7 +22,7 @@ LINE = re.compile(r"\d+ +(\w+)\((.*)\) += (-?\d+|\?|0x[0-9a-f]+)(?: .*)?")
 TEXT = re.compile(r'"((?:\\x[0-9a-f]{2})*)"(\.\.\.)?')
 ANSWERS = b"accepted", b"repeated", b"ready", b"sound", b"HTTP/1."
 KNOWN = "openat close write pwrite64 ftruncate fsync fdatasync fcntl sendto mmap unlink".split()
-# Calls that may change files as well. The program makes none of them; one that is made is told, and not passed over.
+# Calls that may change files as well. The program makes none of them; one that is made is an error.
 OTHERS = """open creat writev pwritev pwritev2 truncate fallocate sync_file_range sync syncfs msync unlinkat
 rename renameat renameat2 link linkat symlink symlinkat dup dup2 dup3 sendmsg sendfile copy_file_range splice
 io_uring_setup""".split()
@@ -119,7 +119,7 @@ class Recorder:
 
     def take_write(self, arguments, _):
         if self.name_of(arguments) is not None:
-            raise Unknown("write to a file, at a place that is not told")
+            raise Unknown("write to a file, at an unknown offset")
         self.take_sendto(arguments, _)
 
     def take_sendto(self, arguments, _):
@@ -281,8 +281,8 @@ def outcomes(length, loose, draw):
         return
     yield f"all {len(loose)} calls", loose
     for chosen in subsets(len(loose), draw):
-        told = ",".join(str(it + 1) for it in chosen)
-        yield f"calls {told} of {len(loose)}", [loose[it] for it in chosen]
+        numbers = ",".join(str(it + 1) for it in chosen)
+        yield f"calls {numbers} of {len(loose)}", [loose[it] for it in chosen]
     for at, call in enumerate(loose):
         tear = torn_write if call.kind == "write" else torn_cut
         before, behind = loose[:at], loose[at + 1 :]
@@ -328,9 +328,9 @@ class Disk:
             of_file = [(how, (name, kept, tuple(calls))) for how, calls in outcomes(len(kept), loose, draw)]
             choices.append([("no name", None), *of_file] if name in self.fresh else of_file)
         for chosen in joined(choices) if choices else [()]:
-            told = [f"of {name} {how}" for name, (how, _) in zip(sorted(self.kept), chosen) if how != "nothing"]
+            parts_changed = [f"of {name} {how}" for name, (how, _) in zip(sorted(self.kept), chosen) if how != "nothing"]
             parts = tuple(part for _, part in chosen if part)
-            yield Image(parts, acknowledged, "; ".join(told) or "what was synced")
+            yield Image(parts, acknowledged, "; ".join(parts_changed) or "what was synced")
 
 
 def moments(files, calls, draw):

@@ -1,4 +1,4 @@
-"""What a club answers to its members as docs/rules.md and docs/http.md say it, at one moment that stands still."""
+"""A model of what a club answers to its members, by docs/rules.md and docs/http.md, at one timestamp."""
 import json
 
 from models import draughts, shogi
@@ -30,12 +30,12 @@ def status_of(number):
     return STATUSES.get(number, 422 if number < 50 else 409)
 
 
-def told(values):
+def to_json(values):
     return json.dumps(values, separators=(",", ":"), sort_keys=True)
 
 
 def refusal(number):
-    return told({"error": number, "name": NAMES[number]})
+    return to_json({"error": number, "name": NAMES[number]})
 
 
 class Game:
@@ -241,7 +241,7 @@ class Club:
         if route == "record":
             return "text/plain", record_of(self.game_of(values[0]))
         before = self.state()
-        text = told(getattr(self, f"do_{route}")(self.keys[key], *values, *body))
+        text = to_json(getattr(self, f"do_{route}")(self.keys[key], *values, *body))
         if self.state() != before:
             self.last = self.moment
         return "application/json", text

@@ -13,7 +13,7 @@ CAPTURE = re.compile(rf"{SQUARE}(?:[x:]{SQUARE})+")
 
 
 class Refused(Exception):
-    """What a text or a move is refused as: the number and those behind it."""
+    """The refusal of a text or a move: its number and those after it."""
 
 
 def place(square):

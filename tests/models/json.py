@@ -1,4 +1,4 @@
-"""JSON as RFC 8259 has it, for tests, within the desk's limits: UTF-8, 127 levels, no lone surrogate, finite numbers.
+"""JSON by RFC 8259, for tests, within the server's limits: UTF-8, 127 levels, no lone surrogate, finite numbers.
 """
 import math
 import re
@@ -83,7 +83,7 @@ class Reader:
             self.must(",")
 
     def string(self):
-        """The text up to the closing quotation mark; of a name that stands twice the last value counts."""
+        """The text up to the closing quotation mark; of a repeated name the last value counts."""
         found = ""
         while True:
             plain = PLAIN.match(self.text, self.at)

@@ -1,4 +1,4 @@
-"""What the officer's words do to a club and print, as docs/rules.md and docs/formats.md say it."""
+"""A model of what the commands of the officer change and print, by docs/rules.md and docs/formats.md."""
 import re
 import time
 
@@ -28,16 +28,16 @@ def told_refusal(refusing):
 
 def game_line(game):
     """A game's line in a list, with the last second in which the side to move is in time."""
-    told = ["game", game.number, game.event["name"], *game.players, game.key or "=", "ply", game.plies()]
+    parts = ["game", game.number, game.event["name"], *game.players, game.key or "=", "ply", game.plies()]
     until = "never"
     if game.deadline() <= LAST_MOMENT:
         until = time.strftime("%Y-%m-%dT%H:%M:%SZ", time.gmtime(game.deadline()))
-    told += ["end", game.end, game.result] if game.end else ["turn", game.players[game.turn()], "until", until]
-    return " ".join(map(str, told)) + "\n"
+    parts += ["end", game.end, game.result] if game.end else ["turn", game.players[game.turn()], "until", until]
+    return " ".join(map(str, parts)) + "\n"
 
 
 class OfficersClub(Club):
-    """A club with the moment of the next word; each word gives what is printed, or is refused."""
+    """A club with the timestamp of the next command; each command returns what is printed, or is refused."""
 
     def accepted(self, text):
         self.last = max(self.last, self.moment)

@@ -309,7 +309,7 @@ STAGES = {"version": 0, "whole": 1, "row": 1, "pieces": 1, "side": 2, "move": 3,
 
 
 class Record:
-    """One record as it is read: how far it has come, and what it says."""
+    """A record that is being read: how far, and what it contains."""
 
     def __init__(self, is_first):
         self.is_first, self.stage, self.last = is_first, 0, None
@@ -317,7 +317,7 @@ class Record:
         self.moves, self.end = [], None
 
     def take(self, kind, found):
-        """Whether a statement, or a header, stands in order; a statement is taken up."""
+        """Whether a statement, or a header, is in order; a statement is executed."""
         if not self.is_in_order(kind, found):
             return False
         if kind in STAGES:

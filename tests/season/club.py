@@ -1,7 +1,7 @@
-"""A club as those know it who ask it: by what they ordered and were answered, and what each question must then show.
+"""A model of a club as its members see it: the commands that were accepted, and the answer to each query after them.
 
-Nothing here knows the rules of a game: which moves there are, and that one of them ended its game, the program says.
-Clocks, lists and each text are reckoned here.
+It does not know the rules of a game: the program says which moves are legal, and that one of them ends its game.
+Clocks, lists and each text are computed here.
 """
 import dataclasses
 import datetime
@@ -220,16 +220,16 @@ class Club:
         numbered = sorted(self.challenges.values(), key=lambda it: (self.id_of(it.member), it.number))
         challenges = [challenge_shown(it) for it in numbered if it.state == "open" and member in it.sides()
                       or it.state == "accepted" and member == it.member]
-        return told({"challenges": challenges, "games": games, "member": member, "moment": moment})
+        return to_json({"challenges": challenges, "games": games, "member": member, "moment": moment})
 
     def my_events(self, _, member, moment):
         events = [{"budget": it.budget, "event": it.name, "game": it.game, "increment": it.increment}
                   for it in self.events.values()]
-        return told({"events": events, "members": [name for name in self.keys if name != member]})
+        return to_json({"events": events, "members": [name for name in self.keys if name != member]})
 
     def event_games(self, words, member, moment):
         event = self.event_of(words[1])
-        return told({"games": [{"end": it.end, "first": it.players[0], "game": it.number, "ply": len(it.texts),
+        return to_json({"games": [{"end": it.end, "first": it.players[0], "game": it.number, "ply": len(it.texts),
                                 "result": it.result, "second": it.players[1]}
                                for it in self.games if it.event is event]})
 
@@ -238,7 +238,7 @@ class Club:
 
     def clock(self, words, member, moment):
         game = self.game_of(int(words[1]))
-        return told({"deadline": None if game.end else shown_deadline(game), "game": game.number, "left": game.left,
+        return to_json({"deadline": None if game.end else shown_deadline(game), "game": game.number, "left": game.left,
                      "moment": moment, "now": game.now(moment), "since": game.since,
                      "turn": None if game.end else game.mover()})
 
@@ -250,7 +250,7 @@ def lined(lines):
     return "".join(f"{it}\n" for it in lines)
 
 
-def told(values):
+def to_json(values):
     return "application/json", json.dumps(values, separators=(",", ":"), sort_keys=True)
 
 
@@ -261,7 +261,7 @@ def reply(status, kind, body, further="", has_body=True):
 
 
 def refusal(number, has_body=True):
-    return reply(STATUSES[number], *told({"error": number, "name": NAMES[number]}), FURTHER.get(number, ""), has_body)
+    return reply(STATUSES[number], *to_json({"error": number, "name": NAMES[number]}), FURTHER.get(number, ""), has_body)
 
 
 def game_line(game):

@@ -100,8 +100,8 @@ class Season:
 
     # ---- orders of the officer's
 
-    def order(self, now, words, told, data=b""):
-        check(f"`{' '.join(words)}` prints `{told}`", (0, f"{told}\n", ""), self.give(now, words, data))
+    def order(self, now, words, printed, data=b""):
+        check(f"`{' '.join(words)}` prints `{printed}`", (0, f"{printed}\n", ""), self.give(now, words, data))
 
     def add_member(self, now, name, key):
         self.club.add_member(name, key, now)
@@ -141,18 +141,18 @@ class Season:
     # ---- commands of members'
 
     def play(self, port, now, game, text=None):
-        """A move, of those that the desk lists."""
+        """A move, of those that the server lists."""
         member = game.mover()
         legal = self.answer(port, member, "GET", f"/games/{game.number}/legal")[1]["moves"]
         text = text or self.chance.choice(legal)
         ply = len(game.texts) + 1
-        status, told = self.answer(port, member, "POST", f"/games/{game.number}/moves/{ply}", {"move": text})
+        status, reply = self.answer(port, member, "POST", f"/games/{game.number}/moves/{ply}", {"move": text})
         game.played(text, self.club.accepted(now))
-        if told.get("end"):
-            game.ended(told["end"], "1-1")  # of the ends by rule only draws come up here
+        if reply.get("end"):
+            game.ended(reply["end"], "1-1")  # of the ends by rule only draws come up here
         expected = {"end": game.end, "game": game.number, "left": game.left[1 - game.turn()], "move": text, "ply": ply}
         check(f"{text} is accepted as ply {ply} of game {game.number}", (200, expected),
-                (status, {it: told.get(it) for it in expected}))
+                (status, {it: reply.get(it) for it in expected}))
 
     def command(self, port, now, member, path, expected, body=None, status=200):
         check(f"POST {path} by {member} returns {expected}", (status, expected), self.answer(port, member, "POST", path, body))
@@ -169,12 +169,12 @@ class Season:
 
     def reply_to(self, port, now, challenge, state):
         challenge.state = state
-        told = {"challenge": challenge.number, "state": state}
+        reply = {"challenge": challenge.number, "state": state}
         if state == "withdrawn":
-            return self.command(port, now, challenge.member, f"/challenges/{challenge.number}/withdraw", told)
+            return self.command(port, now, challenge.member, f"/challenges/{challenge.number}/withdraw", reply)
         if state == "accepted":
-            challenge.game = told["game"] = len(self.club.games) + 1
-        self.command(port, now, challenge.other, f"/answers/{challenge.member}/{challenge.number}", told,
+            challenge.game = reply["game"] = len(self.club.games) + 1
+        self.command(port, now, challenge.other, f"/answers/{challenge.member}/{challenge.number}", reply,
                      {"accept": state == "accepted"})
         if state == "accepted":
             self.club.add_game(None, challenge.event, *challenge.sides(), now)
@@ -218,7 +218,7 @@ class Season:
         expected = {" ".join(it): self.club.printed(it, now) for it in lists}
         compare(f"{stage}, the lists are those of the model", expected, {" ".join(it): self.give(now, it) for it in lists})
         made = {" ".join(it): rows.printed(it, now) for it in lists}
-        compare(f"{stage}, the lists are those of sqlite3", {it: told[1] for it, told in expected.items()}, made)
+        compare(f"{stage}, the lists are those of sqlite3", {it: printed[1] for it, printed in expected.items()}, made)
 
     def look_at_paths(self, stage, now, port, rows):
         asked = [*self.paths()]
@@ -234,7 +234,7 @@ class Season:
     def is_silent(self):
         """No key of a member is in any output of the program."""
         keys = [key.encode() for key in MEMBERS.values()]
-        found = [told for told in self.outputs for key in keys if key in told]
+        found = [it for it in self.outputs for key in keys if key in it]
         check(f"no key is in {len(self.outputs)} outputs and replies", [], found[:1])
 
 
@@ -445,17 +445,17 @@ def held(room):
         return found.held
 
 
-def check_faults(season, name, told):
+def check_faults(season, name, fault):
     """Each query has the same fault, and changes nothing."""
     before = held(season.folder)
     words = "members", "events", "games", "games --overdue --member anna"
-    compare(f"with {name} each query is fault {told}", {it: (3, "", f"store {told}\n") for it in words},
+    compare(f"with {name} each query is fault {fault}", {it: (3, "", f"store {fault}\n") for it in words},
             {it: season.give(START, it.split()) for it in words})
     check(f"with {name} queries change nothing", before, held(season.folder))
 
 
 def faulty(season):
-    """No file, a file of schema 1, and damaged ones, by words and at the desk."""
+    """No file, a file of schema 1, and damaged ones, by commands and over HTTP."""
     now = season.club.last
     with folder() as room:
         other = Season(room)
@@ -514,7 +514,7 @@ def folder():
 
 
 def gone_through(parts):
-    """Whether the parts came to their end; what stopped one is told."""
+    """Whether the parts came to their end; the error of one that did not is printed."""
     with folder() as room:
         season = Season(room)
         try:
