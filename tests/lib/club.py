@@ -12,6 +12,7 @@ import signal
 import sqlite3
 import subprocess
 import tempfile
+import time
 
 TESTS = pathlib.Path(__file__).resolve().parents[1]
 TOP = TESTS.parent
@@ -25,6 +26,7 @@ PERFT = TOP / "crates/perft/out/perft"
 TABLES = "meta members events event_rules challenges moves games seen scores".split()
 BESIDE = "", "-wal", "-shm", "-journal"  # the suffixes of a database's files
 FAST = "/dev/shm" if os.access("/dev/shm", os.W_OK) else None  # a folder in which fsync takes no time
+RUNS, IDLE_RUN = 20, 0.003  # seconds of a command that does nothing, on an idle machine
 WAIT = 120  # seconds after which a program or a reply counts as hanging
 LAST_MOMENT = 253402300799  # the last second of the year 9999
 NO_CLUB = "no club"
@@ -60,6 +62,20 @@ def club(*words, **how):
     """The status of a command, and what it prints on one of the two streams."""
     status, out, err = run(words, **how)
     return status, (out or err).strip()
+
+
+def is_within(seconds, began):
+    """Whether less time than this has passed since a time; on a busy machine, as much more as a command takes longer."""
+    passed = time.monotonic() - began
+    return passed <= seconds or passed <= seconds * slowness()
+
+
+def slowness():
+    """How many times longer than on an idle machine a command takes now."""
+    began = time.monotonic()
+    for _ in range(RUNS):
+        subprocess.run([PROGRAM, "--version"], capture_output=True, check=True)
+    return max(1, (time.monotonic() - began) / RUNS / IDLE_RUN)
 
 
 def start(folder, words, **how):

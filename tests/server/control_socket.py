@@ -18,7 +18,7 @@ import time
 
 sys.path[0] = str(pathlib.Path(__file__).resolve().parents[1])
 import lib.club
-from lib.club import PROGRAM, TWO_MEMBERS
+from lib.club import PROGRAM, TWO_MEMBERS, is_within
 from lib.report import check, exit_status
 from lib.server import SHOW_GAME, free_port, serve
 
@@ -65,11 +65,11 @@ def commands_beside_requests():
         time.sleep(0.5)
         began = time.monotonic()
         printed = [club("c.db", "member", f"m{it}", f"keymember{it}") for it in range(20)]
-        took = time.monotonic() - began
+        is_quick = is_within(15, began)
         mode = stat.S_IMODE(os.stat(SOCKET).st_mode)
     expected = [(0, f"accepted member {it}") for it in range(3, 23)]
     check("a busy server executes twenty commands", expected, printed)
-    check("commands do not wait for a busy server", True, took < 30)
+    check("commands do not wait for a busy server", True, is_quick)
     check("a busy server answers each request between the commands", {200}, set(statuses))
     check("a busy server goes on beside the commands", True, len(statuses) > 100)
     check("only the owner may use the control socket", 0o600, mode)
@@ -137,7 +137,7 @@ def dead_sockets():
         server.process.send_signal(signal.SIGSTOP)
         began = time.monotonic()
         status, _ = club("c.db", "verify")
-        check("a command fails beside a stopped server", (3, True), (status, time.monotonic() - began < 40))
+        check("a command fails beside a stopped server", (3, True), (status, is_within(20, began)))
         server.process.send_signal(signal.SIGCONT)
         check("a command succeeds once the server continues", (0, "sound"), club("c.db", "verify"))
         check("a game is shown once the server continues", 200, shown(server))

@@ -11,7 +11,7 @@ import threading
 import time
 
 sys.path[0] = str(pathlib.Path(__file__).resolve().parents[1])
-from lib.club import create
+from lib.club import create, is_within
 from lib.report import exit_status, result
 from lib.server import serve
 
@@ -22,8 +22,8 @@ def check_request(server, name):
     """Prints whether a request is answered in time, with its seconds."""
     began = time.monotonic()
     status, _ = server.show()
-    took = time.monotonic() - began
-    result(status == 200 and took <= MOST, f"a request is answered {name} ({took:.2f} s)", f"status {status}")
+    took, is_quick = time.monotonic() - began, is_within(MOST, began)
+    result(status == 200 and is_quick, f"a request is answered {name} ({took:.2f} s)", f"status {status}")
 
 
 @contextlib.contextmanager
