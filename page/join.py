@@ -2,14 +2,17 @@
 """Joins the sources of the page into one page, play.html, and writes the policy that allows it, policy.txt. The crate
 `club_page` has both as texts.
 
-    python3 page/join.py [--check]
+    python3 page/join.py [--check] [--split]
 
 In the place of the stylesheets and of the script that index.html names stand the files themselves, modules before those
 that import them. Comments, indentation, empty lines, `import` lines and the word `export` are left out, and from the
 stylesheets and the script what blanks and ends of lines they can do without; nothing else is changed, so all modules
 together have one space of names. A comment of the script has a line of its own, each statement ends with a semicolon
-or a block, and no text in `..` has such a one within. With --check nothing is written: the status is 1, and the files
-are named, where they are not what the sources give.
+or a block, and no text in `..` has such a one within. All sources are ASCII.
+
+With --split the page is two files, play.html and play.js, for two routes; the policy is the same, as a browser knows the
+script by its hash in both (of a stylesheet that is a file of its own no browser does, so it stays in the page). With --check
+nothing is written: the status is 1, and the files are named, where they are not what the sources give.
 """
 import base64
 import hashlib
@@ -19,7 +22,10 @@ import sys
 
 HERE = pathlib.Path(__file__).resolve().parent
 CRATE = "../crates/club_page"
-LIMIT = 32 * 1024
+# The prover compares a literal of PART bytes with its definition in less than a minute; it gives up on one of 87 KB.
+PARTS = 4
+PART = 24 * 1024
+LIMIT = PARTS * PART
 PIECE = r"(?:\\.|[^\\]){1,99}(?:(?<=[;}>])|$) *|(?:\\.|[^\\]){1,99} *"
 FORBIDDEN = "base-uri", "form-action", "frame-ancestors"
 STYLESHEET = re.compile(r'<link rel="stylesheet" href="([\w.]+)">\n')
@@ -30,7 +36,11 @@ DECLARED = re.compile(r"^(?:async )?(?:const|let|function|class) (\w+)", re.MULT
 
 
 def source(name):
-    return (HERE / name).read_text(encoding="utf-8")
+    text = (HERE / name).read_text(encoding="utf-8")
+    strange = [at for at, line in enumerate(text.splitlines(), 1) if not line.isascii()]
+    if strange:
+        sys.exit(f"{name}:{strange[0]} has letters outside of ASCII; see ascii.py")
+    return text
 
 
 def lines_kept(text):
@@ -78,57 +88,85 @@ def dense(script):
     return "".join(parts)
 
 
-def escaped(script):
-    """The script in ASCII: other letters stand in strings alone, where an escape means the same."""
-    return re.sub(r"[^\x00-\x7f]", lambda letter: f"\\u{ord(letter[0]):04x}", script)
-
-
 def hashed(text):
     return f"'sha256-{base64.b64encode(hashlib.sha256(text.encode()).digest()).decode()}'"
 
 
-def page_and_policy():
+def joined():
+    """The page's markup as it stands in index.html, its stylesheet, its script, and its policy."""
     text = without_comments(source("index.html"))
     style = joined_style(STYLESHEET.findall(text))
-    script = escaped(joined_script(SCRIPT.search(text)[1]))
+    script = joined_script(SCRIPT.search(text)[1])
+    allowed = [f"style-src {hashed(style)}", f"script-src {hashed(script)}", "connect-src 'self'", "img-src data:", "manifest-src data:"]
+    policy = "; ".join(["default-src 'none'", *allowed, *(f"{it} 'none'" for it in FORBIDDEN)])
+    return text, style, script, policy
+
+
+def whole(text, style, script):
     text = STYLESHEET.sub(lambda _: f"<style>{style}</style>\n", text, count=1)
     text = STYLESHEET.sub("", text)
-    page = SCRIPT.sub(lambda _: f'<script type="module">{script}</script>', text)
-    allowed = [f"style-src {hashed(style)}", f"script-src {hashed(script)}", "connect-src 'self'"]
-    policy = "; ".join(["default-src 'none'", *allowed, *(f"{it} 'none'" for it in FORBIDDEN)])
-    return page, policy
+    return SCRIPT.sub(lambda _: f'<script type="module">{script}</script>', text)
+
+
+def parted(text, style, script):
+    """The page with its style, and in the place of the script its name and its hash."""
+    text = STYLESHEET.sub(lambda _: f"<style>{style}</style>\n", text, count=1)
+    text = STYLESHEET.sub("", text)
+    named = f'<script type="module" src="play.js" integrity="{hashed(script)[1:-1]}"></script>'
+    return SCRIPT.sub(lambda _: named, text)
 
 
 CODE = """//! What page/join.py makes of the files in page/.
 
-ghost use Rattle.std.specs.Prelude.{◌≡◌};
-ghost use Rattle.club_page.specs.Joined.{page, policy};
-
-/// The page, in ASCII.
-#[tactic(auto, unfolding(crate::specs::Joined::page))]
-pub fn page() -> &'static str
-    ensures { result.now ≡ page }
-{
-    %s
-}
-
+ghost use Rattle.std.specs.Prelude.{\u25cc\u2261\u25cc};
+ghost use Rattle.club_page.specs.Joined.{%s, policy};
+%s
 /// What a browser lets the page do: the value of Content-Security-Policy (W3C, CSP Level 3).
 #[tactic(auto, unfolding(crate::specs::Joined::policy))]
 pub fn policy() -> &'static str
-    ensures { result.now ≡ policy }
+    ensures { result.now \u2261 policy }
 {
     %s
 }
 """
-SPECS = """-- What page/join.py makes of the files in page/: the page, and what a browser lets it do.
-use Rattle.std.specs.Prelude.{ℕ, List, codes}
+CODE_PART = """
+/// Part %d of the page, in ASCII.
+#[tactic(auto, unfolding(crate::specs::Joined::page_%d))]
+pub fn page_%d() -> &'static str
+    ensures { result.now \u2261 page_%d }
+{
+    %s
+}
+"""
+SPECS = """-- What page/join.py makes of the files in page/: the page, in parts, and what a browser lets it do.
+use Rattle.std.specs.Prelude.{\u2115, List, codes, \u25cc++\u25cc}
+%s
+unfoldable pub page : List \u2115
+page = %s
 
-unfoldable pub page : List ℕ
-page = codes %s
-
-unfoldable pub policy : List ℕ
+unfoldable pub policy : List \u2115
 policy = codes %s
 """
+
+
+SPECS_PART = """
+unfoldable pub page_%d : List \u2115
+page_%d = codes %s
+"""
+
+
+def parts_of(text):
+    """The text in parts of nearly the same size."""
+    return [text[len(text) * at // PARTS:len(text) * (at + 1) // PARTS] for at in range(PARTS)]
+
+
+def code_and_specs(page, policy):
+    parts = list(enumerate(parts_of(page), 1))
+    names = [f"page_{at}" for at, _ in parts]
+    code = "".join(CODE_PART % (at, at, at, at, in_lines(it)) for at, it in parts)
+    specs = "".join(SPECS_PART % (at, at, literal(it)) for at, it in parts)
+    return (CODE % (", ".join(names), code, in_lines(policy)),
+            SPECS % (specs, " ++ ".join(names), literal(policy)))
 
 
 def literal(text):
@@ -144,22 +182,26 @@ def in_lines(text):
 
 
 def main():
-    page, policy = page_and_policy()
-    if len(page.encode()) >= LIMIT:
-        sys.exit(f"play.html would have {len(page.encode())} bytes, and has to stay below {LIMIT}")
-    made = {
-        "play.html": page,
-        "policy.txt": policy + "\n",
-        f"{CRATE}/src/joined.rt": CODE % (in_lines(page), in_lines(policy)),
-        f"{CRATE}/specs/Joined.antt": SPECS % (literal(page), literal(policy)),
-    }
-    if sys.argv[1:] == ["--check"]:
-        stale = [it for it in made if not (HERE / it).exists() or source(it) != made[it]]
+    text, style, script, policy = joined()
+    page = whole(text, style, script)
+    if len(page.encode()) > LIMIT:
+        sys.exit(f"play.html would have {len(page.encode())} bytes, and may have at most {LIMIT}")
+    if "--split" in sys.argv:
+        made = {"play.html": parted(text, style, script), "play.js": script}
+    else:
+        made = {"play.html": page}
+    made["policy.txt"] = policy + "\n"
+    if "--split" not in sys.argv:
+        code, specs = code_and_specs(page, policy)
+        made[f"{CRATE}/src/joined.rt"] = code
+        made[f"{CRATE}/specs/Joined.antt"] = specs
+    if "--check" in sys.argv:
+        stale = [it for it in made if not (HERE / it).exists() or (HERE / it).read_text(encoding="utf-8") != made[it]]
         print("not what the sources give:" if stale else "what the sources give", *stale)
         return bool(stale)
-    for name, text in made.items():
-        (HERE / name).write_text(text, encoding="utf-8")
-    print(f"play.html has {len(page.encode())} bytes")
+    for name, content in made.items():
+        (HERE / name).write_text(content, encoding="utf-8")
+    print(f"markup {len(text)}, style {len(style)}, script {len(script)}, play.html {len(page.encode())} bytes")
     return 0
 
 

@@ -12,3 +12,8 @@ function attempt(use) {
 export const recall = (name) => attempt(() => sessionStorage[name] ?? localStorage[name]);
 export const keep = (name, value, store = 'localStorage') => attempt(() => { window[store][name] = value; });
 export const forget = (name) => attempt(() => delete sessionStorage[name] && delete localStorage[name]);
+
+// The choices of the reader: each is on or off, and what it is where nothing was chosen.
+const CHOICES = { confirm: true, animate: true, letters: false, alerts: false, sound: false };
+export const choices = Object.keys(CHOICES);
+export const chosen = (name) => (recall(name) ?? String(CHOICES[name])) === 'true';
