@@ -1,5 +1,5 @@
-// Notices outside of the page, where the member allows them: notifications of the system, a sound, and a count on the
-// icon of an installed page. And the manifest, by which a browser can install the page.
+// Notices outside of the page, if the member wants them: notifications, a sound, and a count on the icon of an installed
+// page. Also the manifest, by which a browser can install the page.
 import { byId, make } from './dom.js';
 import { chosen } from './storage.js';
 
@@ -31,7 +31,7 @@ function ring() {
   setTimeout(() => audio.close(), 2000);
 }
 
-// Some telephones have the class and refuse to make one; then the title of the tab is the only notice.
+// Some telephones throw here, since they notify through service workers only; then the title of the tab counts.
 function notify({ tag, words, place }) {
   try {
     const notice = new Notification(words, { tag, icon: byId('icon').href });
@@ -41,12 +41,12 @@ function notify({ tag, words, place }) {
       notice.close();
     };
   } catch {
-    // See above.
+    // No notification.
   }
 }
 
-// Announces what is new since the last look: `items` are { tag, words, place }; an item with `end` is announced when it
-// is gone, the others when they come.
+// Announces what is new since the last look. Items are { tag, words, place, end }: one with `end` is announced when it is
+// gone, any other when it is new.
 export function announce(member, count, items) {
   const isFirst = announced?.member !== member;
   const isIn = (list) => ({ tag }) => list.some((it) => it.tag === tag);
@@ -60,10 +60,10 @@ export function announce(member, count, items) {
   if (canNotify() && !document.hasFocus()) fresh.forEach(notify);
 }
 
-// Whether the browser lets the page notify; it asks the member where it has not yet.
+// Asks the browser for its permission to notify.
 export const mayNotify = async () => await window.Notification?.requestPermission() === 'granted';
 
-// The manifest names the page's own address, so it cannot be a part of the page's text.
+// Adds the manifest, which needs the page's own address.
 export function writeManifest() {
   const address = location.origin + location.pathname;
   const manifest = {

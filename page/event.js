@@ -1,4 +1,4 @@
-// An event: its cross table with all who play in it, and its games.
+// The view of an event: its cross table and its games.
 import { button, byId, fill, make } from './dom.js';
 import { reason } from './ends.js';
 import { ask, request } from './server.js';
@@ -7,21 +7,21 @@ import { text } from './words.js';
 const POINTS = { '2-0': [2, 0], '1-1': [1, 1], '0-2': [0, 2] };
 const pair = (game) => `${game.first} \u2013 ${game.second}`;
 const outcome = (game) => (game.end ? reason(game) : text('turn', { name: [game.first, game.second][game.ply % 2] }));
-// With more entrants the cross table has no columns of single games.
+// A table of more entrants has no columns of single games.
 const WIDEST = 40;
 const STEP = 50;
 const FEW = 10;
-// The event that is seen, how to paint its games, and how many of each list the reader wants to see.
+// The event on the screen, the function that paints its games again, and how many rows of each list are shown.
 let seenEvent = '';
 let repaint = () => {};
 let shownRows = {};
 
-// The members of the club's table, in its order, with its numbers; its lines have no blanks within a column.
+// The rows of the server's table: place, name, points, games, wins, draws, losses. No column contains a blank.
 function ranked(words) {
   return words.trim().split('\n').slice(1).map((line) => line.trim().split(/\s+/).slice(0, 7));
 }
 
-// The names of two, in one order.
+// A key for a pair of players, in either order.
 const both = (one, other) => [one, other].sort().join(' ');
 
 function cell(games, name) {
@@ -59,7 +59,7 @@ const moveCount = (count) => {
   return text(new Intl.PluralRules(text('code')).select(count) === 'one' ? 'oneMove' : 'moveCount', { count });
 };
 
-// Games of which a player's name fits the search, the reader's own first; only so many at once.
+// A list of the games that match the search by a player's name, the reader's own first, cut after so many rows.
 function list(name, all, reader, kind) {
   const sought = byId('search').value.trim().toLowerCase();
   const isOwn = (it) => [it.first, it.second].includes(reader);

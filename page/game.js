@@ -1,4 +1,4 @@
-// One game: its board, its moves to step through, and what a member may do in it.
+// The view of a game: its board, its moves to step through, and the reader's actions.
 import { drawRoutes, focusOn, layBoard, paintBoard, slide, startBoard } from './board.js';
 import { ask, request } from './server.js';
 import { button, byId, fill, make } from './dom.js';
@@ -13,23 +13,22 @@ import { clockFace, DAY, isJapanese, kindName, moment, span, text } from './word
 
 const BUTTONS = { start: -1000, back: -1, on: 1, present: 1000 };
 let reader = '';
-// What the desk says of the game, and when it said so.
+// The server's replies, and the time at which they were received.
 let game = null;
 let clock = null;
 let told = 0;
 let legal = [];
 let rules = draughts;
-// After each number of plies, and how many of them are looked at; null for all.
+// The position after each number of plies, each move as text, and the number of plies on the screen (null: all).
 let positions = [];
 let written = [];
 let ply = null;
 let isFlipped = false;
-// The square of the piece that is about to move; the move that waits for a confirmation; the one that the desk has not
-// answered yet.
+// The square of the touched piece; the move that waits for confirmation; the move that was sent and not answered.
 let touched = null;
 let waiting = null;
 let sent = null;
-// What is on the board: of which game, after how many plies, and whether a move is tried on it.
+// The game and the number of plies that the board shows, so that one step is animated.
 let seen = {};
 
 const players = () => [game.first, game.second];
@@ -47,15 +46,15 @@ const passed = () => (Date.now() - told) / 1000;
 const timeOf = (side) => clock.now[side] - (clock.turn === players()[side] ? passed() : 0);
 const isOverdue = () => clock.deadline !== null && clock.moment + passed() > clock.deadline;
 
-// A move as the reader's players write it.
+// A move in the notation of the reader's language.
 function spell(at, move = game.moves[at]) {
   if (rules === draughts) return move;
   if (isJapanese()) return shogi.writtenInJapan(positions[at], move, at % 2, game.moves[at - 1]);
   return shogi.written(positions[at], move, at % 2);
 }
 
-// Asks, and resolves to the number of the option that is taken; `seenAt` is told which one is looked at. Where there is
-// one option alone, Enter at once does not take it.
+// Asks a question in a dialog and resolves to the index of the option taken. `seenAt` gets the index under the pointer or
+// the focus. If there is one option, Cancel has the focus, so that a second Enter does nothing.
 function choose(question, options, seenAt = () => {}, looks = 'main') {
   const dialog = byId('dialog');
   byId('question').textContent = question;
@@ -107,7 +106,7 @@ function paintPlayer(id, side) {
   byId(id).className = `player${isTurn ? ' turn' : ''}`;
 }
 
-// The clocks go on between two looks at the desk.
+// The clocks run on between two requests.
 function tick() {
   if (!isOpen()) return;
   for (const [id, side] of [['near', near()], ['far', 1 - near()]]) {
@@ -119,7 +118,7 @@ function tick() {
   }
 }
 
-// Whose turn it is, until when; or how it ended; or what was played at the ply that is looked at.
+// The status line: whose turn and deadline; the end; or the move of an earlier position.
 function state() {
   const at = plies();
   const move = at && text('moved', { name: players()[(at + 1) % 2], move: spell(at - 1) });
@@ -135,7 +134,7 @@ function state() {
   return [make('b', {}, turn), ` ${until}`, ...(move ? [make('span', { className: 'faint' }, ` ${move}`)] : [])];
 }
 
-// What the reader should know before a move.
+// The hint before a move: confirmation, an offer, an earlier position, a forced capture or a check.
 function hint() {
   const trial = waiting && tried();
   if (trial) return text('confirmHint', { move: spell(game.ply, trial) });
@@ -146,7 +145,7 @@ function hint() {
   return rules.checked?.(positions[game.ply], own()) ? text('inCheck') : '';
 }
 
-// What a member may do, after a question.
+// A button whose action is confirmed in a dialog.
 function action(name, path, looks = '') {
   return button(text(name), async () => {
     if (await choose(`${text(name)}?`, [text(name)], undefined, `main ${looks}`) === 0) perform(() => ask(path, {}));
@@ -253,7 +252,7 @@ async function send(move) {
   await lookAgain();
 }
 
-// The choice between moves that share both squares: a promotion by its piece, a capture by its route.
+// Lets the reader choose between moves with the same two squares: a promotion by its piece, a capture by its route.
 async function chooseMove(moves) {
   const kind = rules.kind(positions[game.ply].board[first(moves[0])]);
   const piece = (it) => make('span', {}, picture(it, own(), false, chosen('letters')), kindName(it));
@@ -268,7 +267,7 @@ function lift(square) {
   paintPosition();
 }
 
-// Of two moves the promotion comes first.
+// Tries a move; of two moves with these squares the promotion is listed first.
 async function go(from, to) {
   const moves = movesOf(from, to).reverse();
   const move = moves[moves.length > 1 ? await chooseMove(moves) : 0];
@@ -301,7 +300,7 @@ async function download() {
   make('a', { href, download: `${game.event}-${game.game}.${rules === shogi ? 'csa' : 'pdn'}` }).click();
 }
 
-// Takes what the desk says. Positions are reckoned from the moves; of the present one the desk's word counts.
+// Stores a reply. Earlier positions are computed from the moves; the current one is the server's.
 function take(now) {
   const isOther = game?.game !== now.game;
   if (isOther || now.ply !== game.ply || now.end) touched = waiting = sent = null;
@@ -318,7 +317,7 @@ function take(now) {
   layBoard(rules, near(), own());
 }
 
-// Asks the desk for a game; the reply shows it.
+// Requests a game; returns the function that paints it.
 export async function lookAtGame(id, name) {
   const now = await ask(`games/${id}`);
   const time = await ask(`games/${id}/clock`);
@@ -333,7 +332,7 @@ export async function lookAtGame(id, name) {
   };
 }
 
-// Paints again what is seen, after a choice of the reader's.
+// Paints the game again after a change of the settings.
 export const repaintGame = () => isOpen() && lay();
 export function leaveGame() {
   game = null;

@@ -1,4 +1,4 @@
-// What a member has to do: games as cards, the most urgent first; challenges; the events of the club; ended games.
+// The home view: games as cards, the most urgent first; challenges; events; finished games.
 import { ask } from './server.js';
 import { button, byId, fill, make } from './dom.js';
 import { draughts } from './draughts.js';
@@ -13,7 +13,7 @@ const AT_ONCE = 3;
 let me = null;
 let club = null;
 let unanswered = 0;
-// Small pictures by games, with the plies that they show, and the games that wait for theirs.
+// Drawn positions by game, each with its ply; the games that still need one; and the number of open requests for them.
 const pictures = new Map();
 let wanted = [];
 let asked = 0;
@@ -27,7 +27,7 @@ const kindOf = (event) => club.events.find((it) => it.event === event)?.game;
 const rulesOf = (event) => (kindOf(event) === 'shogi' ? shogi : draughts);
 const toMe = (it) => it.state === 'open' && it.to === me.member;
 
-// First the games that wait for a claim of the member's, then those for its move, by the time that is left.
+// Order of the cards: games to claim, then games to move, then the others; each by the time left.
 const rank = (game) => (isMine(game) ? 1 : isOver(game) ? 0 : 2);
 const byUrgency = (one, other) => rank(one) - rank(other) || secondsLeft(one) - secondsLeft(other) || one.game - other.game;
 
@@ -37,7 +37,7 @@ function timeLeft(game) {
   return text('left', { span: span(secondsLeft(game)) });
 }
 
-// The picture of a game, or an empty board in its place until the desk has told the position.
+// The drawn position of a game, or an empty board until the position has been received.
 function pictureOf(game) {
   const shown = pictures.get(game.game);
   if (shown?.ply !== game.ply) wanted.push(game);
@@ -60,7 +60,7 @@ async function drawNext() {
     const host = document.querySelector(`#games a[href="#game/${game.game}"] svg`);
     host?.replaceWith(drawn.cloneNode(true));
   } catch {
-    // The next look asks again.
+    // The next look requests it again.
   }
   asked -= 1;
   await drawNext();
@@ -109,7 +109,7 @@ function answers({ from, number }) {
     : [answer('take', path, { accept: true }, 'main'), answer('refuse', path, { accept: false })];
 }
 
-// Open ones, and accepted ones whose game has just begun.
+// Lists open challenges, and accepted ones whose game has just begun.
 function paintChallenges() {
   const begun = (it) => me.games.find((game) => game.game === it.game && game.ply < 2);
   const shown = me.challenges.filter((it) => it.state === 'open' || begun(it)).sort((it, other) => toMe(other) - toMe(it));
@@ -132,7 +132,7 @@ function paintClub() {
   byId('challenge').hidden = !others[0] || !club.events[0];
 }
 
-// The member's ended games, which the desk tells by events alone, so they are asked for where they are looked at.
+// The member's finished games. The server lists them by event only, so they are requested when the reader opens them.
 async function lookAtEnded() {
   if (!byId('ended').open) return;
   const lists = [];
@@ -146,14 +146,14 @@ async function lookAtEnded() {
   fill('ended-games', rows[0] ? make('ul', { className: 'rows' }, ...rows) : make('p', { className: 'faint' }, text('noEnded')));
 }
 
-// Asks the desk for what a member has to do: who the member is, and how much waits.
+// Requests the member's games and challenges; returns the member's name and the number of things that wait.
 export async function lookAtMe() {
   me = await ask('me');
   const moves = me.games.filter((it) => isMine(it) || isOver(it)).length;
   return { member: me.member, waiting: moves + me.challenges.filter(toMe).length };
 }
 
-// What a notice may tell: what waits for the member, and of each running game that it has ended.
+// The items of notices: what waits for the member, and each running game, whose end is announced.
 export function newsOf() {
   const item = (it, name, kind) => {
     const words = text(name, { name: opponent(it), event: it.event });
@@ -180,8 +180,8 @@ export async function lookAtHome() {
   };
 }
 
-// A challenge has a number of its member's own, which is taken at random, and another one where it was used before. It
-// stays until the desk has answered, so that one that is sent again is not made twice.
+// A challenge has a number of the member's own, chosen at random; a number that was used before is replaced. The number
+// stays until the server has answered, so that sending again is idempotent.
 async function challenge(terms, tries = 3) {
   unanswered ||= Math.ceil(Math.random() * CHALLENGES);
   try {
@@ -194,7 +194,7 @@ async function challenge(terms, tries = 3) {
   }
 }
 
-// Two boards at the opening, for who is not signed in.
+// The two starting positions beside the sign-in form.
 export function paintWelcome() {
   const opening = (rules) => miniature(rules, rules.read(rules.opening), 0, []);
   fill('welcome', opening(draughts), opening(shogi));

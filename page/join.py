@@ -1,18 +1,18 @@
 #!/usr/bin/env python3
-"""Joins the sources of the page into one page, play.html, and writes the policy that allows it, policy.txt. The crate
-`club_page` has both as texts.
+"""Joins the sources of the page to one file, play.html, and writes the policy that allows it, policy.txt. The crate
+`club_page` has both as constants.
 
     python3 page/join.py [--check] [--split]
 
-In the place of the stylesheets and of the script that index.html names stand the files themselves, modules before those
-that import them. Comments, indentation, empty lines, `import` lines and the word `export` are left out, and from the
-stylesheets and the script what blanks and ends of lines they can do without; nothing else is changed, so all modules
-together have one space of names. A comment of the script has a line of its own, each statement ends with a semicolon
-or a block, and no text in `..` has such a one within. All sources are ASCII.
+The stylesheets and the script replace the tags of index.html that name them; a module comes before the modules that import
+it. Comments, indentation, empty lines, `import` lines and the word `export` are dropped, and blanks and ends of lines that
+the stylesheets and the script do not need. Nothing is renamed, so all modules share one name space. The sources must be
+ASCII; each comment of the script has its own line, each statement ends with a semicolon or a block, and no template literal
+is nested in another.
 
-With --split the page is two files, play.html and play.js, for two routes; the policy is the same, as a browser knows the
-script by its hash in both (of a stylesheet that is a file of its own no browser does, so it stays in the page). With --check
-nothing is written: the status is 1, and the files are named, where they are not what the sources give.
+--split writes two files, play.html and play.js, for two routes. The policy is the same, since a browser checks the hash of
+an external script, too; it does not for a stylesheet, which stays in the page. --check writes nothing: the status is 1 and the
+stale files are named if they are not what the sources give.
 """
 import base64
 import hashlib
@@ -27,6 +27,8 @@ PARTS = 4
 PART = 24 * 1024
 LIMIT = PARTS * PART
 PIECE = r"(?:\\.|[^\\]){1,99}(?:(?<=[;}>])|$) *|(?:\\.|[^\\]){1,99} *"
+# The icon and the manifest are data of the page itself.
+ALLOWED = "connect-src 'self'", "img-src data:", "manifest-src data:"
 FORBIDDEN = "base-uri", "form-action", "frame-ancestors"
 STYLESHEET = re.compile(r'<link rel="stylesheet" href="([\w.]+)">\n')
 SCRIPT = re.compile(r'<script type="module" src="([\w.]+)"></script>')
@@ -44,7 +46,7 @@ def source(name):
 
 
 def lines_kept(text):
-    """The lines without indentation; none that is empty or a comment."""
+    """The lines without indentation, empty lines and comments."""
     lines = (line.strip() for line in text.splitlines())
     return "".join(f"{line}\n" for line in lines if line and not line.startswith("//"))
 
@@ -59,7 +61,7 @@ def joined_style(names):
 
 
 def modules(name, met):
-    """The module of that name and all that it imports, each behind those that it needs."""
+    """The module of that name and all that it imports, in the order of their imports."""
     if name in met:
         return
     met.append(name)
@@ -78,7 +80,7 @@ def joined_script(name):
 
 
 def dense(script):
-    """The script without the blanks, and last semicolons and commas, that mean nothing; in literals all is kept."""
+    """The script without blanks, last semicolons and last commas that have no meaning; literals are unchanged."""
     parts = re.split(LITERAL, script)
     if any(re.search(r"([+-])\s+\1|//", it) for it in parts[::2]):
         sys.exit("the script has a sign behind a blank behind its like, or a comment behind code")
@@ -93,12 +95,12 @@ def hashed(text):
 
 
 def joined():
-    """The page's markup as it stands in index.html, its stylesheet, its script, and its policy."""
+    """The markup of index.html, the stylesheet, the script and the policy."""
     text = without_comments(source("index.html"))
     style = joined_style(STYLESHEET.findall(text))
     script = joined_script(SCRIPT.search(text)[1])
-    allowed = [f"style-src {hashed(style)}", f"script-src {hashed(script)}", "connect-src 'self'", "img-src data:", "manifest-src data:"]
-    policy = "; ".join(["default-src 'none'", *allowed, *(f"{it} 'none'" for it in FORBIDDEN)])
+    hashes = f"style-src {hashed(style)}", f"script-src {hashed(script)}"
+    policy = "; ".join(["default-src 'none'", *hashes, *ALLOWED, *(f"{it} 'none'" for it in FORBIDDEN)])
     return text, style, script, policy
 
 
@@ -109,7 +111,7 @@ def whole(text, style, script):
 
 
 def parted(text, style, script):
-    """The page with its style, and in the place of the script its name and its hash."""
+    """The page with its stylesheet, and a tag with the name and the hash of the script."""
     text = STYLESHEET.sub(lambda _: f"<style>{style}</style>\n", text, count=1)
     text = STYLESHEET.sub("", text)
     named = f'<script type="module" src="play.js" integrity="{hashed(script)[1:-1]}"></script>'
@@ -170,14 +172,14 @@ def code_and_specs(page, policy):
 
 
 def literal(text):
-    """The text as a literal, of which code and definitions have the same."""
+    """The text as a literal; code and specs have the same syntax."""
     for letter, told in ("\\", "\\\\"), ('"', '\\"'), ("\n", "\\n"):
         text = text.replace(letter, told)
     return f'"{text}"'
 
 
 def in_lines(text):
-    """The literal over several lines, of which none begins with a blank of the text."""
+    """The literal on several lines, none of which begins with a blank of the text."""
     return "\\\n     ".join(re.findall(PIECE, literal(text)))
 
 

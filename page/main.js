@@ -1,4 +1,4 @@
-// Signs a member in, and looks at what the address names: the member's games, a game or an event.
+// Sign-in, and the view that the address names: home, a game or an event. A look requests the view's data and paints it.
 import { announce, isWatching, writeManifest } from './alerts.js';
 import { byId, fill } from './dom.js';
 import { lookAtEvent, startEvent } from './event.js';
@@ -19,7 +19,7 @@ const UNKNOWN = [52, 53];
 const VIEWS = { home: lookAtHome, event: lookAtEvent, game: lookAtGame };
 let key = recall('memberKey') ?? '';
 let looking = Promise.resolve();
-// The address that is seen; none where the page says that it waits, or asks for a key.
+// The address of the painted view; null while the page waits for a reply or for a key.
 let shown = null;
 let timer = 0;
 
@@ -30,7 +30,7 @@ function show(view) {
   if (view !== 'game') leaveGame();
 }
 
-// A view that is all words: nothing of another one stays.
+// Shows a view without data.
 function showWords(view, title) {
   fill('title', title);
   show(view);
@@ -38,7 +38,7 @@ function showWords(view, title) {
   document.title = title;
 }
 
-// What was seen elsewhere goes while the desk has not answered.
+// Hides the previous view until the server has answered.
 function showWaiting() {
   const { view, name } = place();
   showWords('waiting', { home: text('home'), game: `${text('game')} ${name}`, event: name }[view]);
@@ -82,7 +82,7 @@ function isBack() {
   return SELDOM;
 }
 
-// What goes wrong in a look: the key is gone, or the club is away, of which the page says so and asks again soon.
+// Handles a failed look: an unknown key, a server that does not answer, or a refusal. Returns the pause before the next.
 function isWrong(error) {
   if (!key) return SELDOM;
   if (error.number === 50) enter('', error.message);
@@ -92,21 +92,21 @@ function isWrong(error) {
   return isPassing(error) ? OFTEN : SELDOM;
 }
 
-// Looks again after so many milliseconds; while the page is hidden seldom, and only if the reader wants notices.
+// Schedules the next look. A hidden page looks rarely, and only if the reader wants notices.
 function lookLater(pause) {
   clearTimeout(timer);
   if (document.hidden && !isWatching()) return;
   timer = setTimeout(() => key && look(), document.hidden ? HIDDEN : pause);
 }
 
-// Looks after what is being looked at, and again after a while.
+// Looks once the running look is done, and schedules the next.
 function look() {
   clearTimeout(timer);
   looking = looking.then(lookOnce).then(isBack, isWrong).then(lookLater);
   return looking;
 }
 
-// Looks; and where the desk does not answer soon, the page says that it is asked.
+// Looks, and shows that the page is loading if the server does not answer soon.
 async function lookAround() {
   const { hash } = location;
   const slow = setTimeout(() => hash === location.hash && shown !== hash && showWaiting(), SOON);
@@ -114,7 +114,7 @@ async function lookAround() {
   clearTimeout(slow);
 }
 
-// Takes a key, or asks for one; the address stays, so that who signs in again is where it was.
+// Signs in with a key, or shows the form. The address stays, so that a new sign-in leads to the same view.
 function enter(given, why = '') {
   key = given;
   showKey(key);
@@ -148,7 +148,7 @@ function signOut() {
   location.reload();
 }
 
-// Another place: what was wrong in the last one is over, and what was seen there goes if the desk does not answer soon.
+// Goes to another view: the last refusal is dismissed, and the old view is hidden if the server does not answer soon.
 async function turn() {
   if (!key) return;
   complain();

@@ -1,4 +1,4 @@
-// What the page says beside its views: that the club is away, that a move was not sent, and what was refused.
+// Messages over the views: the server does not answer, a move was not sent, a request was refused.
 import { isPassing } from './server.js';
 import { button, byId, fill, make } from './dom.js';
 import { text } from './words.js';
@@ -7,15 +7,15 @@ let looker = null;
 
 const line = (words, ...more) => (words ? [make('p', {}, words), ...more] : []);
 
-// The club is away; no words where it is back.
+// Shows that the server does not answer; without words, hides it.
 export const sayAway = (words = '') => fill('away', ...line(words && `${words}. ${text('retrying')}`));
 
-// What was refused in this view: it stays until the next deed, the next view, or until it is put away.
+// Shows a refusal until the next action or view, or until it is dismissed; without words, hides it.
 export function complain(words = '') {
   fill('wrong', ...line(words, button(text('dismiss'), () => complain())));
 }
 
-// A move that was not sent, with what may be done about it; nothing where there is none.
+// Shows a move that was not sent, with both buttons; without words, hides it.
 export function sayUnsent(words, again, dismissed) {
   fill('unsent', ...line(words, button(text('again'), again, '', 'main'), button(text('dismiss'), dismissed)));
 }
@@ -23,7 +23,7 @@ export function sayUnsent(words, again, dismissed) {
 export const lookAgain = () => looker();
 export const startNotices = (look) => { looker = look; };
 
-// Does what the member asks for, says what went wrong with it, and looks again.
+// Runs an action, shows its failure if it has one, and looks again.
 export async function perform(deed) {
   try {
     await deed();

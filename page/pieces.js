@@ -1,5 +1,5 @@
-// Pieces as pictures: discs, one upon another with a crown for a king; five-cornered pieces with a character or a letter,
-// which point away from their side. And small pictures of whole positions.
+// Drawings: discs of draughts, two with a crown for a king; five-cornered pieces of shogi with kanji or a letter; small
+// boards; icons.
 import { draw } from './dom.js';
 import { STROKES } from './kanji.js';
 
@@ -14,7 +14,7 @@ const LETTERS = {
   L: 'M-12-24V24H15',
   P: 'M-14 24V-24H3Q16-24 16-10T3 4H-14',
 };
-// How large a piece of shogi is beside the king, and the corners of one.
+// Sizes of shogi pieces relative to the king, and the outline of a piece.
 const SIZES = { K: 1, R: 0.97, B: 0.97, G: 0.93, S: 0.93, N: 0.89, L: 0.87, P: 0.83 };
 const corners = 'M50 5 78 17 90 94H10L22 17Z';
 const thick = 'M10 94H90V99H10Z';
@@ -44,14 +44,14 @@ function wood(kind, side, turned, letters) {
     sign(kind, side, letters, turned))];
 }
 
-// The piece of a kind of a side; `turned` is one that points down.
+// A piece of a kind and a side; a `turned` one points down.
 export function picture(kind, side, turned, letters) {
   const parts = kind[2] ? disc(kind) : wood(kind, side, turned, letters);
   const look = `piece side${side}${kind[0] === '+' ? ' promoted' : ''}${kind[2] ? ' disc' : ''}`;
   return draw('svg', { viewBox: '0 0 100 100', class: look, 'aria-hidden': true }, ...parts);
 }
 
-// A small picture of a position, seen from a side.
+// A small drawing of a position, seen from the side `near`.
 export function miniature(rules, { board }, near, last) {
   const isShogi = !!rules.hand[0];
   const size = isShogi ? 9 : 10;

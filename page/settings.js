@@ -1,10 +1,10 @@
-// The reader's choices, in a dialog.
+// The dialog of settings.
 import { mayNotify } from './alerts.js';
 import { byId } from './dom.js';
 import { icon } from './pieces.js';
 import { choices, chosen, keep } from './storage.js';
 
-// Stores a choice. Notifications need the browser's permission, too.
+// Stores a setting. Notifications also need the browser's permission.
 async function store(name, box) {
   const isRefused = name === 'alerts' && box.checked && !await mayNotify();
   if (name === 'alerts') byId('alerts-refused').hidden = !isRefused;
@@ -12,7 +12,7 @@ async function store(name, box) {
   keep(name, box.checked);
 }
 
-// Calls `changed` after each choice.
+// Calls `changed` after each change.
 export function startSettings(changed) {
   const dialog = byId('settings');
   byId('open-settings').prepend(icon('settings'));

@@ -1,5 +1,4 @@
-// A move that the member has made and that the desk has not answered: it is kept, in the tab, until it was sent or put
-// away. To send it again is safe: the desk does the same move once.
+// A move that could not be sent. It is stored in the tab until it is sent or dismissed. Sending it again is idempotent.
 import { ask, isPassing } from './server.js';
 import { complain, lookAgain, sayAway, sayUnsent } from './notices.js';
 import { forget, keep, recall } from './storage.js';
@@ -12,14 +11,14 @@ export function putAway() {
   sayUnsent();
 }
 
-// Says which move was not sent, if there is one.
+// Shows the move that was not sent, if there is one.
 export function tellUnsent() {
   const it = kept();
   if (it) sayUnsent(text('unsent', it), () => deliver(it).then(lookAgain), putAway);
   else sayUnsent();
 }
 
-// Sends a move, { game, ply, move, as }; whether the desk has taken it.
+// Sends a move, { game, ply, move, as }; resolves to whether the server accepted it.
 export async function deliver(it) {
   let isTaken = false;
   try {
@@ -40,7 +39,7 @@ export async function deliver(it) {
   return isTaken;
 }
 
-// A game was seen: what was made in it earlier is sent, or cannot be any more.
+// Forgets the stored move if the game has reached its ply or has ended.
 export function settle({ game, ply, end }) {
   const it = kept();
   if (it && it.game === game && (ply >= it.ply || end)) putAway();
