@@ -1,5 +1,4 @@
-// What the page remembers: for the tab in `sessionStorage`, beyond it in `localStorage`. A browser that keeps nothing
-// does no harm.
+// What the page stores: `sessionStorage` for the tab, `localStorage` beyond it. A browser may refuse both.
 
 function attempt(use) {
   try {
@@ -12,3 +11,8 @@ function attempt(use) {
 export const recall = (name) => attempt(() => sessionStorage[name] ?? localStorage[name]);
 export const keep = (name, value, store = 'localStorage') => attempt(() => { window[store][name] = value; });
 export const forget = (name) => attempt(() => delete sessionStorage[name] && delete localStorage[name]);
+
+// The settings, each on or off, with their defaults.
+const CHOICES = { confirm: true, animate: true, letters: false, alerts: false, sound: false };
+export const choices = Object.keys(CHOICES);
+export const chosen = (name) => (recall(name) ?? String(CHOICES[name])) === 'true';

@@ -232,6 +232,8 @@ class Desk:
         self.port = port or free_port()
         self.start()
         self.lacks = [it for it in PATHS if self.lacks_path(it)]
+        if os.environ.get("PAGE_OF_SOURCES"):
+            self.lacks = ["/play", *(it for it in self.lacks if it != "/play")]
 
     def start(self):
         words = [*self.words, "serve", str(self.port)]

@@ -4,6 +4,7 @@ The program, `PROGRAM`, is the first word of the script that runs, or else build
 folder in which the script works.
 """
 import json
+import os
 import pathlib
 import re
 import subprocess
@@ -12,14 +13,15 @@ import threading
 import time
 import urllib.request
 
-import page_browser as browser
-import page_desk
+os.environ["PAGE_OF_SOURCES"] = "1"  # the page of these sources, before whatever desk
+import page_browser as browser  # noqa: E402
+import page_desk  # noqa: E402
 
 TOP = pathlib.Path(__file__).resolve().parents[2]
 WORDS = [it for it in sys.argv[1:] if it not in ("--pictures", "--real")]
 PROGRAM = str(pathlib.Path(WORDS[0] if WORDS else TOP / "build/club").resolve())
 KEYS = {"anna": "keyanna1", "bert": "keybert2", "cara": "keycara3", "king": "keyking4"}
-PROMOTIONS = {"8h2b+": "promoted bishop", "4e6c": "bishop", "6c4a+": "promoted bishop"}
+PROMOTIONS = {"8h2b+": "horse", "4e6c": "bishop", "6c4a+": "horse"}
 DAY = 86400
 bad = []
 
@@ -135,14 +137,25 @@ def speak(page, language):
     page.value(f"{choice}.value = '{language}'; {choice}.onchange()")
 
 
-def move(page, origin, target, option=None):
-    """Plays by two clicks, and where it is asked by which of the moves."""
+def attempt(page, origin, target, option=None):
+    """Tries a move by two clicks, and where it is asked by which of the moves."""
     page.until(f"document.querySelector({json.dumps(square(origin))})?.matches('.movable')")
     page.click(square(origin))
     page.click(square(target))
     if option is not None:
         page.until("document.getElementById('dialog').open")
         page.click_words("#options button", option)
+
+
+def confirm(page):
+    page.until("!document.getElementById('confirm').hidden")
+    page.click("#confirm button.main")
+
+
+def move(page, origin, target, option=None):
+    """Plays by two clicks and a confirmation."""
+    attempt(page, origin, target, option)
+    confirm(page)
 
 
 def squares(text):
@@ -157,14 +170,19 @@ def play(pages, moves):
         page = pages[ply % 2]
         come_back(page)
         move(page, *squares(text), PROMOTIONS.get(text, text if text.count("x") > 1 else None))
-        says(page, "#state", f"played {text}")
-    return page.value("[...document.querySelectorAll('#moves button')].map((it) => it.textContent)")
+        played(page, ply + 1)
+    return page.value("[...document.querySelectorAll('#moves button')].map((it) => it.title || it.textContent)")
+
+
+def played(page, plies):
+    """Waits until the page shows so many plies, and none that is on its way."""
+    return page.until(f"document.querySelectorAll('#moves button').length === {plies}")
 
 
 def ask_first(page, words, answer):
     """Presses an action's button, and the answer to its question."""
-    page.until(f"[...document.querySelectorAll('#actions button')].some((it) => it.textContent === '{words}')")
-    page.click_words("#actions button", words)
+    page.until(f"[...document.querySelectorAll('#side p button')].some((it) => it.textContent === '{words}')")
+    page.click_words("#side p button", words)
     page.until("document.getElementById('dialog').open")
     page.click_words("#options button", answer)
     page.until("!document.getElementById('dialog').open")

@@ -6,13 +6,17 @@ ghost use Rattle.serde_json.specs.View.{view};
 ghost use Rattle.http_bodies.specs.Reply.{kind_text, status_line, type_line, length_line, reply_head, reply_bytes};
 ghost use Rattle.http_bodies.specs.Reply.{key_lines, further_lines, refusal_reply, error_data, fault_reply};
 ghost use Rattle.http_bodies.specs.Reply.{shown_reply, policy_line, page_reply};
+ghost use Rattle.club_page.specs.Joined.{page};
 
 use crate::refusals::{Method, Refusal};
-use club_page::{page, policy};
+use club_page::{page_1, page_2, page_3, page_4, policy};
 use club_requests::Refusal as ClubRefusal;
 use http::StatusCode;
 use serde_json::{Value, json};
 use std::alloc::{AllocError, Global};
+
+// The first allocation for the page, in bytes: all of it.
+const PAGE_ROOM: usize = 112_640;
 
 /// What the bytes of a body are.
 #[derive(Clone, Copy, Debug, PartialEq, Eq)]
@@ -226,17 +230,31 @@ fn policy_line(alloc: Global, policy: &str) -> Result<String, AllocError>
     format!(in alloc; "Content-Security-Policy: {policy}\r\n")
 }
 
+// The members' page, which `club_page` stores in four parts.
+#[tactic(auto, using(crate::proofs::PageLemmas::of_parts))]
+fn page_text(alloc: Global) -> Result<String, AllocError>
+    ensures { IfOk result (λ s. string_bytes s ≡ page) }
+{
+    let mut text = String::with_capacity(alloc, PAGE_ROOM)?;
+    text.push_str(page_1())?;
+    text.push_str(page_2())?;
+    text.push_str(page_3())?;
+    text.push_str(page_4())?;
+    Ok(text)
+}
+
 /// The reply that is the members' page, with its policy.
 pub fn page_reply(alloc: Global, without_body: bool) -> Result<Vec<u8>, AllocError>
     ensures { IfOk result (λ v. v.items ≡ page_reply without_body) }
 {
     let line = policy_line(alloc, policy())?;
+    let page = page_text(alloc)?;
     reply_bytes(
         alloc,
         200,
         Kind::Html,
         line.as_str(),
-        page().as_bytes(),
+        page.as_bytes(),
         without_body,
     )
 }
