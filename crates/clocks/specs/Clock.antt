@@ -1,11 +1,11 @@
--- One step of a player's clock, after the club's own rule for budgets and increments.
+-- One step of a player's clock: time budget and increment, in seconds.
 use Rattle.std.specs.Prelude.{ℕ, ◌+◌, ◌-◌, ◌≤◌}
 use Rattle.clocks.specs.declared.clock.Clock.{Clock}
 
--- a move of that many seconds is in time
+-- A move that took `elapsed` seconds is in time.
 abbrev pub IsInTime : Clock → ℕ → Type 0
 IsInTime clock elapsed = elapsed ≤ clock.left
 
--- the clock after it: the seconds are gone, and the increment is added
+-- The clock after a move in time: the elapsed seconds are subtracted and the increment is added.
 abbrev pub after_move : Clock → ℕ → Clock
 after_move clock elapsed = record clock { left = clock.left - elapsed + clock.increment }

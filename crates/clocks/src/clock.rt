@@ -1,18 +1,18 @@
-//! What a player has left.
+//! A player's clock: the time control of a correspondence game.
 
 ghost use Rattle.std.specs.Prelude.{◌≡◌, ◌+◌, ◌^◌, ◌<◌, ◌↔◌, IsOk, IfOk};
 
 use crate::moment::Moment;
 use std::fmt;
 
-/// A player's clock: the seconds that are left, and those that each move in time adds.
+/// A player's clock, in seconds: the time left, and the increment that each move in time adds.
 #[derive(Clone, Copy, Debug, PartialEq, Eq, Hash)]
 pub struct Clock {
     pub left: u64,
     pub increment: u64,
 }
 
-/// A move took more seconds than were left.
+/// The error of a move that took more seconds than were left.
 #[derive(Clone, Copy, Debug, PartialEq, Eq)]
 pub struct OutOfTime;
 
@@ -27,8 +27,13 @@ impl std::error::Error for OutOfTime {}
 impl Clock {
     ghost use Rattle.clocks.specs.Clock.{IsInTime, after_move};
 
-    /// The clock after a move that took `elapsed` seconds. The move is in time where that is at most what was left, and
-    /// then the clock loses it and gains the increment.
+    /// The clock after a move that took `elapsed` seconds.
+    ///
+    /// A move is in time if `elapsed` is at most the time left. The clock then loses `elapsed` and gains the increment.
+    ///
+    /// # Errors
+    ///
+    /// `OutOfTime` if `elapsed` is greater than the time left.
     pub fn spend(self, elapsed: u64) -> Result<Clock, OutOfTime>
         requires { self.left + self.increment < 2 ^ 64 }
         ensures in_time { IsOk result ↔ IsInTime self elapsed }
@@ -43,8 +48,9 @@ impl Clock {
         })
     }
 
-    /// The last second, in Unix seconds, at which a move is in time whose seconds run from `since`. It may lie past
-    /// every moment.
+    /// The last Unix second in which a move is in time if the clock runs since `since`.
+    ///
+    /// It may be greater than `Moment::LAST`.
     pub fn deadline(self, since: Moment) -> u64
         requires { since + self.left < 2 ^ 64 }
         ensures { result ≡ since + self.left }

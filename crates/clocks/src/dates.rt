@@ -1,4 +1,4 @@
-//! The date and the time of day of a moment, in UTC.
+//! The UTC date and time of a timestamp.
 
 ghost use Rattle.std.specs.Prelude.{◌≡◌, ◌≤◌, pos};
 ghost use Rattle.jiff.specs.Words.{epoch_day};
@@ -8,7 +8,7 @@ use crate::moment::Moment;
 use jiff::ToSpan;
 use jiff::civil::Date;
 
-/// A date of the Gregorian calendar and a time of day.
+/// A date of the Gregorian calendar and a time of day. Months and days count from 1.
 #[derive(Clone, Copy, Debug, PartialEq, Eq, PartialOrd, Ord, Hash)]
 pub struct CivilTime {
     pub year: i16,
@@ -19,7 +19,7 @@ pub struct CivilTime {
     pub second: u8,
 }
 
-/// The date and the time of the moment in UTC.
+/// The UTC date and time of a timestamp.
 pub fn civil(moment: Moment) -> CivilTime
     ensures { IsCivil moment result }
 {
@@ -35,7 +35,7 @@ pub fn civil(moment: Moment) -> CivilTime
     }
 }
 
-// The date that many days after 1 January 1970.
+// The date `days` days after 1 January 1970.
 fn date_of(days: u64) -> Date
     requires { days ≤ 2_932_896 }
     ensures { epoch_day result ≡ pos days }

@@ -1,4 +1,4 @@
-//! Moments, clocks of players, and dates.
+//! Timestamps, players' clocks and calendar dates.
 #![tactic(auto)]
 
 pub mod clock;

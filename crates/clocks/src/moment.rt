@@ -1,10 +1,10 @@
-//! A moment, in Unix seconds.
+//! Timestamps, in Unix seconds.
 
 ghost use Rattle.std.specs.Prelude.{◌≡◌, ◌↔◌, ◌≤◌, IsSome, IfSome, max};
 
 use std::marker::Model;
 
-/// A moment in Unix seconds, from 0 to 253,402,300,799, which is 9999-12-31 at 23:59:59.
+/// A timestamp in Unix seconds, from 0 to 253,402,300,799 (9999-12-31 at 23:59:59 UTC).
 #[derive(Clone, Copy, Debug, PartialEq, Eq, PartialOrd, Ord, Hash)]
 pub struct Moment {
     seconds: u64,
@@ -23,10 +23,10 @@ impl Model for Moment {
 }
 
 impl Moment {
-    /// The last moment, in Unix seconds.
+    /// The last timestamp, in Unix seconds.
     pub const LAST: u64 = 253_402_300_799;
 
-    /// The moment of that many Unix seconds, or none past the last one.
+    /// The timestamp of a number of Unix seconds, or `None` if it is greater than `Moment::LAST`.
     pub fn new(seconds: u64) -> Option<Moment>
         ensures some { IsSome result ↔ (seconds ≤ 253_402_300_799) }
         ensures value { IfSome result (λ m. m ≡ seconds) }
@@ -38,7 +38,7 @@ impl Moment {
         }
     }
 
-    /// The Unix seconds of the moment.
+    /// The Unix seconds of the timestamp.
     pub fn seconds(self) -> u64
         ensures value { result ≡ self }
         ensures range { result ≤ 253_402_300_799 }
@@ -46,7 +46,7 @@ impl Moment {
         self.seconds
     }
 
-    /// The later of the two.
+    /// The later of two timestamps.
     pub fn later(self, other: Moment) -> Moment
         ensures { result ≡ max self other }
     {

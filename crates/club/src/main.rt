@@ -1,4 +1,4 @@
-//! The program `club`: an officer's words over one file, and the desk of its members over HTTP.
+//! The program `club`: commands of the officer over a club file, and the HTTP server for its members.
 #![tactic(auto)]
 
 use club_program::run;

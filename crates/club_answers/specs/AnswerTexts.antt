@@ -1,4 +1,4 @@
--- What a question is shown: the whole text, or why there is none.
+-- The answer to each query: the whole text, or the refusal.
 use Rattle.std.specs.Prelude.{◌≡◌, ◌⊎◌, ℕ, List, [], ◌∷◌, ◌++◌, Option, Some, None, Result, Ok, Err}
 use Rattle.std.specs.Prelude.{codes, string_bytes, true, false}
 use Rattle.std.specs.Io.KnownBytes.{Appends}
@@ -29,28 +29,28 @@ use Rattle.club_answers.specs.EventRecords.{AreEventRecords, BeginsRecords, ids_
 use Rattle.club_answers.specs.Games.{moment_in, told_games, told_of}
 use Rattle.club_answers.specs.Records.{IsRecordAt}
 
--- each line, with its end
+-- each line with its newline
 abbrev pub lined : List (List ℕ) → List ℕ
 lined [] = []
 lined (line ∷ lines) = line ++ codes "\n" ++ lined lines
 
--- ---- the legal moves of a game, and the cross table of an event
+-- ---- legal moves and cross tables
 
--- lines that are there, one after another
+-- the text of lines that exist
 abbrev pub AreLines : (Option (List (List ℕ)) → Type 0) → List ℕ → Type 0
 AreLines AreThere text = (lines : List (List ℕ)) × AreThere (Some lines) × (text ≡ lined lines)
 
 abbrev pub IsLegalText : ClubState → ℕ → List ℕ → Type 0
 IsLegalText s game text = AreLines (AreLegalRows s game) text
 
--- the club has no game of this number
+-- there is no game with this number
 abbrev pub IsNoGame : ClubState → ℕ → Refusal → Type 0
 IsNoGame s game refusal = (place s.games game ≡ None) × (refusal ≡ UnknownGame)
 
 abbrev pub IsTableText : ClubState → List ℕ → List ℕ → Type 0
 IsTableText s name text = AreLines (AreTableRows s name) text
 
--- the club has no event of this name
+-- there is no event with this name
 abbrev pub IsNoEvent : ClubState → List ℕ → Refusal → Type 0
 IsNoEvent s name refusal = AreTableRows s name None × (refusal ≡ UnknownEvent)
 
@@ -62,7 +62,7 @@ IsMembersText s text = text ≡ member_lines s.members
 abbrev pub IsEventsText : ClubState → List ℕ → Type 0
 IsEventsText s text = text ≡ event_lines (told_games s) s.events
 
--- the lines of the games that are listed, where the names that are given are known
+-- the games in the listing, if the member and event that it names exist
 abbrev pub IsGamesText : ClubState → ℕ → Listing → List ℕ → Type 0
 IsGamesText s moment listing text =
     (listing_refusal s.members s.events listing ≡ None)
@@ -71,16 +71,16 @@ IsGamesText s moment listing text =
 abbrev pub IsNoList : ClubState → Listing → Refusal → Type 0
 IsNoList s listing refusal = listing_refusal s.members s.events listing ≡ Some refusal
 
--- ---- what members are shown
+-- ---- the JSON of a member's games
 
--- the challenges and the running games of the member who has the key
+-- the challenges and running games of the member with this key
 abbrev pub IsMineText : ClubState → ℕ → List ℕ → List ℕ → Type 0
 IsMineText s moment key text =
     (name : List ℕ) × (Some name ≡ name_by key s.members) × (challenges : List Challenge)
     × AreChallengesOf s challenges
     × (text ≡ mine_text s.members s.events name (moment_in s moment) challenges (told_games s))
 
--- no member has the key
+-- no member has this key
 abbrev pub IsNoKey : ClubState → List ℕ → Refusal → Type 0
 IsNoKey s key refusal = (name_by key s.members ≡ None) × (refusal ≡ UnknownKey)
 
@@ -93,31 +93,31 @@ IsEventGamesText s name text =
     (list_any (has_event_name name) s.events ≡ true)
     × (text ≡ event_games_text s.members s.events name (told_games s))
 
--- no event has the name
+-- no event has this name
 abbrev pub IsNoEventNamed : ClubState → List ℕ → Refusal → Type 0
 IsNoEventNamed s name refusal = (list_any (has_event_name name) s.events ≡ false) × (refusal ≡ UnknownEvent)
 
--- the clock of the game of this number
+-- the clock of the game with this number
 abbrev pub IsClockText : ClubState → ℕ → ℕ → List ℕ → Type 0
 IsClockText s moment id text =
     (game : ClubGame) × (place s.games id ≡ Some game)
     × (text ≡ clock_text s.members (moment_in s moment) (told_of s id game))
 
--- ---- the records of an event
+-- ---- records of an event
 
--- all of them, where there is such an event
+-- all records of the event, if it exists
 abbrev pub IsRecordsText : ClubState → List ℕ → List ℕ → Type 0
 IsRecordsText s name text = (list_any (has_event_name name) s.events ≡ true) × AreEventRecords s name text
 
--- what a writer has of them, wherever it stopped
+-- the part of the records that a writer has received
 abbrev pub HasRecordsSome : ClubState → List ℕ → Option (List ℕ) → Option (List ℕ) → Type 0
 HasRecordsSome s name before now =
     (list_any (has_event_name name) s.events ≡ true)
     × BeginsRecords s (event_kind s.events name) (ids_in s name) before now
 
--- ---- what is shown
+-- ---- the answer
 
--- the text that a question is shown at a moment
+-- the text of the answer to a query at this timestamp
 abbrev pub IsText : ClubState → (moment : ℕ) → Question → List ℕ → Type 0
 IsText s moment (LegalMoves game) text = IsLegalText s game text
 IsText s moment (CrossTable name) text = IsTableText s (string_bytes name) text
@@ -134,7 +134,7 @@ IsText s moment (MovesBody game) text = IsMovesBody s game text
 IsText s moment (Board game letters) text = IsBoardText s moment game letters text
 IsText s moment (EventRecords name) text = IsRecordsText s (string_bytes name) text
 
--- why there is none
+-- why a query is refused
 abbrev pub IsRefused : ClubState → Question → Refusal → Type 0
 IsRefused s (LegalMoves game) refusal = IsNoGame s game refusal
 IsRefused s (CrossTable name) refusal = IsNoEvent s (string_bytes name) refusal
@@ -151,25 +151,25 @@ IsRefused s (MovesBody game) refusal = IsNoGame s game refusal
 IsRefused s (Board game letters) refusal = IsNoGame s game refusal
 IsRefused s (EventRecords name) refusal = IsNoEventNamed s (string_bytes name) refusal
 
--- what a question is shown at a moment
+-- the answer to a query at this timestamp: a text or a refusal
 abbrev pub IsShown : ClubState → (moment : ℕ) → Question → Result (List ℕ) Refusal → Type 0
 IsShown s moment question (Ok text) = IsText s moment question text
 IsShown s moment question (Err refusal) = IsRefused s question refusal
 
--- ---- what a writer has of it
+-- ---- the part of the answer that a writer has received
 
--- the whole text was added to what the writer held, or nothing was where there is none
+-- the whole text was appended, or nothing if the query is refused
 abbrev pub HasShown : ClubState → (moment : ℕ) → Question → Option Refusal → Option (List ℕ) → Option (List ℕ) → Type 0
 HasShown s moment question None before now =
     (text : List ℕ) × IsShown s moment question (Ok text) × Appends before now text
 HasShown s moment question (Some refusal) before now = IsShown s moment question (Err refusal) × (now ≡ before)
 
--- a beginning of a text that is shown was added; of the records of an event a beginning of the first so many
+-- a prefix of the answer was appended; for the records of an event, a prefix of the first records
 abbrev pub BeginsShown : ClubState → (moment : ℕ) → Question → Option (List ℕ) → Option (List ℕ) → Type 0
 BeginsShown s moment (EventRecords name) before now = HasRecordsSome s (string_bytes name) before now
 BeginsShown s moment question before now =
     (text : List ℕ) × IsShown s moment question (Ok text) × AppendsSome before now text
 
--- wherever it stopped, the writer has what it held, or with it a beginning of a text that is shown
+-- nothing, or a prefix of the answer, was appended
 abbrev pub HasShownSome : ClubState → (moment : ℕ) → Question → Option (List ℕ) → Option (List ℕ) → Type 0
 HasShownSome s moment question before now = (now ≡ before) ⊎ BeginsShown s moment question before now

@@ -1,4 +1,4 @@
--- What was found of what is to be shown.
+-- The answer as the code finds it, before it is written.
 use Rattle.std.specs.Prelude.{◌≡◌, ℕ, List, true, string_bytes}
 use Rattle.std.specs.List.{list_any}
 use Rattle.std.specs.declared.alloc.Global.{Global}
@@ -18,14 +18,14 @@ use Rattle.club_answers.specs.declared.found.Found.{Found}
 use Rattle.club_answers.specs.declared.found.Found.TheVariants.{Text, Refused, Record, Records}
 use Rattle.club_answers.specs.declared.read.ClubRead.{ClubRead}
 
--- a text that is so, or a refusal that is
+-- a text or a refusal with these properties
 abbrev pub IsFoundAs : (List ℕ → Type 0) → (Refusal → Type 0) → Found → Type 0
 IsFoundAs IsThere IsNot (Text text) = IsThere (string_bytes text)
 IsFoundAs IsThere IsNot (Refused refusal) = IsNot refusal
 IsFoundAs IsThere IsNot (Record game) = ⊥
 IsFoundAs IsThere IsNot (Records kind ids) = ⊥
 
--- the records of an event are asked for, whose game and whose games' ids are these
+-- the query for the records of an event, whose games have this kind and these ids
 pub record AsksRecords (s : ClubState) (asked : Question) (kind : GameKind) (ids : List ℕ) : Type 0 where
   pub name : String Global
   pub asked_is : asked ≡ question.EventRecords name
@@ -33,14 +33,14 @@ pub record AsksRecords (s : ClubState) (asked : Question) (kind : GameKind) (ids
   pub kind_is : kind ≡ event_kind s.events (string_bytes name)
   pub ids_are : ids ≡ ids_in s (string_bytes name)
 
--- what is shown to a question, but for records, which are written later
+-- the answer to a query, except records, which are written later
 abbrev pub IsFound : ClubState → (moment : ℕ) → Question → Found → Type 0
 IsFound s moment asked (Text text) = IsText s moment asked (string_bytes text)
 IsFound s moment asked (Refused refusal) = IsRefused s asked refusal
 IsFound s moment asked (Record game) = asked ≡ question.Record game
 IsFound s moment asked (Records kind ids) = AsksRecords s asked kind ids.items
 
--- what was read is the club's
+-- the data that was read is the club's
 pub record IsReadOf (s : ClubState) (moment : ℕ) (club : ClubRead) : Type 0 where
   pub moment_is : club.moment ≡ moment_in s moment
   pub members_are : members_of club.members.items ≡ s.members

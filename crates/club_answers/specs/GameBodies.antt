@@ -1,4 +1,4 @@
--- A game as members see it, and its legal moves, as JSON.
+-- A game and its legal moves as JSON.
 use Rattle.std.specs.Prelude.{◌≡◌, ℕ, List, Some, string_bytes}
 use Rattle.std.specs.Option.{option_map}
 use Rattle.serde_json.specs.Written.{compact_text}
@@ -17,7 +17,7 @@ abbrev pub named : ViewedGame → Side → List ℕ
 named viewed First = string_bytes viewed.first
 named viewed Second = string_bytes viewed.second
 
--- what is shown of a view of a game
+-- the JSON fields of a view of a game
 abbrev pub shown_of : ViewedGame → GameShown
 shown_of viewed =
     record {
@@ -33,12 +33,12 @@ shown_of viewed =
       result = viewed.played.result;
     }
 
--- a view of the game of this number is shown so
+-- the JSON of the game with this number
 abbrev pub IsGameBody : ClubState → ℕ → List ℕ → Type 0
 IsGameBody s id text = (viewed : ViewedGame) × IsViewed s id (Some viewed)
     × (text ≡ compact_text (game_data id (shown_of viewed)))
 
--- its legal moves, as they are written, in the order in which they are listed
+-- the JSON of its legal moves, in the order of the list of legal moves
 abbrev pub IsMovesBody : ClubState → ℕ → List ℕ → Type 0
 IsMovesBody s id text = (rows : List (List ℕ)) × AreLegalRows s id (Some rows)
     × (text ≡ compact_text (moves_data rows))

@@ -1,4 +1,4 @@
--- What lists tell of the games of a club.
+-- The entries of games in lists.
 use Rattle.std.specs.Prelude.{ℕ, suc, List, [], ◌∷◌, length, Option, Some, None, max}
 use Rattle.std.specs.Option.{option_map}
 use Rattle.squares.specs.Sides.{score_text}
@@ -13,20 +13,20 @@ use Rattle.club_rows.specs.Club.{ClubGame, ClubState, both_games}
 use Rattle.club_rows.specs.Tables.{end_name_text}
 use Rattle.club_lists.specs.GameSummary.{Over, GameSummary}
 
--- how a game with this end and this score is over: it has both or none
+-- the end of a game; it has both an end and a score, or neither
 abbrev pub over_with : Option (List ℕ) → Option Score → Option Over
 over_with None score = None
 over_with (Some end) None = None
 over_with (Some end) (Some score) = Some (record { end = end; result = score_text score })
 
 module _ {P M E T : Type 0} (rules : GameRules P M E T) where
-  -- how a game ended, that side being to move
+  -- how a game ended, with this side to move
   abbrev pub over_of : Side → Option (GameEnd E) → Option Over
   over_of turn None = None
   over_of turn (Some end) =
       Some (record { end = end_name_text rules end; result = score_text (end_score rules turn end) })
 
-  -- what is told of the game of this id
+  -- the entry of the game with this id, by its rules
   abbrev pub told_by_rules : Terms → ℕ → Game M → GameSummary
   told_by_rules terms id game = record {
     id = id;
@@ -41,20 +41,20 @@ module _ {P M E T : Type 0} (rules : GameRules P M E T) where
     over = over_of (turn_of rules game) (end_of rules game);
   }
 
--- the same of a game of the club
+-- the entry of a game of the club
 abbrev pub told_of : ClubState → ℕ → ClubGame → GameSummary
 told_of s id (draughts game) = told_by_rules both_games.draughts (terms_at (place s.events game.event)) id game
 told_of s id (shogi game) = told_by_rules both_games.shogi (terms_at (place s.events game.event)) id game
 
--- the same of some games, their ids counting up from this one
+-- the entries of games whose ids count up from this one
 abbrev pub told_from : ClubState → ℕ → List ClubGame → List GameSummary
 told_from s id [] = []
 told_from s id (game ∷ games) = told_of s id game ∷ told_from s (suc id) games
 
--- all games of the club
+-- the entries of all games of the club
 abbrev pub told_games : ClubState → List GameSummary
 told_games s = told_from s 1 s.games
 
--- the moment that counts: a request does not go back behind the last one that was accepted
+-- the effective timestamp: the later of the request's and that of the last accepted request
 abbrev pub moment_in : ClubState → ℕ → ℕ
 moment_in s moment = max moment s.last

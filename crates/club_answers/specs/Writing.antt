@@ -1,4 +1,4 @@
--- What a text that was written, or not, is told as.
+-- The result of writing a text.
 use Rattle.std.specs.Prelude.{◌≡◌, ◌⊎◌, ◌++◌, ℕ, List, Option, Some, None, true, Result, Ok, Err}
 use Rattle.std.specs.Io.KnownBytes.{Appends}
 use Rattle.record_writer.specs.Pieces.{AppendsSome}
@@ -10,23 +10,23 @@ use Rattle.club_views.specs.declared.exported.Stopped.TheVariants as stopped
 use Rattle.club_answers.specs.EventRecords.{AreRecords}
 use Rattle.club_answers.specs.Records.{IsRecordAt}
 
--- the text was written with no refusal, or the writer failed
+-- the whole text was written and nothing is refused, or the writer failed
 abbrev pub IsWritten : Result (Option Refusal) Stopped → List ℕ → Option (List ℕ) → Option (List ℕ) → Type 0
 IsWritten (Ok refusal) text before now = (refusal ≡ None) × Appends before now text
 IsWritten (Err fault) text before now = fault ≡ stopped.Output
 
--- a text and the record of the game of this id were added
+-- a separator and the record of the game with this id were appended
 abbrev pub AddsRecord : ClubState → ℕ → (front : List ℕ) → Option (List ℕ) → Option (List ℕ) → Type 0
 AddsRecord s id front before now =
     (record' : List ℕ) × IsRecordAt s id record' × Appends before now (front ++ record')
 
--- a beginning of the text was, or a beginning of the text and the record
+-- a prefix of the separator, or of the separator and the record, was appended
 abbrev pub BeginsRecord : ClubState → ℕ → (front : List ℕ) → Option (List ℕ) → Option (List ℕ) → Type 0
 BeginsRecord s id front before now =
     AppendsSome before now front
     ⊎ ((record' : List ℕ) × IsRecordAt s id record' × AppendsSome before now (front ++ record'))
 
--- the records of the games of these ids were written, with no refusal
+-- the records of the games with these ids were written, and nothing is refused
 abbrev pub HasRecords : ClubState → GameKind → List ℕ → Option Refusal → Option (List ℕ) → Option (List ℕ) → Type 0
 HasRecords s kind ids None before now = (text : List ℕ) × AreRecords s kind true ids text × Appends before now text
 HasRecords s kind ids (Some refusal) before now = ⊥

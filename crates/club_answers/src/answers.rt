@@ -1,4 +1,4 @@
-//! What is shown to each question.
+//! The entry point: writes the answer to a query.
 
 ghost use Rattle.std.specs.Prelude.{ℕ, IfOk};
 ghost use Rattle.record_writer.specs.Pieces.{AppendsSome};
@@ -23,7 +23,7 @@ use sqlite::{Alter, Connection};
 use std::alloc::Global;
 use std::io::Write;
 
-// Writes a text to its end, or a beginning of it where the writer fails.
+// Writes a text; after an error the writer has a prefix of it.
 fn write_text<W: Write>(text: &str, writer: &mut W) -> Result<Option<Refusal>, Stopped>
     ensures written { IsWritten result text.now (W.contents writer.old) (W.contents writer.new) }
     ensures begun { AppendsSome (W.contents writer.old) (W.contents writer.new) text.now }
@@ -34,7 +34,6 @@ fn write_text<W: Write>(text: &str, writer: &mut W) -> Result<Option<Refusal>, S
     }
 }
 
-// Writes the record of a game.
 fn write_record<S: Alter, W: Write>(
     alloc: Global,
     conn: &mut Connection<S>,
@@ -56,9 +55,17 @@ fn write_record<S: Alter, W: Write>(
     }
 }
 
-/// Writes what a question is shown at a moment, or answers why there is nothing to show: then nothing was written.
-/// Wherever it stops, the writer has a beginning of the text; of the records of an event a beginning of the first so
-/// many.
+/// Writes the answer to a query at this timestamp, or returns the refusal, and then nothing is written.
+///
+/// # Errors
+///
+/// - `Stopped::Call`: reading the tables failed.
+/// - `Stopped::Output`: the writer failed.
+///
+/// # Guarantees
+///
+/// `shown`: the text written is the answer of the stored state. `begun`: after an error the writer has a prefix of it;
+/// of the records of an event, a prefix of the first records.
 pub fn answer<S: Alter, W: Write>(
     alloc: Global,
     conn: &mut Connection<S>,

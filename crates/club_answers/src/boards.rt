@@ -1,4 +1,4 @@
-//! A game of the club as a person looks at it.
+//! The diagram of a game with its clocks and result, as text for people.
 
 ghost use Rattle.std.specs.Prelude.{◌≡◌, ℕ, Bool, List, Some, IfOk, is_ok, string_bytes};
 ghost use Rattle.sqlite.specs.State.{HasCleanDisk};
@@ -32,11 +32,11 @@ use sqlite::{Alter, Connection};
 use squares::{DPos, SPos};
 use std::alloc::Global;
 
-/// Rules whose positions are shown as diagrams.
+/// Rules whose positions can be drawn as diagrams.
 pub(crate) trait Diagrams: Rules {
     ghost diagram: { Bool → Self.Position → List ℕ };
 
-    /// The diagram of a position; pieces of shogi by letters or as Japanese programs write them.
+    /// The diagram of a position. Shogi pieces are Latin letters, or kanji in the BOD format.
     fn diagram(alloc: Global, position: &Self::Position, letters: bool) -> Result<String, Memory>
         ensures { IfOk result (λ text. string_bytes text ≡ diagram letters position.now) };
 }
@@ -60,7 +60,7 @@ impl Diagrams for Shogi {
     }
 }
 
-// The diagram of the last position of a stored game, by its rules.
+// The diagram of the current position of a stored game, by its rules.
 fn diagram_by<R: Diagrams, S: Alter>(
     alloc: Global,
     conn: &mut Connection<S>,
@@ -79,7 +79,7 @@ fn diagram_by<R: Diagrams, S: Alter>(
     Ok(text)
 }
 
-// The diagram of the last position of a game.
+// The diagram of the current position of a stored game.
 fn diagram_in<S: Alter>(
     alloc: Global,
     conn: &mut Connection<S>,
@@ -97,7 +97,7 @@ fn diagram_in<S: Alter>(
     )
 }
 
-// What is shown of a game beside what lists tell of it.
+// All that `board` shows of a stored game beside its entry in lists.
 fn board_in<S: Alter>(
     alloc: Global,
     conn: &mut Connection<S>,
@@ -124,7 +124,7 @@ fn board_in<S: Alter>(
     }
 }
 
-/// A game as a person looks at it, pieces of shogi by letters or as Japanese programs write them.
+/// A game as text for people, with shogi pieces as Latin letters or as kanji.
 pub(crate) fn board<S: Alter>(
     alloc: Global,
     conn: &mut Connection<S>,

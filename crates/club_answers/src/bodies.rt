@@ -1,4 +1,4 @@
-//! A game as members see it, and its legal moves, as JSON.
+//! A game and its legal moves as JSON.
 
 ghost use Rattle.std.specs.Prelude.{◌≡◌, IfOk, is_ok, string_bytes};
 ghost use Rattle.std.specs.Option.{option_map};
@@ -21,7 +21,7 @@ use sqlite::{Alter, Connection};
 use squares::Side;
 use std::alloc::{AllocError, Global};
 
-// The name of the player who offers a draw.
+// The name of the player whose draw offer is open.
 fn offering(
     alloc: Global,
     viewed: &ViewedGame,
@@ -42,7 +42,6 @@ fn offering(
     }
 }
 
-// The game, with the name of the player who offers a draw.
 fn with_offer(viewed: ViewedGame, offer: Option<String>) -> GameShown
     ensures { option_map string_bytes offer ≡ option_map (named viewed) viewed.played.offer →
         game_view result ≡ shown_of viewed }
@@ -67,7 +66,7 @@ fn with_offer(viewed: ViewedGame, offer: Option<String>) -> GameShown
     }
 }
 
-// The game as it is shown.
+// The game as the JSON writer takes it.
 fn game_shown(alloc: Global, viewed: ViewedGame) -> Result<GameShown, AllocError>
     ensures { IfOk result (λ game. game_view game ≡ shown_of viewed) }
 {
@@ -75,7 +74,7 @@ fn game_shown(alloc: Global, viewed: ViewedGame) -> Result<GameShown, AllocError
     Ok(with_offer(viewed, offer))
 }
 
-/// A game as members see it.
+/// A game as JSON.
 pub(crate) fn game_body<S: Alter>(
     alloc: Global,
     conn: &mut Connection<S>,
@@ -95,7 +94,7 @@ pub(crate) fn game_body<S: Alter>(
     }
 }
 
-/// The legal moves of a game.
+/// The legal moves of a game as JSON.
 pub(crate) fn moves_body<S: Alter>(
     alloc: Global,
     conn: &mut Connection<S>,

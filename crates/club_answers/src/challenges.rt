@@ -1,4 +1,4 @@
-//! The challenges of a club, by the rows of their table.
+//! Reads the challenges of a club.
 
 ghost use Rattle.std.specs.Prelude.{◌≡◌, true, map, IfOk, is_ok};
 ghost use Rattle.std.specs.List.{AllByRecursion};
@@ -20,7 +20,7 @@ use std::alloc::Global;
 use store_sql::list;
 use store_tables::ChallengeRow;
 
-// Whether one comes before another one: by challenger, then by number.
+// Order by challenger, then by number.
 fn comes_before(one: &Challenge, other: &Challenge) -> bool
     ensures { result ≡ true → ComesBefore one.now other.now }
 {
@@ -30,7 +30,7 @@ fn comes_before(one: &Challenge, other: &Challenge) -> bool
     one.member < other.member
 }
 
-// Whether this one comes after all of those, which are in their order.
+// Whether `next` comes after all of `challenges`, which are sorted.
 fn comes_last(challenges: &[Challenge], next: &Challenge) -> bool
     ensures { result ≡ true → IsAscending ComesBefore challenges.now →
         AllByRecursion (λ c. ComesBefore c next.now) challenges.now }
@@ -41,7 +41,7 @@ fn comes_last(challenges: &[Challenge], next: &Challenge) -> bool
     }
 }
 
-// The challenge of which this is the row.
+// The challenge in this row.
 fn challenge_in(row: &ChallengeRow) -> Result<Challenge, CallFault>
     ensures { IfOk result (λ c. challenge_cells row.now ≡ challenge_row c) }
 {
@@ -51,7 +51,7 @@ fn challenge_in(row: &ChallengeRow) -> Result<Challenge, CallFault>
     }
 }
 
-// The challenges of these rows, where each comes after the one before it; all else is a fault.
+// The challenges of these rows, which must be sorted.
 fn challenges_in(alloc: Global, rows: &[ChallengeRow]) -> Result<Vec<Challenge>, CallFault>
     ensures rows { IfOk result (λ found. map challenge_cells rows.now ≡ map challenge_row found.items) }
     ensures order { IfOk result (λ found. IsAscending ComesBefore found.items) }
@@ -67,7 +67,7 @@ fn challenges_in(alloc: Global, rows: &[ChallengeRow]) -> Result<Vec<Challenge>,
     Ok(challenges)
 }
 
-/// The challenges of the club, by challenger, then by number.
+/// All challenges, sorted by challenger, then by number.
 pub(crate) fn all_challenges<S: Alter>(
     alloc: Global,
     conn: &mut Connection<S>,

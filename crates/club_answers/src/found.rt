@@ -1,4 +1,4 @@
-//! What is to be shown to a question.
+//! Finds the answer to a query.
 
 ghost use Rattle.std.specs.Prelude.{◌≡◌, IfOk, is_ok, map, string_bytes};
 ghost use Rattle.sqlite.specs.State.{HasCleanDisk};
@@ -24,20 +24,20 @@ use club_views::{legal_of, table_of};
 use sqlite::{Alter, Connection};
 use std::alloc::{AllocError, Global};
 
-/// What is to be shown to a question.
+/// The answer to a query: a text, a refusal, or records that are written one row at a time.
 #[derive(Drop)]
 pub(crate) enum Found {
-    /// A text.
+    /// The whole answer.
     Text(String),
-    /// There is nothing to show.
+    /// There is no answer, for this reason.
     Refused(Refusal),
-    /// The record of a game, if there is one of this number, which is written a row at a time.
+    /// The record of the game with this number, if there is one.
     Record(u64),
-    /// The records of the games of these ids, all of this kind, which are written so one after another.
+    /// The records of the games with these ids, all of this kind.
     Records(GameKind, Vec<u32>),
 }
 
-// Lines as one text, each with its end.
+// Joins lines into one text, each with its newline.
 fn lined(alloc: Global, lines: &[String]) -> Result<String, AllocError>
     ensures { IfOk result (λ text. string_bytes text ≡ lined (map (λ t. string_bytes t) lines.now)) }
 {
@@ -49,7 +49,7 @@ fn lined(alloc: Global, lines: &[String]) -> Result<String, AllocError>
     Ok(text)
 }
 
-// The legal moves of a game.
+// The legal moves of a game, one a line.
 fn legal_moves<S: Alter>(
     alloc: Global,
     conn: &mut Connection<S>,
@@ -65,7 +65,6 @@ fn legal_moves<S: Alter>(
     }
 }
 
-// The cross table of an event.
 fn cross_table<S: Alter>(
     alloc: Global,
     conn: &mut Connection<S>,
@@ -82,7 +81,6 @@ fn cross_table<S: Alter>(
     }
 }
 
-// The members of the club.
 fn members<S: Alter>(alloc: Global, conn: &mut Connection<S>) -> Result<Found, CallFault>
     ensures reads { Reads (is_ok result) (state S.Store conn.old) (state S.Store conn.new) }
     ensures found { HasCleanDisk (state S.Store conn.new) → IfOk result (λ found. (s : ClubState) → IsClub s →
@@ -93,7 +91,7 @@ fn members<S: Alter>(alloc: Global, conn: &mut Connection<S>) -> Result<Found, C
     Ok(Found::Text(text))
 }
 
-/// Finds what is to be shown to a question at a moment.
+/// Finds the answer to a query at this timestamp.
 pub(crate) fn find_shown<S: Alter>(
     alloc: Global,
     conn: &mut Connection<S>,

@@ -1,4 +1,4 @@
-//! What is told of the games of a club, by the rows of their table.
+//! The entries of games in lists, from their rows.
 
 ghost use Rattle.std.specs.Prelude.{◌≡◌, ℕ, map, IfOk};
 ghost use Rattle.std.specs.Option.{option_map};
@@ -21,7 +21,6 @@ use squares::{Score, Side};
 use std::alloc::Global;
 use store_tables::GameRecord;
 
-// The side that offers a draw.
 fn offering(offer: Option<Offer>) -> Option<Side>
     ensures { result ≡ option_map (λ o. o.side) offer }
 {
@@ -31,7 +30,7 @@ fn offering(offer: Option<Offer>) -> Option<Side>
     }
 }
 
-// How a game with this end and this score is over.
+// The end of a game with this end and score; `None` if it is running.
 fn over_with(
     alloc: Global,
     end: Option<&str>,
@@ -51,7 +50,7 @@ fn over_with(
     }
 }
 
-/// What the row of a game tells.
+/// The entry of a game, from its row.
 pub(crate) fn told_in(alloc: Global, row: &GameRecord) -> Result<ToldGame, CallFault>
     ensures { IfOk result (λ told. (s : ClubState) (id : ℕ) (game : ClubGame) → IsLegalIn both_games s game →
         game_cells row.now ≡ game_in s id game → told_by told ≡ told_of s id game) }
@@ -77,7 +76,7 @@ pub(crate) fn told_in(alloc: Global, row: &GameRecord) -> Result<ToldGame, CallF
     })
 }
 
-/// What the rows of the games of a club tell of each.
+/// The entries of all games, from their rows.
 pub(crate) fn all_told(alloc: Global, rows: &[GameRecord]) -> Result<Vec<ToldGame>, CallFault>
     ensures { IfOk result (λ games. (s : ClubState) → IsClub s →
         map game_cells rows.now ≡ numbered_from (game_in s) 1 s.games → all_by games.items ≡ told_games s) }

@@ -1,5 +1,6 @@
-//! What a club shows of itself to those who ask: one call that answers each question, over a connection. Reading
-//! changes nothing.
+//! Answers every query about a club from its tables.
+//!
+//! Reads only; `answer` is the one entry.
 #![tactic(auto)]
 
 mod answers;

@@ -1,4 +1,4 @@
-//! What is shown of the members, the events and the games of a club, which are read alike for each of these questions.
+//! Queries that list events or games, all from one reading of the club.
 
 ghost use Rattle.std.specs.Prelude.{ℕ, IfOk, is_ok};
 ghost use Rattle.sqlite.specs.State.{HasCleanDisk};
@@ -24,7 +24,6 @@ use club_requests::Refusal;
 use sqlite::{Alter, Connection};
 use std::alloc::Global;
 
-// The events.
 fn events(alloc: Global, club: &ClubRead) -> Result<Found, CallFault>
     ensures { IfOk result (λ found. (s : ClubState) (moment : ℕ) → IsReadOf s moment club.now →
         IsFoundAs (IsEventsText s) (λ refusal. ⊥) found) }
@@ -33,7 +32,7 @@ fn events(alloc: Global, club: &ClubRead) -> Result<Found, CallFault>
     Ok(Found::Text(text))
 }
 
-// The games that are listed.
+// The games in this listing, or the refusal of the listing.
 fn games(alloc: Global, club: &ClubRead, listing: &Listing) -> Result<Found, CallFault>
     ensures { IfOk result (λ found. (s : ClubState) (moment : ℕ) → IsReadOf s moment club.now →
         IsFoundAs (IsGamesText s moment listing.now) (IsNoList s listing.now) found) }
@@ -54,7 +53,7 @@ fn games(alloc: Global, club: &ClubRead, listing: &Listing) -> Result<Found, Cal
     }
 }
 
-// The events, and the members whom the one who has a key may challenge.
+// The events, and the members whom the holder of this key can challenge.
 fn inviting(alloc: Global, club: &ClubRead, key: &str) -> Result<Found, CallFault>
     ensures { IfOk result (λ found. (s : ClubState) (moment : ℕ) → IsReadOf s moment club.now →
         IsFoundAs (IsInvitingText s key.now) (IsNoKey s key.now) found) }
@@ -68,7 +67,7 @@ fn inviting(alloc: Global, club: &ClubRead, key: &str) -> Result<Found, CallFaul
     }
 }
 
-// The games of the event of a name.
+// The games of the event with this name.
 fn event_games(alloc: Global, club: &ClubRead, name: &str) -> Result<Found, CallFault>
     ensures { IfOk result (λ found. (s : ClubState) (moment : ℕ) → IsReadOf s moment club.now →
         IsFoundAs (IsEventGamesText s name.now) (IsNoEventNamed s name.now) found) }
@@ -80,7 +79,7 @@ fn event_games(alloc: Global, club: &ClubRead, name: &str) -> Result<Found, Call
     Ok(Found::Text(text))
 }
 
-// The games of the event of a name whose records are to be written.
+// The ids of the games of the event with this name, whose records are written.
 fn event_records(alloc: Global, club: &ClubRead, name: &String) -> Result<Found, CallFault>
     ensures { IfOk result (λ found. (s : ClubState) (moment : ℕ) → IsReadOf s moment club.now →
         IsFound s moment (question.EventRecords name.now) found) }
@@ -93,7 +92,7 @@ fn event_records(alloc: Global, club: &ClubRead, name: &String) -> Result<Found,
     Ok(Found::Records(kind, ids))
 }
 
-// What is shown of a club that was read; no other questions are answered so.
+// The answer to one of the queries of this module, from a club that was read.
 fn shown_of(alloc: Global, club: &ClubRead, question: &Question) -> Result<Found, CallFault>
     ensures { IfOk result (λ found. (s : ClubState) (moment : ℕ) → IsReadOf s moment club.now →
         IsFound s moment question.now found) }
@@ -108,7 +107,7 @@ fn shown_of(alloc: Global, club: &ClubRead, question: &Question) -> Result<Found
     }
 }
 
-/// What is shown of the members, the events and the games of a club; no other questions are answered so.
+/// Finds the answer to a query that lists events or games; any other query is an error.
 pub(crate) fn of_lists<S: Alter>(
     alloc: Global,
     conn: &mut Connection<S>,

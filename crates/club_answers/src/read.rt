@@ -1,4 +1,4 @@
-//! What lists are made of: the moment that counts, the members, the events and the games of a club.
+//! Reads all that a list needs: timestamp, members, events and games.
 
 ghost use Rattle.std.specs.Prelude.{◌≡◌, IfOk, is_ok};
 ghost use Rattle.sqlite.specs.State.{HasCleanDisk};
@@ -20,17 +20,17 @@ use std::alloc::Global;
 use store_sql::list;
 use store_tables::GameRecord;
 
-/// A club but for the moves of its games, at a moment.
+/// A club at a timestamp, without the moves of its games.
 #[derive(Drop)]
 pub(crate) struct ClubRead {
-    /// The moment that counts.
+    /// The effective timestamp: the later of the query's and that of the last accepted command.
     pub moment: Moment,
     pub members: Vec<Member>,
     pub events: Vec<Event>,
     pub games: Vec<ToldGame>,
 }
 
-// What the rows of the games tell.
+// The entries of all games.
 fn games_of<S: Alter>(alloc: Global, conn: &mut Connection<S>) -> Result<Vec<ToldGame>, CallFault>
     ensures reads { Reads (is_ok result) (state S.Store conn.old) (state S.Store conn.new) }
     ensures told { HasCleanDisk (state S.Store conn.new) → IfOk result (λ games. (s : ClubState) → IsClub s →
@@ -40,7 +40,7 @@ fn games_of<S: Alter>(alloc: Global, conn: &mut Connection<S>) -> Result<Vec<Tol
     all_told(alloc, &rows)
 }
 
-/// Reads a club for one who asks at this moment.
+/// Reads a club for a query at this timestamp.
 pub(crate) fn read_club<S: Alter>(
     alloc: Global,
     conn: &mut Connection<S>,

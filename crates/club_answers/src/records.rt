@@ -1,4 +1,4 @@
-//! The records of an event, written one after another.
+//! Writes the records of an event one after another.
 
 ghost use Rattle.std.specs.Prelude.{◌≡◌, IfOk, OnOk};
 ghost use Rattle.std.specs.Io.KnownBytes.{Appends};
@@ -21,7 +21,7 @@ use sqlite::{Alter, Connection};
 use std::alloc::Global;
 use std::io::Write;
 
-// What parts a record from the one before it.
+// The separator in front of a record: a blank line in PDN, the line `/` in CSA.
 fn opening(is_first: bool, kind: GameKind) -> &'static str
     ensures { result.now ≡ opening is_first kind }
 {
@@ -34,7 +34,7 @@ fn opening(is_first: bool, kind: GameKind) -> &'static str
     }
 }
 
-// Writes what stands before a record.
+// Writes the separator.
 fn write_front<W: Write>(front: &str, writer: &mut W) -> Result<(), Stopped>
     ensures written { OnOk result (Appends (W.contents writer.old) (W.contents writer.new) front.now) }
     ensures begun { AppendsSome (W.contents writer.old) (W.contents writer.new) front.now }
@@ -45,7 +45,7 @@ fn write_front<W: Write>(front: &str, writer: &mut W) -> Result<(), Stopped>
     }
 }
 
-// Writes a text and the record of a game behind it.
+// Writes a separator and the record of a game.
 fn write_behind<S: Alter, W: Write>(
     alloc: Global,
     conn: &mut Connection<S>,
@@ -69,8 +69,16 @@ fn write_behind<S: Alter, W: Write>(
     }
 }
 
-/// Writes the records of the games of these ids, all of this kind, one after another. Wherever it stops, the writer has
-/// a beginning of the first so many.
+/// Writes the records of the games with these ids, all of this kind, one after another.
+///
+/// # Errors
+///
+/// - `Stopped::Call`: reading the tables failed.
+/// - `Stopped::Output`: the writer failed.
+///
+/// # Guarantees
+///
+/// `begun`: after an error the writer has a prefix of the first records.
 pub(crate) fn write_records<S: Alter, W: Write>(
     alloc: Global,
     conn: &mut Connection<S>,

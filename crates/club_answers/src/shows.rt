@@ -1,4 +1,4 @@
-//! What members are shown as JSON of their own games and of a game's clock.
+//! A member's own games, and a game's clock, as JSON.
 
 ghost use Rattle.std.specs.Prelude.{IfOk, is_ok};
 ghost use Rattle.sqlite.specs.State.{HasCleanDisk};
@@ -20,7 +20,7 @@ use club_requests::Refusal;
 use sqlite::{Alter, Connection};
 use std::alloc::Global;
 
-/// What the member who has a key plays and is challenged to.
+/// The games and challenges of the member with this key.
 pub(crate) fn mine<S: Alter>(
     alloc: Global,
     conn: &mut Connection<S>,

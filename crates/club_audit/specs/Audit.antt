@@ -1,4 +1,4 @@
--- What the rows of single tables are tested for: the members, the events, the challenges and the games of a legal club.
+-- The checks of single tables: the members, events, challenges and games of a legal club.
 use Rattle.std.specs.Prelude.{◌≡◌, ◌≢◌, ◌+◌, ◌<◌, ◌≤◌, ℕ, pos, List, map, length, Option, Some, Bool, IsTrue, slice_get}
 use Rattle.std.specs.Prelude.{string_bytes}
 use Rattle.std.specs.Option.{option_map}
@@ -33,12 +33,12 @@ use Rattle.club_rows.specs.Tables.{rows_of_moves, rows_of_seen}
 
 -- ---- members
 
--- where the other row is of another member, it has another name and another key
+-- if the other row is another member, it has another name and another key
 pub record IsOtherMember (row other : MemberRow) : Type 0 where
   pub name : other.id ≢ row.id → string_bytes other.name ≢ string_bytes row.name
   pub key : other.id ≢ row.id → string_bytes other.key ≢ string_bytes row.key
 
--- the row is that of a legal member at this place, from 0, and no other row has the member's name or key
+-- the row is that of a legal member at this place (from 0), and no other has the same name or key
 pub record IsMemberAt (rows : List MemberRow) (index : ℕ) (row : MemberRow) : Type 0 where
   pub member : Member
   pub cells : member_cells row ≡ member_row (index + 1) member
@@ -55,22 +55,22 @@ pub record AreMembers (members : List Member) (rows : List MemberRow) : Type 0 w
 
 -- ---- events
 
--- the row gives these seconds, and both are within their limits
+-- the row has this budget and increment, both within their limits
 pub record GivesTerms (row : EventRow) (budget increment : ℕ) : Type 0 where
   pub budget_is : row.budget ≡ pos budget
   pub increment_is : row.increment ≡ pos increment
   pub has_budget : IsTrue (is_budget budget)
   pub has_increment : IsTrue (is_increment increment)
 
--- the terms that an event's row and that of its rules tell
+-- the terms with this budget and increment, with or without declarations
 abbrev pub terms_told : ℕ → ℕ → Bool → Terms
 terms_told budget increment declares = record { budget = budget; increment = increment; declares = declares }
 
--- where the other row is of another event, it has another name
+-- if the other row is another event, it has another name
 abbrev pub IsOtherEvent : EventRow → EventRow → Type 0
 IsOtherEvent row other = other.id ≢ row.id → string_bytes other.name ≢ string_bytes row.name
 
--- the row is that of a legal event at this place, from 0, and no other row has the event's name
+-- the row is that of a legal event at this place (from 0), and no other has the same name
 pub record IsEventAt (rows : List EventRow) (index : ℕ) (row : EventRow) : Type 0 where
   pub event : Event
   pub cells : event_cells row ≡ event_row (index + 1) event
@@ -84,11 +84,11 @@ pub record AreEvents (events : List Event) (rows : List EventRow) : Type 0 where
   pub count : length events ≤ most_events
   pub names : AreApart (λ e. e.name) events
 
--- the row says this of an event's declarations
+-- the row says whether declarations are allowed
 abbrev pub SaysDeclares : EventRuleRow → Bool → Type 0
 SaysDeclares row declares = row.declares ≡ pos (declares_number declares)
 
--- the row is that of the rules of the event at this place, from 0
+-- the row is that of the event's rules at this place (from 0)
 pub record IsRuleAt (index : ℕ) (row : EventRuleRow) : Type 0 where
   pub event_is : row.event ≡ pos (index + 1)
   pub declares : Bool
@@ -98,36 +98,36 @@ pub record IsRuleAt (index : ℕ) (row : EventRuleRow) : Type 0 where
 abbrev pub AreRulesOf : List Event → List EventRuleRow → Type 0
 AreRulesOf events rules = map event_rule_cells rules ≡ numbered_from rule_row 1 events
 
--- the rows are those of the rules of so many events
+-- the rows are those of the rules of `count` events
 pub record AreRules (rules : List EventRuleRow) (count : ℕ) : Type 0 where
   pub number : length rules ≡ count
   pub rows_are : (index : ℕ) (row : EventRuleRow) → slice_get rules index ≡ Some row → IsRuleAt index row
 
 -- ---- games
 
--- the club's members and its events, with their rules, are those of the rows
+-- the rows of members, events and event rules are those of the club
 pub record HasPeople (s : ClubState) (rows : Rows) : Type 0 where
   pub members : AreMembers s.members rows.members.items
   pub events : AreEvents s.events rows.events.items
   pub rules : AreRulesOf s.events rows.event_rules.items
 
--- the club as it would be if this were the moment of its last command
+-- the club with this timestamp of the last command
 abbrev pub until : ℕ → ClubState → ClubState
 until last s = record s { last = last }
 
--- the game names this event, whose row is this one
+-- the game refers to this event, whose row this is
 pub record NamesEvent (rows : Rows) (game : GameRecord) (event : ℕ) (row : EventRow) : Type 0 where
   pub event_is : game.event ≡ pos event
   pub row_is : place rows.events.items event ≡ Some row
 
--- the row of the rules of the game's event says this of declarations
+-- the rules of the game's event say whether declarations are allowed
 pub record NamesRule (rows : Rows) (game : GameRecord) (event : ℕ) (declares : Bool) : Type 0 where
   pub event_is : game.event ≡ pos event
   pub rule : EventRuleRow
   pub rule_is : place rows.event_rules.items event ≡ Some rule
   pub says : SaysDeclares rule declares
 
--- the game names these players, who are members
+-- the game refers to these players, who are members
 pub record NamesPlayers (rows : Rows) (game : GameRecord) (first second : ℕ) : Type 0 where
   pub first_is : game.first ≡ pos first
   pub second_is : game.second ≡ pos second
@@ -136,18 +136,18 @@ pub record NamesPlayers (rows : Rows) (game : GameRecord) (first second : ℕ) :
   pub second_low : 0 < second
   pub second_high : second ≤ length rows.members.items
 
--- the clocks run from no later than the last moment, and a side that lost by its time had run out of it before then
+-- the clocks started at or before `last`, and a loss on time had happened by then
 pub record IsWithin {R P M E T : Type 0} (rules : GameRules P M E T) (view : GameView R P M E T) (last : ℕ) : Type 0
   where
     pub since : view.row.since ≤ last
     pub lost_by_time : view.row.end ≡ Some (Outside Time)
         → view.row.since + left_of (rules.turn view.position) (clocks_in view.row) < last
 
--- the same of the last moment that is given, if one is
+-- the same if `last` is given
 abbrev pub IsWithinGiven : {R P M E T : Type 0} → GameRules P M E T → GameView R P M E T → Option ℕ → Type 0
 IsWithinGiven rules view last = (n : ℕ) → last ≡ Some n → n ≤ last_moment → IsWithin rules view n
 
--- no moment of the game is above the last one, and a side that lost by its time had run out of it before then
+-- no timestamp of the game is after `last`, and a loss on time had happened by then
 pub record EndsBy {P M E T : Type 0} (rules : GameRules P M E T) (terms : Terms) (last : ℕ) (game : Game M) : Type 0
   where
     pub start : game.start ≤ last
@@ -155,7 +155,7 @@ pub record EndsBy {P M E T : Type 0} (rules : GameRules P M E T) (terms : Terms)
     pub lost_by_time : game.outside ≡ Some Time
         → (clocks_of game terms).since + left_of (turn_of rules game) (clocks_of game terms) < last
 
--- the rows are those of some legal game of these rules and terms, up to the last moment
+-- the rows are those of some legal game with these rules and terms, with timestamps up to `last`
 pub record HaveGame {P M E T : Type 0} (rules : GameRules P M E T) (terms : Terms) (last : ℕ) (row : GameRecord)
     (moves : List MoveRow) : Type 0 where
   pub id : ℕ
@@ -163,27 +163,27 @@ pub record HaveGame {P M E T : Type 0} (rules : GameRules P M E T) (terms : Term
   pub are : AreRowsOf rules terms id row moves game
   pub within : EndsBy rules terms last game
 
--- the rows are those of this game of the club, which has this id
+-- the rows are those of this game of the club, with this id
 pub record IsGameAt (s : ClubState) (id : ℕ) (row : GameRecord) (moves : List MoveRow) (game : ClubGame) : Type 0 where
   pub legal : IsLegalIn both_games s game
   pub row_is : game_cells row ≡ row_of_game both_games s.events id game
   pub moves_are : map move_cells moves ≡ rows_of_moves both_games s.events id game
 
--- the rows are all those of this game of the club, which has this id: of its positions each once, in whatever order
+-- these are all rows of this game of the club; its positions each once, in any order
 pub record AreAllOf (s : ClubState) (id : ℕ) (row : GameRecord) (moves : List MoveRow) (seen : List SeenRow)
     (game : ClubGame) : Type 0 where
   pub at : IsGameAt s id row moves game
   pub seen_are : AreEachOnce (map seen_cells seen) (rows_of_seen both_games id game)
 
--- ---- a club but for the moves and the positions of its games
+-- ---- a club except moves and positions
 
--- there are no more games than a club may have, and no two with one key
+-- the number of games is within the limit, and no two have the same key
 pub record AreApartGames (games : List GameRecord) : Type 0 where
   pub few : length games ≤ most_games
   pub keys : AreApartIfAny (λ r. option_map (λ s. string_bytes s) r.key) games
 
--- The rows are those of the last moment, the members, the events and the challenges of a legal club; there are no more
--- games than a club may have, and no two with one key.
+-- The rows of `meta`, members, events and challenges are those of a legal club; the number of games is within the
+-- limit, and no two have the same key.
 pub record HaveRegister (rows : Rows) : Type 0 where
   pub state : ClubState
   pub moment : rows.meta.last ≡ pos state.last
@@ -192,7 +192,7 @@ pub record HaveRegister (rows : Rows) : Type 0 where
   pub challenges : AreChallenges state.challenges rows
   pub games : AreApartGames rows.games.items
 
--- what each table has then
+-- the condition on each table
 abbrev pub IsRightInRegister : Rows → Table → Type 0
 IsRightInRegister rows Members = (ms : List Member) × AreMembers ms rows.members.items
 IsRightInRegister rows Events = (es : List Event) × AreEvents es rows.events.items

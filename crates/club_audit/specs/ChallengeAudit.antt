@@ -1,4 +1,4 @@
--- What the rows of challenges are tested for: those of the challenges of a legal club.
+-- The check of the rows of challenges.
 use Rattle.std.specs.Prelude.{◌≡◌, ◌≢◌, ◌<◌, ◌≤◌, ℕ, pos, List, map, length, Some, IsTrue, slice_get}
 use Rattle.club_core.specs.declared.challenges.Challenge.{Challenge}
 use Rattle.club_core.specs.declared.challenges.ChallengeState.TheVariants.{Accepted}
@@ -14,13 +14,13 @@ use Rattle.club_rows.specs.ChallengeRows.{HasShortGame, HasShortNumbers}
 use Rattle.club_rows.specs.EachOnce.{AreEachOnce}
 use Rattle.club_rows.specs.Tables.{challenge_row}
 
--- the game's row is of this event and of these players, each on this side
+-- the game has this event and these players on these sides
 pub record IsRowOfPairing (game : GameRecord) (pairing : Pairing) : Type 0 where
   pub event : game.event ≡ pos pairing.event
   pub first : game.first ≡ pos pairing.first
   pub second : game.second ≡ pos pairing.second
 
--- one of the rows of games has this id, and is of this event and of these players
+-- one of the games has this id, event and players
 pub record IsGameAmong (games : List GameRecord) (id : ℕ) (pairing : Pairing) : Type 0 where
   pub place : ℕ
   pub row : GameRecord
@@ -28,15 +28,15 @@ pub record IsGameAmong (games : List GameRecord) (id : ℕ) (pairing : Pairing) 
   pub id_is : row.id ≡ pos id
   pub of : IsRowOfPairing row pairing
 
--- a challenge that was accepted names one of the games, of its event and between its two members on their sides
+-- an accepted challenge refers to a game of its event between its two members, on the right sides
 abbrev pub HasItsGame : List GameRecord → Challenge → Type 0
 HasItsGame games c = (id : ℕ) → c.standing ≡ Accepted id → IsGameAmong games id (pairing_for c)
 
--- the id is that of one of these
+-- the id is in 1..=length
 abbrev pub IsIdAmong : {A : Type 0} → List A → ℕ → Type 0
 IsIdAmong xs id = (0 < id) × (id ≤ length xs)
 
--- the challenge is one of a club with these rows of members, events and games
+-- the challenge is possible with these rows of members, events and games
 pub record IsChallengeAmong (rows : Rows) (c : Challenge) : Type 0 where
   pub number : IsTrue (is_challenge_number c.number)
   pub member : IsIdAmong rows.members.items c.member
@@ -52,8 +52,8 @@ pub record IsChallengeOf (rows : Rows) (row : ChallengeRow) : Type 0 where
   pub short : HasShortNumbers challenge
   pub among : IsChallengeAmong rows challenge
 
--- The rows are those of these challenges, each once and in whatever order, and they are challenges of a legal club; a
--- game that is named has an id of 32 bits.
+-- The rows are those of these challenges, each once and in any order; they are challenges of a legal club. Ids of
+-- started games fit in 32 bits.
 pub record AreChallenges (challenges : List Challenge) (rows : Rows) : Type 0 where
   pub rows_are : AreEachOnce (map challenge_cells rows.challenges.items) (map challenge_row challenges)
   pub legal : Each (IsChallengeAmong rows) challenges

@@ -1,10 +1,10 @@
--- What the rows of challenges go by.
+-- The key of a challenge's row.
 use Rattle.std.specs.Prelude.{Bool, ◌&&◌}
 use Rattle.std.specs.Ordering.{int_eq}
 use Rattle.store_tables.specs.declared.rows.ChallengeRow.{ChallengeRow}
 use Rattle.club_audit.specs.declared.challenges.ChallengeKey.{ChallengeKey}
 
--- the member, and the member's number for it
+-- the challenger and the challenger's number for it
 abbrev pub key_in : ChallengeRow → ChallengeKey
 key_in row = record { member = row.member; number = row.number }
 

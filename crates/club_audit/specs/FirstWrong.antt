@@ -1,10 +1,10 @@
--- The first of the tables that is wrong, in the order in which they are looked at.
+-- The first wrong table, in the order of the checks.
 use Rattle.std.specs.Prelude.{◌<◌, ℕ, Option, Some, None, IfSome}
 use Rattle.store_tables.specs.declared.names.Table.{Table}
 use Rattle.store_tables.specs.declared.names.Table.TheVariants.{Members, Events, EventRules, Challenges, Moves, Games}
 use Rattle.store_tables.specs.declared.names.Table.TheVariants.{Seen, Scores, Meta}
 
--- the place of a table in the order in which they are looked at
+-- the place of a table in the order of the checks
 abbrev pub order : Table → ℕ
 order Members = 0
 order Events = 1
@@ -16,12 +16,12 @@ order Seen = 6
 order Scores = 7
 order Meta = 8
 
--- the table comes before the one that is named, if one is
+-- the table is before the named one; every table is, if none is named
 abbrev pub Precedes : Table → Option Table → Type 0
 Precedes t None = Unit {0}
 Precedes t (Some named) = order t < order named
 
--- The table that is named is not right, and each before it is; where none is named, all are.
+-- The named table is wrong, and each table before it is right; if none is named, all are right.
 pub record IsFirstWrong (IsRight : Table → Type 0) (wrong : Option Table) : Type 0 where
   pub before : (t : Table) → Precedes t wrong → IsRight t
   pub named : IfSome wrong (λ t. ¬ IsRight t)

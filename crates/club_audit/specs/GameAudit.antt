@@ -1,4 +1,4 @@
--- When all rows of one game are those of a legal game of its event, and which table is wrong first.
+-- When all rows of one game are those of a legal game of its event, and the first wrong table.
 use Rattle.std.specs.Prelude.{◌≡◌, ◌+◌, ◌<◌, ◌≤◌, ℕ, pos, List, map, Option, Some, Bool}
 use Rattle.club_rules.specs.declared.names.GameKind.{GameKind}
 use Rattle.club_rules.specs.declared.names.GameKind.TheVariants.{Draughts, Shogi}
@@ -22,7 +22,7 @@ use Rattle.club_rows.specs.Seen.{seen_rows}
 use Rattle.club_rows.specs.LegalRows.{AreMovesOf, AreRowsOf}
 use Rattle.club_rows.specs.Tables.{kind_number}
 
--- the rows are all those of some legal game of these rules and terms, up to the last moment
+-- these are all rows of some legal game with these rules and terms, with timestamps up to `last`
 pub record HaveAll {P M E T : Type 0} (rules : GameRules P M E T) (terms : Terms) (last : ℕ)
     (row : GameRecord) (moves : List MoveRow) (seen : List SeenRow) : Type 0 where
   pub id : ℕ
@@ -31,13 +31,12 @@ pub record HaveAll {P M E T : Type 0} (rules : GameRules P M E T) (terms : Terms
   pub within : EndsBy rules terms last game
   pub seen_are : AreEachOnce (map seen_cells seen) (seen_rows rules id game)
 
--- the same, by the rules of the kind
+-- the same for the rules of the kind
 abbrev pub HaveAllOf : GameKind → Terms → ℕ → GameRecord → List MoveRow → List SeenRow → Type 0
 HaveAllOf Draughts terms last row moves seen = HaveAll both_games.draughts terms last row moves seen
 HaveAllOf Shogi terms last row moves seen = HaveAll both_games.shogi terms last row moves seen
 
--- the rows are all those of some legal game of the kind and the terms that the event's row gives, with declarations or
--- without, up to the last moment
+-- these are all rows of some legal game with the kind and terms of the event's row, with timestamps up to `last`
 pub record AreOfEvent (event : EventRow) (declares : Bool) (last : ℕ)
     (row : GameRecord) (moves : List MoveRow) (seen : List SeenRow) : Type 0 where
   pub kind : GameKind
@@ -49,9 +48,8 @@ pub record AreOfEvent (event : EventRow) (declares : Bool) (last : ℕ)
 
 -- ---- table by table
 
--- What the rows of a table are, of a game that is played by these rules and terms, where those of the tables before it
--- are so: the moves those of a legal game, the game's row its own up to whatever moment, the positions all of its own,
--- and no moment of it above the last one, if one is given.
+-- The condition on each table, given that the tables before it are right: moves of a legal game; the game's row,
+-- without a limit on timestamps; all positions; timestamps up to `last`, if given.
 abbrev pub IsRightIn : {P M E T : Type 0} → GameRules P M E T → Terms → Option ℕ → GameRecord → List MoveRow
     → List SeenRow → Table → Type 0
 IsRightIn rules terms last row moves seen Moves = AreMovesOf rules terms row moves
@@ -61,12 +59,12 @@ IsRightIn rules terms last row moves seen Meta =
     (n : ℕ) → last ≡ Some n → n ≤ last_moment → HaveAll rules terms n row moves seen
 IsRightIn rules terms last row moves seen t = Unit {0}
 
--- the same, by the rules of the kind
+-- the same for the rules of the kind
 abbrev pub IsRightOf : GameKind → Terms → Option ℕ → GameRecord → List MoveRow → List SeenRow → Table → Type 0
 IsRightOf Draughts terms last row moves seen t = IsRightIn both_games.draughts terms last row moves seen t
 IsRightOf Shogi terms last row moves seen t = IsRightIn both_games.shogi terms last row moves seen t
 
--- the event's row gives a kind and terms
+-- the event's row has a kind and terms
 pub record GivesRules (event : EventRow) : Type 0 where
   pub kind : GameKind
   pub kind_is : event.game ≡ pos (kind_number kind)
@@ -74,19 +72,19 @@ pub record GivesRules (event : EventRow) : Type 0 where
   pub increment : ℕ
   pub terms : GivesTerms event budget increment
 
--- the same, by the kind and the terms that the event's row gives, with declarations or without
+-- the same for the kind and terms of the event's row
 abbrev pub IsRightBy : EventRow → Bool → Option ℕ → GameRecord → List MoveRow → List SeenRow → Table → Type 0
 IsRightBy event declares last row moves seen t =
     (kind : GameKind) (budget increment : ℕ) → event.game ≡ pos (kind_number kind) → GivesTerms event budget increment
     → IsRightOf kind (terms_told budget increment declares) last row moves seen t
 
--- and the event's row gives them
+-- and the event's row has a kind and terms
 abbrev pub IsRightInEvent : EventRow → Bool → Option ℕ → GameRecord → List MoveRow → List SeenRow → Table → Type 0
 IsRightInEvent event declares last row moves seen Events = GivesRules event
 IsRightInEvent event declares last row moves seen t = IsRightBy event declares last row moves seen t
 
--- The same of the game at this place, from 0, of a club with these members and events, among so many games as it may
--- have. The moves of a game that names no event are passed over.
+-- The same for the game at this place (from 0) of a club with these members and events. The moves of a game without a
+-- valid event are not checked.
 abbrev pub IsRightAt : ClubState → Rows → ℕ → GameRecord → List MoveRow → List SeenRow → Option ℕ → Table → Type 0
 IsRightAt s rows place row moves seen last Moves =
     (id : ℕ) (event : EventRow) (declares : Bool) → NamesEvent rows row id event → NamesRule rows row id declares
@@ -99,7 +97,7 @@ IsRightAt s rows place row moves seen last Meta =
     (n : ℕ) → last ≡ Some n → n ≤ last_moment → (g : ClubGame) × AreAllOf (until n s) (place + 1) row moves seen g
 IsRightAt s rows place row moves seen last t = Unit {0}
 
--- the game stands at its place, from 0, among so many as a club may have, and its players are members
+-- the game's id fits its place (from 0), the place is within the limit, and its players are members
 pub record StandsAt (rows : Rows) (place : ℕ) (game : GameRecord) : Type 0 where
   pub low : place < most_games
   pub id : game.id ≡ pos (place + 1)

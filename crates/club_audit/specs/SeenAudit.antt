@@ -1,4 +1,4 @@
--- When rows are those of the positions of a game, whatever their order.
+-- When rows are those of the positions of a game, in any order.
 use Rattle.std.specs.Prelude.{◌≡◌, ◌≢◌, ℕ, List, ◌∷◌, map, Option, Some, None, slice_get, string_bytes}
 use Rattle.std.specs.Borrow.{Bor}
 use Rattle.std.specs.HashMap.{HashMap, get_by}
@@ -11,24 +11,24 @@ use Rattle.club_rows.specs.declared.tally.Stood.{Stood}
 
 -- ---- counts
 
--- the texts of a line: of its start, and after each move by its row
+-- the positions of a line: the initial one, then the one in each move's row
 abbrev pub texts_in : List ℕ → List MoveRow → List (List ℕ)
 texts_in start moves = start ∷ map (λ r. string_bytes r.position) moves
 
--- what a map has of a text
+-- the map's entry for a text
 abbrev pub found_in : {S : Type 0} → HashMap (Bor (List ℕ)) Stood S → List ℕ → Option Stood
 found_in counts text = get_by (λ k. bytes_eq text k.now) counts
 
--- what is counted of a text: nothing where it stands nowhere, else how often it stands and after which ply first
+-- the count and first ply of a text; None if it does not occur
 abbrev pub IsCountOf : List (List ℕ) → List ℕ → Option Stood → Type 0
 IsCountOf texts text None = (k : ℕ) → slice_get texts k ≢ Some text
 IsCountOf texts text (Some stood) = (stood.times ≡ times_in texts text) × FirstAt texts stood.first_ply text
 
--- each text is counted
+-- each text has its count
 abbrev pub AreCounted : List (List ℕ) → (List ℕ → Option Stood) → Type 0
 AreCounted texts found = (text : List ℕ) → IsCountOf texts text (found text)
 
--- the row has the game, and the numbers that were counted for its text
+-- the row has this game, and the count and first ply that were found for its position
 abbrev pub HasCounted : ℕ → SeenRow → Option Stood → Type 0
 HasCounted id row None = ⊥
 HasCounted id row (Some stood) = seen_cells row ≡ seen_row id (string_bytes row.position) stood.times stood.first_ply

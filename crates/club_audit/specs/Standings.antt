@@ -1,4 +1,4 @@
--- When rows of scores are those of the games whose rows these are.
+-- When rows of scores are those of these games.
 use Rattle.std.specs.Prelude.{◌≡◌, ◌≤◌, List, [], ◌∷◌, ◌++◌, map, length, Option, Some, None, cond, string_bytes}
 use Rattle.std.specs.Option.{option_map}
 use Rattle.std.specs.HashMap.{HashMap}
@@ -17,20 +17,20 @@ use Rattle.club_rows.specs.declared.scores.Pair.{Pair}
 use Rattle.club_rows.specs.declared.scores.OwnScore.{OwnScore}
 use Rattle.club_rows.specs.declared.scores.Sums.{Sums}
 
--- the rows are those of the games of the club, in the order of their ids
+-- the rows are those of the club's games, in the order of ids
 pub record AreGamesOf (s : ClubState) (rows : List GameRecord) : Type 0 where
   pub few : length s.games ≤ most_games
   pub rows_are : map game_cells rows ≡ numbered_from (row_of_game both_games s.events) 1 s.games
 
--- ---- what the rows of games tell
+-- ---- the results in rows of games
 
--- these are the meetings of the game of this row
+-- the results of the game of this row; none while it runs
 pub record Tells (row : GameRecord) (ms : List Meeting) : Type 0 where
   pub score : Option Score
   pub result : option_map (λ s. string_bytes s) row.result ≡ option_map score_text score
   pub met : ms ≡ meetings_if row.event row.first row.second score
 
--- those of all the games, one after another
+-- the results of all games, in order
 abbrev pub AreTold : List GameRecord → List Meeting → Type 0
 AreTold [] ms = ms ≡ []
 AreTold (row ∷ rows) ms = (own : List Meeting) × (rest : List Meeting) × Tells row own × AreTold rows rest
@@ -38,27 +38,27 @@ AreTold (row ∷ rows) ms = (own : List Meeting) × (rest : List Meeting) × Tel
 
 -- ---- the sums of all pairs
 
--- one who has no score has no sums
+-- the sums of a list of results; None if it is empty
 abbrev pub some_sums : List OwnScore → Option Sums
 some_sums [] = None
 some_sums (s ∷ ss) = Some (sums_over (s ∷ ss))
 
--- the sums of one who may have none
+-- the sums, or zeros if there are none
 abbrev pub sums_or_none : Option Sums → Sums
 sums_or_none None = no_sums
 sums_or_none (Some sums) = sums
 
--- each pair has the sums of its scores
+-- each pair has the sums of its results
 abbrev pub AreStandings : {S : Type 0} → HashMap Pair Sums S → List Meeting → Type 0
 AreStandings standings ms = (pair : Pair) → sums_at standings pair ≡ some_sums (scores_of pair ms)
 
--- ---- rows against sums
+-- ---- rows compared with sums
 
--- those of the other pairs
+-- the sums without this pair
 abbrev pub without : Pair → (Pair → Option Sums) → Pair → Option Sums
 without pair sums other = cond (same_pair pair other) None (sums other)
 
--- each row takes the sums of its pair, and none are left
+-- each row has the sums of its pair, and no pair is left
 abbrev pub Clears : (Pair → Option Sums) → List ScoreRow → Type 0
 Clears sums [] = (pair : Pair) → sums pair ≡ None
 Clears sums (row ∷ rows) = (sums (pair_in row) ≡ Some (sums_found (Some row)))

@@ -1,4 +1,4 @@
-//! Whether the rows of a club are those of a legal one: those that are read whole, and those of each game.
+//! Checks the rows of a club as a whole, and all rows of each game.
 
 ghost use Rattle.std.specs.Prelude.{◌≡◌, ◌≢◌, ◌<◌, ◌≤◌, ℕ, Bool, pos, true, false, None, IfOk, IfSome};
 ghost use Rattle.std.specs.Prelude.{string_bytes, Some};
@@ -21,7 +21,7 @@ use std::alloc::Global;
 use std::collections::HashSet;
 use store_tables::{EventRow, GameRecord, MoveRow, Rows, SeenRow, Table};
 
-// Whether the id is that of one of so many rows.
+// Whether the id is in 1..=count.
 fn is_among(id: i64, count: usize) -> bool
     ensures sound { result ≡ true → (n : ℕ) × (id ≡ pos n) × (0 < n) × (n ≤ count) }
     ensures complete { (n : ℕ) → id ≡ pos n → 0 < n → n ≤ count → result ≡ true }
@@ -32,7 +32,7 @@ fn is_among(id: i64, count: usize) -> bool
     }
 }
 
-// The row of the game's event, at its place, if there is one.
+// The row of the game's event, if its id is valid.
 fn event_of<'a>(rows: &'a Rows, game: &GameRecord) -> Option<&'a EventRow>
     ensures some { IfSome result (λ e. (event : ℕ) × NamesEvent rows.now game.now event e.now) }
     ensures none { result ≡ None → (event : ℕ) (e : EventRow) → ¬ NamesEvent rows.now game.now event e }
@@ -44,7 +44,7 @@ fn event_of<'a>(rows: &'a Rows, game: &GameRecord) -> Option<&'a EventRow>
     }
 }
 
-// Whether the rules of the game's event have declarations, if they are told.
+// Whether the rules of the game's event allow declarations. None if there is no valid row.
 fn declares_in(rows: &Rows, game: &GameRecord) -> Option<bool>
     ensures some { IfSome result (λ declares. (event : ℕ) × NamesRule rows.now game.now event declares) }
     ensures none { result ≡ None → (event : ℕ) (declares : Bool) → ¬ NamesRule rows.now game.now event declares }
@@ -60,7 +60,7 @@ fn declares_in(rows: &Rows, game: &GameRecord) -> Option<bool>
     }
 }
 
-// Whether the game's players are members.
+// Whether both players are members.
 fn has_players(rows: &Rows, game: &GameRecord) -> bool
     ensures sound { result ≡ true → (first second : ℕ) × NamesPlayers rows.now game.now first second }
     ensures complete { (first second : ℕ) → NamesPlayers rows.now game.now first second → result ≡ true }
@@ -71,7 +71,7 @@ fn has_players(rows: &Rows, game: &GameRecord) -> bool
     is_among(game.second, rows.members.as_slice().len())
 }
 
-// Whether the game stands at its place, from 0, among so many as a club may have, and its players are members.
+// Whether the game's id fits its place (from 0), the place is within the limit, and its players are members.
 fn stands_at(rows: &Rows, place: usize, game: &GameRecord) -> bool
     ensures sound { result ≡ true → StandsAt rows.now place game.now }
     ensures complete { StandsAt rows.now place game.now → result ≡ true }
@@ -85,7 +85,7 @@ fn stands_at(rows: &Rows, place: usize, game: &GameRecord) -> bool
     has_players(rows, game)
 }
 
-// The first wrong table by the rows of a game, where the first by its own rows is this one and it stands or does not.
+// Combines the first wrong table by the game's own rows with the check of its place: moves come before games.
 fn with_place(wrong: Option<Table>, stands: bool) -> Option<Table>
     ensures stands { stands ≡ true → result ≡ wrong }
     ensures moves { wrong ≡ Some Table.Moves → result ≡ Some Table.Moves }
@@ -97,9 +97,17 @@ fn with_place(wrong: Option<Table>, stands: bool) -> Option<Table>
     }
 }
 
-/// The first wrong table by all rows of the game at this place, from 0, up to the last moment, if there is one; none
-/// where they are those of a legal game of a club with these members and events. The rows of its moves stand by plies,
-/// those of its positions in any order.
+/// Returns the first wrong table by all rows of the game at this place (from 0); None if they are those of a legal game
+/// of this club. `last` is the latest timestamp allowed, if given. The moves must be in the order of plies; the
+/// positions may be in any order.
+///
+/// # Errors
+///
+/// `Memory` if out of memory.
+///
+/// # Guarantees
+///
+/// The result is right if the members, events and event rules in `rows` are those of a legal club.
 pub fn wrong_game(
     alloc: Global,
     rows: &Rows,
@@ -116,7 +124,7 @@ pub fn wrong_game(
         Some(event) => event,
         None => return Ok(Some(Table::Games)),
     };
-    // The rules of the events are those of a club.
+    // In a register that passed its check each event has its rules.
     let declares = match declares_in(rows, game) {
         Some(declares) => declares,
         None => return Ok(Some(Table::EventRules)),
@@ -125,7 +133,17 @@ pub fn wrong_game(
     Ok(with_place(wrong, stands_at(rows, place, game)))
 }
 
-/// The first wrong table, but for the moves, the positions and the scores of the games.
+/// Returns the first wrong table by all rows except moves, positions and scores; None if there is none. Of the games
+/// only count and keys are checked.
+///
+/// # Errors
+///
+/// `Memory` if out of memory.
+///
+/// # Guarantees
+///
+/// - `sound`, `complete`: None is returned exactly for the register of a legal club.
+/// - `first`: all tables before the returned one are right.
 pub fn wrong_register(alloc: Global, rows: &Rows) -> Result<Option<Table>, Memory>
     ensures sound { IfOk result (λ wrong. wrong ≡ None → HaveRegister rows.now) }
     ensures complete { IfOk result (λ wrong. HaveRegister rows.now → wrong ≡ None) }
@@ -152,7 +170,11 @@ pub fn wrong_register(alloc: Global, rows: &Rows) -> Result<Option<Table>, Memor
     }
 }
 
-/// Whether there are no more games than a club may have, and no two with one key.
+/// Whether there are no more games than the limit, and no two have the same key.
+///
+/// # Errors
+///
+/// `Memory` if out of memory.
 pub fn are_apart(alloc: Global, games: &[GameRecord]) -> Result<bool, Memory>
     ensures sound { IfOk result (λ are. are ≡ true → AreApartGames games.now) }
     ensures complete { IfOk result (λ are. AreApartGames games.now → are ≡ true) }
@@ -164,7 +186,7 @@ pub fn are_apart(alloc: Global, games: &[GameRecord]) -> Result<bool, Memory>
     Ok(!shared)
 }
 
-// Whether two games have one key.
+// Whether two games have the same key.
 fn share_key(alloc: Global, games: &[GameRecord]) -> Result<bool, Memory>
     ensures apart { IfOk result (λ shared. shared ≡ false →
         AreApartIfAny (λ r. option_map (λ s. string_bytes s) r.key) games.now) }

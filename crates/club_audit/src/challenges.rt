@@ -1,4 +1,4 @@
-//! Whether the rows of challenges are those of a legal club.
+//! Checks the rows of challenges.
 
 ghost use Rattle.std.specs.Prelude.{◌≡◌, ◌<◌, ◌≤◌, List, length, pos, true, false, IfOk};
 ghost use Rattle.club_core.specs.declared.challenges.Challenge as core;
@@ -16,7 +16,7 @@ use std::alloc::Global;
 use std::collections::HashSet;
 use store_tables::{ChallengeRow, GameRecord, Rows};
 
-// What a row of a challenge goes by: its member, and the member's number for it.
+// The key of a row: the challenger and the challenger's number for it.
 #[derive(Clone, Copy, PartialEq, Eq, Hash)]
 struct ChallengeKey {
     member: i64,
@@ -32,7 +32,7 @@ fn key_in(row: &ChallengeRow) -> ChallengeKey
     }
 }
 
-// Whether the id is that of one of so many.
+// Whether the id is in 1..=count.
 fn is_id(id: u32, count: usize) -> bool
     ensures sound { result ≡ true → (0 < id) × (id ≤ count) }
     ensures complete { 0 < id → id ≤ count → result ≡ true }
@@ -40,7 +40,7 @@ fn is_id(id: u32, count: usize) -> bool
     0 < id && id as usize <= count
 }
 
-// Whether the game's row is of that event and of those players, each on that side.
+// Whether the game has this event and these players on these sides.
 fn is_row_of_pairing(game: &GameRecord, pairing: Pairing) -> bool
     ensures sound { result ≡ true → IsRowOfPairing game.now pairing }
     ensures complete { IsRowOfPairing game.now pairing → result ≡ true }
@@ -50,7 +50,7 @@ fn is_row_of_pairing(game: &GameRecord, pairing: Pairing) -> bool
         && game.second == i64::from(pairing.second)
 }
 
-// Whether the row is of the game with this id, and of that event and those players.
+// Whether the game has this id and this pairing.
 fn is_game_of(row: &GameRecord, id: u32, pairing: Pairing) -> bool
     ensures sound { result ≡ true → (row.now.id ≡ pos id) × IsRowOfPairing row.now pairing }
     ensures complete { row.now.id ≡ pos id → IsRowOfPairing row.now pairing → result ≡ true }
@@ -61,7 +61,6 @@ fn is_game_of(row: &GameRecord, id: u32, pairing: Pairing) -> bool
     is_row_of_pairing(row, pairing)
 }
 
-// Whether one of the rows is so.
 fn is_game_among(games: &[GameRecord], id: u32, pairing: Pairing) -> bool
     ensures sound { result ≡ true → IsGameAmong games.now id pairing }
     ensures complete { IsGameAmong games.now id pairing → result ≡ true }
@@ -74,7 +73,7 @@ fn is_game_among(games: &[GameRecord], id: u32, pairing: Pairing) -> bool
     false
 }
 
-// Whether a challenge, where it was accepted, names a game of its event between its members on their sides.
+// Whether an accepted challenge refers to a game of its event between its two members, on the right sides.
 fn has_its_game(games: &[GameRecord], challenge: &Challenge) -> bool
     ensures sound { result ≡ true → HasItsGame games.now challenge.now }
     ensures complete { HasItsGame games.now challenge.now → result ≡ true }
@@ -85,7 +84,7 @@ fn has_its_game(games: &[GameRecord], challenge: &Challenge) -> bool
     }
 }
 
-// Whether the challenge is one of a club with these members, events and games.
+// Whether the challenge is possible with these members, events and games.
 fn is_challenge(rows: &Rows, challenge: &Challenge) -> bool
     ensures sound { result ≡ true → IsChallengeAmong rows.now challenge.now }
     ensures complete { IsChallengeAmong rows.now challenge.now → result ≡ true }
@@ -108,7 +107,6 @@ fn is_challenge(rows: &Rows, challenge: &Challenge) -> bool
     has_its_game(rows.games.as_slice(), challenge)
 }
 
-// Whether the row is that of such a challenge.
 fn is_challenge_row(rows: &Rows, row: &ChallengeRow) -> bool
     ensures sound { result ≡ true → IsChallengeOf rows.now row.now }
     ensures complete { IsChallengeOf rows.now row.now → result ≡ true }
@@ -119,7 +117,6 @@ fn is_challenge_row(rows: &Rows, row: &ChallengeRow) -> bool
     }
 }
 
-// Whether each of the rows is that of such a challenge.
 fn are_each_challenges(rows: &Rows, challenges: &[ChallengeRow]) -> bool
     ensures sound { result ≡ true → Each (IsChallengeOf rows.now) challenges.now }
     ensures complete { Each (IsChallengeOf rows.now) challenges.now → result ≡ true }
@@ -132,7 +129,7 @@ fn are_each_challenges(rows: &Rows, challenges: &[ChallengeRow]) -> bool
     true
 }
 
-// Whether two challenges of one member have one number.
+// Whether two challenges of one member have the same number.
 fn share_number(alloc: Global, challenges: &[ChallengeRow]) -> Result<bool, Memory>
     ensures apart { IfOk result (λ shared. shared ≡ false → AreApart key_in challenges.now) }
     ensures shared { IfOk result (λ shared. shared ≡ true → ¬ AreApart key_in challenges.now) }
@@ -146,7 +143,11 @@ fn share_number(alloc: Global, challenges: &[ChallengeRow]) -> Result<bool, Memo
     Ok(false)
 }
 
-/// Whether the rows of challenges are those of a club with these members, events and games.
+/// Whether the rows of challenges are possible with the members, events and games of `rows`.
+///
+/// # Errors
+///
+/// `Memory` if out of memory.
 pub fn are_challenges(alloc: Global, rows: &Rows) -> Result<bool, Memory>
     ensures sound { IfOk result (λ are. are ≡ true → (cs : List core.Challenge) × AreChallenges cs rows.now) }
     ensures complete { IfOk result (λ are.

@@ -1,4 +1,4 @@
-//! Whether all rows of one game are those of a legal game of its event, and which table is wrong first.
+//! Checks all rows of one game of an event, and names the first wrong table.
 
 ghost use Rattle.std.specs.Prelude.{◌≡◌, None, Some, true, IfOk, IsTrue};
 ghost use Rattle.club_core.specs.Game.{left_of};
@@ -24,7 +24,7 @@ use squares::Side;
 use std::alloc::Global;
 use store_tables::{EventRow, GameRecord, MoveRow, SeenRow, Table};
 
-// The seconds that the side to move has left.
+// The remaining seconds of the side to move.
 fn left_to_mover<R: Rules>(view: &GameView<R>) -> u64
     ensures { result ≡ left_of (R.rules.turn view.now.position) (clocks_in view.now.row) }
 {
@@ -34,7 +34,7 @@ fn left_to_mover<R: Rules>(view: &GameView<R>) -> u64
     }
 }
 
-// Whether no moment of the game is above the last one, and a side that lost by its time had run out of it before then.
+// Whether no timestamp of the game is after `last`, and a loss on time had happened by then.
 fn is_within<R: Rules>(view: &GameView<R>, last: Moment) -> bool
     ensures sound { result ≡ true → IsWithin R.rules view.now last }
     ensures complete { IsWithin R.rules view.now last → result ≡ true }
@@ -54,7 +54,7 @@ fn is_within<R: Rules>(view: &GameView<R>, last: Moment) -> bool
     }
 }
 
-// The same of the last moment that is given, if one is.
+// The same if `last` is given, else true.
 fn is_within_given<R: Rules>(view: &GameView<R>, last: Option<Moment>) -> bool
     ensures sound { result ≡ true → IsWithinGiven R.rules view.now last }
     ensures complete { IsWithinGiven R.rules view.now last → result ≡ true }
@@ -68,8 +68,7 @@ fn is_within_given<R: Rules>(view: &GameView<R>, last: Option<Moment>) -> bool
     }
 }
 
-// The first wrong table by all rows of a game that is played by these rules and terms, up to the last moment, if one
-// is given.
+// The first wrong table by all rows of a game with these rules and terms.
 fn wrong_of_all<R: Rules>(
     alloc: Global,
     game: &GameRecord,
@@ -103,8 +102,7 @@ fn wrong_of_all<R: Rules>(
     Ok(None)
 }
 
-// The first wrong table by all rows of one game, of the event of that row, with declarations or without, up to the last
-// moment, if one is given.
+// The first wrong table by all rows of a game of this event. `last` is the latest timestamp allowed, if given.
 pub(crate) fn wrong_in_event(
     alloc: Global,
     event: &EventRow,
@@ -129,9 +127,17 @@ pub(crate) fn wrong_in_event(
     }
 }
 
-/// The first wrong table by all rows of one game, of the event of that row, with declarations or without, up to the
-/// last moment; none where they are those of a legal game. The rows of its positions may stand in any order, those of
-/// its moves stand by plies.
+/// Returns the first wrong table by all rows of one game of this event; None if they are those of a legal game. `last`
+/// is the latest timestamp allowed. The moves must be in the order of plies; the positions may be in any order.
+///
+/// # Errors
+///
+/// `Memory` if out of memory.
+///
+/// # Guarantees
+///
+/// - `sound`, `complete`: None is returned exactly for the rows of a legal game.
+/// - `first`: all tables before the returned one are right.
 pub fn audit_game(
     alloc: Global,
     event: &EventRow,

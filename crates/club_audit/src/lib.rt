@@ -1,4 +1,4 @@
-//! What is wrong with the tables of a file: whether its rows are those of a legal club, game by game and as a whole.
+//! Checks that the rows of a database are those of a legal club, and names the first wrong table.
 #![tactic(auto)]
 
 pub mod audit;

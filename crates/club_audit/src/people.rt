@@ -1,4 +1,4 @@
-//! Whether the rows of members and of events are those of a legal club.
+//! Checks the rows of members, events and event rules.
 
 ghost use Rattle.std.specs.Prelude.{◌≡◌, ◌+◌, ◌<◌, ◌^◌, ℕ, List, pos, true, false, None, IfSome};
 ghost use Rattle.club_core.specs.Members.{Member};
@@ -15,7 +15,7 @@ use club_rows::numbers::{counted, declares_of};
 use club_rows::replay::Terms;
 use store_tables::{EventRow, EventRuleRow, MemberRow};
 
-/// Whether the id is that of the row at this place, from 0.
+/// Whether the id is that of the row at this place (from 0): one more than the place.
 pub(crate) fn is_place(id: i64, place: usize) -> bool
     requires { place + 1 < 2 ^ 64 }
     ensures sound { result ≡ true → id ≡ pos (place + 1) }
@@ -27,7 +27,7 @@ pub(crate) fn is_place(id: i64, place: usize) -> bool
     }
 }
 
-// Whether the other row, where it is another member's, has another name and another key.
+// Whether the other row is the same member, or has another name and another key.
 fn is_other_member(member: &MemberRow, other: &MemberRow) -> bool
     ensures sound { result ≡ true → IsOtherMember member.now other.now }
     ensures complete { IsOtherMember member.now other.now → result ≡ true }
@@ -38,7 +38,7 @@ fn is_other_member(member: &MemberRow, other: &MemberRow) -> bool
     other.name.as_str() != member.name.as_str() && other.key.as_str() != member.key.as_str()
 }
 
-// Whether another member has the name or the key.
+// Whether another member has the same name or key.
 fn is_taken(members: &[MemberRow], member: &MemberRow) -> bool
     ensures free { result ≡ false → Each (IsOtherMember member.now) members.now }
     ensures taken { result ≡ true → ¬ Each (IsOtherMember member.now) members.now }
@@ -51,7 +51,7 @@ fn is_taken(members: &[MemberRow], member: &MemberRow) -> bool
     false
 }
 
-// Whether the row is that of a legal member at its place, from 0.
+// Whether the row is that of a legal member at this place (from 0).
 fn is_member(members: &[MemberRow], place: usize, member: &MemberRow) -> bool
     requires { place + 1 < 2 ^ 64 }
     ensures sound { result ≡ true → IsMemberAt members.now place member.now }
@@ -85,7 +85,7 @@ pub fn are_members(members: &[MemberRow]) -> bool
     true
 }
 
-/// What an event gives its players, with declarations or without, unless the seconds are outside their limits.
+/// The terms of an event. None if its budget or increment is outside the limits.
 pub fn terms_of(event: &EventRow, declares: bool) -> Option<Terms>
     ensures some { IfSome result (λ t. GivesTerms event.now t.budget t.increment) }
     ensures told { IfSome result (λ t. terms_given t ≡ terms_told t.budget t.increment declares) }
@@ -112,7 +112,7 @@ pub fn terms_of(event: &EventRow, declares: bool) -> Option<Terms>
     })
 }
 
-// Whether the other row, where it is another event's, has another name.
+// Whether the other row is the same event, or has another name.
 fn is_other_event(event: &EventRow, other: &EventRow) -> bool
     ensures sound { result ≡ true → IsOtherEvent event.now other.now }
     ensures complete { IsOtherEvent event.now other.now → result ≡ true }
@@ -123,7 +123,7 @@ fn is_other_event(event: &EventRow, other: &EventRow) -> bool
     other.name.as_str() != event.name.as_str()
 }
 
-// Whether another event has the name.
+// Whether another event has the same name.
 fn is_used(events: &[EventRow], event: &EventRow) -> bool
     ensures free { result ≡ false → Each (IsOtherEvent event.now) events.now }
     ensures taken { result ≡ true → ¬ Each (IsOtherEvent event.now) events.now }
@@ -136,7 +136,7 @@ fn is_used(events: &[EventRow], event: &EventRow) -> bool
     false
 }
 
-// Whether the row is that of a legal event at its place, from 0.
+// Whether the row is that of a legal event at this place (from 0).
 fn is_event(events: &[EventRow], place: usize, event: &EventRow) -> bool
     requires { place + 1 < 2 ^ 64 }
     ensures sound { result ≡ true → IsEventAt events.now place event.now }
@@ -174,7 +174,7 @@ pub fn are_events(events: &[EventRow]) -> bool
     true
 }
 
-// Whether the row is that of the rules of the event at its place, from 0.
+// Whether the row is that of the event's rules at this place (from 0).
 fn is_rule(rule: &EventRuleRow, place: usize) -> bool
     requires { place + 1 < 2 ^ 64 }
     ensures sound { result ≡ true → IsRuleAt place rule.now }
@@ -189,7 +189,7 @@ fn is_rule(rule: &EventRuleRow, place: usize) -> bool
     }
 }
 
-/// Whether the rows are those of the rules of so many events.
+/// Whether the rows are those of the rules of `count` events, one for each.
 pub fn are_rules(rules: &[EventRuleRow], count: usize) -> bool
     ensures sound { result ≡ true → AreRules rules.now count }
     ensures complete { AreRules rules.now count → result ≡ true }

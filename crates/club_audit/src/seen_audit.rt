@@ -1,4 +1,4 @@
-//! Whether rows are those of the positions of a game.
+//! Checks the rows of a game's positions.
 
 ghost use Rattle.std.specs.Prelude.{◌≡◌, ◌≤◌, ◌<◌, ◌++◌, ◌∷◌, ◌^◌, ℕ, [], List, pos, true, length, map, IfOk, IfSome};
 ghost use Rattle.std.specs.Prelude.{OnOk};
@@ -17,7 +17,7 @@ use std::alloc::Global;
 use std::collections::HashMap;
 use store_tables::{MoveRow, SeenRow};
 
-// What stood so far, once it stands after that ply too.
+// The count of a position if it occurs once more, after that ply.
 pub(crate) fn stood_then(found: Option<Stood>, ply: usize) -> Stood
     ensures { stood_seldom found → result ≡ stood_then found ply }
 {
@@ -33,7 +33,7 @@ pub(crate) fn stood_then(found: Option<Stood>, ply: usize) -> Stood
     }
 }
 
-// Counts the text that stands after that ply.
+// Counts a position that occurs after that ply.
 fn count<'a>(counts: &mut HashMap<&'a str, Stood>, text: &'a str, ply: usize) -> Result<(), Memory>
     ensures { OnOk result ((texts : List (List ℕ)) → AreCounted texts (found_in counts.old) → length texts ≡ ply →
         ply ≤ 600 → AreCounted (texts ++ text.now ∷ []) (found_in counts.new)) }
@@ -43,7 +43,7 @@ fn count<'a>(counts: &mut HashMap<&'a str, Stood>, text: &'a str, ply: usize) ->
     Ok(())
 }
 
-// How often each position of a line stands, by the text of its start and those of the rows of its moves.
+// Counts the initial position and the positions in the rows of the moves.
 fn counted<'a>(
     alloc: Global,
     start: &'a str,
@@ -60,7 +60,6 @@ fn counted<'a>(
     Ok(counts)
 }
 
-// Whether a number of a row is the one that is wanted.
 pub(crate) fn is_number(number: i64, wanted: usize) -> bool
     ensures sound { result ≡ true → number ≡ pos wanted }
     ensures complete { number ≡ pos wanted → result ≡ true }
@@ -71,7 +70,7 @@ pub(crate) fn is_number(number: i64, wanted: usize) -> bool
     }
 }
 
-// Whether the row has the game, and the numbers that were counted for its text.
+// Whether the row has this game, and the count and first ply that were found for its position.
 fn has_counted(row: &SeenRow, game: u32, found: Option<Stood>) -> bool
     ensures sound { result ≡ true → HasCounted game row.now found }
     ensures complete { HasCounted game row.now found → result ≡ true }
@@ -86,7 +85,7 @@ fn has_counted(row: &SeenRow, game: u32, found: Option<Stood>) -> bool
     }
 }
 
-// Whether the rows are those of the texts that were counted, each once.
+// Whether there is exactly one row for each counted position.
 fn are_counted(game: u32, counts: HashMap<&str, Stood>, rows: &[SeenRow]) -> bool
     ensures sound { result ≡ true → (texts : List (List ℕ)) → AreCounted texts (found_in counts.entry) →
         AreEachOnce (map seen_cells rows.now) (rows_of_texts game texts) }
@@ -103,7 +102,11 @@ fn are_counted(game: u32, counts: HashMap<&str, Stood>, rows: &[SeenRow]) -> boo
     left.is_empty()
 }
 
-/// Whether the rows are those of the positions of the game that has these moves, each once and in any order.
+/// Whether there is exactly one correct row for each position of the game with these moves, in any order.
+///
+/// # Errors
+///
+/// `Memory` if out of memory.
 pub fn are_seen<R: Rules>(
     alloc: Global,
     game: u32,

@@ -1,4 +1,4 @@
-//! Whether the rows of scores are those of a club's games.
+//! Checks the rows of scores against the results of the games.
 
 ghost use Rattle.std.specs.Prelude.{◌≡◌, ◌<◌, ◌^◌, ◌++◌, ◌∷◌, [], List, Option, Some, true, IfOk};
 ghost use Rattle.std.specs.Prelude.{length, map, string_bytes};
@@ -24,7 +24,7 @@ use std::alloc::Global;
 use std::collections::HashMap;
 use store_tables::{GameRecord, ScoreRow};
 
-// The sums of a pair, zeros where it has none.
+// The sums of a pair; zeros if there are none.
 fn sums_in(standings: &HashMap<Pair, Sums>, pair: &Pair) -> Sums
     ensures { result ≡ sums_or_none (sums_at standings.now pair.now) }
 {
@@ -34,7 +34,7 @@ fn sums_in(standings: &HashMap<Pair, Sums>, pair: &Pair) -> Sums
     }
 }
 
-// Counts a score of a pair.
+// Adds a result to the sums of a pair. An overflow, which no club reaches, changes nothing.
 fn add(standings: &mut HashMap<Pair, Sums>, pair: Pair, score: OwnScore) -> Result<(), Memory>
     ensures { IfOk result (λ done. (ms : List Meeting) → AreStandings standings.old ms → length ms < 2 ^ 61 →
         AreStandings standings.new (ms ++ record { pair = pair; score = score } ∷ [])) }
@@ -49,7 +49,7 @@ fn add(standings: &mut HashMap<Pair, Sums>, pair: Pair, score: OwnScore) -> Resu
     }
 }
 
-// The score of a game, once it has ended.
+// The score of a game. None while it runs, or if the text is no score.
 fn told_score(game: &GameRecord) -> Option<Score>
     ensures { (score : Option Score) →
         option_map (λ s. string_bytes s) game.now.result ≡ option_map score_text score → result ≡ score }
@@ -60,7 +60,7 @@ fn told_score(game: &GameRecord) -> Option<Score>
     }
 }
 
-// Counts the game of a row, once it has ended, for both players.
+// Adds the result of an ended game for both players.
 fn add_game(standings: &mut HashMap<Pair, Sums>, game: &GameRecord) -> Result<(), Memory>
     ensures { IfOk result (λ done. (ms own : List Meeting) → AreStandings standings.old ms → Tells game.now own →
         length (ms ++ own) < 2 ^ 61 → AreStandings standings.new (ms ++ own)) }
@@ -75,7 +75,7 @@ fn add_game(standings: &mut HashMap<Pair, Sums>, game: &GameRecord) -> Result<()
     }
 }
 
-// The sums of all pairs that met in the games of these rows.
+// The sums of all pairs in these games.
 fn standings_of(alloc: Global, games: &[GameRecord]) -> Result<HashMap<Pair, Sums>, Memory>
     ensures { IfOk result (λ standings. (ms : List Meeting) → AreTold games.now ms → length ms < 2 ^ 61 →
         AreStandings standings ms) }
@@ -87,7 +87,6 @@ fn standings_of(alloc: Global, games: &[GameRecord]) -> Result<HashMap<Pair, Sum
     Ok(standings)
 }
 
-// Whether these are the sums of the row.
 fn are_sums_of(sums: Sums, row: &ScoreRow) -> bool
     ensures sound { result ≡ true → sums ≡ sums_found (Some row.now) }
     ensures complete { sums ≡ sums_found (Some row.now) → result ≡ true }
@@ -117,7 +116,11 @@ fn are_those(standings: HashMap<Pair, Sums>, rows: &[ScoreRow]) -> bool
     left.is_empty()
 }
 
-/// Whether the rows are the scores of the club whose games these are, each once and in whatever order.
+/// Whether the rows are the scores of these games, one for each pair, in any order.
+///
+/// # Errors
+///
+/// `Memory` if out of memory.
 pub fn scores_are(alloc: Global, games: &[GameRecord], rows: &[ScoreRow]) -> Result<bool, Memory>
     ensures sound { IfOk result (λ are. are ≡ true → (s : ClubState) → AreGamesOf s games.now →
         AreEachOnce (map score_cells rows.now) (scores_in both_games s.games)) }

@@ -1,4 +1,4 @@
--- The orders that seat a round robin.
+-- The batch that seats a round robin.
 use Rattle.std.specs.Prelude.{ℕ, ◌+◌, ◌-◌, Bool, false, ◌||◌, List, [], ◌∷◌, ◌++◌, Option, Some, None, option_map}
 use Rattle.std.specs.Prelude.{map, get_or}
 use Rattle.std.specs.Prelude.{codes, decimal, string_bytes}
@@ -19,20 +19,20 @@ use Rattle.club_words.specs.declared.batches.RoundRobin.{RoundRobin}
 abbrev pub is_same : String Global → String Global → Bool
 is_same one other = bytes_eq (string_bytes one) (string_bytes other)
 
--- some name stands twice
+-- a name occurs twice
 abbrev pub has_twice : List (String Global) → Bool
 has_twice [] = false
 has_twice (name ∷ names) = list_any (is_same name) names || has_twice names
 
--- the key of a game of the table: that of board 3 in round 1 is PREFIX1.3
+-- the key of a game; board 3 of round 1 has PREFIX1.3
 abbrev pub key_of : List ℕ → Pairing → List ℕ
 key_of prefix game = prefix ++ (decimal game.round ++ (codes "." ++ decimal game.board))
 
--- the name of a player, who are numbered from 1
+-- the name of a player; players count from 1
 abbrev pub name_at : List (List ℕ) → ℕ → List ℕ
 name_at names player = get_or names (player - 1) []
 
--- the seat of a game of the table
+-- the `seat` command of a game of the pairing table
 abbrev pub seat_command : RoundRobin → Pairing → Command
 seat_command robin game =
     seat (key_of (string_bytes robin.prefix) game) (string_bytes robin.event)
@@ -42,11 +42,11 @@ seat_command robin game =
 abbrev pub seat_request : RoundRobin → (moment : ℕ) → Pairing → Request
 seat_request robin moment game = record { who = officer; command = seat_command robin game; moment = moment }
 
--- the numbers of so many orders, from 1 on
+-- the numbers from 1 to `count`
 abbrev pub numbers_to : ℕ → List ℕ
 numbers_to count = map (λ place. place + 1) (range_with_len 0 count)
 
--- the name of the member whose games are asked for, of whatever event
+-- the member of a query for the games of a member in any event
 abbrev pub name_asked : (event member : Option (String Global)) → Option (List ℕ)
 name_asked None member = option_map string_bytes member
 name_asked (Some event) member = None
@@ -55,7 +55,7 @@ abbrev pub asked_name : Question → Option (List ℕ)
 asked_name (Games listing) = name_asked listing.event listing.member
 asked_name _ = None
 
--- a seat as the line of a batch
+-- a `seat` command as a line of a batch
 abbrev pub seat_line : given_seat.Seat → List ℕ
 seat_line s =
     codes "seat " ++ string_bytes s.key ++ codes " " ++ string_bytes s.event ++ codes " " ++ string_bytes s.first

@@ -1,4 +1,4 @@
-//! The orders of a batch as text, and those that seat a round robin.
+//! Batches of commands: parsing them from text, and seating a round robin.
 #![tactic(auto)]
 
 pub mod orders;

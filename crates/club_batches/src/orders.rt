@@ -1,4 +1,4 @@
-//! The orders of a batch, read from a text.
+//! Parsing of a batch from text.
 
 ghost use Rattle.std.specs.Prelude.{◌≡◌, ◌++◌, ◌∷◌, [], IfOk, OnOk};
 ghost use Rattle.club_batches.specs.Orders.{order_at};
@@ -9,20 +9,20 @@ use club_requests::{Command, Request, Who};
 use club_words::{BadWords, Batch, Line, read_line};
 use std::alloc::{AllocError, Global};
 
-/// The most bytes of a text of orders.
+/// The maximum length of a batch's text, in bytes.
 pub const BATCH_BYTES: usize = 1_048_576;
 
-/// The most orders of a batch.
+/// The maximum number of commands in a batch.
 const MOST_ORDERS: usize = 10_000;
 
-/// An order of a batch, with the number of its line. Lines are numbered from 1.
+/// A command of a batch with its line number, counted from 1.
 #[derive(Debug, Drop)]
 pub struct Numbered {
     pub number: u64,
     pub line: Line,
 }
 
-// Why a line is no order.
+// An error with the number of its line.
 fn bad_line(alloc: Global, number: u64, why: &str) -> BadWords {
     match format!(in alloc; "error: line {number}: {why}") {
         Ok(text) => BadWords::Text(text),
@@ -30,20 +30,20 @@ fn bad_line(alloc: Global, number: u64, why: &str) -> BadWords {
     }
 }
 
-// What the parser says of the words of a line, without its own `error: `.
+// An error of the parser, with the line number added.
 fn bad_words(alloc: Global, number: u64, bad: &BadWords) -> BadWords {
     match bad {
         BadWords::Text(text) => {
             let text = text.as_str();
             bad_line(alloc, number, text.strip_prefix("error: ").unwrap_or(text))
         }
-        // No line is asked for the version.
+        // Unreachable: a batch line has no `--version`.
         BadWords::Version(text) => bad_line(alloc, number, text.as_str()),
         BadWords::Memory => BadWords::Memory,
     }
 }
 
-// Why bytes are no text, of which those before a place are.
+// The error for bytes that are not UTF-8; `place` is the length of the valid prefix.
 fn no_text(alloc: Global, bytes: &[u8], place: usize) -> BadWords {
     let before = bytes.get(..place).unwrap_or(bytes);
     let ends = before.iter().filter(|byte| **byte == b'\n').count();
@@ -54,12 +54,12 @@ fn no_text(alloc: Global, bytes: &[u8], place: usize) -> BadWords {
     )
 }
 
-// Whether a line has no order: it is empty, or begins with a `#`.
+// Whether a line is empty or a comment, which begins with `#`.
 fn is_passed_over(line: &str) -> bool {
     line.starts_with('#') || line.trim().is_empty()
 }
 
-// Whether a line imports a record that is not in a file.
+// Whether a line reads its record from standard input, which a batch does not allow.
 fn reads_input(line: &Line) -> bool {
     match &line.record {
         Some(path) => path.as_str() == "-",
@@ -67,7 +67,7 @@ fn reads_input(line: &Line) -> bool {
     }
 }
 
-// The words of a line, behind the program's own name.
+// The words of a line, after the program's name.
 fn words_of<'a>(alloc: Global, line: &'a str) -> Result<Vec<&'a str>, AllocError> {
     let mut words = Vec::new(alloc);
     words.push("club")?;
@@ -77,7 +77,6 @@ fn words_of<'a>(alloc: Global, line: &'a str) -> Result<Vec<&'a str>, AllocError
     Ok(words)
 }
 
-// The order of a line.
 fn order_of(alloc: Global, number: u64, line: &str) -> Result<Numbered, BadWords>
     ensures { IfOk result (λ order. order.number ≡ number) }
 {
@@ -93,7 +92,7 @@ fn order_of(alloc: Global, number: u64, line: &str) -> Result<Numbered, BadWords
     }
 }
 
-// Adds the order of a line, if it has one.
+// Parses a line and appends its command, if it has one.
 fn push_line(
     alloc: Global,
     orders: &mut Vec<Numbered>,
@@ -113,8 +112,14 @@ fn push_line(
     }
 }
 
-/// The orders of a text, a line each. Empty lines and those that begin with a `#` are passed over; the end of a line is
-/// LF or CRLF. The first line that is no order is refused with its number, and a text that is too long as a whole.
+/// Parses a batch, one command per line. Empty lines and lines that begin with `#` are skipped; lines end with LF or
+/// CRLF.
+///
+/// # Errors
+///
+/// - `BadWords::Text` if the text is longer than `BATCH_BYTES` or not UTF-8, has more than 10,000 commands, or has an
+///   invalid line. The message has the number of the first such line.
+/// - `BadWords::Memory` if out of memory.
 pub fn read_orders(alloc: Global, bytes: &[u8]) -> Result<Vec<Numbered>, BadWords> {
     if bytes.len() > BATCH_BYTES {
         let text = String::from_str(alloc, "error: a batch has at most 1048576 bytes\n")?;
@@ -133,7 +138,14 @@ pub fn read_orders(alloc: Global, bytes: &[u8]) -> Result<Vec<Numbered>, BadWord
     Ok(orders)
 }
 
-/// A batch of no orders so far, before which these questions are asked.
+/// Parses a batch, one command per line. Empty lines and lines that begin with `#` are skipped; lines end with LF or
+/// CRLF.
+///
+/// # Errors
+///
+/// - `BadWords::Text` if the text is longer than `BATCH_BYTES` or not UTF-8, has more than 10,000 commands, or has an
+///   invalid line. Except for the length, the message has the number of the first such line.
+/// - `BadWords::Memory` if out of memory.
 pub fn batch_for(alloc: Global, questions: Vec<Question>) -> Batch
     ensures questions { result.questions ≡ questions }
     ensures numbers { result.numbers.items ≡ [] }
@@ -146,7 +158,11 @@ pub fn batch_for(alloc: Global, questions: Vec<Question>) -> Batch
     }
 }
 
-/// Adds an order of the officer's to a batch, at that moment, under a number.
+/// Appends a command of the officer to a batch.
+///
+/// # Errors
+///
+/// `AllocError` if out of memory.
 pub fn push_order(
     batch: &mut Batch,
     number: u64,

@@ -1,4 +1,4 @@
-//! The orders that seat a round robin.
+//! The batch that seats a round robin.
 
 ghost use Rattle.std.specs.Prelude.{◌≡◌, ◌++◌, None, Some, false, IfOk, OnOk, length, map, string_bytes};
 ghost use Rattle.std.specs.List.{list_any};
@@ -15,13 +15,13 @@ use club_words::{Batch, RoundRobin};
 use pairings::{Pairing, rounds};
 use std::alloc::{AllocError, Global};
 
-/// The most players of a round robin.
+/// The maximum number of players of a round robin.
 const MOST_PLAYERS: usize = 32;
 
-/// The fewest.
+/// The minimum number of players of a round robin.
 const FEWEST_PLAYERS: usize = 2;
 
-/// Why nobody is to be seated.
+/// The reason why no round robin is seated.
 #[derive(Debug, Drop)]
 pub enum Unseated {
     Refused(Refusal),
@@ -34,21 +34,19 @@ impl From<AllocError> for Unseated {
     }
 }
 
-// Whether two names are the same.
 fn is_same(one: &String, other: &String) -> bool
     ensures { result ≡ is_same one.now other.now }
 {
     one.as_str() == other.as_str()
 }
 
-// Whether a name is one of those.
 fn is_among(name: &String, names: &[String]) -> bool
     ensures { result ≡ list_any (is_same name.now) names.now }
 {
     names.iter().any(|other| is_same(name, other))
 }
 
-// Whether some name stands twice.
+// Whether a name occurs twice.
 fn has_twice(names: &[String]) -> bool
     ensures { result ≡ has_twice names.now }
 {
@@ -60,7 +58,7 @@ fn has_twice(names: &[String]) -> bool
     false
 }
 
-// The question whether a member has the name: else it is refused.
+// A query that is refused unless a member has the name.
 fn question_for(alloc: Global, name: &str) -> Result<Question, AllocError>
     ensures { IfOk result (λ question. asked_name question ≡ Some name.now) }
 {
@@ -71,7 +69,6 @@ fn question_for(alloc: Global, name: &str) -> Result<Question, AllocError>
     }))
 }
 
-// The question of each name.
 fn questions_for(alloc: Global, names: &[String]) -> Result<Vec<Question>, AllocError>
     ensures { IfOk result (λ questions. map asked_name questions.items ≡
         map (λ name. Some (string_bytes name)) names.now) }
@@ -83,7 +80,6 @@ fn questions_for(alloc: Global, names: &[String]) -> Result<Vec<Question>, Alloc
     Ok(questions)
 }
 
-// The key of a game of the table.
 fn key_of(alloc: Global, prefix: &str, game: Pairing) -> Result<String, AllocError>
     ensures { IfOk result (λ key. string_bytes key ≡ key_of prefix.now game) }
 {
@@ -92,7 +88,7 @@ fn key_of(alloc: Global, prefix: &str, game: Pairing) -> Result<String, AllocErr
     format!(in alloc; "{prefix}{round}.{board}")
 }
 
-// A copy of the name of a player.
+// A copy of a player's name. Players count from 1.
 fn name_of(alloc: Global, names: &[String], player: u32) -> Result<String, AllocError>
     ensures { IfOk result (λ name. string_bytes name ≡ name_at (map string_bytes names.now) player) }
 {
@@ -102,7 +98,6 @@ fn name_of(alloc: Global, names: &[String], player: u32) -> Result<String, Alloc
     }
 }
 
-// The order that seats a game of the table.
 fn seat_of(alloc: Global, robin: &RoundRobin, game: Pairing) -> Result<Command, AllocError>
     ensures { IfOk result (λ command. command_of command ≡ seat_command robin.entry.now game) }
 {
@@ -114,13 +109,13 @@ fn seat_of(alloc: Global, robin: &RoundRobin, game: Pairing) -> Result<Command, 
     }))
 }
 
-// Whether each name may be a member's.
+// Whether each name is a valid name of a member.
 fn are_names(names: &[String]) -> bool {
     names.iter().all(|name| is_name(name.as_str()))
 }
 
-// Why nobody is to be seated, if it shows without the club: an event that there cannot be, or a name that no member can
-// have or that stands twice.
+// The refusal that does not depend on the club: the event's name is invalid, or a member's name is invalid or occurs
+// twice.
 fn refusal_of(robin: &RoundRobin) -> Option<Refusal>
     ensures { result ≡ None → has_twice robin.entry.now.names.items ≡ false }
 {
@@ -136,7 +131,7 @@ fn refusal_of(robin: &RoundRobin) -> Option<Refusal>
     None
 }
 
-// Whether the keys of all games may be keys.
+// Whether the keys of all games are valid.
 fn are_keys(alloc: Global, prefix: &str, games: &[Pairing]) -> Result<bool, AllocError> {
     for game in games {
         let key = key_of(alloc, prefix, *game)?;
@@ -147,7 +142,7 @@ fn are_keys(alloc: Global, prefix: &str, games: &[Pairing]) -> Result<bool, Allo
     Ok(true)
 }
 
-// The orders that seat the games, numbered from 1.
+// The batch that seats the games, with commands numbered from 1.
 fn seated(
     alloc: Global,
     robin: &RoundRobin,
@@ -169,9 +164,14 @@ fn seated(
     Ok(batch)
 }
 
-/// The orders that seat a round robin at a moment, a seat for each game of the Berger table, round after round,
-/// numbered from 1; before them it is asked whether each name is a member's. Refuses names that stand twice or that no
-/// member can have, keys that are none, and more or fewer players than a table has.
+/// The batch that seats a round robin: one `seat` command for each game of the Berger table, in the order of rounds,
+/// numbered from 1. Its queries check that each name is a member's.
+///
+/// # Errors
+///
+/// - `Unseated::Refused` with `BadValue` if there are fewer than 2 or more than 32 players, a name is invalid or occurs
+///   twice, or a key is invalid; with `UnknownEvent` if the event's name is invalid.
+/// - `Unseated::Memory` if out of memory.
 pub fn seats_of(alloc: Global, robin: &RoundRobin, moment: Moment) -> Result<Batch, Unseated>
     ensures requests { IfOk result (λ batch. map request_of batch.requests.items ≡
         map (seat_request robin.entry.now moment)
@@ -198,7 +198,7 @@ pub fn seats_of(alloc: Global, robin: &RoundRobin, moment: Moment) -> Result<Bat
     Ok(seated(alloc, robin, games.as_slice(), questions, moment)?)
 }
 
-// The line of a seat, as a batch takes it.
+// Appends a `seat` command as a line of a batch.
 fn push_seat_line(lines: &mut String, seat: &Seat) -> Result<(), AllocError>
     ensures { OnOk result (string_bytes lines.new ≡ string_bytes lines.old ++ seat_line seat.now) }
 {
@@ -209,7 +209,7 @@ fn push_seat_line(lines: &mut String, seat: &Seat) -> Result<(), AllocError>
     writeln!(lines, "seat {key} {event} {first} {second}")
 }
 
-// The line of an order, if it is a seat.
+// Appends a command as a line of a batch, if it is a `seat`.
 fn push_line(lines: &mut String, command: &Command) -> Result<(), AllocError>
     ensures { OnOk result (string_bytes lines.new ≡ string_bytes lines.old ++ line_of command.now) }
 {
@@ -219,7 +219,6 @@ fn push_line(lines: &mut String, command: &Command) -> Result<(), AllocError>
     }
 }
 
-// The seats among orders as lines.
 fn lines_of(alloc: Global, requests: &[Request]) -> Result<String, AllocError>
     ensures { IfOk result (λ lines. string_bytes lines ≡ seat_lines requests.now) }
 {
@@ -230,7 +229,11 @@ fn lines_of(alloc: Global, requests: &[Request]) -> Result<String, AllocError>
     Ok(lines)
 }
 
-/// The seats of a batch as lines that a batch takes.
+/// The `seat` commands of a batch as lines that `read_orders` accepts.
+///
+/// # Errors
+///
+/// `AllocError` if out of memory.
 pub fn seat_lines(alloc: Global, batch: &Batch) -> Result<String, AllocError>
     ensures { IfOk result (λ lines. string_bytes lines ≡ seat_lines batch.now.requests.items) }
 {

@@ -1,4 +1,4 @@
--- What is put of a challenge, with the game that it starts where it was accepted.
+-- The rows to upsert for a challenge, with the game that it starts if it is accepted.
 use Rattle.std.specs.Prelude.{◌≡◌, ◌+◌, ℕ, List, [], ◌∷◌, None, Bool, true, false, ⊤}
 use Rattle.sqlite.specs.Order.{Row}
 use Rattle.club_core.specs.declared.challenges.Challenge.{Challenge}
@@ -14,7 +14,7 @@ use Rattle.club_rows.specs.Scores.{Meeting}
 use Rattle.store_tables.specs.declared.rows.Changes.{Changes}
 use Rattle.club_changes.specs.Steps.{Puts, started, started_seen, started_scores, no_rows}
 
--- the row of the game that it starts, those of its positions, and the meetings that it is: it has no key
+-- the rows of the started game: its own, its positions and its results; it has no key
 abbrev pub begun_games : List Event → ℕ → Challenge → ChallengeState → List Row
 begun_games events moment c Open = []
 begun_games events moment c Withdrawn = []
@@ -33,7 +33,7 @@ begun_meetings events moment c Withdrawn = []
 begun_meetings events moment c Refused = []
 begun_meetings events moment c (Accepted id) = started_scores events None (pairing_for c) moment
 
--- these rows of challenges are put, with those of the game
+-- the rows to upsert are these challenges and the started game
 pub record PutsBegun (events : List Event) (moment : ℕ) (c : Challenge) (challenges : List Row)
     (changes : Changes) : Type 0 where
   pub puts : Puts changes moment
@@ -44,7 +44,7 @@ pub record PutsBegun (events : List Event) (moment : ℕ) (c : Challenge) (chall
       })
   pub running : begun_meetings events moment c c.standing ≡ []
 
--- how an accepted answer leaves the challenge: refused, or started with the next game
+-- the state after the answer: refused, or accepted with the next game's id
 abbrev pub standing_after : ℕ → Bool → ChallengeState
 standing_after games true = Accepted (games + 1)
 standing_after games false = Refused
@@ -54,7 +54,7 @@ AnswersTo games accept (accepted c reply) = c.standing ≡ standing_after games 
 AnswersTo games accept (repeated reply) = ⊤
 AnswersTo games accept (refused refusal) = ⊤
 
--- none of these events is that of the challenge that was accepted
+-- the event of the accepted challenge does not exist
 abbrev pub HasNoEvent : List Event → ChallengeDecision → Type 0
 HasNoEvent events (decision.Accepted c answer) = place events (pairing_for c).event ≡ None
 HasNoEvent events (decision.Repeated answer) = ⊥

@@ -1,4 +1,4 @@
--- The row of a game that ends by time.
+-- The row of a game that is lost on time.
 use Rattle.std.specs.Prelude.{[], ◌∷◌, string_bytes}
 use Rattle.sqlite_value.specs.declared.value.Value.TheVariants.{Int, Text}
 use Rattle.sqlite.specs.Values.{or_null}
@@ -9,7 +9,7 @@ use Rattle.club_requests.specs.declared.outside_end.OutsideEnd.TheVariants.{Time
 use Rattle.club_requests.specs.OutsideEnd.{outside_text}
 use Rattle.store_tables.specs.declared.rows.GameRecord.{GameRecord}
 
--- the cells of the row, with the end by time and this score
+-- the values of the row with the end `Time` and this score
 abbrev pub cells_lost : GameRecord → Score → Row
 cells_lost r score =
     Int r.id ∷ or_null (λ s. Text (string_bytes s)) r.key ∷ Int r.event ∷ Int r.first ∷ Int r.second ∷ Int r.start

@@ -1,4 +1,4 @@
--- How a fault of making rows is written, and what one of a sweep's comes to.
+-- The texts of faults, and the conversion of a sweep's fault.
 use Rattle.std.specs.Prelude.{ℕ, List, codes}
 use Rattle.club_changes.specs.declared.fault.ChangeFault.{ChangeFault}
 use Rattle.club_changes.specs.declared.fault.ChangeFault.TheVariants as fault

@@ -1,4 +1,4 @@
--- What is decided of an import by rows of the club's tables.
+-- The effect of an import on the club's tables.
 use Rattle.std.specs.Prelude.{◌≡◌, ◌≢◌, ◌+◌, ℕ, List, [], ◌∷◌, length, Option, Some, None}
 use Rattle.sqlite.specs.Order.{Row}
 use Rattle.squares.specs.declared.sides.Score.{Score}
@@ -28,15 +28,15 @@ use Rattle.club_changes.specs.declared.imports.Known.{Known}
 use Rattle.club_changes.specs.Steps.{HaveSame, IsRecordOf, Puts, PutsScores, no_rows}
 use Rattle.club_changes.specs.Stored.{IsStoredGame}
 
--- ---- what is known
+-- ---- the state that an import needs
 
--- the rows of a table of moves that have its number are this game's
+-- the rows of moves with this id are this game's
 abbrev pub TellsLine : {P M E T : Type 0} → GameRules P M E T → Terms → ℕ → Game M → Content → Type 0
 TellsLine laws terms id game content =
     (found : List Row) → AreThose (0 ∷ []) (number id ∷ []) (content (tree_of Moves)) found
     → HaveSame found (move_rows laws terms id game)
 
--- the game that stands under a key of the club
+-- the stored game with this key
 pub record IsUnderKey (s : ClubState) (key : List ℕ) (stored : StoredGame) : Type 0 where
   pub id : ℕ
   pub game : ClubGame
@@ -45,12 +45,12 @@ pub record IsUnderKey (s : ClubState) (key : List ℕ) (stored : StoredGame) : T
   pub keyed : game_under s.games key ≡ keyed_game (Some game) id
   pub stored_is : IsStoredGame s id game stored
 
--- that game, where there is one
+-- the stored game with this key, if there is one
 abbrev pub IsUnder : ClubState → List ℕ → Option StoredGame → Type 0
 IsUnder s key None = (any_under s.games key ≡ None) × (game_under s.games key ≡ None)
 IsUnder s key (Some stored) = IsUnderKey s key stored
 
--- what an import under that key may ask of is the club's
+-- the state that an import under this key needs, taken from the club
 pub record IsKnown (s : ClubState) (key : List ℕ) (known : Known) : Type 0 where
   pub members_are : members_of known.members.items ≡ s.members
   pub events_are : events_of known.events.items ≡ s.events
@@ -58,7 +58,7 @@ pub record IsKnown (s : ClubState) (key : List ℕ) (known : Known) : Type 0 whe
   pub under_is : IsUnder s key known.under
   pub games_are : known.games ≡ length s.games
 
--- this is the stored game, if it is one of this kind
+-- the stored game, if it is of this kind
 abbrev pub IsOfKind : {P M E T : Type 0} → GameRules P M E T → GameKind → Content → Option (Game M) → Option StoredGame
     → Type 0
 IsOfKind laws kind content None None = Unit {0}
@@ -69,9 +69,9 @@ IsOfKind laws kind content (Some game) (Some stored) =
     × TellsLine laws (terms_given stored.terms) stored.id game content
     × IsRecordOf laws (terms_given stored.terms) stored.id stored.row game
 
--- ---- what is decided
+-- ---- the effect
 
--- the machine's outcome of an import, by what is known, and by the game under the key if it is of the event's kind
+-- the outcome of an import, from the known state and the game under the key if it is of the event's kind
 abbrev pub imported_by : {P M E T : Type 0} → GameRules P M E T → GameRecords M → Known → Caller → Import
     → Option (Game M) → Outcome (Imported M)
 imported_by laws records known caller given old =
@@ -84,8 +84,8 @@ imported_by laws records known caller given old =
     old
     known.games)
 
--- What is put of an ended game that is added: its row, those of its moves and of its positions, and those of its
--- players' scores, by what the table had of these.
+-- The rows to upsert for an added, ended game: its own, its moves, its positions, and its players' scores from those in
+-- the table.
 pub record PutsNewGame {P M E T : Type 0} (laws : GameRules P M E T) (terms : Terms) (id moment : ℕ) (table : List Row)
     (new : Game M) (changes : Changes) : Type 0 where
   pub score : Score
@@ -100,7 +100,7 @@ pub record PutsNewGame {P M E T : Type 0} (laws : GameRules P M E T) (terms : Te
         scores = scores;
       })
 
--- the next game is put where an import was accepted, and nothing else
+-- the rows of the next game if the import is accepted, else none
 abbrev pub PutsImport : {P M E T : Type 0} → GameRules P M E T → List Event → (key : List ℕ) → (games moment : ℕ)
     → List Row → Outcome (Imported M) → Option Changes → Type 0
 PutsImport laws events key games moment table (accepted i reply) (Some changes) =
@@ -112,7 +112,7 @@ PutsImport laws events key games moment table (accepted i reply) None = ⊥
 PutsImport laws events key games moment table (repeated reply) (Some changes) = ⊥
 PutsImport laws events key games moment table (refused refusal) (Some changes) = ⊥
 
--- The outcome of an import was found: its answer, and the rows that are put over this table of scores.
+-- The effect has the outcome of the import, and its rows to upsert over this table of scores.
 pub record IsImportedIn {P M E T : Type 0} (laws : GameRules P M E T) (events : List Event) (key : List ℕ)
     (games moment : ℕ) (table : List Row) (after : Outcome (Imported M)) (decided : Decided) : Type 0 where
   pub answer : outcome_of decided.outcome ≡ answered after

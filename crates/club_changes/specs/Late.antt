@@ -1,14 +1,14 @@
--- Which side of a game has lost by time, by the columns of the game's row.
+-- The side that has lost on time, from the columns of a game's row.
 use Rattle.std.specs.Prelude.{◌-◌, ◌&&◌, ℕ, not, Option, Some, None, is_some, nat_lt, if◌then◌else◌}
 use Rattle.squares.specs.declared.sides.Side.{Side}
 use Rattle.club_core.specs.Game.{Clocks, left_of, side_after}
 use Rattle.club_rows.specs.Columns.{Columns}
 
--- the clocks that the columns tell
+-- the clocks in the columns
 abbrev pub clocks_in : Columns → Clocks
 clocks_in c = record { left_first = c.left_first; left_second = c.left_second; since = c.since }
 
--- the side to move, where it has used more seconds than it had left in a game that is not over
+-- the side to move, if the game runs and that side has used more seconds than it had left
 abbrev pub late_side : Columns → ℕ → Option Side
 late_side c moment =
     if not (is_some c.result) && nat_lt (left_of (side_after c.plies) (clocks_in c)) (moment - c.since) then Some

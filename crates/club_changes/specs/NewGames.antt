@@ -8,7 +8,7 @@ use Rattle.club_rows.specs.Tables.{game_row, move_rows}
 use Rattle.store_tables.specs.Cells.{game_cells, move_cells, seen_cells}
 use Rattle.club_changes.specs.declared.imported.added.NewRows.{NewRows}
 
--- the rows are those of this game, which has this id, in the tables of games, of moves and of positions
+-- the rows of this game with this id: its own, its moves and its positions
 pub record AreNewRows {P M E T : Type 0} (rules : GameRules P M E T) (terms : Terms) (id : ℕ) (game : Game M)
     (new : NewRows) : Type 0 where
   pub game_is : game_cells new.game ≡ game_row rules terms id game

@@ -1,4 +1,4 @@
--- The sums of pairs of players as they stand, and the rows that are put where a game ends.
+-- Running sums of scores, and the rows to upsert when a game ends.
 use Rattle.std.specs.Prelude.{◌≡◌, ◌++◌, List, [], ◌∷◌, map, Option}
 use Rattle.std.specs.Option.{option_map}
 use Rattle.sqlite.specs.Order.{Row}
@@ -9,11 +9,11 @@ use Rattle.club_rows.specs.NextScores.{IsFound, row_with}
 use Rattle.club_rows.specs.declared.scores.Pair.{Pair}
 use Rattle.club_rows.specs.declared.scores.Sums.{Sums}
 
--- each pair has the sums of its row, and none where it has no row
+-- each pair has the sums of its row; None if it has no row
 abbrev pub AreStanding : (Pair → Option Sums) → List Row → Type 0
 AreStanding sums rows = (pair : Pair) → IsFound rows pair (option_map (row_with pair) (sums pair))
 
--- rows were added to those that are put; they make of the table what it is now, and the sums stand for that
+-- rows were added to those to upsert; with them the old table becomes the new one, which has these sums
 pub record PutsRows (was now : List Row) (sums : Pair → Option Sums) (old new : List ScoreRow) : Type 0 where
   pub rows : List Row
   pub more : map score_cells new ≡ map score_cells old ++ rows

@@ -1,4 +1,4 @@
--- The club as a machine, and what is decided of a request by rows of its tables.
+-- The club as a state machine, and the effect of a command on its tables.
 use Rattle.std.specs.Prelude.{◌≡◌, ◌≢◌, ◌⊎◌, ◌≤◌, ◌+◌, ◌++◌, ℕ, List, [], ◌∷◌, length, map, Option, Some, None}
 use Rattle.std.specs.Prelude.{slice_get}
 use Rattle.std.specs.Option.{option_map}
@@ -47,7 +47,7 @@ use Rattle.store_tables.specs.Changed.{changed}
 use Rattle.store_tables.specs.Names.{tree_of}
 use Rattle.store_tables.specs.declared.names.Table.TheVariants.{Moves, Seen}
 
--- ---- the machine
+-- ---- the state machine
 
 abbrev pub request : given_who.Who → given_command.Command → ℕ → Request
 request who command moment = record { who = who_of who; command = command_of command; moment = moment }
@@ -58,11 +58,11 @@ club_step = step both_games
 abbrev pub club_next : ClubState → Request → ClubState
 club_next = next both_games
 
--- a caller's command, at the effective moment
+-- a step by a caller's command, with the effective timestamp
 abbrev pub caller_step : ClubState → ℕ → Caller → Command → Outcome ClubState
 caller_step = step_command both_games
 
--- a request, at a moment that there is, leaves a legal club legal
+-- a request with a timestamp in range keeps a legal state legal
 abbrev pub KeepsClub : Type 0
 KeepsClub = (s : ClubState) (r : Request) → r.moment ≤ last_moment → IsClub s → IsClub (club_next s r)
 
@@ -72,11 +72,11 @@ game_in s = row_of_game both_games s.events
 
 -- ---- rows
 
--- each table of a club has the same rows
+-- each table of a club has the same rows, in any order
 abbrev pub AreSame : Content → Content → Type 0
 AreSame = changes.AreSame club_schema
 
--- The rows of each table that are put, beside that of `meta`.
+-- The rows to upsert in each table, except `meta`.
 pub record PutRows : Type 0 where
   pub members : List Row
   pub events : List Row
@@ -99,7 +99,7 @@ no_rows = record {
   scores = [];
 }
 
--- These rows are put, with the moment as that of the last accepted command, and no other.
+-- Exactly these rows are upserted, with this timestamp as that of the last accepted command.
 pub record Puts (changes : Changes) (moment : ℕ) (rows : PutRows) : Type 0 where
   pub meta : option_map meta_cells changes.meta ≡ Some (meta_row 2 moment)
   pub members_are : map member_cells changes.members.items ≡ rows.members
@@ -111,17 +111,17 @@ pub record Puts (changes : Changes) (moment : ℕ) (rows : PutRows) : Type 0 whe
   pub seen_are : map seen_cells changes.seen.items ≡ rows.seen
   pub scores_are : map score_cells changes.scores.items ≡ rows.scores
 
--- the row of a position, where there is one
+-- the row of a position, if there is one
 abbrev pub seen_list : Option SeenRow → List Row
 seen_list None = []
 seen_list (Some row) = seen_cells row ∷ []
 
--- the rows of the two players, where there are any
+-- the rows of the two players, if there are any
 abbrev pub score_list : Option ScorePair → List Row
 score_list None = []
 score_list (Some pair) = score_cells pair.first ∷ score_cells pair.second ∷ []
 
--- What is put of scores where a game ended so: the rows of its two players, by those that the table had of them.
+-- The rows of scores to upsert after an ended game: those of its two players, from those in the table.
 pub record PutsScores (table : List Row) (event first second : ℕ) (score : Score) (rows : List Row) : Type 0 where
   pub firsts : Option ScoreRow
   pub seconds : Option ScoreRow
@@ -131,7 +131,7 @@ pub record PutsScores (table : List Row) (event first second : ℕ) (score : Sco
   pub next : AreNext event first second score firsts seconds pair
   pub rows_are : rows ≡ score_cells pair.first ∷ score_cells pair.second ∷ []
 
--- and nothing where it goes on
+-- the same; none while the game runs
 abbrev pub PutsScoresOf : List Row → (event first second : ℕ) → Option Score → List Row → Type 0
 PutsScoresOf table event first second None rows = rows ≡ []
 PutsScoresOf table event first second (Some score) rows = PutsScores table event first second score rows
@@ -142,66 +142,66 @@ changed_if (Some changes) content = changed changes content
 
 -- ---- games that start
 
--- the row of a game of this kind and these terms that was just seated, under a key or under none
+-- the row of a new game with this kind and these terms, with or without a key
 abbrev pub first_row : GameKind → Terms → ℕ → Option (List ℕ) → Pairing → ℕ → Row
 first_row Draughts terms id key pairing moment = game_row both_games.draughts terms id (seated key pairing moment)
 first_row Shogi terms id key pairing moment = game_row both_games.shogi terms id (seated key pairing moment)
 
--- the rows of the positions of a game of this kind that was just seated
+-- the rows of the positions of a new game of this kind
 abbrev pub first_seen_rows : GameKind → ℕ → Option (List ℕ) → Pairing → ℕ → List Row
 first_seen_rows Draughts id key pairing moment = seen_rows both_games.draughts id (seated key pairing moment)
 first_seen_rows Shogi id key pairing moment = seen_rows both_games.shogi id (seated key pairing moment)
 
--- the rows of the positions of a game of one of these events that was just seated
+-- the rows of the positions of a new game in one of these events
 abbrev pub started_seen : List Event → ℕ → Option (List ℕ) → Pairing → ℕ → List Row
 started_seen events id key pairing moment =
     rows_of_seen both_games id (seated_as (kind_at (place events pairing.event)) key pairing moment)
 
--- the meetings that a game of this kind that was just seated is: none, as it has not ended
+-- the results of a new game of this kind: none, as it has not ended
 abbrev pub first_meetings : GameKind → Option (List ℕ) → Pairing → ℕ → List Meeting
 first_meetings kind key pairing moment = meetings_in both_games (seated_as kind key pairing moment)
 
 abbrev pub started_scores : List Event → Option (List ℕ) → Pairing → ℕ → List Meeting
 started_scores events key pairing moment = first_meetings (kind_at (place events pairing.event)) key pairing moment
 
--- the row of a game of one of these events that was just seated
+-- the row of a new game in one of these events
 abbrev pub started : List Event → ℕ → Option (List ℕ) → Pairing → ℕ → Row
 started events id key pairing moment = row_of_game both_games events id
     (seated_as (kind_at (place events pairing.event)) key pairing moment)
 
--- ---- what is decided
+-- ---- the effect of a command
 
--- what is put of the move that is answered so, if it is one
+-- the row of the move, if the reply is to a move
 abbrev pub answered_rows : ℕ → Answer → ℕ → List Row
 answered_rows id (answer.Moved mv) moment = made_row id (move_reply_of mv) moment ∷ []
 answered_rows id _ moment = []
 
--- the seconds that the answer to a move shows, and else none
+-- the remaining seconds in the reply to a move, else 0
 abbrev pub left_answered : Answer → ℕ
 left_answered (answer.Moved mv) = mv.left
 left_answered _ = 0
 
--- the rows of a table of positions tell what stood in this game
+-- a lookup of a position of this game in the content finds its row
 abbrev pub TellsSeen : {P M E T : Type 0} → GameRules P M E T → ℕ → Game M → Content → Type 0
 TellsSeen laws id game content =
     (text : List ℕ) (found : List SeenRow) →
     AreThose (0 ∷ 1 ∷ []) (number id ∷ Text text ∷ []) (content (tree_of Seen)) (map seen_cells found)
     → IsFound laws id game text (slice_get found 0)
 
--- the rows of a table of moves tell what was played in this game
+-- a lookup of a ply of this game in the content finds its row
 abbrev pub TellsMoves : {P M E T : Type 0} → GameRules P M E T → Terms → ℕ → Game M → Content → Type 0
 TellsMoves laws terms id game content =
     (ply : ℕ) (found : List MoveRow) → AreThose (0 ∷ 1 ∷ []) (number id ∷ number ply ∷ []) (content (tree_of Moves))
     (map move_cells found)
     → option_map move_cells (slice_get found 0) ≡ row_at laws terms id game ply
 
--- the rows of a table of moves that have its number are this game's
+-- the rows of moves with this id are this game's
 abbrev pub TellsLine : {P M E T : Type 0} → GameRules P M E T → Terms → ℕ → Game M → Content → Type 0
 TellsLine laws terms id game content =
     (found : List Row) → AreThose (0 ∷ []) (number id ∷ []) (content (tree_of Moves)) found
     → HaveSame found (move_rows laws terms id game)
 
--- the row of the last position of a game that a step leaves
+-- the row of the last position after a step
 abbrev pub HasSeen : {P M E T : Type 0} → GameRules P M E T → ℕ → Outcome (Game M) → Option SeenRow → Type 0
 HasSeen laws id (accepted new reply) seen =
     (row : SeenRow) × (seen ≡ Some row) × IsSeenRow laws id new (laws.write_position (last_position laws new))
@@ -209,7 +209,7 @@ HasSeen laws id (accepted new reply) seen =
 HasSeen laws id (repeated reply) seen = Unit {0}
 HasSeen laws id (refused refusal) seen = Unit {0}
 
--- the same after a decision that made a move; none where it made none
+-- the same after a decision that made a move; None if it made none
 abbrev pub IsSeenAfter : {R P M E T : Type 0} → GameRules P M E T → ℕ → Outcome (Game M) → Decision R P M E T
     → Option SeenRow → Type 0
 IsSeenAfter laws id outcome (decision.Accepted row (Some made) answer) seen = HasSeen laws id outcome seen
@@ -223,15 +223,15 @@ HasTwoPlayers (decision.Accepted row made answer) = row.first ≢ row.second
 HasTwoPlayers (decision.Repeated answer) = Unit {0}
 HasTwoPlayers (decision.Refused refusal) = Unit {0}
 
--- the rows of scores that a decision puts
+-- the rows of scores that a decision changes
 abbrev pub AreScoresAfter : {R P M E T : Type 0} → List Row → Decision R P M E T → Option ScorePair → Type 0
 AreScoresAfter table (decision.Accepted row made answer) scores =
     PutsScoresOf table row.event row.first row.second row.result (score_list scores)
 AreScoresAfter table (decision.Repeated answer) scores = Unit {0}
 AreScoresAfter table (decision.Refused refusal) scores = Unit {0}
 
--- What is put of a move that was played in a running game: the game's row, the move's, which is the last of its moves,
--- that of the position after it, and where the game has ended those of the scores.
+-- The rows to upsert after a move: the game's, the new move's, that of the position after it, and the scores if the
+-- game has ended.
 pub record PutsMove {P M E T : Type 0} (laws : GameRules P M E T) (terms : Terms) (id moment : ℕ) (table : List Row)
     (old new : Game M) (changes : Changes) : Type 0 where
   pub event : new.event ≡ old.event
@@ -253,8 +253,7 @@ pub record PutsMove {P M E T : Type 0} (laws : GameRules P M E T) (terms : Terms
       })
   pub grown : move_rows laws terms id new ≡ move_rows laws terms id old ++ made_row id reply moment ∷ []
 
--- What is put of a running game that changes where no move is played: its row, and where the game has ended those of
--- the scores.
+-- The rows to upsert if a running game changes without a move: the game's, and the scores if it has ended.
 pub record PutsRow {P M E T : Type 0} (laws : GameRules P M E T) (terms : Terms) (id moment : ℕ) (table : List Row)
     (old new : Game M) (changes : Changes) : Type 0 where
   pub event : new.event ≡ old.event
@@ -265,7 +264,7 @@ pub record PutsRow {P M E T : Type 0} (laws : GameRules P M E T) (terms : Terms)
   pub puts : Puts changes moment (record no_rows { games = game_row laws terms id new ∷ []; scores = scores })
   pub stays : move_rows laws terms id new ≡ move_rows laws terms id old
 
--- nothing is put where nothing was accepted
+-- no rows if the command was not accepted
 abbrev pub PutsGame : {P M E T : Type 0} → GameRules P M E T → Terms → ℕ → ℕ → List Row → Game M → Outcome (Game M)
     → Option Changes → Type 0
 PutsGame laws terms id moment table old (accepted new reply) (Some changes) =
@@ -276,13 +275,13 @@ PutsGame laws terms id moment table old (accepted new reply) None = ⊥
 PutsGame laws terms id moment table old (repeated reply) (Some changes) = ⊥
 PutsGame laws terms id moment table old (refused refusal) (Some changes) = ⊥
 
--- The outcome of a step in a game was found: its answer, and the rows that are put over this table of scores.
+-- The effect has the outcome of the step in a game, and its rows to upsert over this table of scores.
 pub record IsDecidedIn {P M E T : Type 0} (laws : GameRules P M E T) (terms : Terms) (id moment : ℕ) (table : List Row)
     (old : Game M) (after : Outcome (Game M)) (decided : Decided) : Type 0 where
   pub answer : outcome_of decided.outcome ≡ answered after
   pub puts : PutsGame laws terms id moment table old after decided.changes
 
--- The machine's outcome was found: its answer, and rows that make of the club's tables those of the state after it.
+-- The effect has the outcome of the step, and rows that turn the old state's tables into the new state's.
 pub record IsDecided (s : ClubState) (after : Outcome ClubState) (decided : Decided) : Type 0 where
   pub answer : outcome_of decided.outcome ≡ answered after
   pub rows : AreSame (changed_if decided.changes (tables s)) (tables (state_after s after))

@@ -1,4 +1,4 @@
--- A game of the club as its rows were read.
+-- A game of the club as it is stored.
 use Rattle.std.specs.Prelude.{◌≡◌, ℕ, List, Option, Some, None}
 use Rattle.club_core.specs.State.{draughts, shogi, place, kind_at, terms_at, pairing_of}
 use Rattle.club_rows.specs.Club.{ClubGame, ClubState, both_games}
@@ -15,17 +15,17 @@ pub record IsStoredGame (s : ClubState) (id : ℕ) (game : ClubGame) (stored : S
   pub terms : terms_given stored.terms ≡ terms_at (place s.events (pairing_of game).event)
   pub row : game_cells stored.row ≡ game_in s id game
 
--- the game of this number, where the club has one
+-- the game with this id, if there is one
 abbrev pub IsFoundGame : ClubState → ℕ → Option StoredGame → Type 0
 IsFoundGame s id None = place s.games id ≡ None
 IsFoundGame s id (Some stored) = (game : ClubGame) × (place s.games id ≡ Some game) × IsStoredGame s id game stored
 
--- the legal moves of this game of the club, as they are written
+-- the legal moves of this game in notation
 abbrev pub AreMovesOf : ClubGame → List (List ℕ) → Type 0
 AreMovesOf (draughts game) texts = AreLegalTexts both_games.draughts game texts
 AreMovesOf (shogi game) texts = AreLegalTexts both_games.shogi game texts
 
--- those of the game of this number, where the club has one
+-- the legal moves of the game with this id, if there is one
 abbrev pub AreLegalRows : ClubState → ℕ → Option (List (List ℕ)) → Type 0
 AreLegalRows s id None = place s.games id ≡ None
 AreLegalRows s id (Some texts) = (game : ClubGame) × (place s.games id ≡ Some game) × AreMovesOf game texts

@@ -1,4 +1,4 @@
--- How a fault of a sweep is written.
+-- The texts of a sweep's faults.
 use Rattle.std.specs.Prelude.{ℕ, List, codes}
 use Rattle.club_changes.specs.declared.swept.fault.SweepFault.{SweepFault}
 use Rattle.club_changes.specs.declared.swept.fault.SweepFault.TheVariants as fault

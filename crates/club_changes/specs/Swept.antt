@@ -1,4 +1,4 @@
--- What a sweep puts.
+-- The rows that a sweep upserts.
 use Rattle.std.specs.Prelude.{◌≡◌, ℕ, [], ◌∷◌, map, count_by}
 use Rattle.store_tables.specs.Cells.{game_cells, score_cells}
 use Rattle.store_tables.specs.Changes.{HaveSame, put_rows}
@@ -9,8 +9,8 @@ use Rattle.club_core.specs.State.{is_late_any, with_swept}
 use Rattle.club_rows.specs.Club.{ClubState, both_games, tables}
 use Rattle.club_changes.specs.declared.swept.rows.SweptRows.{SweptRows}
 
--- So many games end by time at that moment; the rows, put in their order, make of the tables of games and of scores
--- those of the club in which these games have ended.
+-- The count is the number of games lost on time by then. Upserted in order, the rows turn the tables of games and
+-- scores into those after these games have ended.
 pub record IsSwept (s : ClubState) (moment : ℕ) (rows : SweptRows) : Type 0 where
   pub count_is : rows.count ≡ count_by (is_late_any both_games s moment) s.games
   pub games_are : HaveSame (put_rows (0 ∷ []) (map game_cells rows.games.items) (tables s (tree_of Games)))
@@ -18,7 +18,7 @@ pub record IsSwept (s : ClubState) (moment : ℕ) (rows : SweptRows) : Type 0 wh
   pub scores_are : HaveSame (put_rows (0 ∷ 1 ∷ 2 ∷ []) (map score_cells rows.scores.items) (tables s (tree_of Scores)))
       (tables (with_swept both_games s moment) (tree_of Scores))
 
--- A sweep changes no other table but that of the last moment.
+-- A sweep changes only the tables of games, scores and `meta`.
 pub record LeavesOthers (s : ClubState) (moment : ℕ) : Type 0 where
   pub members_stay : tables (with_swept both_games s moment) (tree_of Members) ≡ tables s (tree_of Members)
   pub events_stay : tables (with_swept both_games s moment) (tree_of Events) ≡ tables s (tree_of Events)

@@ -1,4 +1,4 @@
--- What is decided of a request, as a whole: rows to put only where it is accepted.
+-- An effect has rows to upsert only if the command is accepted.
 use Rattle.std.specs.Prelude.{⊤, IfSome}
 use Rattle.club_requests.specs.declared.answers.Outcome.{Outcome}
 use Rattle.club_requests.specs.declared.answers.Outcome.TheVariants.{Accepted, Repeated, Refused}

@@ -1,4 +1,4 @@
-//! What a command about a challenge does to the tables.
+//! Rows that a command about a challenge changes.
 
 ghost use Rattle.std.specs.Prelude.{◌≡◌, ◌<◌, ℕ, Bool, List, [], ◌∷◌, length, Some, None, IfOk, IsErrOf};
 ghost use Rattle.sqlite.specs.Order.{Row};
@@ -24,7 +24,7 @@ use club_rules::Memory;
 use std::alloc::Global;
 use store_tables::Changes;
 
-// The row of a challenge is put with these.
+// Adds the row of the challenge to the rows to upsert.
 fn with_challenge(changes: Changes, challenge: Challenge) -> Result<Changes, Memory>
     ensures { IfOk result (λ new. (moment : ℕ) (games seen : List Row) →
         Puts changes moment (record no_rows { games = games; seen = seen }) →
@@ -35,7 +35,11 @@ fn with_challenge(changes: Changes, challenge: Challenge) -> Result<Changes, Mem
     Ok(changes)
 }
 
-/// What an opening or a withdrawal does: the row of the challenge as it is to stand.
+/// Returns the effect of opening or withdrawing a challenge: its new row.
+///
+/// # Errors
+///
+/// `Memory` if out of memory.
 pub fn put_challenge(
     alloc: Global,
     decision: ChallengeDecision,
@@ -58,7 +62,7 @@ pub fn put_challenge(
     }
 }
 
-// The rows of the game that an accepted challenge has started, and none of one that stands otherwise.
+// The rows of the game that an accepted challenge starts; none for other challenges.
 fn begun_rows(
     alloc: Global,
     events: &[Event],
@@ -79,7 +83,7 @@ fn begun_rows(
     }
 }
 
-// The row of a challenge is put, with those of the game that it has started if it was accepted.
+// The row of the challenge, and the rows of the game that it starts if it is accepted.
 fn answered_rows(
     alloc: Global,
     events: &[Event],
@@ -95,7 +99,12 @@ fn answered_rows(
     Ok(with_challenge(changes, challenge)?)
 }
 
-/// What an answer to a challenge does: its row, and where it was accepted those of the game that it starts.
+/// Returns the effect of answering a challenge: its new row, and the rows of the game that it starts if it is accepted.
+///
+/// # Errors
+///
+/// - `Unfit` if an accepted challenge's event does not exist.
+/// - `Memory` if out of memory.
 pub fn put_answered(
     alloc: Global,
     events: &[Event],
@@ -106,7 +115,7 @@ pub fn put_answered(
     ensures step { IfOk result (λ d. (s : ClubState) (accept : Bool) → IsClub s → events_of events.now ≡ s.events →
         AnswersTo (length s.games) accept (challenge_outcome_of decision) →
         IsDecided s (map_outcome (with_answer s moment accept) (challenge_outcome_of decision)) d) }
-    // A challenge of a club has an event.
+    // Every challenge of a legal club has an event.
     ensures unfit { IsErrOf result ChangeFault.Unfit → HasNoEvent (events_of events.now) decision }
 {
     match decision {

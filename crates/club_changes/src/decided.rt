@@ -1,4 +1,4 @@
-//! What is decided of a request: its outcome, and the rows to put where it is accepted.
+//! The effect of a command: its outcome, and the rows to upsert if it is accepted.
 
 ghost use Rattle.std.specs.Prelude.{◌≡◌, ◌<◌, Some, None, false};
 ghost use Rattle.club_core.specs.Answer.{outcome_of};
@@ -11,16 +11,16 @@ use club_rows::numbers::stored;
 use std::alloc::Global;
 use store_tables::{Changes, MetaRow};
 
-/// An outcome, and the rows to put where it is accepted.
+/// The effect of a command.
 #[derive(Drop)]
 pub struct Decided {
-    /// What the request is answered.
+    /// The reply to the command.
     pub outcome: Outcome,
-    /// The rows to put. None where the request was refused or repeated.
+    /// The rows to upsert. None if the command was refused or repeated.
     pub changes: Option<Changes>,
 }
 
-/// A request that is refused or repeated: nothing is put.
+/// The effect of a refused or repeated command: nothing is upserted.
 pub fn unchanged(outcome: Outcome) -> Decided
     ensures outcome { result.outcome ≡ outcome }
     ensures none { result.changes ≡ None }
@@ -31,7 +31,7 @@ pub fn unchanged(outcome: Outcome) -> Decided
     }
 }
 
-// No rows but that of `meta`, at the moment of an accepted command.
+// Only the row of `meta`, with the timestamp of an accepted command.
 pub(crate) fn at(alloc: Global, moment: Moment) -> Changes
     ensures { Puts result moment no_rows }
 {
@@ -52,7 +52,6 @@ pub(crate) fn at(alloc: Global, moment: Moment) -> Changes
     }
 }
 
-// Whether the outcome is an accepted one.
 pub(crate) fn is_accepted(outcome: &Outcome) -> bool
     ensures { result ≡ is_accepted (outcome_of outcome.now) }
 {

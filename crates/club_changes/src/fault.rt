@@ -1,4 +1,4 @@
-//! What may go wrong where the rows of a command are made.
+//! The fault of computing the rows that a command changes.
 
 use crate::swept::SweepFault;
 use club_rules::Memory;
@@ -6,12 +6,12 @@ use std::alloc::AllocFailed;
 use std::error::Error;
 use std::fmt;
 
-/// Why the rows of a command were not made.
+/// Why the rows of a command cannot be computed.
 #[derive(Clone, Copy, Debug, PartialEq, Eq, Drop)]
 pub enum ChangeFault {
-    /// Memory was refused.
+    /// Out of memory.
     Memory,
-    /// No club has the rows that were given.
+    /// The given rows are not those of a legal club.
     Unfit,
 }
 

@@ -1,4 +1,4 @@
-//! The rows of a game that has changed by a command.
+//! Rows of a game that a command changes.
 
 ghost use Rattle.std.specs.Prelude.{◌≡◌, ◌<◌, ◌^◌, List, [], ◌∷◌, map, Some, None, IfOk, IsTrue};
 ghost use Rattle.club_core.specs.Events as core;
@@ -26,23 +26,23 @@ use club_rules::{Memory, Rules};
 use std::alloc::Global;
 use store_tables::{Changes, MoveRow, ScoreRow, SeenRow};
 
-/// The rows of the positions and of the scores that a decision puts.
+/// The rows of the repetition count and of the scores that a decision changes.
 #[derive(Drop)]
 pub struct DerivedRows {
-    /// The row of the position after a move. None where no move was made.
+    /// The row of the position after the move. None if no move was made.
     pub seen: Option<SeenRow>,
-    /// The rows of both players where the game has ended.
+    /// The rows of both players if the game has ended.
     pub scores: Option<ScorePair>,
 }
 
-// The row of the move that is answered so, if it is one.
+// The row of the move, if the reply is to a move.
 fn answered_moves(
     alloc: Global,
     game: u32,
     answer: &Answer,
     moment: Moment,
 ) -> Result<Vec<MoveRow>, Memory>
-    // Seconds that 63 bits hold are stored as they are.
+    // Seconds below 2^63 are stored exactly.
     ensures { IfOk result (λ rows. left_answered answer.now < 2 ^ 63 →
         map move_cells rows.items ≡ answered_rows game answer.now moment) }
 {
@@ -63,7 +63,6 @@ fn answered_moves(
     Ok(rows)
 }
 
-// The row as a list.
 pub(crate) fn listed_seen(alloc: Global, seen: Option<SeenRow>) -> Result<Vec<SeenRow>, Memory>
     ensures { IfOk result (λ rows. map seen_cells rows.items ≡ seen_list seen) }
 {
@@ -75,7 +74,6 @@ pub(crate) fn listed_seen(alloc: Global, seen: Option<SeenRow>) -> Result<Vec<Se
     Ok(rows)
 }
 
-// The rows of the two players as a list.
 pub(crate) fn listed_scores(
     alloc: Global,
     scores: Option<ScorePair>,
@@ -93,7 +91,7 @@ pub(crate) fn listed_scores(
     Ok(rows)
 }
 
-// The rows of a game that changed, with its move where one was played.
+// The rows of a changed game, with the row of its move if one was played.
 fn changed_rows<R: Rules>(
     alloc: Global,
     game: u32,
@@ -102,7 +100,7 @@ fn changed_rows<R: Rules>(
     counts: DerivedRows,
     moment: Moment,
 ) -> Result<Changes, Memory>
-    // Seconds that 63 bits hold are stored as they are.
+    // Seconds below 2^63 are stored exactly.
     ensures { IfOk result (λ changes. (terms : core.Terms) (new : Game R.Move) → row.now.left_first < 2 ^ 63 →
         row.now.left_second < 2 ^ 63 → left_answered answer.now < 2 ^ 63 → IsRowOf R.rules terms new row.now →
         Puts changes moment (record no_rows {
@@ -120,8 +118,12 @@ fn changed_rows<R: Rules>(
     Ok(changes)
 }
 
-/// The rows of a game that a decision has changed, with that of its move where it made one; none where it was repeated
-/// or refused.
+/// Returns the effect of a decision in a game: the game's row, and the row of the move if one was made; no rows if it
+/// was repeated or refused.
+///
+/// # Errors
+///
+/// `Memory` if out of memory.
 pub fn put_decision<R: Rules>(
     alloc: Global,
     game: u32,

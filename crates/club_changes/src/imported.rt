@@ -1,4 +1,4 @@
-//! The rows that a recorded game has in each table, and what was played in a game by its rows.
+//! The rows of a recorded game that is imported, and the moves of a stored game.
 
 pub mod added;
 pub mod moves;

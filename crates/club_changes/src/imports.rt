@@ -1,4 +1,4 @@
-//! The rows of a game that is imported.
+//! Rows that an import adds.
 
 ghost use Rattle.std.specs.Prelude.{◌≡◌, [], ◌∷◌, map, Option, Some, IfOk};
 ghost use Rattle.club_core.specs.Answer.{events_of};
@@ -17,23 +17,22 @@ use club_rules::{GameKind, Memory};
 use std::alloc::Global;
 use store_tables::Changes;
 
-/// What a club has that an import may ask of: its members and events by id, the game under the import's key, and how
-/// many games there are.
+/// The state of the club that an import needs.
 #[derive(Drop)]
 pub struct Known {
-    /// The members, by id.
+    /// All members, in the order of ids.
     pub members: Vec<Member>,
-    /// The events, by id.
+    /// All events, in the order of ids.
     pub events: Vec<Event>,
-    /// The number and the pairing of the game under the key.
+    /// The id and the pairing of the game with the import's key.
     pub keyed: Option<KeyedGame>,
-    /// That game as it is stored.
+    /// The stored game with that key.
     pub under: Option<StoredGame>,
-    /// How many games the club has.
+    /// The number of games in the club.
     pub games: u32,
 }
 
-/// The kind of the event of that name; draughts where there is none.
+/// The kind of the event with this name; draughts if there is none.
 pub fn event_kind(events: &[Event], name: &str) -> GameKind
     ensures { result ≡ event_kind (events_of events.now) name.now }
 {
@@ -46,7 +45,11 @@ pub fn event_kind(events: &[Event], name: &str) -> GameKind
     GameKind::Draughts
 }
 
-/// The rows of a game that is added, and no other, at that moment.
+/// Returns the rows to upsert for an imported game.
+///
+/// # Errors
+///
+/// `Memory` if out of memory.
 pub fn put_rows(
     alloc: Global,
     rows: NewRows,

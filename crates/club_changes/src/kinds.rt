@@ -1,4 +1,4 @@
-//! The kinds of games: a game starts by the rules of its event's kind.
+//! Starts a game by the rules of its kind.
 
 ghost use Rattle.std.specs.Prelude.{◌≡◌, [], ◌∷◌, IfOk, IsTrue};
 ghost use Rattle.std.specs.Option.{option_map};
@@ -15,7 +15,6 @@ use club_rules::{GameKind, Memory};
 use std::alloc::Global;
 use store_tables::Changes;
 
-// The rows of a game of this kind that starts by these terms.
 pub(crate) fn seat_in(
     alloc: Global,
     kind: GameKind,

@@ -1,6 +1,6 @@
-//! What a command does to the tables of a club: of the rows that it has read, its outcome and the rows to put. Nothing
-//! here reads or writes a database. A call fails with `Memory` where memory was refused, and with `Unfit` where no club
-//! has the rows and values that it was given.
+//! Computes what a command changes in the tables: its outcome and the rows to upsert, without any I/O.
+//! Calls fail with `Memory` if out of memory, and with `Unfit` if the given rows or values are not those of a legal
+//! club.
 #![tactic(auto)]
 
 pub mod challenges;

@@ -1,4 +1,4 @@
-//! What adding a member or an event does to the tables.
+//! Rows that adding a member or an event adds.
 
 ghost use Rattle.std.specs.Prelude.{◌≡◌, ◌≤◌, ◌<◌, ◌^◌, Some, IfOk};
 ghost use Rattle.std.specs.Prelude.{length, string_bytes};
@@ -22,7 +22,6 @@ use club_rules::Memory;
 use std::alloc::Global;
 use store_tables::{EventRow, EventRuleRow, MemberRow};
 
-// The row of a member that is added.
 fn member_row(id: u32, command: &AddMember) -> Result<MemberRow, Memory>
     ensures { IfOk result (λ row. member_cells row ≡ member_row id
         (record { name = string_bytes command.now.name; key = string_bytes command.now.key })) }
@@ -36,7 +35,11 @@ fn member_row(id: u32, command: &AddMember) -> Result<MemberRow, Memory>
     })
 }
 
-/// What adding a member does, by the members of the club.
+/// Decides a command to add a member, and returns its effect.
+///
+/// # Errors
+///
+/// `Memory` if out of memory.
 pub fn on_member(
     alloc: Global,
     members: &[Member],
@@ -64,9 +67,8 @@ pub fn on_member(
     })
 }
 
-// The row of an event that is added.
 fn event_row(id: u32, command: &AddEvent) -> Result<EventRow, Memory>
-    // Seconds that 63 bits hold are stored as they are.
+    // Seconds below 2^63 are stored exactly.
     ensures { IfOk result (λ row. command.now.budget < 2 ^ 63 → command.now.increment < 2 ^ 63 →
         event_cells row ≡ event_row id (added_event command.now)) }
 {
@@ -80,7 +82,7 @@ fn event_row(id: u32, command: &AddEvent) -> Result<EventRow, Memory>
     })
 }
 
-// The row of the rules of an event that is added: its players may declare that they have won.
+// The rules of a new event: its players may declare a win.
 fn rule_row(id: u32) -> EventRuleRow
     ensures { (e : _) → event_rule_cells result ≡ rule_row id (declaring e) }
 {
@@ -90,7 +92,11 @@ fn rule_row(id: u32) -> EventRuleRow
     }
 }
 
-/// What adding an event does, by the events of the club.
+/// Decides a command to add an event, and returns its effect.
+///
+/// # Errors
+///
+/// `Memory` if out of memory.
 pub fn on_event(
     alloc: Global,
     events: &[Event],

@@ -1,4 +1,4 @@
-//! The rows of a game that starts in an event.
+//! Rows of a game that starts in an event.
 
 ghost use Rattle.std.specs.Prelude.{◌≡◌, ◌<◌, [], ◌∷◌, Some, None, IfOk, IsErrOf};
 ghost use Rattle.std.specs.Option.{option_map};
@@ -17,7 +17,11 @@ use club_rows::Terms;
 use std::alloc::Global;
 use store_tables::Changes;
 
-/// The event of this id, from 1.
+/// The event with this id (from 1).
+///
+/// # Errors
+///
+/// `Unfit` if there is none.
 pub fn event_at(events: &[Event], event: u32) -> Result<&Event, ChangeFault>
     ensures at { IfOk result (λ e. place (events_of events.now) event ≡ Some (event_of e.now)) }
     ensures unfit { IsErrOf result ChangeFault.Unfit → place (events_of events.now) event ≡ None }
@@ -31,7 +35,7 @@ pub fn event_at(events: &[Event], event: u32) -> Result<&Event, ChangeFault>
     }
 }
 
-/// What an event gives its players.
+/// The terms of an event: budget, increment and whether declarations are allowed.
 pub fn terms_of(event: &Event) -> Terms
     ensures { terms_given result ≡ (event_of event.now).terms }
 {
@@ -42,7 +46,12 @@ pub fn terms_of(event: &Event) -> Terms
     }
 }
 
-/// The rows of a game of an event that starts, under a key or under none.
+/// Returns the rows to upsert for a game that starts, with or without a key.
+///
+/// # Errors
+///
+/// - `Unfit` if the event does not exist.
+/// - `Memory` if out of memory.
 pub fn seated_rows(
     alloc: Global,
     events: &[Event],

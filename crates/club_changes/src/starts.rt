@@ -1,4 +1,4 @@
-//! The rows of a game that starts, by its rules.
+//! Rows of a game that starts, for any rules.
 
 ghost use Rattle.std.specs.Prelude.{◌≡◌, ◌<◌, ℕ, Bool, [], ◌∷◌, Some, None, IfOk, IsTrue};
 ghost use Rattle.std.specs.Option.{option_map};
@@ -19,7 +19,7 @@ use club_rules::{Memory, Rules};
 use std::alloc::Global;
 use store_tables::Changes;
 
-// The row of a game that starts, under a key or under none.
+// The row of the game logic for a game that starts, with or without a key.
 fn first_row<R: Rules>(
     alloc: Global,
     key: Option<&str>,
@@ -37,7 +37,6 @@ fn first_row<R: Rules>(
     }
 }
 
-// The rows of a game that starts by these terms.
 pub(crate) fn start<R: Rules>(
     alloc: Global,
     terms: Terms,

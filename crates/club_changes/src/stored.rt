@@ -1,18 +1,18 @@
-//! A game as its rows were read.
+//! A stored game with its event's kind and terms.
 
 use club_rows::Terms;
 use club_rules::GameKind;
 use store_tables::GameRecord;
 
-/// A game as it is stored, with the kind and the terms of its event.
+/// The row of a game with the kind and the terms of its event.
 #[derive(Drop)]
 pub struct StoredGame {
-    /// Its number in the club, from 1.
+    /// The id of the game, from 1.
     pub id: u32,
-    /// The kind of its event.
+    /// The kind of game of its event.
     pub kind: GameKind,
-    /// The seconds of its event.
+    /// The terms of its event.
     pub terms: Terms,
-    /// Its row in the table of games.
+    /// The row in `games`.
     pub row: GameRecord,
 }

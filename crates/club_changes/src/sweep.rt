@@ -1,4 +1,4 @@
-//! What a sweep does to the tables.
+//! The effect of a sweep, which ends every overdue game.
 
 ghost use Rattle.std.specs.Prelude.{◌≡◌, map, IfOk, IsErrOf};
 ghost use Rattle.club_core.specs.State.{sweep};
@@ -19,7 +19,6 @@ use club_requests::{Answer, Outcome};
 use std::alloc::Global;
 use store_tables::{GameRecord, ScoreRow};
 
-// These rows are put, and the moment.
 fn put_swept(alloc: Global, rows: SweptRows, moment: Moment) -> Decided
     ensures acts { IsWhole result }
     ensures step { (s : ClubState) → IsSwept s moment rows →
@@ -34,8 +33,12 @@ fn put_swept(alloc: Global, rows: SweptRows, moment: Moment) -> Decided
     }
 }
 
-/// What a sweep of the officer's does, by the rows of all games, in their order, and of all scores. It fails where
-/// memory was refused, and where no club has these rows.
+/// Returns the effect of the officer's sweep, from the rows of all games in the order of ids and of all scores.
+///
+/// # Errors
+///
+/// - `Unfit` if the rows or values are not those of a legal club.
+/// - `Memory` if out of memory.
 pub fn sweep_games(
     alloc: Global,
     games: &[GameRecord],
@@ -46,7 +49,7 @@ pub fn sweep_games(
     ensures step { IfOk result (λ d. (s : ClubState) → IsClub s → map game_cells games.now ≡ tables s (tree_of Games) →
         HaveSame (map score_cells scores.now) (tables s (tree_of Scores)) →
         IsDecided s (caller_step s moment Officer sweep) d) }
-    // No rows of a club are unfit: memory alone may be refused for them.
+    // With the rows of a legal club the only fault is out of memory.
     ensures unfit { IsErrOf result ChangeFault.Unfit → (s : ClubState) → IsClub s →
         map game_cells games.now ≡ tables s (tree_of Games) →
         ¬ HaveSame (map score_cells scores.now) (tables s (tree_of Scores)) }

@@ -1,4 +1,4 @@
-//! The rows that a sweep puts: those of the games that end by time, and of their players' scores.
+//! The rows that a sweep upserts: games lost on time, and their players' scores.
 
 pub mod ended;
 pub mod fault;

@@ -1,4 +1,4 @@
--- The rows of all tables of a club, which are put into another database.
+-- All rows of a club, for a copy.
 use Rattle.std.specs.Prelude.{◌≡◌, pos, Some, map}
 use Rattle.store_tables.specs.Cells.{member_cells, event_cells, challenge_cells, move_cells, game_cells}
 use Rattle.store_tables.specs.Cells.{event_rule_cells, seen_cells, score_cells}
@@ -13,21 +13,21 @@ use Rattle.store_tables.specs.declared.names.Table.TheVariants.{Seen, Scores, Ev
 use Rattle.club_copies.specs.declared.rows.People.{People}
 use Rattle.club_copies.specs.declared.rows.Play.{Play}
 
--- These are all rows of members, events, rules of events and challenges, in whatever order.
+-- These are all rows of members, events, event rules and challenges, in any order.
 pub record ArePeople (rows : People) (content : Content) : Type 0 where
   pub members : HaveSame (map member_cells rows.members.items) (content (tree_of Members))
   pub events : HaveSame (map event_cells rows.events.items) (content (tree_of Events))
   pub event_rules : HaveSame (map event_rule_cells rows.event_rules.items) (content (tree_of EventRules))
   pub challenges : HaveSame (map challenge_cells rows.challenges.items) (content (tree_of Challenges))
 
--- These are all rows of games, moves, positions and scores, in whatever order.
+-- These are all rows of games, moves, positions and scores, in any order.
 pub record ArePlay (rows : Play) (content : Content) : Type 0 where
   pub moves : HaveSame (map move_cells rows.moves.items) (content (tree_of Moves))
   pub games : HaveSame (map game_cells rows.games.items) (content (tree_of Games))
   pub seen : HaveSame (map seen_cells rows.seen.items) (content (tree_of Seen))
   pub scores : HaveSame (map score_cells rows.scores.items) (content (tree_of Scores))
 
--- `meta` has its one row, and these are all rows of each table, in whatever order.
+-- These are all rows of each table, in any order; `meta` has exactly one row.
 pub record AreAll (rows : Changes) (content : Content) : Type 0 where
   pub first : MetaRow
   pub is_first : (rows.meta ≡ Some first) × (first.id ≡ pos 1)

@@ -1,4 +1,4 @@
-//! The tables of a club made anew in another database.
+//! Copies a club into another database.
 
 ghost use Rattle.std.specs.Prelude.{◌≡◌, ◌≢◌, ◌≤◌, ◌⊎◌, false, IfOk, IfErr, OnOk, OnErr, is_ok, Err};
 ghost use Rattle.sqlite.specs.State.{HasCleanDisk};
@@ -17,7 +17,6 @@ use sqlite::{Alter, Connection};
 use std::alloc::Global;
 use store_sql::{CallFault, create_filled};
 
-/// What a fault of reading is to a copy.
 fn unread(fault: CallFault) -> CopyFault
     ensures { result ≢ CopyFault.Copy }
 {
@@ -27,9 +26,20 @@ fn unread(fault: CallFault) -> CopyFault
     }
 }
 
-/// Makes the tables of a club in an empty database, and puts all rows of the club into them, in one transaction with
-/// one commit. The club is read and stays as it is. After a fault the copy has no table or is whole, also after a stop;
-/// where the fault is not the copy's, nothing was done to it. A database where tables of a club stand is left as it is.
+/// Creates a club's tables in an empty database and copies all rows of the club into them, in one transaction.
+///
+/// # Errors
+///
+/// - `Club` if a call of the club's database fails, or its rows are invalid.
+/// - `Copy` if a call of the copy's database fails, or it already holds a club's tables.
+/// - `Memory` if out of memory.
+///
+/// # Guarantees
+///
+/// - `reads`: the club is only read.
+/// - `stored`: on success the copy holds exactly the club's rows.
+/// - `fault`: after an error or a crash the copy is empty or complete (atomic).
+/// - `untouched`: after `Club` or `Memory` the copy was not touched.
 pub fn copy_tables<S: Alter, T: Alter>(
     alloc: Global,
     club: &mut Connection<S>,

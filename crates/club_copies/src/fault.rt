@@ -1,12 +1,12 @@
-//! Why a club was not copied.
+//! Faults of copying a club.
 
-/// Why a club was not copied, by the database whose call failed.
+/// Why a club cannot be copied; names the database whose call failed.
 #[derive(Debug, Clone, Copy, PartialEq, Eq, Drop)]
 pub enum CopyFault {
-    /// A call of the club's own database failed, or its rows are no club's.
+    /// A call of the club's database failed, or its rows are invalid.
     Club,
-    /// A call of the database that the copy is made in failed.
+    /// A call of the copy's database failed.
     Copy,
-    /// The allocator refused.
+    /// Out of memory, except inside a database call.
     Memory,
 }

@@ -1,4 +1,6 @@
-//! A copy of a club: all rows of each of its tables, put into the tables of an empty database in one transaction.
+//! Copies all rows of a club into the tables of an empty database in one transaction.
+//!
+//! All guarantees about rows assume `HasCleanDisk` of both databases: no doubt about their disks has arisen.
 #![tactic(auto)]
 
 mod copy;

@@ -1,4 +1,4 @@
-//! The rows of all tables of a club.
+//! Reads all rows of all tables of a club.
 
 ghost use Rattle.std.specs.Prelude.{◌≡◌, ◌∷◌, [], None, Some, pos, IfOk, IfSome, is_ok};
 ghost use Rattle.sqlite.specs.State.{HasCleanDisk};
@@ -19,7 +19,7 @@ use store_tables::{
     ScoreRow, SeenRow,
 };
 
-/// The rows of who is in a club, and in which events.
+/// The rows of members, events, event rules and challenges.
 #[derive(Drop)]
 pub(crate) struct People {
     members: Vec<MemberRow>,
@@ -28,7 +28,7 @@ pub(crate) struct People {
     challenges: Vec<ChallengeRow>,
 }
 
-/// The rows of what was played.
+/// The rows of games, moves, positions and scores.
 #[derive(Drop)]
 pub(crate) struct Play {
     games: Vec<GameRecord>,
@@ -37,7 +37,7 @@ pub(crate) struct Play {
     scores: Vec<ScoreRow>,
 }
 
-/// The row of `meta`, where it is the only one and has the id 1.
+/// The row of `meta` if it is the only one and has the id 1.
 fn only_row(rows: Vec<MetaRow>) -> Option<MetaRow>
     ensures { IfSome result (λ first. (rows.items ≡ first ∷ []) × (first.id ≡ pos 1)) }
 {
@@ -55,8 +55,7 @@ fn only_row(rows: Vec<MetaRow>) -> Option<MetaRow>
     Some(first)
 }
 
-/// The row of `meta`. Where it has not the one row of a club, that is a fault, as a value of another type than its
-/// column.
+/// Reads the row of `meta`. `Store` if there is not exactly one row with the id 1.
 fn read_meta<S: Alter>(alloc: Global, conn: &mut Connection<S>) -> Result<MetaRow, CallFault>
     ensures reads { Reads (is_ok result) (state S.Store conn.old) (state S.Store conn.new) }
     ensures first { IfOk result (λ first. first.id ≡ pos 1) }
@@ -73,7 +72,6 @@ fn read_meta<S: Alter>(alloc: Global, conn: &mut Connection<S>) -> Result<MetaRo
     }
 }
 
-/// All rows of members, events, rules of events and challenges.
 fn read_people<S: Alter>(alloc: Global, conn: &mut Connection<S>) -> Result<People, CallFault>
     ensures reads { Reads (is_ok result) (state S.Store conn.old) (state S.Store conn.new) }
     ensures rows { HasCleanDisk (state S.Store conn.new) → IfOk result (λ found. (content : _) → HasRows content
@@ -103,7 +101,6 @@ fn read_people<S: Alter>(alloc: Global, conn: &mut Connection<S>) -> Result<Peop
     })
 }
 
-/// All rows of games, moves, positions and scores.
 fn read_play<S: Alter>(alloc: Global, conn: &mut Connection<S>) -> Result<Play, CallFault>
     ensures reads { Reads (is_ok result) (state S.Store conn.old) (state S.Store conn.new) }
     ensures rows { HasCleanDisk (state S.Store conn.new) → IfOk result (λ found. (content : _) → HasRows content
@@ -133,7 +130,6 @@ fn read_play<S: Alter>(alloc: Global, conn: &mut Connection<S>) -> Result<Play, 
     })
 }
 
-/// All rows that were read, as rows to be put.
 fn joined(meta: MetaRow, people: People, play: Play) -> Changes
     ensures { (content : _) → meta.id ≡ pos 1 → HaveSame (meta_cells meta ∷ []) (content (tree_of Meta)) →
         ArePeople people content → ArePlay play content → AreAll result content }
@@ -163,8 +159,13 @@ fn joined(meta: MetaRow, people: People, play: Play) -> Changes
     }
 }
 
-/// All rows of each table, as rows to be put into the tables of another database. A `meta` that has not the one row of
-/// a club is a fault, as a value of another type than its column.
+/// Reads all rows of each table, as rows to upsert into another database.
+///
+/// # Errors
+///
+/// - `Store` if a call of the database fails, a value has another type than its column, or `meta` has not exactly one
+///   row with the id 1.
+/// - `Memory` if out of memory.
 pub fn read_rows<S: Alter>(alloc: Global, conn: &mut Connection<S>) -> Result<Changes, CallFault>
     ensures reads { Reads (is_ok result) (state S.Store conn.old) (state S.Store conn.new) }
     ensures rows { HasCleanDisk (state S.Store conn.new) → IfOk result (λ found. (content : _) → HasRows content

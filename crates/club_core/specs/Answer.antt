@@ -1,4 +1,4 @@
--- What the program's values stand for: its answers, its members and events, and its requests.
+-- Maps the values of the code to those of the specification: answers, members, events and requests.
 use Rattle.std.specs.Prelude.{List, map, true, string_bytes}
 use Rattle.club_requests.specs.declared.answers.Moved.{Moved}
 use Rattle.club_requests.specs.declared.answers.Answer.{Answer}
@@ -50,7 +50,7 @@ reply_of (answer.ChallengeWithdrawn number) = challenge_withdrawn number
 reply_of (answer.ChallengeRefused number) = challenge_refused number
 reply_of (answer.ChallengeAccepted number game) = challenge_accepted number game
 
--- what is answered, without what stands after it
+-- the outcome of a command, without the new state
 abbrev pub outcome_of : given_outcome.Outcome → Outcome (Unit {0})
 outcome_of (given.Accepted a) = accepted tt (reply_of a)
 outcome_of (given.Repeated a) = repeated (reply_of a)
@@ -89,19 +89,19 @@ abbrev pub who_of : given_who.Who → Who
 who_of given_who_is.Officer = officer
 who_of (given_who_is.Key key) = key_holder (string_bytes key)
 
--- the outcome that a seating stands for
+-- the outcome of a `seat` command
 abbrev pub seating_of : given_seating.Seating → Outcome Pairing
 seating_of (seating.Starts k) = accepted k.pairing (game_seated k.game)
 seating_of (seating.Repeated id) = repeated (game_seated id)
 seating_of (seating.Refused refusal) = refused refusal
 
--- the outcome that a decision on a challenge stands for, with the challenge as it is to stand
+-- the outcome of a command on a challenge, with the new challenge
 abbrev pub challenge_outcome_of : ChallengeDecision → Outcome Challenge
 challenge_outcome_of (challenge.Accepted new a) = accepted new (reply_of a)
 challenge_outcome_of (challenge.Repeated a) = repeated (reply_of a)
 challenge_outcome_of (challenge.Refused refusal) = refused refusal
 
--- a command on a game, its text being the bytes that were given
+-- a command on a game, with its text as bytes
 abbrev pub game_command_of : given_game.GameCommand → GameCommand
 game_command_of (given_does.Move ply text) = move ply (string_bytes text)
 game_command_of (given_does.OfferDraw ply) = offer_draw ply
@@ -110,7 +110,7 @@ game_command_of given_does.Resign = resign
 game_command_of given_does.ClaimTime = claim_time
 game_command_of (given_does.Declare ply) = declare ply
 
--- an import, its texts being the bytes that were given
+-- an import, with its texts as bytes
 abbrev pub import_of : given_import.Import → Import
 import_of c =
     record {
@@ -123,7 +123,7 @@ import_of c =
       text = c.text.items;
     }
 
--- a command, its texts being the bytes that were given
+-- a command, with its texts as bytes
 abbrev pub command_of : given_commands.Command → Command
 command_of (given_is.AddMember c) = add_member (string_bytes c.name) (string_bytes c.key)
 command_of (given_is.AddEvent c) = add_event (added_event c)

@@ -1,4 +1,4 @@
--- Challenges between members: what opening one does, withdrawing it, and answering it.
+-- Challenges between members: transitions for opening, withdrawing and answering one.
 use Rattle.std.specs.Prelude.{ℕ, ◌+◌, List, [], ◌∷◌, Option, Some, None, Bool, true, false, not, is_some, ◌&&◌, nat_le}
 use Rattle.std.specs.Prelude.{◌==◌, if◌then◌else◌}
 use Rattle.std.proofs.Math.Bool.{beq}
@@ -18,11 +18,11 @@ use Rattle.club_core.specs.Events.{Event, has_event_name}
 use Rattle.club_core.specs.declared.seats.Pairing.{Pairing}
 use Rattle.club_core.specs.Seats.{has_member_name, is_id, are_two}
 
--- what a challenge goes by: its member, and the member's number for it
+-- the unique key of a challenge: its member and the number that the member chose
 abbrev pub goes_by : Challenge → ℕ × ℕ
 goes_by c = (c.member, c.number)
 
--- the challenge is that of a member under a number
+-- the challenge has this member and this number
 abbrev pub is_under : ℕ → ℕ → Challenge → Bool
 is_under member number c = c.member == member && c.number == number
 
@@ -30,12 +30,12 @@ abbrev pub challenge_under : List Challenge → ℕ → ℕ → Option Challenge
 challenge_under [] member number = None
 challenge_under (c ∷ cs) member number = if is_under member number c then Some c else challenge_under cs member number
 
--- the challenge of the member that was found, if one was
+-- the challenge of a member that was looked up by name, if both exist
 abbrev pub challenge_by : List Challenge → Option ℕ → ℕ → Option Challenge
 challenge_by cs None number = None
 challenge_by cs (Some member) number = challenge_under cs member number
 
--- the challenges with this one: in the place of that of its member and its number, and else at the end
+-- inserts a challenge, or replaces the one with the same member and number
 abbrev pub put_challenge : List Challenge → Challenge → List Challenge
 put_challenge [] new = new ∷ []
 put_challenge (c ∷ cs) new = if is_under new.member new.number c then new ∷ cs else c ∷ put_challenge cs new
@@ -49,18 +49,18 @@ is_open (Accepted game) = false
 abbrev pub standing_as : Challenge → ChallengeState → Challenge
 standing_as c standing = record c { standing = standing }
 
--- the event and the sides of the game that a challenge is to
+-- the event and the players of the proposed game
 abbrev pub pairing_for : Challenge → Pairing
 pairing_for c =
     if c.first
     then record { event = c.event; first = c.member; second = c.other }
     else record { event = c.event; first = c.other; second = c.member }
 
--- a challenge is to the same event and the same member, with the same sides
+-- the challenge has this event, this opponent and these sides
 abbrev pub asks_same : ℕ → Option ℕ → Bool → Challenge → Bool
 asks_same event other first c = event == c.event && is_id other c.other && beq first c.first
 
--- the same challenge stands under the number, whatever became of it
+-- the stored challenge has the same content, whatever its state is now
 abbrev pub repeat_of_opening : ℕ → Option ℕ → Bool → Option Challenge → Option Reply
 repeat_of_opening event other first None = None
 repeat_of_opening event other first (Some c) =
@@ -76,7 +76,7 @@ module _ (caller number : ℕ) (other : Option ℕ) (under : Option Challenge) w
   abbrev pub opening_refusal : Option Refusal
   opening_refusal = first_refusal opening_tests
 
--- a new challenge to a member that was found
+-- stores a new open challenge, if the opponent was found
 abbrev pub opens : ℕ → ℕ → ℕ → Option ℕ → Bool → Outcome Challenge
 opens caller number event None first = refused BadValue
 opens caller number event (Some other) first =
@@ -84,7 +84,8 @@ opens caller number event (Some other) first =
     (record { member = caller; number = number; event = event; other = other; first = first; standing = Open })
     (challenge_opened number)
 
--- by the event and the member that the names stand for, and the caller's challenge under the number
+-- the transition after the event and the opponent are looked up by name; `under` is the stored challenge with this
+-- number
 abbrev pub opening_found : ℕ → ℕ → Option ℕ → Option ℕ → Bool → Option Challenge → Outcome Challenge
 opening_found caller number None other first under = refused UnknownEvent
 opening_found caller number (Some event) other first under =
@@ -92,7 +93,7 @@ opening_found caller number (Some event) other first under =
     (unless (opening_refusal caller number other under)
     (opens caller number event other first))
 
--- a member challenges another to a game of an event; `first` says whether the challenger plays First
+-- a member challenges another to a game of an event; `first` is true if the challenger moves first
 abbrev pub opening_step : List Member → List Event → Option Challenge →
     ℕ → ℕ → List ℕ → List ℕ → Bool → Outcome Challenge
 opening_step members events under caller number event other first =
@@ -101,7 +102,7 @@ opening_step members events under caller number event other first =
     (find_id (has_member_name other) members)
     first under
 
--- the challenge was withdrawn before
+-- the challenge is already withdrawn
 abbrev pub repeat_of_withdrawal : ℕ → ChallengeState → Option Reply
 repeat_of_withdrawal number Open = None
 repeat_of_withdrawal number Withdrawn = Some (challenge_withdrawn number)
@@ -114,7 +115,7 @@ withdrawal_tests standing = (not (is_open standing), Conflict) ∷ []
 abbrev pub withdrawal_refusal : ChallengeState → Option Refusal
 withdrawal_refusal standing = first_refusal (withdrawal_tests standing)
 
--- a challenger takes an open challenge back
+-- the challenger withdraws an open challenge
 abbrev pub withdrawal_step : Option Challenge → Outcome Challenge
 withdrawal_step None = refused UnknownChallenge
 withdrawal_step (Some c) =
@@ -122,7 +123,7 @@ withdrawal_step (Some c) =
     (unless (withdrawal_refusal c.standing)
     (accepted (standing_as c Withdrawn) (challenge_withdrawn c.number)))
 
--- the challenge was answered so before
+-- the challenge already has this answer
 abbrev pub repeat_of_answer : ℕ → ChallengeState → Bool → Option Reply
 repeat_of_answer number Open accept = None
 repeat_of_answer number Withdrawn accept = None
@@ -141,12 +142,12 @@ module _ (standing : ChallengeState) (games : ℕ) (accept : Bool) where
   abbrev pub answer_refusal : Option Refusal
   answer_refusal = first_refusal answer_tests
 
--- an open challenge is refused, or starts the next game
+-- an open challenge is refused, or accepted and starts the next game
 abbrev pub answers : Challenge → ℕ → Bool → Outcome Challenge
 answers c games false = accepted (standing_as c Refused) (challenge_refused c.number)
 answers c games true = accepted (standing_as c (Accepted (games + 1))) (challenge_accepted c.number (games + 1))
 
--- the member challenged answers, by the challenge that was found and the number of games
+-- the challenged member answers the challenge that was looked up; `games` is the number of games
 abbrev pub answer_step : Option Challenge → ℕ → ℕ → Bool → Outcome Challenge
 answer_step None games caller accept = refused UnknownChallenge
 answer_step (Some c) games caller accept =

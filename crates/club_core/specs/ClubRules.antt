@@ -1,7 +1,8 @@
--- The rules of the two games that a club plays, and their records.
+-- The rules of the two games of a club, and the formats of their records.
 use Rattle.club_rules.specs.GameRules.{GameRules}
 use Rattle.club_rules.specs.Records.{GameRecords}
 
+-- the rules and record formats of a club's two games
 pub record ClubRules (DP DM DE DT SP SM SE ST : Type 0) : Type 0 where
   pub draughts : GameRules DP DM DE DT
   pub shogi : GameRules SP SM SE ST

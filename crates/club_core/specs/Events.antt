@@ -1,4 +1,4 @@
--- The events of the club, and what adding one does.
+-- Events, and the transition that adds one.
 use Rattle.std.specs.Prelude.{ℕ, ◌+◌, List, [], ◌∷◌, ◌++◌, length, Option, Bool, true, false, not, ◌&&◌, nat_le, ◌==◌}
 use Rattle.std.specs.Prelude.{if◌then◌else◌}
 use Rattle.std.specs.Str.{bytes_eq}
@@ -12,12 +12,13 @@ use Rattle.club_requests.specs.Limits.{most_events, is_name, is_budget, is_incre
 use Rattle.club_requests.specs.Outcome.{Reply, event_added, Outcome, accepted, first_refusal, unless, unless_repeat}
 use Rattle.club_core.specs.Members.{find_id}
 
--- what an event gives each player and each move in seconds, and whether its players may declare that they have won
+-- the terms of an event: budget and increment in seconds, and whether players may declare a win
 pub record Terms : Type 0 where
   pub budget : ℕ
   pub increment : ℕ
   pub declares : Bool
 
+-- an event: games of one kind under the same terms
 pub record Event : Type 0 where
   pub name : List ℕ
   pub game : GameKind
@@ -40,21 +41,21 @@ is_event given e =
 abbrev pub has_good_values : Event → Bool
 has_good_values e = is_name e.name && is_budget e.terms.budget && is_increment e.terms.increment
 
--- the game of the event of a name; of no event it is not asked
+-- the game of the event with this name; `Draughts` if there is none
 abbrev pub event_kind : List Event → List ℕ → GameKind
 event_kind [] name = Draughts
 event_kind (e ∷ es) name = if has_event_name name e then e.game else event_kind es name
 
--- whether the players of the event of that name may declare that they have won
+-- whether the event with this name exists and allows declarations
 abbrev pub event_declares : List Event → List ℕ → Bool
 event_declares es name = list_any (λ e. has_event_name name e && e.terms.declares) es
 
--- an event as it is added: its players may declare that they have won, in whatever game
+-- an event as it is added: it allows declarations, whatever its game
 abbrev pub declaring : Event → Event
 declaring given = record given { terms = record given.terms { declares = true } }
 
 module _ (events : List Event) (given : Event) where
-  -- such an event is there already
+  -- the reply if the same event already exists
   abbrev pub same_event : Option Reply
   same_event = option_map event_added (find_id (is_event given) events)
 

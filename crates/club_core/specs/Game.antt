@@ -1,4 +1,4 @@
--- A game: its players, its entries, and what follows from them by the rules and the clocks.
+-- A game: its players and moves, and the clocks, position, end and result that follow from them.
 use Rattle.std.specs.Prelude.{ℕ, zero, suc, ◌-◌, List, [], ◌∷◌, map, take, Option, Some, None}
 use Rattle.squares.specs.declared.sides.Side.{Side}
 use Rattle.squares.specs.declared.sides.Side.TheVariants.{First, Second}
@@ -15,12 +15,12 @@ use Rattle.club_core.specs.declared.rows.GameEnd.TheVariants.{Rule, Outside}
 use Rattle.club_core.specs.declared.rows.Offer.{Offer}
 use Rattle.club_core.specs.Events.{Terms}
 
--- a move, and its moment
+-- a move with its timestamp
 pub record Entry (M : Type 0) : Type 0 where
   pub made : M
   pub moment : ℕ
 
--- the event and the players are ids; the newest entry stands last
+-- event and players are ids; the last entry is the newest
 pub record Game (M : Type 0) : Type 0 where
   pub key : Option (List ℕ)
   pub event : ℕ
@@ -31,7 +31,7 @@ pub record Game (M : Type 0) : Type 0 where
   pub offer : Option Offer
   pub outside : Option OutsideEnd
 
--- the seconds that each side has left, and the moment from which the next move's are counted
+-- seconds left for each side, and the timestamp since which the clock of the side to move runs
 pub record Clocks : Type 0 where
   pub left_first : ℕ
   pub left_second : ℕ
@@ -41,23 +41,23 @@ abbrev pub left_of : Side → Clocks → ℕ
 left_of First c = c.left_first
 left_of Second c = c.left_second
 
--- what a player has left after a move in time
+-- seconds left after a move in time
 abbrev pub left_after : ℕ → ℕ → ℕ → ℕ
 left_after left increment elapsed = (after_move (record { left = left; increment = increment }) elapsed).left
 
--- the clocks after a move of that side at that moment
+-- clocks after a move of this side at this timestamp
 abbrev pub spend : ℕ → Side → ℕ → Clocks → Clocks
 spend increment First m c =
     record { left_first = left_after c.left_first increment (m - c.since); left_second = c.left_second; since = m }
 spend increment Second m c =
     record { left_first = c.left_first; left_second = left_after c.left_second increment (m - c.since); since = m }
 
--- the clocks after moves at those moments, that side moving first
+-- clocks after moves at these timestamps, this side moving first
 abbrev pub spend_all : ℕ → Side → List ℕ → Clocks → Clocks
 spend_all increment side [] c = c
 spend_all increment side (m ∷ ms) c = spend_all increment (other side) ms (spend increment side m c)
 
--- the score of an outside end, by the side to move
+-- score of an end for an outside reason, given the side to move
 abbrev pub outside_score : OutsideEnd → Side → Score
 outside_score Resigned turn = loses turn
 outside_score Time turn = loses turn
@@ -65,7 +65,7 @@ outside_score Agreed turn = Draw
 outside_score Declared turn = loses (other turn)
 outside_score (Recorded score) turn = score
 
--- the side that moves after that many plies, this side being the first
+-- the side to move after this many plies, starting with this side
 abbrev pub turns : ℕ → Side → Side
 turns zero side = side
 turns (suc n) side = turns n (other side)
@@ -86,7 +86,7 @@ module _ {M : Type 0} (game : Game M) where
   abbrev pub clocks_of : Terms → Clocks
   clocks_of terms = spend_all terms.increment First moments_of (opening_clocks terms)
 
--- the end of a game: the rules' if there is one, else the outside's
+-- the end of a game: the one that the rules gave, otherwise the one for an outside reason
 abbrev pub end_with : {E : Type 0} → Option E → Option OutsideEnd → Option (GameEnd E)
 end_with (Some e) outside = Some (Rule e)
 end_with None (Some o) = Some (Outside o)
@@ -117,6 +117,6 @@ module _ {P M E T : Type 0} (rules : GameRules P M E T) (game : Game M) where
   abbrev pub result_of : Option Score
   result_of = score_with rules end_of turn_of
 
--- the game as it stood after that many plies
+-- the game after this many plies
 abbrev pub game_at : {M : Type 0} → Game M → ℕ → Game M
 game_at game plies = record game { entries = take plies game.entries }

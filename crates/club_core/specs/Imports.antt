@@ -1,4 +1,4 @@
--- What importing a recorded game of an event does.
+-- The transition that imports a recorded game into an event.
 use Rattle.std.specs.Prelude.{ℕ, ◌+◌, List, [], ◌∷◌, length, map, Option, Some, None, Bool, true, false, not, is_some}
 use Rattle.std.specs.Prelude.{◌&&◌, nat_le, if◌then◌else◌}
 use Rattle.squares.specs.declared.sides.Score.{Score}
@@ -21,7 +21,7 @@ use Rattle.club_core.specs.declared.seats.Pairing.{Pairing}
 use Rattle.club_core.specs.Seats.{are_two, same_seats}
 use Rattle.club_core.specs.Game.{Game, moves_of, result_of}
 
--- an import: the key of the new game, the names of its event and its players, and a part of a text in a format
+-- an import: the key of the new game, the names of its event and its players, and one part of a text in a format
 pub record Import : Type 0 where
   pub key : List ℕ
   pub event : List ℕ
@@ -46,7 +46,7 @@ abbrev pub has_score : Option Score → Score → Bool
 has_score None score = false
 has_score (Some result) score = same_score result score
 
--- an end from a record stands where the rules gave none
+-- the record's score is the reason of the end only if the rules gave none
 abbrev pub recorded_end : {E : Type 0} → Option E → Score → Option OutsideEnd
 recorded_end None score = Some (by_record score)
 recorded_end (Some end) score = None
@@ -58,7 +58,7 @@ module _ {P M E T : Type 0} (rules : GameRules P M E T) where
   same_moves (m ∷ ms) [] = false
   same_moves (m ∷ ms) (n ∷ ns) = rules.same m n && same_moves ms ns
 
-  -- the record's moves were played in the game, and it ended with the record's score
+  -- the game has the record's moves and the record's score
   abbrev pub is_record_of : Game M → Recorded M → Bool
   is_record_of game r = has_score (result_of rules game) r.score && same_moves (moves_of game) r.moves
 
@@ -68,7 +68,7 @@ module _ {P M E T : Type 0} (rules : GameRules P M E T) where
   reads_record_of (Some game) (record_is.refused refusal) = false
   reads_record_of None reading = false
 
-  -- the game of a record: it started and was played at one moment, and ended by the rules or else as recorded
+  -- the imported game: all its moves have one timestamp, and it ended by the rules or otherwise as recorded
   abbrev pub imported : Option (List ℕ) → Pairing → ℕ → Recorded M → Game M
   imported key pairing moment r =
       record {
@@ -82,7 +82,7 @@ module _ {P M E T : Type 0} (rules : GameRules P M E T) where
         outside = recorded_end (rules.judge rules.start r.moves) r.score;
       }
 
--- What is read, in an event with declarations or without: in one without them a declaration is no end of a game.
+-- If the event has no declarations, a record that ends with a declaration is refused.
 abbrev pub read_in : {M : Type 0} → RecordFormat → Bool → Reading M → Reading M
 read_in format declares (record_is.game r) =
     if r.declared && not declares then record_is.refused (ResultDiffers format) else record_is.game r
@@ -94,7 +94,7 @@ has_part (record_is.game r) = true
 has_part record_is.no_part = false
 has_part (record_is.refused refusal) = true
 
--- a recorded game of two members that were found is added to the event
+-- adds a recorded game to the event, if both players were found
 abbrev pub import_game : {M : Type 0} → ℕ → Option ℕ → Option ℕ → ℕ → Recorded M → Outcome (Imported M)
 import_game event (Some one) (Some other) games r =
     accepted
@@ -109,7 +109,7 @@ import_between event one other games record_is.no_part = refused BadValue
 import_between event one other games (record_is.refused refusal) = refused (Record refusal)
 
 module _ {P M E T : Type 0} (rules : GameRules P M E T) (records : GameRecords M) (given : Import) where
-  -- what the part of the import's text is read as: none where the text is too long or of another format
+  -- reads the part of the import's text; no part if the text is too long or of another format
   abbrev pub reading_of_import : Reading M
   reading_of_import =
       if same_format given.format records.format && nat_le (length given.text) most_record_bytes
@@ -118,12 +118,12 @@ module _ {P M E T : Type 0} (rules : GameRules P M E T) (records : GameRecords M
 
   module _ (event : ℕ) (first second : Option ℕ) (under_key : Option KeyedGame) (old : Option (Game M))
       (games : ℕ) where
-    -- the game under the key is of the same event and players, and ended as the record says
+    -- the game under the key has the same event and players, and the record's moves and score
     abbrev pub repeat_of_import : Option Reply
     repeat_of_import = if reads_record_of rules old reading_of_import then same_seats event first second
         under_key else None
 
-    -- the record is looked at after the names, and not before the club has room for its game
+    -- the names are checked before the record, and the record is refused only if the club has room for its game
     abbrev pub import_tests : List (Bool × Refusal)
     import_tests =
         (is_some under_key, Conflict)
@@ -140,8 +140,8 @@ module _ {P M E T : Type 0} (rules : GameRules P M E T) (records : GameRecords M
         (unless import_refusal
         (import_between event first second games (read_in records.format declares reading_of_import)))
 
-  -- by the event and the members that the names stand for, whether the event has declarations, the game under the key
-  -- and the number of games
+  -- the transition after the event, the players and the game under the key are looked up; `games` is the number of
+  -- games
   abbrev pub import_found : Bool → Option ℕ → Option ℕ → Option ℕ → Option KeyedGame → Option (Game M) → ℕ
       → Outcome (Imported M)
   import_found declares None first second under_key old games = refused UnknownEvent

@@ -14,29 +14,30 @@ use Rattle.club_core.specs.Events.{Terms}
 use Rattle.club_core.specs.Game.{Entry, Game, Clocks, left_of, spend, moves_of, moments_of, opening_clocks}
 use Rattle.club_core.specs.Game.{rule_end, last_position}
 
--- the moves at those moments, that side moving first, were made in time, and no moment is below the one before it
+-- moves at these timestamps, this side moving first, were made in time, and timestamps never decrease
 abbrev pub IsTimely : ℕ → Side → List ℕ → Clocks → Type 0
 IsTimely increment side [] c = Unit {0}
 IsTimely increment side (m ∷ ms) c =
     (c.since ≤ m) × (m - c.since ≤ left_of side c) × IsTimely increment (other side) ms (spend increment side m c)
 
--- an offer of a draw that may stand: at the next ply of a running game whose players may agree on a draw
+-- a valid draw offer: at the next ply of a running game whose rules have draws by agreement
 pub record IsOffer {P M E T : Type 0} (rules : GameRules P M E T) (game : Game M) (offer : Offer) : Type 0 where
   pub allowed : rules.has_draw_offers ≡ true
   pub next_ply : offer.ply ≡ length game.entries + 1
   pub no_rule_end : rule_end rules game ≡ None
 
--- a game from a record: it has a key and no offer, and all its entries have the moment of its start
+-- an imported game: it has a key and no draw offer, and all its moves have the timestamp of its start
 pub record IsRecorded {M : Type 0} (game : Game M) : Type 0 where
   pub keyed : IsSome game.key
   pub no_offer : game.offer ≡ None
   pub at_once : (n : ℕ) (e : Entry M) → slice_get game.entries n ≡ Some e → e.moment ≡ game.start
 
+-- the invariant of a game: legal moves that were made in time, and a consistent end and draw offer
 pub record IsLegalGame {P M E T : Type 0} (rules : GameRules P M E T) (terms : Terms) (game : Game M) : Type 0 where
   pub line : IsPlayedLine rules rules.start (moves_of game)
   pub plies : length game.entries ≤ most_plies
   pub timely : IsTimely terms.increment First (moments_of game) (opening_clocks game terms)
-  -- an end from outside stands only where the rules gave none
+  -- an outside reason ends a game only if the rules gave no end
   pub outside_alone : IsSome game.outside → rule_end rules game ≡ None
   pub offer : IfSome game.offer (λ o. IsOffer rules game o)
   pub agreed : game.outside ≡ Some Agreed → IsSome game.offer

@@ -1,4 +1,4 @@
--- A legal state of the club: its games are legal, its values and counts keep their limits, and what is named exists.
+-- A legal state of the club: its games are legal, values and counts are within limits, and all references exist.
 use Rattle.std.specs.Prelude.{◌≡◌, ◌≢◌, ◌+◌, ◌<◌, ◌≤◌, ℕ, List, length, Option, Some, IsTrue}
 use Rattle.std.specs.Prelude.{IsSome, IfSome, slice_get}
 use Rattle.club_rules.specs.declared.names.GameKind.{GameKind}
@@ -17,30 +17,32 @@ use Rattle.club_core.specs.Game.{Game, clocks_of, left_of, turn_of}
 use Rattle.club_core.specs.Legal.{IsLegalGame}
 use Rattle.club_core.specs.State.{AnyGame, draughts, shogi, State, place, key_of, pairing_of}
 
--- each element is so
+-- the predicate holds for each element
 abbrev pub Each : {A : Type 0} → (A → Type 0) → List A → Type 0
 Each {A} IsSo xs = (n : ℕ) (x : A) → slice_get xs n ≡ Some x → IsSo x
 
--- no two elements have the same there
+-- the values of `part` are unique
 abbrev pub AreApart : {A B : Type 0} → (A → B) → List A → Type 0
 AreApart {A} part xs = (i j : ℕ) (x y : A) → slice_get xs i ≡ Some x → slice_get xs j ≡ Some y → part x ≡ part y → i ≡ j
 
--- no two elements have the same there, where they have it at all
+-- the values of `part` are unique among the elements that have one
 abbrev pub AreApartIfAny : {A B : Type 0} → (A → Option B) → List A → Type 0
 AreApartIfAny {A} {B} part xs =
     (i j : ℕ) (x y : A) (b : B) → slice_get xs i ≡ Some x → slice_get xs j ≡ Some y → part x ≡ Some b → part y ≡ Some b
     → i ≡ j
 
+-- the name and the key of a member are valid
 pub record IsLegalMember (m : Member) : Type 0 where
   pub name : IsTrue (is_name m.name)
   pub key : IsTrue (is_member_key m.key)
 
+-- the name and the terms of an event are valid
 pub record IsLegalEvent (e : Event) : Type 0 where
   pub name : IsTrue (is_name e.name)
   pub budget : IsTrue (is_budget e.terms.budget)
   pub increment : IsTrue (is_increment e.terms.increment)
 
--- a game of the club, of an event in its kind and between two members
+-- a game of the club, in an event of its kind and between two members
 pub record IsGameOf {DM SM P M E T : Type 0} (rules : GameRules P M E T) (kind : GameKind) (s : State DM SM)
     (game : Game M) : Type 0 where
   pub event : Event
@@ -50,29 +52,31 @@ pub record IsGameOf {DM SM P M E T : Type 0} (rules : GameRules P M E T) (kind :
   pub first : IsSome (place s.members game.first)
   pub second : IsSome (place s.members game.second)
   pub key : IfSome game.key (λ k. IsTrue (is_name k))
-  -- no moment is above that of the last accepted request
+  -- no timestamp is later than that of the last accepted request
   pub start : game.start ≤ s.last
   pub entries : Each (λ e. e.moment ≤ s.last) game.entries
-  -- the last second of a side that lost by time is gone
+  -- a side that lost on time had exceeded its limit when the last request was accepted
   pub lost_by_time : game.outside ≡ Some Time
       → (clocks_of game event.terms).since + left_of (turn_of rules game) (clocks_of game event.terms) < s.last
 
 module _ {DP DM DE DT SP SM SE ST : Type 0} (rules : ClubRules DP DM DE DT SP SM SE ST) where
+  -- the game is legal in this state, by the rules of its kind
   abbrev pub IsLegalIn : State DM SM → AnyGame DM SM → Type 0
   IsLegalIn s (draughts game) = IsGameOf rules.draughts Draughts s game
   IsLegalIn s (shogi game) = IsGameOf rules.shogi Shogi s game
 
--- a challenge of a member to another, to a game of an event
+-- a challenge of one member to another, to a game of an event
 pub record IsLegalChallenge {DM SM : Type 0} (s : State DM SM) (c : Challenge) : Type 0 where
   pub number : IsTrue (is_challenge_number c.number)
   pub member : IsSome (place s.members c.member)
   pub other : IsSome (place s.members c.other)
   pub apart : c.member ≢ c.other
   pub event : IsSome (place s.events c.event)
-  -- one that was accepted names a game of that event, of those two on those sides
+  -- an accepted challenge refers to a game with its event, players and sides
   pub accepted : (id : ℕ) → c.standing ≡ Accepted id →
       (game : AnyGame DM SM) × (place s.games id ≡ Some game) × (pairing_of game ≡ pairing_for c)
 
+-- the invariant of the club's state
 pub record IsLegalState {DP DM DE DT SP SM SE ST : Type 0} (rules : ClubRules DP DM DE DT SP SM SE ST)
     (s : State DM SM) : Type 0 where
   pub last : s.last ≤ last_moment

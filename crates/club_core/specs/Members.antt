@@ -1,4 +1,4 @@
--- The members of the club, and what adding one does.
+-- Members, and the transition that adds one.
 use Rattle.std.specs.Prelude.{ℕ, suc, ◌+◌, List, [], ◌∷◌, ◌++◌, length, Option, Some, None, Bool, not, ◌&&◌, ◌||◌}
 use Rattle.std.specs.Prelude.{nat_le, if◌then◌else◌}
 use Rattle.std.specs.Str.{bytes_eq}
@@ -9,11 +9,12 @@ use Rattle.club_requests.specs.declared.refusals.Refusal.TheVariants.{NameTaken,
 use Rattle.club_requests.specs.Limits.{most_members, is_name, is_member_key}
 use Rattle.club_requests.specs.Outcome.{Reply, member_added, Outcome, accepted, first_refusal, unless, unless_repeat}
 
+-- a member with a secret key
 pub record Member : Type 0 where
   pub name : List ℕ
   pub key : List ℕ
 
--- ids are places from 1: that of the first that passes the test
+-- ids are indices from 1: the id of the first element that passes the test
 abbrev pub find_id : {A : Type 0} → (A → Bool) → List A → Option ℕ
 find_id test [] = None
 find_id test (x ∷ xs) = if test x then Some 1 else option_map suc (find_id test xs)
@@ -25,7 +26,7 @@ abbrev pub has_name_or_key : List ℕ → List ℕ → Member → Bool
 has_name_or_key name key m = bytes_eq m.name name || bytes_eq m.key key
 
 module _ (members : List Member) (name key : List ℕ) where
-  -- a member has both already
+  -- the reply if a member with this name and key already exists
   abbrev pub same_member : Option Reply
   same_member = option_map member_added (find_id (is_member name key) members)
 

@@ -1,4 +1,4 @@
--- What seating two members for a game of an event does.
+-- The transition that starts a game between two members.
 use Rattle.std.specs.Prelude.{ℕ, ◌+◌, List, [], ◌∷◌, Option, Some, None, Bool, false, not, is_some, ◌&&◌, nat_le, ◌==◌}
 use Rattle.std.specs.Prelude.{if◌then◌else◌}
 use Rattle.std.specs.Str.{bytes_eq}
@@ -15,13 +15,13 @@ use Rattle.club_core.specs.declared.seats.KeyedGame.{KeyedGame}
 abbrev pub has_member_name : List ℕ → Member → Bool
 has_member_name name m = bytes_eq m.name name
 
--- the id is that one
+-- the id was found and is this one
 abbrev pub is_id : Option ℕ → ℕ → Bool
 is_id None id = false
 is_id (Some found) id = found == id
 
 module _ (event : ℕ) (first second : Option ℕ) where
-  -- the game under the key is of the same event and the same two members on the same sides
+  -- the reply if the game under the key has the same event, and the same players on the same sides
   abbrev pub same_seats : Option KeyedGame → Option Reply
   same_seats None = None
   same_seats (Some old) =
@@ -29,7 +29,7 @@ module _ (event : ℕ) (first second : Option ℕ) where
       then Some (game_seated old.game)
       else None
 
--- both are members, and not one
+-- both members were found and differ
 abbrev pub are_two : Option ℕ → Option ℕ → Bool
 are_two None second = false
 are_two (Some first) None = false
@@ -51,7 +51,7 @@ pair event (Some first) (Some second) games =
     accepted (record { event = event; first = first; second = second }) (game_seated (games + 1))
 pair event _ _ games = refused BadValue
 
--- by the event and the members that the names stand for, the game under the key and the number of games
+-- the transition after the event, the members and the game under the key are looked up; `games` is the number of games
 abbrev pub seat_found : Option ℕ → Option ℕ → Option ℕ → Option KeyedGame → ℕ → List ℕ → Outcome Pairing
 seat_found None first second under_key games key = refused UnknownEvent
 seat_found (Some event) first second under_key games key =

@@ -1,4 +1,4 @@
--- The club: its members, its events, its games of two kinds and its challenges, and what a request does to them.
+-- The club's state (members, events, games of two kinds, challenges) and its transition function.
 use Rattle.std.specs.Prelude.{ℕ, zero, suc, ◌-◌, List, [], ◌∷◌, ◌++◌, length, map, count_by, Option, Some, None, Bool}
 use Rattle.std.specs.Prelude.{true, false, max, if◌then◌else◌, slice_get, slice_set}
 use Rattle.std.specs.Str.{bytes_eq}
@@ -30,19 +30,21 @@ pub data AnyGame (DM SM : Type 0) : Type 0 where
   draughts : Game DM → AnyGame DM SM
   shogi : Game SM → AnyGame DM SM
 
--- the ids of members, events and games are their places, from 1
+-- the ids of members, events and games are their indices, from 1
 pub record State (DM SM : Type 0) : Type 0 where
-  -- the moment of the last accepted request
+  -- timestamp of the last accepted request
   pub last : ℕ
   pub members : List members.Member
   pub events : List Event
   pub games : List (AnyGame DM SM)
-  -- in the order in which they were opened, which no command looks at
+  -- in the order in which they were opened; no command depends on the order
   pub challenges : List Challenge
 
+-- a new club: no members, events, games or challenges
 abbrev pub opening_state : {DM SM : Type 0} → State DM SM
 opening_state = record { last = 0; members = []; events = []; games = []; challenges = [] }
 
+-- a command to the club
 pub data Command : Type 0 where
   add_member : (name key : List ℕ) → Command
   add_event : Event → Command
@@ -54,21 +56,23 @@ pub data Command : Type 0 where
   withdraw_challenge : (number : ℕ) → Command
   answer_challenge : (challenger : List ℕ) → (number : ℕ) → (accept : Bool) → Command
 
--- who gives a command: the officer, or one who shows a member's key
+-- caller of a command: the officer, or the holder of a member's key
 pub data Who : Type 0 where
   officer : Who
   key_holder : List ℕ → Who
 
+-- a command with its caller and its timestamp
 pub record Request : Type 0 where
   pub who : Who
   pub command : Command
   pub moment : ℕ
 
+-- the element with an id, which counts from 1
 abbrev pub place : {A : Type 0} → List A → ℕ → Option A
 place xs zero = None
 place xs (suc n) = slice_get xs n
 
--- the element of an id that was found
+-- the element with an id that was looked up
 abbrev pub at_found : {A : Type 0} → List A → Option ℕ → Option A
 at_found xs None = None
 at_found xs (Some id) = place xs id
@@ -108,7 +112,7 @@ module _ {DM SM : Type 0} where
   abbrev pub any_under : List (AnyGame DM SM) → List ℕ → Option (AnyGame DM SM)
   any_under games key = at_found games (find_id (has_key key) games)
 
-  -- a game of one of the kinds, if it is that
+  -- the game, if it is of this kind
   abbrev pub draughts_in : Option (AnyGame DM SM) → Option (Game DM)
   draughts_in None = None
   draughts_in (Some (draughts g)) = Some g
@@ -119,11 +123,11 @@ module _ {DM SM : Type 0} where
   shogi_in (Some (draughts g)) = None
   shogi_in (Some (shogi g)) = Some g
 
-  -- the game that stands under a key
+  -- the game stored under a key, with its id
   abbrev pub game_under : List (AnyGame DM SM) → List ℕ → Option KeyedGame
   game_under games key = keyed_at games (find_id (has_key key) games)
 
--- a game that was just seated
+-- a new game without moves
 abbrev pub seated : {M : Type 0} → Option (List ℕ) → Pairing → ℕ → Game M
 seated key pairing start =
     record {
@@ -141,7 +145,7 @@ abbrev pub seated_as : {DM SM : Type 0} → GameKind → Option (List ℕ) → P
 seated_as Draughts key pairing start = draughts (seated key pairing start)
 seated_as Shogi key pairing start = shogi (seated key pairing start)
 
--- the officer, or the member whose key it is
+-- the member with an id that was looked up by key
 abbrev pub caller_found : Option ℕ → Option Caller
 caller_found None = None
 caller_found (Some id) = Some (Member id)
@@ -153,7 +157,7 @@ abbrev pub caller_of : List members.Member → Who → Option Caller
 caller_of all officer = Some Officer
 caller_of all (key_holder key) = caller_found (find_id (has_member_key key) all)
 
--- the state after an outcome: that which stands where it was accepted, and else the one before
+-- the state after an outcome: the new one if accepted, otherwise the old one
 abbrev pub state_after : {S : Type 0} → S → Outcome S → S
 state_after s (accepted new reply) = new
 state_after s (repeated reply) = s
@@ -187,11 +191,11 @@ module _ {DM SM : Type 0} (s : State DM SM) (moment : ℕ) where
   abbrev pub with_challenge : Challenge → State DM SM
   with_challenge c = record s { last = moment; challenges = put_challenge s.challenges c }
 
-  -- the game that a challenge starts has no key
+  -- the game that an accepted challenge starts; it has no key
   abbrev pub challenge_game : Challenge → AnyGame DM SM
   challenge_game c = seated_as (kind_at (place s.events c.event)) None (pairing_for c) moment
 
--- the challenge as it was answered, and the game that it starts where it was accepted
+-- stores the answered challenge, and the game if it was accepted
 abbrev pub with_answer : {DM SM : Type 0} → State DM SM → ℕ → Bool → Challenge → State DM SM
 with_answer s moment false c = with_challenge s moment c
 with_answer s moment true c = with_challenge (with_imported s moment (challenge_game s moment c)) moment c
@@ -217,7 +221,7 @@ module _ {DP DM DE DT SP SM SE ST : Type 0} (rules : ClubRules DP DM DE DT SP SM
       map_outcome (λ new. with_game s moment id (shogi new))
       (game_step rules.shogi (terms_at (place s.events g.event)) g moment who command)
 
-  -- an import into an event of that kind; its names are looked up, and the game under its key
+  -- import into an event of this kind; the names and the game under the key are looked up
   abbrev pub import_as : State DM SM → ℕ → Import → GameKind → Outcome (State DM SM)
   import_as s moment given Draughts =
       map_outcome
@@ -228,7 +232,7 @@ module _ {DP DM DE DT SP SM SE ST : Type 0} (rules : ClubRules DP DM DE DT SP SM
       (λ i. with_imported s moment (shogi (imported rules.shogi (Some given.key) i.pairing moment i.recorded)))
       (import_looked_up rules.shogi rules.shogi_records s given (shogi_in (any_under s.games given.key)))
 
-  -- the side to move of a running game has lost by time
+  -- the game is running and its side to move has exceeded the time limit
   abbrev pub is_late_any : State DM SM → ℕ → AnyGame DM SM → Bool
   is_late_any s moment (draughts g) = is_late rules.draughts (terms_at (place s.events g.event)) g moment
   is_late_any s moment (shogi g) = is_late rules.shogi (terms_at (place s.events g.event)) g moment
@@ -237,14 +241,15 @@ module _ {DP DM DE DT SP SM SE ST : Type 0} (rules : ClubRules DP DM DE DT SP SM
   swept_any s moment (draughts g) = draughts (swept rules.draughts (terms_at (place s.events g.event)) g moment)
   swept_any s moment (shogi g) = shogi (swept rules.shogi (terms_at (place s.events g.event)) g moment)
 
-  -- every running game whose side to move has lost by time is ended
+  -- ends every running game whose side to move has exceeded the time limit
   abbrev pub with_swept : State DM SM → ℕ → State DM SM
   with_swept s moment = record s { last = moment; games = map (swept_any s moment) s.games }
 
+  -- ends every running game whose side to move has exceeded the time limit, and counts these games
   abbrev pub step_sweep : State DM SM → ℕ → Outcome (State DM SM)
   step_sweep s moment = accepted (with_swept s moment) (games_swept (count_by (is_late_any s moment) s.games))
 
-  -- a command of a caller, at the effective moment
+  -- a command of a caller, at the effective timestamp
   abbrev pub step_command : State DM SM → ℕ → Caller → Command → Outcome (State DM SM)
   step_command s moment who (add_member name key) =
       by_officer who (map_outcome (with_members s moment) (member_step s.members name key))
@@ -276,7 +281,7 @@ module _ {DP DM DE DT SP SM SE ST : Type 0} (rules : ClubRules DP DM DE DT SP SM
   step_by s moment None command = refused UnknownKey
   step_by s moment (Some who) command = step_command s moment who command
 
-  -- the effective moment is the later of the request's and the last accepted one's
+  -- the effective timestamp is the later of the request's and the last accepted request's
   abbrev pub step : State DM SM → Request → Outcome (State DM SM)
   step s r = step_by s (max r.moment s.last) (caller_of s.members r.who) r.command
 
@@ -289,6 +294,7 @@ module _ {DP DM DE DT SP SM SE ST : Type 0} (rules : ClubRules DP DM DE DT SP SM
   fold s [] = s
   fold s (r ∷ rs) = fold (next s r) rs
 
+  -- the outcomes of requests, one after another
   abbrev pub outcomes : State DM SM → List Request → List (Outcome (State DM SM))
   outcomes s [] = []
   outcomes s (r ∷ rs) = step s r ∷ outcomes (next s r) rs

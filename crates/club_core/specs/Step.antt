@@ -1,4 +1,4 @@
--- What a command does to one game, or why it is refused: the first refusal that holds.
+-- The transition of a command on one game: accepted, repeated, or the first refusal that applies.
 use Rattle.std.specs.Prelude.{ℕ, zero, suc, ◌+◌, ◌-◌, List, [], ◌∷◌, ◌++◌, length, Option, Some, None, Result, Ok, Err}
 use Rattle.std.specs.Prelude.{Bool, true, false, not, ◌&&◌, ◌||◌, is_some, nat_lt, nat_le, ◌==◌, if◌then◌else◌}
 use Rattle.std.specs.Prelude.{slice_get}
@@ -27,7 +27,7 @@ use Rattle.club_requests.specs.Outcome.{unless, unless_repeat}
 use Rattle.club_core.specs.Game.{Game, left_of, side_after, outside_score, moves_of, clocks_of, last_position, rule_end}
 use Rattle.club_core.specs.Game.{turn_of, result_of, game_at}
 
--- a command on a game, its text being the bytes that were given
+-- a command on a game, with its text as bytes
 pub data GameCommand : Type 0 where
   move : (ply : ℕ) → (text : List ℕ) → GameCommand
   offer_draw : (ply : ℕ) → GameCommand
@@ -36,7 +36,7 @@ pub data GameCommand : Type 0 where
   claim_time : GameCommand
   declare : (ply : ℕ) → GameCommand
 
--- the officer gives moves alone
+-- the officer may only play moves
 abbrev pub may_give : Caller → GameCommand → Bool
 may_give (Member id) command = true
 may_give Officer (move ply text) = true
@@ -46,11 +46,11 @@ may_give Officer resign = false
 may_give Officer claim_time = false
 may_give Officer (declare ply) = false
 
--- why a command on a game that there is none of is refused
+-- the refusal of a command on a game that does not exist
 abbrev pub no_game_refusal : Caller → GameCommand → Refusal
 no_game_refusal who command = if may_give who command then UnknownGame else NotAllowed
 
--- the ply that a command names a move of, and else 0
+-- the ply of the move that a command names, or 0
 abbrev pub asked_ply : GameCommand → ℕ
 asked_ply (move ply text) = ply
 asked_ply (offer_draw ply) = 0
@@ -59,16 +59,16 @@ asked_ply resign = 0
 asked_ply claim_time = 0
 asked_ply (declare ply) = 0
 
--- an offer of a draw by that side at that ply stands
+-- this side has made a draw offer at this ply
 abbrev pub has_offer : Option Offer → Side → ℕ → Bool
 has_offer None side ply = false
 has_offer (Some offer) side ply = same_side offer.side side && offer.ply == ply
 
--- the answer to an offer that is this one again
+-- the reply if this is the current draw offer again
 abbrev pub repeat_of_offer : Option Offer → Side → ℕ → Option Reply
 repeat_of_offer offer side ply = if has_offer offer side ply then Some (draw_offered ply) else None
 
--- the game ended from outside in this way
+-- the game ended for this outside reason
 abbrev pub is_ended_by : OutsideEnd → Option OutsideEnd → Bool
 is_ended_by Resigned (Some Resigned) = true
 is_ended_by Agreed (Some Agreed) = true
@@ -81,24 +81,24 @@ is_ended_by _ _ = false
 abbrev pub side_of_member : ℕ → ℕ → ℕ → Option Side
 side_of_member first second id = if id == first then Some First else (if id == second then Some Second else None)
 
--- the side for which a caller gives a command: the officer's is that of the side of its ply
+-- the side for which a caller gives a command; the officer plays for the side whose turn the ply is
 abbrev pub caller_side : ℕ → ℕ → Caller → ℕ → Option Side
 caller_side first second Officer ply = Some (side_after (ply - 1))
 caller_side first second (Member id) ply = side_of_member first second id
 
--- the game with one more move
+-- the game after one more move
 abbrev pub played : {M : Type 0} → Game M → M → ℕ → Game M
 played game m moment = record game { entries = game.entries ++ record { made = m; moment = moment } ∷ []; offer = None }
 
--- the game with an offer of a draw
+-- the game with a draw offer
 abbrev pub offered : {M : Type 0} → Game M → Offer → Game M
 offered game offer = record game { offer = Some offer }
 
--- the game with an end from outside
+-- the game with an end for an outside reason
 abbrev pub ended : {M : Type 0} → Game M → OutsideEnd → Game M
 ended game end = record game { outside = Some end }
 
--- the move of a ply, counted from 1
+-- the move at a ply, counted from 1
 abbrev pub move_at : {M : Type 0} → Game M → ℕ → Option M
 move_at game zero = None
 move_at game (suc n) = slice_get (moves_of game) n
@@ -108,18 +108,18 @@ module _ {P M E T : Type 0} (rules : GameRules P M E T) where
   checked_as m (Ok _) = Ok m
   checked_as m (Err refusal) = Err refusal
 
-  -- what was read, where it is a legal move, and else why it is none
+  -- the move that was read if it is legal, otherwise the refusal
   abbrev pub checked : P → Result M MoveRefusal → Result M MoveRefusal
   checked p (Err refusal) = Err refusal
   checked p (Ok m) = checked_as m (rules.check p m)
 
-  -- what was read is that move
+  -- the text was read as this move
   abbrev pub reads_as : Result M MoveRefusal → M → Bool
   reads_as (Ok read) m = rules.same read m
   reads_as (Err refusal) m = false
 
 module _ {P M E T : Type 0} (rules : GameRules P M E T) (terms : Terms) (game : Game M) (ply : ℕ) where
-  -- what the answer to the move of that ply shows: a function of the entries up to it
+  -- the reply to the move at this ply, a function of the entries up to it
   abbrev pub reply_of_move : M → Reply
   reply_of_move m =
       moved
@@ -131,7 +131,7 @@ module _ {P M E T : Type 0} (rules : GameRules P M E T) (terms : Terms) (game : 
         end = option_map rules.end_name (rule_end rules (game_at game ply));
       })
 
-  -- the text, read in the position of that ply, is the move that was played there by this side
+  -- the text, read in the position before this ply, is the move that this side played there
   abbrev pub repeats : M → Side → List ℕ → Bool
   repeats m side text =
       same_side side (side_after (ply - 1))
@@ -151,7 +151,7 @@ module _ {P M E T : Type 0} (rules : GameRules P M E T) (game : Game M) where
   abbrev pub is_next_ply : ℕ → Bool
   is_next_ply ply = ply == length game.entries + 1
 
-  -- a command about a draw, where the players of this game may agree on one
+  -- a draw command; refused if the rules of this game have no draw by agreement
   abbrev pub if_draws : Outcome (Game M) → Outcome (Game M)
   if_draws outcome = if rules.has_draw_offers then outcome else refused NotInThisGame
 
@@ -165,7 +165,7 @@ module _ {P M E T : Type 0} (rules : GameRules P M E T) (game : Game M) where
   abbrev pub offer_refusal : Side → ℕ → Option Refusal
   offer_refusal side ply = first_refusal (offer_tests side ply)
 
-  -- a side offers a draw, until the next move
+  -- a side offers a draw, valid until the next move
   abbrev pub step_offer : Side → ℕ → Outcome (Game M)
   step_offer side ply =
       if_draws
@@ -173,7 +173,7 @@ module _ {P M E T : Type 0} (rules : GameRules P M E T) (game : Game M) where
       (unless (offer_refusal side ply)
       (accepted (offered game (record { side = side; ply = ply })) (draw_offered ply))))
 
-  -- what the answer to a command that ends the game so shows
+  -- the reply to a command that ends the game for this reason
   abbrev pub reply_of_end : OutsideEnd → Reply
   reply_of_end end = game_ended end (outside_score end (turn_of rules game))
 
@@ -193,11 +193,11 @@ module _ {P M E T : Type 0} (rules : GameRules P M E T) (game : Game M) where
   abbrev pub accept_refusal : Side → ℕ → Option Refusal
   accept_refusal side ply = first_refusal (accept_tests side ply)
 
-  -- the players agreed on a draw, by this side's accepting the other's offer of that ply
+  -- the draw was agreed by this side's acceptance of the opponent's offer at this ply
   abbrev pub repeat_of_accept : Side → ℕ → Option Reply
   repeat_of_accept side ply = repeat_of_end Agreed (is_ended_by Agreed game.outside && has_offer game.offer (other side) ply)
 
-  -- a side accepts the other's offer
+  -- a side accepts the opponent's offer
   abbrev pub step_accept : Side → ℕ → Outcome (Game M)
   step_accept side ply =
       if_draws
@@ -217,22 +217,22 @@ module _ {P M E T : Type 0} (rules : GameRules P M E T) (game : Game M) where
   abbrev pub repeat_of_resign : Side → Option Reply
   repeat_of_resign side = repeat_of_end Resigned (is_ended_by Resigned game.outside && is_turn side)
 
-  -- the side to move gives up
+  -- the side to move resigns
   abbrev pub step_resign : Side → Outcome (Game M)
   step_resign side = unless_repeat (repeat_of_resign side) (unless (resign_refusal side) (ends Resigned))
 
-  -- the side to move lost by time, and this is the other
+  -- the opponent of this side already lost on time
   abbrev pub repeat_of_claim : Side → Option Reply
   repeat_of_claim side = repeat_of_end Time (is_ended_by Time game.outside && not (is_turn side))
 
 module _ {P M E T : Type 0} (rules : GameRules P M E T) (terms : Terms) (game : Game M) where
-  -- the side to move declared, at this ply, that it had won
+  -- the side to move already declared a win at this ply
   abbrev pub repeat_of_declare : Side → ℕ → Option Reply
   repeat_of_declare side ply =
       repeat_of_end rules game Declared
       (is_ended_by Declared game.outside && is_turn rules game side && is_next_ply rules game ply)
 
-  -- the event has declarations, and the side to move may make one
+  -- the event has declarations, and the position allows the side to move to declare a win
   abbrev pub may_declare : Bool
   may_declare = terms.declares && rules.can_declare (last_position rules game)
 
@@ -247,25 +247,25 @@ module _ {P M E T : Type 0} (rules : GameRules P M E T) (terms : Terms) (game : 
   abbrev pub declare_refusal : Side → ℕ → Option Refusal
   declare_refusal side ply = first_refusal (declare_tests side ply)
 
-  -- the side to move declares that it has won
+  -- the side to move declares a win
   abbrev pub step_declare : Side → ℕ → Outcome (Game M)
   step_declare side ply =
       unless_repeat (repeat_of_declare side ply) (unless (declare_refusal side ply) (ends rules game Declared))
 
 module _ {P M E T : Type 0} (rules : GameRules P M E T) (terms : Terms) (game : Game M) (moment : ℕ) where
-  -- more seconds have gone than the side to move had left
+  -- more seconds have elapsed than the side to move had left
   abbrev pub is_overdue : Bool
   is_overdue = nat_lt (left_of (turn_of rules game) (clocks_of game terms)) (moment - (clocks_of game terms).since)
 
-  -- the game goes on, and the side to move has lost by time
+  -- the game is running and the side to move has exceeded the time limit
   abbrev pub is_late : Bool
   is_late = not (is_over rules game) && is_overdue
 
-  -- the game with its end, where the side to move has lost by time
+  -- the game after a sweep
   abbrev pub swept : Game M
   swept = if is_late then ended game Time else game
 
-  -- why a new move is refused before its text is read
+  -- the refusals of a new move that apply before its text is read
   abbrev pub move_tests : Side → ℕ → List ℕ → List (Bool × Refusal)
   move_tests side ply text =
       (is_over rules game, GameOver)
@@ -279,7 +279,7 @@ module _ {P M E T : Type 0} (rules : GameRules P M E T) (terms : Terms) (game : 
   abbrev pub move_refusal : Side → ℕ → List ℕ → Option Refusal
   move_refusal side ply text = first_refusal (move_tests side ply text)
 
-  -- plays the move that was read and checked
+  -- plays the move that was read, if it is legal
   abbrev pub plays : Result M MoveRefusal → Outcome (Game M)
   plays (Err refusal) = refused (Play (length game.entries + 1) refusal)
   plays (Ok m) = accepted (played game m moment)
@@ -301,7 +301,7 @@ module _ {P M E T : Type 0} (rules : GameRules P M E T) (terms : Terms) (game : 
   abbrev pub claim_refusal : Side → Option Refusal
   claim_refusal side = first_refusal (claim_tests side)
 
-  -- the side that is not to move claims the other's loss by time
+  -- the side that is not to move claims a win on time
   abbrev pub step_claim : Side → Outcome (Game M)
   step_claim side = unless_repeat (repeat_of_claim rules game side) (unless (claim_refusal side) (ends rules game Time))
 

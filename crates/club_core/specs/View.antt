@@ -1,5 +1,4 @@
--- When the rows and values that a command is decided over are those of a game, and when a decision is the step's
--- outcome.
+-- When the stored rows represent a game of the specification, and when a decision is the outcome of its transition.
 use Rattle.std.specs.Prelude.{◌≡◌, ℕ, ◌+◌, ◌-◌, ◌<◌, ◌≤◌, ◌^◌, length, Option, Some, None, Ok, string_bytes, slice_get}
 use Rattle.std.specs.Prelude.{IfSome}
 use Rattle.std.specs.Option.{option_map}
@@ -29,11 +28,11 @@ use Rattle.club_core.specs.Step.{move_at}
 abbrev pub clocks_in : {E : Type 0} → GameRow E → Clocks
 clocks_in row = record { left_first = row.left_first; left_second = row.left_second; since = row.since }
 
--- the track that the game's line leaves
+-- the track after the game's moves
 abbrev pub track_of_game : {P M E T : Type 0} → GameRules P M E T → Game M → T
 track_of_game rules game = line_track rules rules.start (moves_of game)
 
--- the row has what follows from the game
+-- the row holds the values that follow from the game
 pub record IsRowOf {P M E T : Type 0} (rules : GameRules P M E T) (terms : Terms) (game : Game M)
     (row : GameRow E) : Type 0 where
   pub key : option_map (λ k. string_bytes k) row.key ≡ game.key
@@ -49,6 +48,7 @@ pub record IsRowOf {P M E T : Type 0} (rules : GameRules P M E T) (terms : Terms
   pub result : row.result ≡ result_of rules game
   pub position : string_bytes row.position ≡ rules.write_position (last_position rules game)
 
+-- the data holds the move `m` of this ply, or nothing if none was played
 abbrev pub IsAsked : {R P M E T : Type 0} → GameRules P M E T → Terms → Game M → ℕ → Option M → Option (Asked R P M E T)
     → Type 0
 IsAsked rules terms game ply None None = Unit {0}
@@ -60,27 +60,27 @@ IsAsked rules terms game ply (Some m) (Some asked) =
     × (asked.before ≡ last_position rules (game_at game (ply - 1)))
     × (asked.ply ≡ ply)
 
--- the event's values that a view shows
+-- the event's terms, as the view holds them
 abbrev pub terms_of : {R P M E T : Type 0} → GameView R P M E T → Terms
 terms_of view = record { budget = view.budget; increment = view.increment; declares = view.declares }
 
--- the view shows the game
+-- the view represents the game
 pub record Shows {R P M E T : Type 0} (rules : GameRules P M E T) (game : Game M) (view : GameView R P M E T) : Type 0
   where
     pub row : IsRowOf rules (terms_of view) game view.row
     pub position : view.position ≡ last_position rules game
     pub track : view.track ≡ track_of_game rules game
 
--- the view shows what was played at that ply
+-- the view holds the move at this ply, if one was played
 abbrev pub ShowsPly : {R P M E T : Type 0} → GameRules P M E T → Game M → ℕ → GameView R P M E T → Type 0
 ShowsPly rules game ply view = IsAsked rules (terms_of view) game ply (move_at game ply) view.asked
 
--- both numbers of a track can grow by one, and still have 32 bits
+-- both numbers of a track can be incremented without overflow of 32 bits
 pub record CanGrow (numbers : ℕ × ℕ) : Type 0 where
   pub first : numbers.0 < 4294967295
   pub second : numbers.1 < 4294967295
 
--- the view's own values fit together, whichever game it shows
+-- the view's values are consistent with each other, whichever game it represents
 pub record IsSound {R P M E T : Type 0} (rules : GameRules P M E T) (view : GameView R P M E T) : Type 0 where
   pub track : CanGrow (rules.track_numbers view.track)
   pub asked : IfSome view.asked (λ a. rules.check a.before a.made ≡ Ok tt)
@@ -94,25 +94,25 @@ rule_in None = None
 rule_in (Some (Rule e)) = Some e
 rule_in (Some (Outside o)) = None
 
--- the end from outside
+-- the end for an outside reason
 abbrev pub outside_in : {E : Type 0} → Option (GameEnd E) → Option OutsideEnd
 outside_in None = None
 outside_in (Some (Rule e)) = None
 outside_in (Some (Outside o)) = Some o
 
--- the move made by a step, with the position after it
+-- the new move with the position after it
 abbrev pub IsMade : {R P M E T : Type 0} → GameRules P M E T → Game M → Option M → Option (Made R P M E T) → Type 0
 IsMade rules game None None = Unit {0}
 IsMade rules game (Some m) None = ⊥
 IsMade rules game None (Some made) = ⊥
 IsMade rules game (Some m) (Some made) = (made.made ≡ m) × (made.position ≡ last_position rules game)
 
--- the end that the rules give to a game, and its result by the side to move
+-- the end that the rules give, and its result given the side to move
 abbrev pub settled_by : {R P M E T : Type 0} → GameRules P M E T → Option E → Side → Settled R P M E T
 settled_by rules end turn = record { end = option_map Rule end; result = score_with rules (option_map Rule end) turn }
 
--- The end and the result of the game after a decision: for a move by the track of the line, the position after it, how
--- often that position stood and after which ply first; for every other decision those of its row.
+-- The end and the result of the game after a decision. A move is judged by the track, the new position, its number of
+-- occurrences and the ply after which it first occurred; any other decision keeps the values of its row.
 abbrev pub settled_of : {R P M E T : Type 0} → GameRules P M E T → Decision R P M E T → ℕ → ℕ → Settled R P M E T
 settled_of rules (decision.Accepted row None answer) times first = record { end = row.end; result = row.result }
 settled_of rules (decision.Accepted row (Some made) answer) times first =
@@ -122,7 +122,7 @@ settled_of rules (decision.Accepted row (Some made) answer) times first =
 settled_of rules (decision.Repeated answer) times first = record { end = None; result = None }
 settled_of rules (decision.Refused refusal) times first = record { end = None; result = None }
 
--- the answer to a move with the end that the rules gave at it
+-- the answer to a move with the end that the rules gave
 abbrev pub answer_with : {P M E T : Type 0} → GameRules P M E T → Option (GameEnd E) → Answer → Answer
 answer_with rules end (given.Moved m) = given.Moved (record m { end = option_map rules.end_name (rule_in end) })
 answer_with rules end (given.Member id) = given.Member id
@@ -136,7 +136,7 @@ answer_with rules end (given.ChallengeWithdrawn number) = given.ChallengeWithdra
 answer_with rules end (given.ChallengeRefused number) = given.ChallengeRefused number
 answer_with rules end (given.ChallengeAccepted number game) = given.ChallengeAccepted number game
 
--- the decision with that end and that result
+-- the decision with this end and this result
 abbrev pub concluded : {R P M E T : Type 0} →
     GameRules P M E T → Decision R P M E T → Settled R P M E T → Decision R P M E T
 concluded rules (decision.Accepted row made answer) settled =
@@ -147,7 +147,7 @@ concluded rules (decision.Accepted row made answer) settled =
 concluded rules (decision.Repeated answer) settled = decision.Repeated answer
 concluded rules (decision.Refused refusal) settled = decision.Refused refusal
 
--- the decision, with its end and its result, is the step's outcome
+-- the completed decision is the outcome of the transition
 abbrev pub IsConcluded : {R P M E T : Type 0} →
     GameRules P M E T → Terms → Game M → Outcome (Game M) → Decision R P M E T → Type 0
 IsConcluded rules terms old (accepted new reply) (decision.Accepted row made answer) =
@@ -163,28 +163,28 @@ IsConcluded rules terms old (repeated reply) (decision.Refused refusal') = ⊥
 IsConcluded rules terms old (refused refusal) (decision.Accepted row made answer) = ⊥
 IsConcluded rules terms old (refused refusal) (decision.Repeated answer) = ⊥
 
--- the decision has the move that the step made, with the position after it
+-- the decision holds the move of the transition, with the position after it
 abbrev pub HasMade : {R P M E T : Type 0} → GameRules P M E T → Game M → Outcome (Game M) → Decision R P M E T → Type 0
 HasMade rules old (accepted new reply) (decision.Accepted row made answer) =
     IsMade rules new (slice_get (moves_of new) (length old.entries)) made
 HasMade rules old outcome decision = Unit {0}
 
--- the last position of the game that the step leaves stood so often, and after that ply first
+-- the new position has occurred this many times, and first after this ply
 abbrev pub StoodAfter : {P M E T : Type 0} → GameRules P M E T → Outcome (Game M) → ℕ → ℕ → Type 0
 StoodAfter rules (accepted new reply) times first =
     (times ≡ times_stood rules rules.start (moves_of new)) × FirstStands rules rules.start (moves_of new) first
 StoodAfter rules (repeated reply) times first = Unit {0}
 StoodAfter rules (refused refusal) times first = Unit {0}
 
--- the same, where the decision made a move
+-- the same, if the decision made a move
 abbrev pub Stood : {R P M E T : Type 0} → GameRules P M E T → Outcome (Game M) → Decision R P M E T → ℕ → ℕ → Type 0
 Stood rules outcome (decision.Accepted row (Some made) answer) times first = StoodAfter rules outcome times first
 Stood rules outcome (decision.Accepted row None answer) times first = Unit {0}
 Stood rules outcome (decision.Repeated answer) times first = Unit {0}
 Stood rules outcome (decision.Refused refusal) times first = Unit {0}
 
--- The decision is the step's outcome, once it is settled by how often the position after a move stood and after which
--- ply first.
+-- The decision, completed with the true repetition count and first ply of the new position, is the outcome of the
+-- transition.
 abbrev pub IsDecision : {R P M E T : Type 0} →
     GameRules P M E T → Terms → Game M → Outcome (Game M) → Decision R P M E T → Type 0
 IsDecision rules terms old outcome decision =
@@ -192,7 +192,7 @@ IsDecision rules terms old outcome decision =
     × ((times first : ℕ) → Stood rules outcome decision times first →
     IsConcluded rules terms old outcome (concluded rules decision (settled_of rules decision times first)))
 
--- what a move that is accepted meets, the mover having so many seconds after it
+-- the conditions of an accepted move that leaves the mover this many seconds
 pub record CanPlay {R P M E T : Type 0} (rules : GameRules P M E T) (view : GameView R P M E T) (turn : Side) (m : M)
     (seconds moment : ℕ) : Type 0 where
   pub running : view.row.result ≡ None

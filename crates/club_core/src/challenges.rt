@@ -1,4 +1,4 @@
-//! Challenges between members: opening one, withdrawing it and answering it.
+//! Challenges between members: open, withdraw, accept and refuse.
 
 ghost use Rattle.std.specs.Prelude.{◌≡◌, ◌≤◌, ◌<◌, length, Option, Some, None, IsTrue, IfNone, string_bytes};
 ghost use Rattle.std.specs.Option.{option_map};
@@ -15,21 +15,21 @@ use crate::seats::{Pairing, are_two, find_event, find_member, is_id};
 use club_requests::values::{MOST_GAMES, is_challenge_number};
 use club_requests::{Answer, Caller, OpenChallenge, Refusal};
 
-/// How a challenge stands.
+/// The state of a challenge.
 #[derive(Clone, Copy, Debug, PartialEq, Eq)]
 pub enum ChallengeState {
-    /// It waits for its answer.
+    /// Waiting for an answer.
     Open,
-    /// The challenger took it back.
+    /// Withdrawn by the challenger.
     Withdrawn,
-    /// The member challenged refused it.
+    /// Refused by the challenged member.
     Refused,
-    /// The member challenged accepted it, and it started that game.
+    /// Accepted by the challenged member; it started this game.
     Accepted { game: u32 },
 }
 
-/// A challenge of a member to another, to a game of an event, under a number of the challenger's own. The event and
-/// the members go by their ids; `first` says whether the challenger plays First.
+/// A challenge of one member to another, to a game of an event, under a number that the challenger chose. The event and
+/// the members are given by id. `first` is true if the challenger moves first.
 #[derive(Clone, Copy, Debug, PartialEq, Eq)]
 pub struct Challenge {
     pub member: u32,
@@ -40,7 +40,7 @@ pub struct Challenge {
     pub standing: ChallengeState,
 }
 
-/// What a command does to a challenge. Where it is accepted: the challenge as it is to stand, and the answer.
+/// The decision on a command to a challenge: the new challenge and the answer, a repeat, or a refusal.
 #[derive(Debug, Drop)]
 pub enum ChallengeDecision {
     Accepted {
@@ -52,7 +52,7 @@ pub enum ChallengeDecision {
 }
 
 impl Challenge {
-    /// The event and the players of the game that the challenge is to.
+    /// The event and the players of the game that the challenge proposes.
     pub fn pairing(self) -> Pairing
         ensures { result ≡ pairing_for self }
     {
@@ -72,7 +72,7 @@ impl Challenge {
     }
 }
 
-/// The answer to a repeat of the challenge that stands under the number, if it is one.
+/// The answer to a repeat of the stored challenge, if the command is one.
 fn repeat_of_opening(
     event: u32,
     other: Option<u32>,
@@ -93,7 +93,7 @@ fn repeat_of_opening(
     }
 }
 
-/// Why no new challenge is opened.
+/// The refusal of a new challenge, if any.
 fn refusal_of_opening(
     caller: u32,
     number: u64,
@@ -112,7 +112,7 @@ fn refusal_of_opening(
     None
 }
 
-/// What opening a challenge does, once the names were looked up.
+/// Opens a challenge after the names are looked up.
 fn opening_found(
     caller: u32,
     number: u64,
@@ -149,9 +149,10 @@ fn opening_found(
     }
 }
 
-/// What opening a challenge does, by the members and the events in the order of their ids, and the caller's challenge
-/// under its number if there is one. Members alone challenge. The same challenge again is a repeat, however it stands
-/// by then.
+/// Opens a challenge; only members may.
+///
+/// `members` and `events` are in the order of ids, and `under` is the caller's stored challenge with the same number.
+/// The same challenge again is a repeat, whatever its state is now.
 pub fn open_challenge(
     members: &[Member],
     events: &[Event],
@@ -177,8 +178,7 @@ pub fn open_challenge(
     opening_found(caller, command.number, event, other, command.first, under)
 }
 
-/// What a withdrawal does, by the caller's challenge of its number if there is one. Members alone withdraw, and open
-/// challenges alone are withdrawn.
+/// Withdraws the caller's challenge `under`; only members may. Only an open challenge can be withdrawn.
 pub fn withdraw(under: Option<Challenge>, caller: Caller) -> ChallengeDecision
     ensures { challenge_outcome_of result ≡ by_member caller (λ member. withdrawal_step under) }
 {
@@ -205,7 +205,7 @@ pub fn withdraw(under: Option<Challenge>, caller: Caller) -> ChallengeDecision
     }
 }
 
-/// The answer to a repeat of the one that the challenge was given, if it is one.
+/// The answer to a repeat of the answer that the challenge was given, if the command is one.
 fn repeat_of_answer(challenge: Challenge, accept: bool) -> Option<Answer>
     ensures { option_map reply_of result ≡ repeat_of_answer challenge.number challenge.standing accept }
 {
@@ -229,7 +229,7 @@ fn repeat_of_answer(challenge: Challenge, accept: bool) -> Option<Answer>
     }
 }
 
-/// Why a challenge is not answered so.
+/// The refusal of an answer to a challenge, if any.
 fn refusal_of_answer(standing: ChallengeState, games: u32, accept: bool) -> Option<Refusal>
     ensures value { result ≡ answer_refusal standing games accept }
     ensures room { IfNone result (IsTrue accept → games < most_games) }
@@ -244,7 +244,7 @@ fn refusal_of_answer(standing: ChallengeState, games: u32, accept: bool) -> Opti
     None
 }
 
-/// An open challenge, refused or accepted. Its game is the next one.
+/// Refuses or accepts an open challenge. If it is accepted, its game gets the next id.
 fn answered(challenge: Challenge, games: u32, accept: bool) -> ChallengeDecision
     requires { IsTrue accept → games < most_games }
     ensures { challenge_outcome_of result ≡ answers challenge games accept }
@@ -270,8 +270,8 @@ fn answered(challenge: Challenge, games: u32, accept: bool) -> ChallengeDecision
     }
 }
 
-/// What an answer to a challenge does, by the challenge that it names if there is one, and the number of games. Only
-/// the member challenged answers. Where it accepts an open challenge, that names the next game from then on.
+/// Accepts or refuses the challenge `under`; only the challenged member may. `games` is the number of games; an
+/// accepted challenge starts the next one.
 pub fn answer_challenge(
     under: Option<Challenge>,
     games: u32,

@@ -1,11 +1,12 @@
-//! What a command does to one game.
+//! The decision on a command to one game.
 
 use crate::rows::{GameRow, Made};
 use club_requests::{Answer, Refusal};
 use club_rules::Rules;
 
-/// What a command does to a game. Where it is accepted: the row that is to stand, the move made if it was one, and the
-/// answer. After a move the row and the answer have no end until `conclude` puts it in.
+/// The decision on a command to one game: the new row, the move (if it is one) and the answer; a repeat; or a refusal.
+///
+/// After a move the row and the answer have no end until `conclude` adds it.
 #[derive(Drop)]
 pub enum Decision<R: Rules> {
     Accepted {

@@ -1,4 +1,4 @@
-//! What a command does to one game: who may give it, and which rule it falls under.
+//! The decision on a command to one game: it checks the caller's rights, then calls the module for the command.
 
 ghost use Rattle.std.specs.Prelude.{◌≡◌, ◌≤◌, IfOk};
 ghost use Rattle.club_core.specs.Answer.{game_command_of};
@@ -20,7 +20,7 @@ use club_rules::{Memory, Rules};
 use squares::Side;
 use std::alloc::Global;
 
-/// Whether the caller may give such a command: the officer gives moves alone.
+/// Whether the caller may give the command. On a game the officer may only play moves.
 fn may_give(caller: Caller, command: &GameCommand) -> bool
     ensures { result ≡ may_give caller (game_command_of command.now) }
 {
@@ -30,7 +30,7 @@ fn may_give(caller: Caller, command: &GameCommand) -> bool
     }
 }
 
-/// Why a command on a game that there is none of is refused.
+/// The refusal of a command on a game that does not exist.
 pub fn refusal_without_game(caller: Caller, command: &GameCommand) -> Refusal
     ensures { result ≡ no_game_refusal caller (game_command_of command.now) }
 {
@@ -41,7 +41,7 @@ pub fn refusal_without_game(caller: Caller, command: &GameCommand) -> Refusal
     }
 }
 
-/// The ply that a command on a game names a move of, and else 0.
+/// The ply of the move that a command names, or 0 if it is not a move.
 pub fn asked_ply(command: &GameCommand) -> u64
     ensures { result ≡ asked_ply (game_command_of command.now) }
 {
@@ -51,7 +51,7 @@ pub fn asked_ply(command: &GameCommand) -> u64
     }
 }
 
-/// The side for which a command is given. The officer's is that of the side of its ply.
+/// The side for which a command is given. The officer plays for the side whose turn the ply is.
 fn side_of_caller<E>(row: &GameRow<E>, caller: Caller, ply: u64) -> Option<Side>
     ensures { result ≡ caller_side row.now.first row.now.second caller ply }
 {
@@ -61,7 +61,7 @@ fn side_of_caller<E>(row: &GameRow<E>, caller: Caller, ply: u64) -> Option<Side>
     }
 }
 
-/// A command by the player of a side.
+/// Decides a command by the player of a side.
 fn decide_for<R: Rules>(
     alloc: Global,
     view: &GameView<R>,
@@ -90,9 +90,19 @@ fn decide_for<R: Rules>(
     Ok(decision)
 }
 
-/// What a command does to the game that the view shows, at the effective moment: the later of the request's own and
-/// that of the last accepted request. The officer's move is that of the side of its ply. The view shows what was played
-/// at the ply that the command names a move of.
+/// Decides a command on the game in the view.
+///
+/// `moment` is the effective timestamp: the later of the request's own and that of the last accepted request.
+/// `view.asked` must hold the move at `asked_ply(command)`, if one was played.
+///
+/// # Errors
+///
+/// `Memory` if out of memory.
+///
+/// # Guarantees
+///
+/// If the view shows a legal game, the decision, completed by `settle` and `conclude`, is the outcome of the specified
+/// transition `game_step` (clause `ensures`).
 pub fn decide<R: Rules>(
     alloc: Global,
     view: &GameView<R>,

@@ -1,4 +1,4 @@
-//! A declaration by the side to move that it has won.
+//! Declarations of a win by the side to move.
 
 ghost use Rattle.std.specs.Prelude.{◌≡◌, None, IfOk, IfNone};
 ghost use Rattle.std.specs.Option.{option_map};
@@ -18,7 +18,7 @@ use club_requests::{Answer, OutsideEnd, Refusal};
 use club_rules::{Memory, Rules};
 use squares::Side;
 
-/// The answer to a repeat of the declaration that ended the game, if it is one.
+/// The answer to a repeat of the declaration that ended the game, if the command is one.
 fn repeat_of_declare<R: Rules>(view: &GameView<R>, side: Side, ply: u64) -> Option<Answer>
     ensures { (game : Game R.Move) → Shows R.rules game view.now → IsLegalGame R.rules (terms_of view.now) game →
         option_map reply_of result ≡ repeat_of_declare R.rules (terms_of view.now) game side ply }
@@ -32,7 +32,7 @@ fn repeat_of_declare<R: Rules>(view: &GameView<R>, side: Side, ply: u64) -> Opti
     None
 }
 
-/// Why a side may not declare that it has won.
+/// The refusal of a declaration, if any.
 fn refusal_of_declare<R: Rules>(view: &GameView<R>, side: Side, ply: u64) -> Option<Refusal>
     ensures value { (game : Game R.Move) → Shows R.rules game view.now →
         result ≡ declare_refusal R.rules (terms_of view.now) game side ply }
@@ -53,7 +53,11 @@ fn refusal_of_declare<R: Rules>(view: &GameView<R>, side: Side, ply: u64) -> Opt
     None
 }
 
-/// A declaration by the player of a side.
+/// Decides a declaration of a win by the player of a side.
+///
+/// # Errors
+///
+/// `Memory` if out of memory.
 pub fn declare<R: Rules>(view: &GameView<R>, side: Side, ply: u64) -> Result<Decision<R>, Memory>
     ensures { IfOk result (λ d. (game : Game R.Move) → Shows R.rules game view.now →
         IsLegalGame R.rules (terms_of view.now) game →

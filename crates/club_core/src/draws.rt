@@ -1,4 +1,4 @@
-//! Draws by agreement: offering one, and accepting the other side's offer.
+//! Draws by agreement: offer, and acceptance of the opponent's offer.
 
 ghost use Rattle.std.specs.Prelude.{◌≡◌, ◌+◌, ◌==◌, ℕ, Some, None, IfOk, IfNone, if◌then◌else◌};
 ghost use Rattle.std.specs.Option.{option_map};
@@ -20,7 +20,7 @@ use club_requests::{Answer, OutsideEnd, Refusal};
 use club_rules::{Memory, Rules};
 use squares::Side;
 
-/// Why no draw is offered or accepted, where the players of this game do not agree on one.
+/// The refusal of draw commands if the rules of this game have no draw by agreement.
 fn refusal_of_draws<R: Rules>() -> Option<Refusal>
     ensures { result ≡ (if R.rules.has_draw_offers then None else Some NotInThisGame) }
 {
@@ -30,7 +30,7 @@ fn refusal_of_draws<R: Rules>() -> Option<Refusal>
     Some(Refusal::NotInThisGame)
 }
 
-/// Whether an offer stands that this side made at this ply.
+/// Whether this side has made a draw offer at this ply.
 fn has_offer(offer: Option<Offer>, side: Side, ply: u64) -> bool
     ensures { result ≡ has_offer offer side ply }
 {
@@ -47,7 +47,7 @@ pub fn is_next_ply<R: Rules>(view: &GameView<R>, ply: u64) -> bool
     ply == u64::from(view.row.plies) + 1
 }
 
-/// The answer to a repeat of the offer that stands, if it is one.
+/// The answer to a repeat of the current draw offer, if the command is one.
 fn repeat_of_offer(offer: Option<Offer>, side: Side, ply: u64) -> Option<Answer>
     ensures { option_map reply_of result ≡ repeat_of_offer offer side ply }
 {
@@ -63,7 +63,7 @@ fn repeat_of_offer(offer: Option<Offer>, side: Side, ply: u64) -> Option<Answer>
     }
 }
 
-/// Why a side may not offer a draw.
+/// The refusal of a draw offer, if any.
 fn refusal_of_offer<R: Rules>(view: &GameView<R>, side: Side, ply: u64) -> Option<Refusal>
     ensures value { (game : Game R.Move) → Shows R.rules game view.now → result ≡ offer_refusal R.rules game side ply }
     ensures running { IfNone result (view.now.row.result ≡ None) }
@@ -81,7 +81,7 @@ fn refusal_of_offer<R: Rules>(view: &GameView<R>, side: Side, ply: u64) -> Optio
     None
 }
 
-/// Puts an offer of the next ply.
+/// Stores a draw offer at the next ply.
 fn accept_offer<R: Rules>(view: &GameView<R>, side: Side) -> Result<Decision<R>, Memory>
     requires sound { IsSound R.rules view.now }
     ensures { IfOk result (λ d. (game : Game R.Move) (ply : ℕ) → Shows R.rules game view.now →
@@ -99,7 +99,11 @@ fn accept_offer<R: Rules>(view: &GameView<R>, side: Side) -> Result<Decision<R>,
     })
 }
 
-/// An offer of a draw by the player of a side.
+/// Decides a draw offer by the player of a side.
+///
+/// # Errors
+///
+/// `Memory` if out of memory.
 pub fn offer_draw<R: Rules>(view: &GameView<R>, side: Side, ply: u64) -> Result<Decision<R>, Memory>
     requires sound { IsSound R.rules view.now }
     ensures { IfOk result (λ d. (game : Game R.Move) → Shows R.rules game view.now →
@@ -121,7 +125,7 @@ pub fn offer_draw<R: Rules>(view: &GameView<R>, side: Side, ply: u64) -> Result<
     Ok(decision)
 }
 
-/// The answer to a repeat of the agreement that ended the game, if it is one.
+/// The answer to a repeat of the agreement that ended the game, if the command is one.
 fn repeat_of_accept<R: Rules>(view: &GameView<R>, side: Side, ply: u64) -> Option<Answer>
     ensures { (game : Game R.Move) → Shows R.rules game view.now → IsLegalGame R.rules (terms_of view.now) game →
         option_map reply_of result ≡ repeat_of_accept R.rules game side ply }
@@ -134,7 +138,7 @@ fn repeat_of_accept<R: Rules>(view: &GameView<R>, side: Side, ply: u64) -> Optio
     None
 }
 
-/// Why a side may not accept a draw.
+/// The refusal of an acceptance, if any.
 fn refusal_of_accept<R: Rules>(view: &GameView<R>, side: Side, ply: u64) -> Option<Refusal>
     ensures value { (game : Game R.Move) → Shows R.rules game view.now → result ≡ accept_refusal R.rules game side ply }
     ensures running { IfNone result (view.now.row.result ≡ None) }
@@ -151,7 +155,11 @@ fn refusal_of_accept<R: Rules>(view: &GameView<R>, side: Side, ply: u64) -> Opti
     None
 }
 
-/// The acceptance of a draw by the player of a side.
+/// Decides an acceptance of a draw by the player of a side.
+///
+/// # Errors
+///
+/// `Memory` if out of memory.
 pub fn accept_draw<R: Rules>(
     view: &GameView<R>,
     side: Side,

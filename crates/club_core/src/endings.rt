@@ -1,4 +1,4 @@
-//! Ends from outside: by the side to move that gives up, or by the other that claims a loss by time.
+//! Ends for outside reasons: the side to move resigns, or the opponent claims a win on time.
 
 ghost use Rattle.std.specs.Prelude.{◌≡◌, ◌≤◌, None, IfOk, IfNone};
 ghost use Rattle.std.specs.Option.{option_map};
@@ -18,7 +18,7 @@ use club_requests::{Answer, OutsideEnd, Refusal};
 use club_rules::{Memory, Rules};
 use squares::Side;
 
-/// The answer to a command that ends the game so.
+/// The answer to a command that ends the game for this reason.
 pub fn answer_of_end<R: Rules>(view: &GameView<R>, end: OutsideEnd) -> Answer
     ensures { (game : Game R.Move) → Shows R.rules game view.now → reply_of result ≡ reply_of_end R.rules game end }
 {
@@ -28,7 +28,11 @@ pub fn answer_of_end<R: Rules>(view: &GameView<R>, end: OutsideEnd) -> Answer
     }
 }
 
-/// Ends a running game from outside.
+/// Ends a running game for an outside reason.
+///
+/// # Errors
+///
+/// `Memory` if out of memory.
 pub fn accept_end<R: Rules>(view: &GameView<R>, end: OutsideEnd) -> Result<Decision<R>, Memory>
     requires { view.now.row.result ≡ None }
     ensures { IfOk result (λ d. (game : Game R.Move) → Shows R.rules game view.now →
@@ -45,7 +49,7 @@ pub fn accept_end<R: Rules>(view: &GameView<R>, end: OutsideEnd) -> Result<Decis
     })
 }
 
-/// The answer to a repeat of the resignation that ended the game, if it is one.
+/// The answer to a repeat of the resignation that ended the game, if the command is one.
 fn repeat_of_resign<R: Rules>(view: &GameView<R>, side: Side) -> Option<Answer>
     ensures { (game : Game R.Move) → Shows R.rules game view.now → IsLegalGame R.rules (terms_of view.now) game →
         option_map reply_of result ≡ repeat_of_resign R.rules game side }
@@ -56,7 +60,7 @@ fn repeat_of_resign<R: Rules>(view: &GameView<R>, side: Side) -> Option<Answer>
     None
 }
 
-/// Why a side may not give up.
+/// The refusal of a resignation, if any.
 fn refusal_of_resign<R: Rules>(view: &GameView<R>, side: Side) -> Option<Refusal>
     ensures value { (game : Game R.Move) → Shows R.rules game view.now → result ≡ resign_refusal R.rules game side }
     ensures running { IfNone result (view.now.row.result ≡ None) }
@@ -70,7 +74,11 @@ fn refusal_of_resign<R: Rules>(view: &GameView<R>, side: Side) -> Option<Refusal
     None
 }
 
-/// A resignation by the player of a side.
+/// Decides a resignation by the player of a side.
+///
+/// # Errors
+///
+/// `Memory` if out of memory.
 pub fn resign<R: Rules>(view: &GameView<R>, side: Side) -> Result<Decision<R>, Memory>
     ensures { IfOk result (λ d. (game : Game R.Move) → Shows R.rules game view.now →
         IsLegalGame R.rules (terms_of view.now) game →
@@ -88,7 +96,7 @@ pub fn resign<R: Rules>(view: &GameView<R>, side: Side) -> Result<Decision<R>, M
     Ok(decision)
 }
 
-/// The answer to a repeat of the claim that ended the game, if it is one.
+/// The answer to a repeat of the claim that ended the game, if the command is one.
 fn repeat_of_claim<R: Rules>(view: &GameView<R>, side: Side) -> Option<Answer>
     ensures { (game : Game R.Move) → Shows R.rules game view.now → IsLegalGame R.rules (terms_of view.now) game →
         option_map reply_of result ≡ repeat_of_claim R.rules game side }
@@ -99,7 +107,7 @@ fn repeat_of_claim<R: Rules>(view: &GameView<R>, side: Side) -> Option<Answer>
     None
 }
 
-/// Why a side may not claim that the other has lost by time.
+/// The refusal of a claim on time, if any.
 fn refusal_of_claim<R: Rules>(view: &GameView<R>, side: Side, moment: Moment) -> Option<Refusal>
     requires { view.now.row.since ≤ moment }
     ensures value { (game : Game R.Move) → Shows R.rules game view.now →
@@ -120,7 +128,11 @@ fn refusal_of_claim<R: Rules>(view: &GameView<R>, side: Side, moment: Moment) ->
     None
 }
 
-/// A claim by the player of a side that the other has lost by time.
+/// Decides a claim by the player of a side that the opponent has exceeded the time limit.
+///
+/// # Errors
+///
+/// `Memory` if out of memory.
 pub fn claim_time<R: Rules>(
     view: &GameView<R>,
     side: Side,

@@ -1,4 +1,4 @@
-//! How games end: by their rules, or from outside.
+//! Ends of games, by their rules or for outside reasons, and their scores.
 
 ghost use Rattle.std.specs.Prelude.{◌≡◌};
 ghost use Rattle.std.specs.Option.{option_map};
@@ -12,7 +12,7 @@ use club_requests::OutsideEnd;
 use club_rules::{EndName, Rules};
 use squares::{Score, Side};
 
-/// The end that the rules gave.
+/// The end that the rules gave, if any.
 pub fn rule_in<E: Copy>(end: &Option<GameEnd<E>>) -> Option<E>
     ensures { result ≡ rule_in end.now }
 {
@@ -22,7 +22,7 @@ pub fn rule_in<E: Copy>(end: &Option<GameEnd<E>>) -> Option<E>
     }
 }
 
-/// Whether the game ended from outside in this way.
+/// Whether the game ended for this outside reason.
 pub fn is_ended_by<E>(end: &Option<GameEnd<E>>, way: OutsideEnd) -> bool
     ensures { result ≡ is_ended_by way (outside_in end.now) }
 {
@@ -32,7 +32,7 @@ pub fn is_ended_by<E>(end: &Option<GameEnd<E>>, way: OutsideEnd) -> bool
     }
 }
 
-/// The end of a game that the rules end so.
+/// Wraps the end that the rules gave.
 pub fn game_end<E>(end: Option<E>) -> Option<GameEnd<E>>
     ensures { result ≡ option_map Rule end }
 {
@@ -42,7 +42,7 @@ pub fn game_end<E>(end: Option<E>) -> Option<GameEnd<E>>
     }
 }
 
-/// The score of an end by the rules, by the side to move.
+/// The score of an end by the rules, given the side to move.
 pub fn score_of_end<R: Rules>(end: Option<R::End>, turn: Side) -> Option<Score>
     ensures { result ≡ score_with R.rules (option_map Rule end) turn }
 {
@@ -52,7 +52,7 @@ pub fn score_of_end<R: Rules>(end: Option<R::End>, turn: Side) -> Option<Score>
     }
 }
 
-/// The score of an end from outside, by the side to move.
+/// The score of an end for an outside reason, given the side to move.
 pub fn outside_score(end: OutsideEnd, turn: Side) -> Score
     ensures { result ≡ outside_score end turn }
 {

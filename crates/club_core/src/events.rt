@@ -1,4 +1,4 @@
-//! Events: adding one.
+//! Adding an event.
 
 ghost use Rattle.std.specs.Prelude.{◌≡◌, ◌≤◌, ◌<◌, length, Option, Some, None, IfNone};
 ghost use Rattle.std.specs.List.{list_any};
@@ -14,14 +14,14 @@ use club_requests::values::{MOST_EVENTS, is_budget, is_increment, is_name};
 use club_requests::{AddEvent, Answer, Caller, Outcome, Refusal};
 use club_rules::GameKind;
 
-/// An event: games of one kind, with the seconds that each player starts with and those that each move adds.
+/// An event: games of one kind. The budget (initial time per player) and the increment (per move) are in seconds.
 #[derive(Debug, Drop)]
 pub struct Event {
     pub name: String,
     pub game: GameKind,
     pub budget: u64,
     pub increment: u64,
-    /// Whether its players may declare that they have won.
+    /// Whether players may declare a win.
     pub declares: bool,
 }
 
@@ -42,7 +42,7 @@ impl Event {
     }
 }
 
-/// The id of the event that is the same in all.
+/// The id of the event that equals the command in all values.
 fn find_event(events: &[Event], command: &AddEvent) -> Option<u32>
     requires { length events.now ≤ most_events }
     ensures { result ≡ find_id (is_event (added_event command.now)) (events_of events.now) }
@@ -50,28 +50,26 @@ fn find_event(events: &[Event], command: &AddEvent) -> Option<u32>
     id_at(events.iter().position(|e| e.is(command)))
 }
 
-/// Whether each of the event's values may be taken.
 fn has_good_values(command: &AddEvent) -> bool
     ensures { result ≡ has_good_values (added_event command.now) }
 {
     is_name(command.name.as_str()) && is_budget(command.budget) && is_increment(command.increment)
 }
 
-/// Whether an event has the name.
 fn is_taken(events: &[Event], name: &str) -> bool
     ensures { result ≡ list_any (has_event_name name.now) (events_of events.now) }
 {
     events.iter().any(|e| e.name.as_str() == name)
 }
 
-/// Whether the players of the event of that name may declare that they have won.
+/// Whether the event of this name exists and allows players to declare a win.
 pub fn event_declares(events: &[Event], name: &str) -> bool
     ensures { result ≡ event_declares (events_of events.now) name.now }
 {
     events.iter().any(|e| e.name.as_str() == name && e.declares)
 }
 
-/// Why no such event is added.
+/// The refusal of a new event, if any.
 fn refusal_of_event(events: &[Event], command: &AddEvent) -> Option<Refusal>
     ensures value { result ≡ event_refusal (events_of events.now) (added_event command.now) }
     ensures room { IfNone result (length events.now < most_events) }
@@ -88,8 +86,9 @@ fn refusal_of_event(events: &[Event], command: &AddEvent) -> Option<Refusal>
     None
 }
 
-/// What adding an event does, by the events that there are, in the order of their ids. The officer alone adds events.
-/// The new event's id is the next one. An event that is the same in all its values is a repeat.
+/// Adds an event; only the officer may. `events` is in the order of ids, and the new event gets the next id.
+///
+/// Adding an event with the same values again is a repeat.
 pub fn add_event(events: &[Event], caller: Caller, command: &AddEvent) -> Outcome
     requires { length events.now ≤ most_events }
     ensures { outcome_of result

@@ -1,10 +1,10 @@
-//! Ids, which are places from 1.
+//! Ids, which are indices counted from 1.
 
 ghost use Rattle.std.specs.Prelude.{◌≡◌, ◌<◌, suc, IfSome};
 ghost use Rattle.std.specs.Option.{option_map};
 ghost use Rattle.club_requests.specs.Limits.{most_games};
 
-/// The id of what stands at a place, which counts from 0.
+/// The id of the element at an index, which counts from 0.
 pub fn id_at(place: Option<usize>) -> Option<u32>
     requires { IfSome place (λ before. before < most_games) }
     ensures { result ≡ option_map suc place }

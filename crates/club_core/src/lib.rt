@@ -1,4 +1,4 @@
-//! The club as a machine: what each command does to it, or why it is refused.
+//! The club's state machine: the transition of each command, or the reason for its refusal.
 #![tactic(auto)]
 
 pub mod challenges;

@@ -1,4 +1,4 @@
-//! Members: adding one, and finding the one who shows a key.
+//! Adding a member, and finding a member by key.
 
 ghost use Rattle.std.specs.Prelude.{◌≡◌, ◌≤◌, ◌<◌, ◌&&◌, ◌||◌, length, Option, Some, None, IfNone};
 ghost use Rattle.std.specs.Prelude.{string_bytes};
@@ -34,7 +34,7 @@ impl Member {
     }
 }
 
-/// The id of the member of that name and key.
+/// The id of the member with this name and this key.
 fn find_member(members: &[Member], name: &str, key: &str) -> Option<u32>
     requires { length members.now ≤ most_members }
     ensures { result ≡ find_id (is_member name.now key.now) (members_of members.now) }
@@ -49,14 +49,13 @@ fn is_taken(members: &[Member], name: &str, key: &str) -> bool
     members.iter().any(|m| m.has(name, key))
 }
 
-/// Whether both may be taken.
 fn has_good_values(name: &str, key: &str) -> bool
     ensures { result ≡ (is_name name.now && is_member_key key.now) }
 {
     is_name(name) && is_member_key(key)
 }
 
-/// Why no such member is added.
+/// The refusal of a new member, if any.
 fn refusal_of_member(members: &[Member], name: &str, key: &str) -> Option<Refusal>
     ensures value { result ≡ member_refusal (members_of members.now) name.now key.now }
     ensures room { IfNone result (length members.now < most_members) }
@@ -73,8 +72,9 @@ fn refusal_of_member(members: &[Member], name: &str, key: &str) -> Option<Refusa
     None
 }
 
-/// What adding a member does, by the members that there are, in the order of their ids. The officer alone adds members.
-/// The new member's id is the next one. A member of the same name and key is a repeat.
+/// Adds a member; only the officer may. `members` is in the order of ids, and the new member gets the next id.
+///
+/// Adding a member with the same name and key again is a repeat.
 pub fn add_member(members: &[Member], caller: Caller, command: &AddMember) -> Outcome
     requires { length members.now ≤ most_members }
     ensures { outcome_of result ≡ answered (by_officer caller
@@ -95,7 +95,7 @@ pub fn add_member(members: &[Member], caller: Caller, command: &AddMember) -> Ou
     }
 }
 
-/// Who gives a command: the officer, or the member who has the key, if there is one.
+/// The caller of a command: the officer, or the member with the key. `None` if no member has the key.
 pub fn identify(members: &[Member], who: &Who) -> Option<Caller>
     requires { length members.now ≤ most_members }
     ensures { result ≡ caller_of (members_of members.now) (who_of who.now) }
@@ -109,7 +109,7 @@ pub fn identify(members: &[Member], who: &Who) -> Option<Caller>
     }
 }
 
-/// The id of the member who has the key.
+/// The id of the member with this key.
 fn find_key(members: &[Member], key: &str) -> Option<u32>
     requires { length members.now ≤ most_members }
     ensures { result ≡ find_id (has_member_key key.now) (members_of members.now) }

@@ -1,4 +1,4 @@
-//! A move in one game: played, refused, or a repeat of one that was played.
+//! A move in one game: played, refused, or a repeat of a move already played.
 
 ghost use Rattle.std.specs.Prelude.{◌≡◌, ℕ, Ok, ◌+◌, ◌-◌, ◌^◌, ◌<◌, ◌≤◌, Option, Some, None, IfOk, IfErr};
 ghost use Rattle.std.specs.Prelude.{string_bytes};
@@ -20,7 +20,7 @@ use club_rules::{Memory, MoveRefusal, Rules};
 use squares::Side;
 use std::alloc::Global;
 
-/// Whether what the text reads as is that move.
+/// Whether the text denotes the move `made` in the position `before`.
 fn reads_as<R: Rules>(
     alloc: Global,
     before: &R::Position,
@@ -35,7 +35,7 @@ fn reads_as<R: Rules>(
     }
 }
 
-/// The legal move that a text reads as.
+/// Reads a move's text and checks that the move is legal.
 fn read_legal<R: Rules>(
     alloc: Global,
     position: &R::Position,
@@ -55,7 +55,7 @@ fn read_legal<R: Rules>(
     }
 }
 
-/// The clock of a side, as the row has it.
+/// The clock of a side, from the row.
 fn clock_in<E>(row: &GameRow<E>, side: Side, increment: u64) -> Clock
     ensures { result ≡ record { left = left_of side (clocks_in row.now); increment = increment } }
 {
@@ -65,7 +65,7 @@ fn clock_in<E>(row: &GameRow<E>, side: Side, increment: u64) -> Clock
     }
 }
 
-/// The answer to a repeat of the move of the ply that was asked of, if it is one.
+/// The answer to a repeat of the move in the view's `asked`, if the command is one.
 fn repeat_of<R: Rules>(
     alloc: Global,
     view: &GameView<R>,
@@ -107,7 +107,7 @@ fn repeat_of<R: Rules>(
     })))
 }
 
-/// The mover's clock after a new move, or why the move is refused before its text is read.
+/// The mover's clock after a new move, or the refusal that applies before the text is read.
 fn clock_after<R: Rules>(
     view: &GameView<R>,
     side: Side,
@@ -151,7 +151,7 @@ fn clock_after<R: Rules>(
     Ok(clock)
 }
 
-/// The row after a move that leaves so many seconds to the mover.
+/// The row after a move that leaves the mover `left` seconds.
 fn moved_row<E: Copy + Drop>(
     row: &GameRow<E>,
     turn: Side,
@@ -239,7 +239,11 @@ fn accept_move<R: Rules>(
     })
 }
 
-/// A move by the player of a side.
+/// Decides a move by the player of a side.
+///
+/// # Errors
+///
+/// `Memory` if out of memory.
 pub fn play_move<R: Rules>(
     alloc: Global,
     view: &GameView<R>,

@@ -1,4 +1,4 @@
-//! The players of a game: their sides, and the seconds that they have left.
+//! The players of a game: their sides and the seconds that they have left.
 
 ghost use Rattle.std.specs.Prelude.{◌≡◌, ◌-◌};
 ghost use Rattle.squares.specs.Sides.{same_side};
@@ -9,7 +9,7 @@ ghost use Rattle.club_core.specs.View.{clocks_in};
 use crate::rows::GameRow;
 use squares::Side;
 
-/// The side whose move the ply is.
+/// The side that moves at a ply.
 pub fn side_of_ply(ply: u64) -> Side
     ensures { result ≡ side_after (ply - 1) }
 {
@@ -23,7 +23,7 @@ pub fn side_of_ply(ply: u64) -> Side
     }
 }
 
-/// The side that a member plays.
+/// The side that a member plays, if any.
 pub fn side_of_member<E>(row: &GameRow<E>, id: u32) -> Option<Side>
     ensures { result ≡ side_of_member row.now.first row.now.second id }
 {
@@ -36,14 +36,14 @@ pub fn side_of_member<E>(row: &GameRow<E>, id: u32) -> Option<Side>
     None
 }
 
-/// Whether two sides are one.
+/// Whether two sides are the same.
 pub fn is_side(a: Side, b: Side) -> bool
     ensures { result ≡ same_side a b }
 {
     a == b
 }
 
-/// The seconds that a side has left, as the row has them.
+/// The seconds that a side has left, according to the row.
 pub fn left_in<E>(row: &GameRow<E>, side: Side) -> u64
     ensures { result ≡ left_of side (clocks_in row.now) }
 {

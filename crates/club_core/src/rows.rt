@@ -1,4 +1,4 @@
-//! The values that a command on a game is decided over.
+//! The data that a command on a game reads and writes.
 
 ghost use Rattle.std.specs.Prelude.{◌≡◌, IfOk, string_bytes};
 ghost use Rattle.std.specs.Option.{option_map};
@@ -8,21 +8,21 @@ use club_requests::OutsideEnd;
 use club_rules::{Memory, Rules};
 use squares::{Score, Side};
 
-/// Why a game is over.
+/// The reason why a game is over: a rule of the game, or a reason outside its rules.
 #[derive(Clone, Copy, Drop)]
 pub enum GameEnd<E> {
     Rule(E),
     Outside(OutsideEnd),
 }
 
-/// An offer of a draw, made by a side at a ply.
+/// A draw offer, made by a side at a ply.
 #[derive(Clone, Copy, Debug, PartialEq, Eq)]
 pub struct Offer {
     pub side: Side,
     pub ply: u32,
 }
 
-/// A game as it is stored: its players by their ids, its clocks in seconds, and what stands on the board as text.
+/// The stored summary of a game: players by id, clocks in seconds, and the position as text.
 #[derive(Drop)]
 pub struct GameRow<E> {
     pub key: Option<String>,
@@ -30,22 +30,21 @@ pub struct GameRow<E> {
     pub first: u32,
     pub second: u32,
     pub start: Moment,
-    /// The moment of the last entry, or the start.
+    /// The timestamp of the last move, or of the start.
     pub since: Moment,
     pub plies: u32,
     pub left_first: u64,
     pub left_second: u64,
-    /// The numbers of the line's track.
+    /// The two numbers by which the track (the summary of the moves for the drawing rules) is stored.
     pub track: (u32, u32),
     pub offer: Option<Offer>,
     pub end: Option<GameEnd<E>>,
-    /// None while the game is running.
+    /// `None` while the game is running.
     pub result: Option<Score>,
     pub position: String,
 }
 
-/// What was played at the ply that a command names, the seconds that the mover had left after it, and the position
-/// before it.
+/// The move at the ply that a command names, with the mover's seconds left after it and the position before it.
 #[derive(Drop)]
 pub struct Asked<R: Rules> {
     pub ply: u32,
@@ -54,29 +53,33 @@ pub struct Asked<R: Rules> {
     pub before: R::Position,
 }
 
-/// All that a command on one game is decided over.
+/// All data that decides a command on one game.
 #[derive(Drop)]
 pub struct GameView<R: Rules> {
     pub row: GameRow<R::End>,
     pub budget: u64,
     pub increment: u64,
-    /// Whether the players of the event may declare that they have won.
+    /// Whether the event allows players to declare a win.
     pub declares: bool,
     pub position: R::Position,
-    /// What the moves so far have left behind.
+    /// The summary of the moves so far, by which the rules judge the next one.
     pub track: R::Track,
-    /// None where that ply was not played.
+    /// `None` if no move was played at that ply.
     pub asked: Option<Asked<R>>,
 }
 
-/// A move that was accepted, with the position after it.
+/// A newly played move with the position after it.
 #[derive(Drop)]
 pub struct Made<R: Rules> {
     pub made: R::Move,
     pub position: R::Position,
 }
 
-/// The key of a row once more.
+/// Clones the key of a row.
+///
+/// # Errors
+///
+/// `Memory` if out of memory.
 pub fn copy_key(key: &Option<String>) -> Result<Option<String>, Memory>
     ensures { IfOk result (λ copy. option_map (λ k. string_bytes k) copy ≡ option_map (λ k. string_bytes k) key.now) }
 {
@@ -86,7 +89,11 @@ pub fn copy_key(key: &Option<String>) -> Result<Option<String>, Memory>
     }
 }
 
-/// A row once more.
+/// Clones a row.
+///
+/// # Errors
+///
+/// `Memory` if out of memory.
 pub fn copy_row<E: Copy + Drop>(row: &GameRow<E>) -> Result<GameRow<E>, Memory>
     ensures key { IfOk result (λ copy.
         option_map (λ k. string_bytes k) copy.key ≡ option_map (λ k. string_bytes k) row.now.key) }

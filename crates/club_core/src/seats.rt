@@ -1,4 +1,4 @@
-//! Seating two members for a game.
+//! Starting a game between two members.
 
 ghost use Rattle.std.specs.Prelude.{◌≡◌, ◌≤◌, ◌<◌, ◌+◌, length, ℕ, Option, Some, None, IfOk, IfNone};
 ghost use Rattle.std.specs.Prelude.{string_bytes, Bool};
@@ -23,7 +23,7 @@ use club_requests::{Caller, Refusal, Seat};
 use club_rules::{Memory, Rules};
 use std::alloc::Global;
 
-/// An event and the two players of a game, by their ids.
+/// An event and the two players of a game, by id.
 #[derive(Clone, Copy, Debug, PartialEq, Eq)]
 pub struct Pairing {
     pub event: u32,
@@ -31,14 +31,14 @@ pub struct Pairing {
     pub second: u32,
 }
 
-/// The game that stands under a key, with its id.
+/// The game that is stored under a key, with its id.
 #[derive(Clone, Copy, Debug, PartialEq, Eq)]
 pub struct KeyedGame {
     pub game: u32,
     pub pairing: Pairing,
 }
 
-/// What a seating does: it starts the game of that id, it repeats the one that started that game, or it is refused.
+/// The outcome of a `seat` command: a new game with this id, a repeat of the command that started it, or a refusal.
 #[derive(Clone, Copy, Debug, PartialEq, Eq)]
 pub enum Seating {
     Starts(KeyedGame),
@@ -46,7 +46,7 @@ pub enum Seating {
     Refused(Refusal),
 }
 
-/// The id of the event of that name.
+/// The id of the event with this name.
 pub fn find_event(events: &[Event], name: &str) -> Option<u32>
     requires { length events.now ≤ most_events }
     ensures { result ≡ find_id (has_event_name name.now) (events_of events.now) }
@@ -54,7 +54,7 @@ pub fn find_event(events: &[Event], name: &str) -> Option<u32>
     id_at(events.iter().position(|e| e.name.as_str() == name))
 }
 
-/// The id of the member of that name.
+/// The id of the member with this name.
 pub fn find_member(members: &[Member], name: &str) -> Option<u32>
     requires { length members.now ≤ most_members }
     ensures { result ≡ find_id (has_member_name name.now) (members_of members.now) }
@@ -62,7 +62,7 @@ pub fn find_member(members: &[Member], name: &str) -> Option<u32>
     id_at(members.iter().position(|m| m.name.as_str() == name))
 }
 
-/// Whether the id was found and is that one.
+/// Whether an id was found and equals `id`.
 pub fn is_id(found: Option<u32>, id: u32) -> bool
     ensures { result ≡ is_id found id }
 {
@@ -72,7 +72,7 @@ pub fn is_id(found: Option<u32>, id: u32) -> bool
     }
 }
 
-/// Whether both were found and differ.
+/// Whether both ids were found and differ.
 pub fn are_two(first: Option<u32>, second: Option<u32>) -> bool
     ensures { result ≡ are_two first second }
 {
@@ -85,7 +85,7 @@ pub fn are_two(first: Option<u32>, second: Option<u32>) -> bool
     }
 }
 
-/// The game under the key, if it is of the same event and has the same members on the same sides.
+/// The id of the game under the key, if it has the same event and the same players on the same sides.
 pub fn repeated_seat(
     event: u32,
     first: Option<u32>,
@@ -104,7 +104,7 @@ pub fn repeated_seat(
     if same { Some(old.game) } else { None }
 }
 
-/// Why no new game is started.
+/// The refusal of a new game, if any.
 fn refusal_of_seat(
     under_key: Option<KeyedGame>,
     games: u32,
@@ -127,7 +127,7 @@ fn refusal_of_seat(
     None
 }
 
-/// What a seating does, once the names were looked up.
+/// Seats two players after the names are looked up.
 fn seat_found(
     event: u32,
     first: Option<u32>,
@@ -164,8 +164,10 @@ fn seat_found(
     })
 }
 
-/// What a seating does, by the members and the events in the order of their ids, the game under its key if there is
-/// one, and the number of games. The officer alone seats. The new game's id is the next one.
+/// Starts a game between two members; only the officer may.
+///
+/// `members` and `events` are in the order of ids, `under_key` is the game that already has the key, and `games` is the
+/// number of games. The new game gets the next id.
 pub fn seat(
     members: &[Member],
     events: &[Event],
@@ -192,7 +194,11 @@ pub fn seat(
     seat_found(event, first, second, under_key, games, command.key.as_str())
 }
 
-/// The row of a game that is seated at that moment, each player having the budget.
+/// The row of a new game with a key, each player having the budget (in seconds).
+///
+/// # Errors
+///
+/// `Memory` if out of memory.
 pub fn seated_row<R: Rules>(
     alloc: Global,
     key: &str,
@@ -208,7 +214,11 @@ pub fn seated_row<R: Rules>(
     started_row::<R>(alloc, Some(key), pairing, budget, start)
 }
 
-/// The row of a game without a key that starts at that moment, as one from a challenge does.
+/// The row of a new game without a key, as started by a challenge. The budget is in seconds.
+///
+/// # Errors
+///
+/// `Memory` if out of memory.
 pub fn keyless_row<R: Rules>(
     alloc: Global,
     pairing: Pairing,
@@ -222,7 +232,7 @@ pub fn keyless_row<R: Rules>(
     started_row::<R>(alloc, None, pairing, budget, start)
 }
 
-/// The row of a game that starts at that moment, which has no end before its first move.
+/// The row of a new game. No rule ends a game before its first move.
 fn started_row<R: Rules>(
     alloc: Global,
     key: Option<String>,

@@ -1,4 +1,4 @@
-//! How a game stands after a decision: its end and its result.
+//! The end and the result of a game after a decision.
 
 ghost use Rattle.std.specs.Prelude.{◌≡◌};
 ghost use Rattle.club_core.specs.View.{settled_by, settled_of, answer_with, concluded};
@@ -10,14 +10,14 @@ use club_requests::{Answer, Moved};
 use club_rules::Rules;
 use squares::Score;
 
-/// The end of a game and its result, both none while it is running.
+/// The end of a game and its result, both `None` while the game is running.
 #[derive(Drop)]
 pub struct Settled<R: Rules> {
     pub end: Option<GameEnd<R::End>>,
     pub result: Option<Score>,
 }
 
-/// The end that the rules give to a game whose last move this is, and its result.
+/// Applies the rules' ending conditions to the last move.
 fn settle_move<R: Rules>(
     row: &GameRow<R::End>,
     made: &Made<R>,
@@ -37,8 +37,10 @@ fn settle_move<R: Rules>(
     }
 }
 
-/// The end and the result of the game after a decision. After a move, `times` is how often the position after it has
-/// stood by now, and `first_ply` the ply after which it stood first; for every other decision they are not looked at.
+/// The end and the result of a game after a decision.
+///
+/// After a move, `times` is the number of occurrences of the new position, including this one, and `first_ply` is the
+/// ply after which it first occurred. All other decisions ignore both numbers.
 pub fn settle<R: Rules>(decision: &Decision<R>, times: usize, first_ply: usize) -> Settled<R>
     ensures { result ≡ settled_of R.rules decision.now times first_ply }
 {
@@ -61,7 +63,7 @@ pub fn settle<R: Rules>(decision: &Decision<R>, times: usize, first_ply: usize) 
     }
 }
 
-/// The answer to a move with the end that the rules gave at it. Every other answer stays as it is.
+/// Adds the end that the rules gave to the answer to a move. Any other answer is returned unchanged.
 fn answer_with<R: Rules>(end: &Option<GameEnd<R::End>>, answer: Answer) -> Answer
     ensures { result ≡ answer_with R.rules end.now answer }
 {
@@ -77,7 +79,7 @@ fn answer_with<R: Rules>(end: &Option<GameEnd<R::End>>, answer: Answer) -> Answe
     }
 }
 
-/// The decision with its end and its result.
+/// Completes an accepted decision with its end and its result.
 pub fn conclude<R: Rules>(decision: Decision<R>, settled: Settled<R>) -> Decision<R>
     ensures { result ≡ concluded R.rules decision settled }
 {

@@ -1,4 +1,4 @@
--- What the desk tells of the faults of a store.
+-- The faults of the store, as the HTTP application reports them.
 use Rattle.std.specs.Prelude.{Result, Ok, Err}
 use Rattle.store.specs.declared.fault.StoreFault.{StoreFault}
 use Rattle.store.specs.declared.fault.StoreFault.TheVariants as club
@@ -18,7 +18,7 @@ abbrev pub told_all : {A : Type 0} → Result A StoreFault → Result A ClubFaul
 told_all (Ok found) = Ok found
 told_all (Err fault) = Err (told fault)
 
--- bytes are written into memory, so that a writer that fails is one that memory was refused
+-- answers are written to memory, so a failed write means out of memory
 abbrev pub told_asking : AskFault → ClubFault
 told_asking (asking.Club fault) = told fault
 told_asking asking.Output = Memory

@@ -1,4 +1,4 @@
--- A request that comes again at the desk after the club accepted it.
+-- A request that is repeated after the club accepted it.
 use Rattle.std.specs.Prelude.{◌≡◌, ℕ, List, Some, is_some, true}
 use Rattle.club_requests.specs.Outcome.{Reply, accepted}
 use Rattle.club_core.specs.State.{Command, key_holder}
@@ -13,18 +13,17 @@ use Rattle.http_desk.specs.Desk.{serve, serve_command}
 use Rattle.club_reads.specs.Keys.{holder_of}
 use Rattle.club_desk.specs.Served.{DeskState, beside_them, served}
 
--- what it asks the club for: this command of the one who shows the key, about the game or the challenge of that number
+-- the command that the request sends: by the holder of the key, about the game or challenge with this number
 pub record AsksFor (request : head.Request) (key : List ℕ) (number : ℕ) (command : Command) : Type 0 where
   pub is : (s : DeskState) (moment : ℕ) → is_some (holder_of s.state key) ≡ true
       → serve served s moment request ≡ serve_command served s moment key number (Some command)
 
--- the state, in the last version
+-- the state, in the present schema version
 abbrev pub stands_at : ClubState → Place
 stands_at s = record { version = Current; state = s }
 
--- Whatever sessions came between, with their ends and openings and upgrades, whatever the moment is, and whatever
--- stands beside the club's tables: it changes nothing, and is due the answer that it was given. An offer of a draw is
--- so only as long as no move came since.
+-- The repetition changes nothing and gets the same answer, whatever sessions and schema migrations came between, at
+-- any timestamp, beside any foreign tables. For an offer of a draw this holds until the next move.
 abbrev pub AnswersAlike : Type 0
 AnswersAlike =
     (one other : Neighbours) (before after later : ClubState) (moment again : ℕ) (request : head.Request)

@@ -1,4 +1,4 @@
--- The club of a store, as the desk asks it.
+-- A club of the store as the HTTP application sees it.
 use Rattle.std.specs.Prelude.{ℕ, List, Option, Some, None, Result, Ok, Err}
 use Rattle.store_tables.specs.Over.{Neighbours}
 use Rattle.club_core.specs.Answer.{answered}
@@ -10,12 +10,12 @@ use Rattle.club_reads.specs.Keys.{holder_of}
 use Rattle.club_changes.specs.Steps.{club_step, club_next}
 use Rattle.http_desk.specs.Served.{Club}
 
--- the bytes that were written, or why there are none
+-- the bytes of the answer, or the refusal
 abbrev pub written : Option Refusal → List ℕ → Result (List ℕ) Refusal
 written None bytes = Ok bytes
 written (Some refusal) bytes = Err refusal
 
--- where a club stands: in a state, with its tables beside these neighbours
+-- a state of the club, and the foreign tables in its file
 pub record DeskState : Type 0 where
   pub them : Neighbours
   pub state : ClubState
@@ -23,7 +23,7 @@ pub record DeskState : Type 0 where
 abbrev pub beside_them : Neighbours → ClubState → DeskState
 beside_them them s = record { them = them; state = s }
 
--- a request leaves the neighbours as they are
+-- a request leaves foreign tables as they are
 abbrev pub next_of : DeskState → Request → DeskState
 next_of s request = beside_them s.them (club_next s.state request)
 

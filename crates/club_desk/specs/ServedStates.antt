@@ -1,4 +1,4 @@
--- Where a club stands between requests, and what a stop may leave of it.
+-- The state of a club between requests, and after a crash.
 use Rattle.std.specs.Prelude.{◌≡◌, ◌⊎◌, Bool, false}
 use Rattle.std.proofs.Common.{inl, inr}
 use Rattle.sqlite.specs.Tree.{Trees}
@@ -8,21 +8,21 @@ use Rattle.store_tables.proofs.Proved.{leaves_beside}
 use Rattle.club_rows.specs.Club.{IsClub, tables}
 use Rattle.club_desk.specs.Served.{DeskState}
 
--- No call has failed, and the tables are exactly those of this legal state, beside these neighbours.
+-- No call has failed, and the tables are exactly those of this legal state beside these foreign tables.
 pub record IsServed (needs_reopening : Bool) (now : State) (s : DeskState) : Type 0 where
   pub ready : needs_reopening ≡ false
   pub legal : IsClub s.state
   pub exactly : IsBesideThem s.them (tables s.state) now
 
--- the database has the tables of where the club stands, for a later opening
+-- the database holds the tables of this state, for a later opening
 abbrev pub IsLeftBy : Trees → DeskState → Type 0
 IsLeftBy db s = LeavesBeside s.them (tables s.state) db
 
--- whatever a stop leaves has the tables of one of the two
+-- any crash leaves the tables of one of the two states
 abbrev pub MayLeave : State → DeskState → DeskState → Type 0
 MayLeave now s t = (db : Trees) → now.may_leave db → IsLeftBy db s ⊎ IsLeftBy db t
 
--- What a stop may leave is of one of the two; and if no call has failed, one of them stands.
+-- Any crash leaves one of the two states; if no call has failed, the club is in one of them.
 pub record IsLeft (needs_reopening : Bool) (now : State) (s t : DeskState) : Type 0 where
   pub leaves : MayLeave now s t
   pub stands : needs_reopening ≡ false → IsServed needs_reopening now s ⊎ IsServed needs_reopening now t

@@ -1,4 +1,5 @@
--- Requests that are made at the desk, by members and, over its door, by the officer, each a session of its own.
+-- Commands sent by members over HTTP and by the officer over the control socket, each a session of its own in the
+-- history.
 use Rattle.std.specs.Prelude.{◌≡◌, ◌≤◌, ◌⊎◌, ℕ, true, List, [], ◌∷◌, ◌++◌, ⊤}
 use Rattle.sqlite.specs.Tree.{Trees}
 use Rattle.sqlite.specs.State.{State}
@@ -9,7 +10,7 @@ use Rattle.club_core.specs.State.{open_challenge, withdraw_challenge, answer_cha
 use Rattle.store.specs.Histories as history
 use Rattle.store.specs.Histories.{Chapter, IsReachable, IsHistory}
 
--- a command that members give at the desk: one on a game, or one about a challenge
+-- a command that members can send: on a game, or about a challenge
 abbrev pub IsMembers : Command → Type 0
 IsMembers (on_game game command) = ⊤
 IsMembers (open_challenge number event other first) = ⊤
@@ -21,7 +22,7 @@ IsMembers (seat key event first second) = ⊥
 IsMembers (import_record given) = ⊥
 IsMembers sweep = ⊥
 
--- one who shows a key gives such a command
+-- such a command by the holder of a key
 pub record IsTurn (request : Request) : Type 0 where
   pub key : List ℕ
   pub command : Command
@@ -29,13 +30,13 @@ pub record IsTurn (request : Request) : Type 0 where
   pub is : request ≡ record { who = key_holder key; command = command; moment = request.moment }
   pub within : request.moment ≤ last_moment
 
--- the officer gives a command, whichever it is
+-- any command of the officer
 pub record IsOrder (request : Request) : Type 0 where
   pub command : Command
   pub is : request ≡ record { who = officer; command = command; moment = request.moment }
   pub within : request.moment ≤ last_moment
 
--- a session of one request, which is such a command of a member's or of the officer's
+-- a session with one such command of a member or of the officer
 abbrev pub IsTurnOf : Chapter → Type 0
 IsTurnOf (history.served session) =
     (request : Request) × (IsTurn request ⊎ IsOrder request) × (session.requests ≡ request ∷ [])
@@ -45,7 +46,7 @@ abbrev pub AreTurns : List Chapter → Type 0
 AreTurns [] = ⊤
 AreTurns (chapter ∷ chapters) = IsTurnOf chapter × AreTurns chapters
 
--- a session that was not cut off
+-- a session that no crash cut off
 abbrev pub IsWhole : Chapter → Type 0
 IsWhole (history.served session) = session.is_whole ≡ true
 IsWhole (history.upgraded answered) = ⊥
@@ -54,14 +55,14 @@ abbrev pub AreWhole : List Chapter → Type 0
 AreWhole [] = ⊤
 AreWhole (chapter ∷ chapters) = IsWhole chapter × AreWhole chapters
 
--- with turns added, none of which was cut off, the sessions lead to what stands
+-- the history, with uncut commands added, leads to the present state
 pub record IsHistoryOn (them : Neighbours) (sessions : List Chapter) (now : State) : Type 0 where
   pub turns : List Chapter
   pub are_turns : AreTurns turns
   pub whole : AreWhole turns
   pub stands : IsHistory them (sessions ++ turns) now
 
--- with turns added, the sessions lead to whatever a stop leaves
+-- the history, with commands added, leads to any state that a crash can leave
 pub record IsReachableOn (them : Neighbours) (sessions : List Chapter) (now : State) : Type 0 where
   pub turns : List Chapter
   pub are_turns : AreTurns turns

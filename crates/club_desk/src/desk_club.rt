@@ -1,4 +1,4 @@
-//! The club of a store, as the desk serves it.
+//! A club of the store as a `ServedClub`.
 
 ghost use Rattle.std.specs.Prelude.{◌≡◌};
 
@@ -13,9 +13,10 @@ use std::alloc::Global;
 use store::Club;
 use store::laws::requests_keep_clubs;
 
-/// The club of a store.
+/// A club of the store that serves requests.
 #[derive(Drop)]
 pub struct DeskClub<S: Alter> {
+    /// The open club.
     pub club: Club<S>,
 }
 

@@ -1,4 +1,4 @@
-//! What the desk tells of the faults of a store.
+//! The faults of the store, as the HTTP application reports them.
 
 ghost use Rattle.std.specs.Prelude.{◌≡◌};
 ghost use Rattle.club_desk.specs.Faults.{told, told_all, told_asking, told_of_opening};
@@ -6,7 +6,6 @@ ghost use Rattle.club_desk.specs.Faults.{told, told_all, told_asking, told_of_op
 use http_desk::ClubFault;
 use store::{AskFault, OpenFault, StoreFault};
 
-// What is told of a fault of the club.
 fn told(fault: StoreFault) -> ClubFault
     ensures { result ≡ told fault }
 {
@@ -17,7 +16,6 @@ fn told(fault: StoreFault) -> ClubFault
     }
 }
 
-// An answer of the club, with what is told of a fault.
 pub(crate) fn told_all<A>(answer: Result<A, StoreFault>) -> Result<A, ClubFault>
     ensures { result ≡ told_all answer }
 {
@@ -27,7 +25,7 @@ pub(crate) fn told_all<A>(answer: Result<A, StoreFault>) -> Result<A, ClubFault>
     }
 }
 
-// What is told where a question was not shown to its end.
+// The fault of a query. Answers are written to memory, so a failed write means out of memory.
 pub(crate) fn told_asking(fault: AskFault) -> ClubFault
     ensures { result ≡ told_asking fault }
 {
@@ -37,7 +35,7 @@ pub(crate) fn told_asking(fault: AskFault) -> ClubFault
     }
 }
 
-/// What the desk tells where the file of a club was not taken over.
+/// The fault to report if a club file could not be opened.
 pub fn told_of_opening(fault: OpenFault) -> ClubFault
     ensures { result ≡ told_of_opening fault }
 {

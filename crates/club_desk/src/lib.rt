@@ -1,4 +1,4 @@
-//! The club of a store, behind the desk.
+//! Serving sessions: a club of the store behind the HTTP application, from opening the file to releasing it.
 #![tactic(auto)]
 
 mod desk_club;

@@ -1,4 +1,4 @@
-//! A stretch of serving: a club is taken over, served and given up.
+//! A serving session: open the club, serve it, release it.
 
 ghost use Rattle.std.specs.Prelude.{◌≡◌, false, true, None, IfSome};
 ghost use Rattle.sqlite.specs.State.{HasCleanDisk, Opens, IsLive};
@@ -21,7 +21,7 @@ use std::alloc::Global;
 use store::laws::requests_keep_clubs;
 use store::{adopt, holds_exactly, holds_what_sessions_left, leaves_what_sessions_left};
 
-// Serves connections until the desk is to give way or a call on the club fails; whether one has failed.
+// Serves until `serve_next` ends the session or a call on the club fails; whether one has failed.
 fn serve_open<S: Alter, V: Visits>(alloc: Global, club: &mut DeskClub<S>, visits: &mut V) -> bool
     requires { club.old.club.needs_reopening ≡ false }
     ensures clean { HasCleanDisk (state S.Store club.new.club.connection) →
@@ -47,7 +47,7 @@ fn serve_open<S: Alter, V: Visits>(alloc: Global, club: &mut DeskClub<S>, visits
     false
 }
 
-// What further connections are to be told.
+// The fault to report after the session.
 fn fault_behind(has_failed: bool) -> Option<ClubFault>
     ensures { result ≡ fault_behind has_failed }
 {
@@ -58,11 +58,17 @@ fn fault_behind(has_failed: bool) -> Option<ClubFault>
     }
 }
 
-/// Takes over the club of a connection that was just opened, serves it until the desk is to give way, and gives the
-/// connection back: with the fault that further connections are to be told, where the club was not taken over or a
-/// call on it failed. Sessions that led to what the opening found lead, with commands of members and of the officer
-/// added, each a session of its own, to whatever a stop leaves; where no fault is told, none of these was cut off.
-/// Tables that are not taken over are blamed, and stay as they were found.
+/// Opens the club of a fresh connection, serves it until the session ends, and returns the connection.
+///
+/// The fault is `None` if all went well, `Reopen` if a call on the club failed, otherwise the reason why it could not
+/// be opened.
+///
+/// # Guarantees
+///
+/// - `led`: any crash leaves a state that the history leads to, with commands of members and of the officer added.
+/// - `stands`: without a fault none of these commands was cut off.
+/// - `told`: the reported fault is a right one; an unopened file stays as it was.
+/// - `good`: for a sound club file the fault is `Reopen`, `Store` or `Memory`.
 pub fn serve_club<S: Alter, V: Visits>(
     alloc: Global,
     conn: Connection<S>,
@@ -83,7 +89,7 @@ pub fn serve_club<S: Alter, V: Visits>(
     ensures taken { HasCleanDisk (state S.Store result.1) → Opens (state S.Store conn) → IsLive (state S.Store conn) →
         HasClubTables (state S.Store conn).now.schema →
         IfTaken result.0 (HoldClub (state S.Store conn).committed.trees) }
-    // By whatever texts its tables were made, those that were taken over answer as a club's.
+    // The tables' shape decides whether they are a club's, not the text of their CREATE statements.
     ensures shape { IfTaken result.0 (is_of_club Current (state S.Store conn).now.schema ≡ true) }
     ensures good { HasCleanDisk (state S.Store result.1) → Opens (state S.Store conn) → IsLive (state S.Store conn) →
         (s : ClubState) → IsClub s → HasState s (state S.Store conn).committed.trees →

@@ -1,4 +1,4 @@
-//! What the club shows, as the desk has it.
+//! Answers to queries, as the HTTP application takes them.
 
 ghost use Rattle.std.specs.Prelude.{◌≡◌};
 ghost use Rattle.http_bodies.specs.ShownViews.{shown_view};
@@ -6,7 +6,7 @@ ghost use Rattle.club_desk.specs.Served.{written};
 
 use club_requests::Refusal;
 
-// The bytes that a question was shown, or why there are none.
+// The bytes of the answer, or the refusal.
 pub(crate) fn answered(refusal: Option<Refusal>, bytes: Vec<u8>) -> Result<Vec<u8>, Refusal>
     ensures { shown_view result ≡ written refusal bytes.items }
 {

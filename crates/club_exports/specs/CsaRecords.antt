@@ -1,4 +1,4 @@
--- The record of a game of shogi, in the standard format of the Computer Shogi Association.
+-- The CSA record of a game of shogi.
 use Rattle.std.specs.Prelude.{◌≡◌, ℕ, List, Option, Some, None}
 use Rattle.squares.specs.declared.sides.Score.TheVariants.{Draw}
 use Rattle.squares.specs.declared.shogi.moves.SMove.{SMove}
@@ -14,7 +14,7 @@ use Rattle.csa.specs.Writer.{HasWritten}
 use Rattle.csa.specs.WrittenGame.{IsGameText}
 use Rattle.club_exports.specs.Title.{Title}
 
--- what a record says of the end; a draw that was agreed on is told by its score
+-- the CSA end of a game; an agreed draw is written as a score
 abbrev pub told_end : GameEnd SEnd → CsaEnd
 told_end (by.Rule end) = csa_end.Rule end
 told_end (by.Outside outside.Resigned) = csa_end.Resigned
@@ -27,11 +27,11 @@ abbrev pub end_told : Option (GameEnd SEnd) → Option CsaEnd
 end_told None = None
 end_told (Some end) = Some (told_end end)
 
--- the one text of the game: First is Black
+-- the record's text; First is Black
 abbrev pub IsCsaText : Title SEnd → List (SMove × ℕ) → List ℕ → Type 0
 IsCsaText title plies text = IsGameText title.event title.first title.second title.start (end_told title.end) plies text
 
--- what stands before the moves
+-- the data of the CSA header
 pub record IsCsaHead (title : Title SEnd) (head : CsaHead) : Type 0 where
   pub event : head.event.now ≡ title.event
   pub black : head.black.now ≡ title.first
@@ -39,7 +39,7 @@ pub record IsCsaHead (title : Title SEnd) (head : CsaHead) : Type 0 where
   pub start : head.start ≡ title.start
   pub end : head.end ≡ end_told title.end
 
--- that and the moves were written
+-- the header and the moves were written
 pub record HasWrittenCsa (title : Title SEnd) (plies : List (SMove × ℕ)) (before now : Option (List ℕ))
     (game : GameWriter) : Type 0 where
   pub head : CsaHead

@@ -1,4 +1,4 @@
--- The record of a game of draughts, in Portable Draughts Notation.
+-- The PDN record of a game of draughts.
 use Rattle.std.specs.Prelude.{◌≡◌, ℕ, List, Option}
 use Rattle.clocks.specs.declared.dates.CivilTime.{CivilTime}
 use Rattle.clocks.specs.Civil.{IsCivil}
@@ -11,13 +11,13 @@ use Rattle.pdn_games.specs.Writer.{HasWritten}
 use Rattle.club_exports.specs.Title.{Title}
 use Rattle.club_exports.specs.Written.{made_in}
 
--- the one text of the game, with the date that a clock in UTC shows at its start
+-- the record's text, dated by the start of the game in UTC
 pub record IsPdnText (title : Title DEnd) (plies : List (DMove × ℕ)) (text : List ℕ) : Type 0 where
   pub at : CivilTime
   pub shown : IsCivil title.start at
   pub written : text ≡ game_text title.event at title.first title.second title.result (made_in plies)
 
--- the tags of the game: First has the white men
+-- the PDN tags of the game; First is White
 pub record IsPdnHead (title : Title DEnd) (head : PdnHead) : Type 0 where
   pub event : head.event.now ≡ title.event
   pub white : head.white.now ≡ title.first

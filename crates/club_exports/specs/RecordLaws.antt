@@ -1,4 +1,4 @@
--- A move that is legal after those that are written may follow them.
+-- A legal move after the written moves may be written next.
 use Rattle.std.proofs.Common.{◌≡◌, length, sym, subst, arith}
 use Rattle.std.proofs.lemmas.List.{length-map}
 use Rattle.draughts_moves.specs.Legal as draughts_legal

@@ -1,12 +1,11 @@
--- What a record says of a game beside its moves, and its moves with the seconds that each took.
+-- The header data of a record, and its moves with the seconds that each took.
 use Rattle.std.specs.Prelude.{ℕ, ◌-◌, List, [], ◌∷◌, Option}
 use Rattle.squares.specs.declared.sides.Score.{Score}
 use Rattle.club_core.specs.declared.rows.GameEnd.{GameEnd}
 use Rattle.club_core.specs.Game.{Entry}
 use Rattle.club_exports.specs.declared.heading.Heading.{Heading}
 
--- the names of the event and of the players, the moment of the start, and the end and the score, or none where the game
--- goes on
+-- names of the event and the players, timestamp of the start, and end and score (none while the game is running)
 pub record Title (E : Type 0) : Type 0 where
   pub event : List ℕ
   pub first : List ℕ
@@ -26,12 +25,12 @@ title_of h =
       result = h.result;
     }
 
--- the moves of entries, each with the seconds since the one before it
+-- the moves of entries, each with the seconds since the previous one
 abbrev pub timed : {M : Type 0} → ℕ → List (Entry M) → List (M × ℕ)
 timed since [] = []
 timed since (e ∷ es) = (e.made, e.moment - since) ∷ timed e.moment es
 
--- the moment of the last entry
+-- the timestamp of the last entry, or of the start
 abbrev pub since_after : {M : Type 0} → ℕ → List (Entry M) → ℕ
 since_after since [] = since
 since_after since (e ∷ es) = since_after e.moment es

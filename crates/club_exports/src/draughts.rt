@@ -1,4 +1,4 @@
-//! Records of draughts, in Portable Draughts Notation.
+//! Draughts records in Portable Draughts Notation (PDN).
 
 ghost use Rattle.club_exports.specs.Title.{title_of};
 ghost use Rattle.club_exports.specs.PdnRecords.{IsPdnHead};
@@ -15,7 +15,7 @@ use squares::DMove;
 use std::alloc::Global;
 use std::io::Write;
 
-// The tags of a game.
+// The PDN tags of a game. First is White.
 fn head_of<'a>(heading: &Heading<'a, DEnd>) -> PdnHead<'a>
     ensures { IsPdnHead (title_of heading.now) result }
 {

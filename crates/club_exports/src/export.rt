@@ -1,4 +1,4 @@
-//! A game that is written entry by entry, by the texts of its moves.
+//! Writing a game move by move, from the texts of its moves.
 
 ghost use Rattle.std.specs.Prelude.{◌≡◌, ◌<◌, ℕ, [], ◌∷◌, ◌++◌, List, Option, Some, Ok, IfOk, IfSome, OnOk};
 ghost use Rattle.std.specs.Prelude.{length, map, true};
@@ -16,7 +16,7 @@ use record_writer::WriteFault;
 use std::alloc::Global;
 use std::io::Write;
 
-/// A game on its way to a writer as a record: so many of its entries are written.
+/// A record in progress, with the position after the moves written so far.
 #[derive(Drop)]
 pub struct Export<R: Exports> {
     draft: R::Record,
@@ -25,7 +25,7 @@ pub struct Export<R: Exports> {
     plies: u32,
 }
 
-// The move of a text, where it is that of a legal move.
+// Reads the text of a move. `None` if it is not a legal move.
 fn legal_move<R: Exports>(
     alloc: Global,
     position: &R::Position,
@@ -46,7 +46,12 @@ fn legal_move<R: Exports>(
 }
 
 impl<R: Exports> Export<R> {
-    /// Writes what stands before the moves.
+    /// Writes the part of the record before the moves.
+    ///
+    /// # Errors
+    ///
+    /// - `Memory` if out of memory.
+    /// - `Writer` if the writer fails.
     pub fn start<W: Write>(
         alloc: Global,
         heading: &Heading<R::End>,
@@ -66,8 +71,18 @@ impl<R: Exports> Export<R> {
         })
     }
 
-    /// Writes the next entry, of which this is the text in the position so far and the moment; false where the text
-    /// is that of no legal move, and nothing was written.
+    /// Writes the next move, given as its text in the current position and its timestamp.
+    ///
+    /// Returns false, and writes nothing, if the text is not a legal move or `MOST_PLIES` moves are written.
+    ///
+    /// # Errors
+    ///
+    /// - `Memory` if out of memory.
+    /// - `Writer` if the writer fails.
+    ///
+    /// # Guarantees
+    ///
+    /// `begun`: even after an error the output is a prefix of the record of any game that continues with this move.
     pub fn push<W: Write>(
         &mut self,
         alloc: Global,
@@ -106,8 +121,17 @@ impl<R: Exports> Export<R> {
         Ok(true)
     }
 
-    /// Writes the end: what was written is the record of the game. False where the end is a declaration that the side
-    /// to move may not make, and nothing was written.
+    /// Writes the end of the record. Returns false, and writes nothing, if the end is a declaration that the final
+    /// position does not allow.
+    ///
+    /// # Errors
+    ///
+    /// - `Memory` if out of memory.
+    /// - `Writer` if the writer fails.
+    ///
+    /// # Guarantees
+    ///
+    /// `written`: the output is extended by exactly the record of the game.
     pub fn finish<W: Write>(self, writer: &mut W) -> Result<bool, WriteFault>
         ensures written { IfOk result (λ done. (title : Title R.End) (entries : List (Entry R.Move))
             (before : Option (List ℕ)) →

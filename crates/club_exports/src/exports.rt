@@ -1,4 +1,4 @@
-//! How the games of a kind are written as records.
+//! The trait of a game whose records can be written.
 
 ghost use Rattle.std.specs.Prelude.{◌≡◌, ℕ, ◌∷◌, [], ◌++◌, List, Option, IfOk, OnOk, true};
 ghost use Rattle.club_exports.specs.Title.{Title, title_of};
@@ -10,24 +10,33 @@ use record_writer::WriteFault;
 use std::alloc::Global;
 use std::io::Write;
 
-/// A game whose records are written move by move. The writer is lent to each call; where a call fails, what was
-/// written is a beginning of the record.
+/// A game whose records are written move by move.
+///
+/// If a call fails, the output is a prefix of the record.
 pub trait Exports: Rules {
-    /// A record on its way to a writer.
+    /// A record in progress.
     type Record: Drop;
 
-    /// A text is the record of a game with these moves, each with the seconds that it took.
+    /// The text is the record of a game with these moves, each with the seconds that it took.
     ghost IsText: { Title Self.End → List (Self.Move × ℕ) → List ℕ → Type 0 };
 
-    /// To the bytes that a writer held, what a record says up to these moves was added, and the record stands after
-    /// them.
+    /// The bytes that the writer held, extended by the record up to these moves; the draft is positioned after them.
     ghost HasWritten: { Title Self.End → List (Self.Move × ℕ) → Option (List ℕ) → Option (List ℕ) → Self.Record →
         Type 0 };
 
-    /// The move is legal after those that are written.
+    /// The move is legal after the moves written so far.
     ghost MayFollow: { Self.Record → Self.Move → Type 0 };
 
-    /// Writes what stands before the moves.
+    /// Writes the part of the record before the moves.
+    ///
+    /// # Errors
+    ///
+    /// - `Memory` if out of memory.
+    /// - `Writer` if the writer fails.
+    ///
+    /// # Guarantees
+    ///
+    /// `begun`: even after an error the output is a prefix of the record of any game with this heading.
     fn begin_record<W: Write>(
         alloc: Global,
         heading: &Heading<Self::End>,
@@ -38,7 +47,16 @@ pub trait Exports: Rules {
         ensures begun { (plies : List (Self.Move × ℕ)) →
             BeginsRecord IsText (title_of heading.now) plies (W.contents writer.old) (W.contents writer.new) };
 
-    /// Writes the next move, and the seconds that it took where the format has them.
+    /// Writes the next move, and the seconds that it took if the format has them.
+    ///
+    /// # Errors
+    ///
+    /// - `Memory` if out of memory.
+    /// - `Writer` if the writer fails.
+    ///
+    /// # Guarantees
+    ///
+    /// `begun`: even after an error the output is a prefix of the record of any game that continues with this move.
     fn push_move<W: Write>(
         draft: &mut Self::Record,
         writer: &mut W,
@@ -54,7 +72,17 @@ pub trait Exports: Rules {
             HasWritten title plies before (W.contents writer.old) draft.old →
             BeginsRecord IsText title (plies ++ (made.now, seconds) ∷ more) before (W.contents writer.new) };
 
-    /// Writes the end; false where it is a declaration that the side to move may not make, and nothing was written.
+    /// Writes the end of the record. Returns false, and writes nothing, if the end is a declaration that the final
+    /// position does not allow.
+    ///
+    /// # Errors
+    ///
+    /// - `Memory` if out of memory.
+    /// - `Writer` if the writer fails.
+    ///
+    /// # Guarantees
+    ///
+    /// `written`: the output is extended by exactly the record of the game.
     fn finish_record<W: Write>(draft: Self::Record, writer: &mut W) -> Result<bool, WriteFault>
         ensures written { IfOk result (λ done. (title : Title Self.End) (plies : List (Self.Move × ℕ))
             (before : Option (List ℕ)) →
@@ -65,10 +93,10 @@ pub trait Exports: Rules {
             HasWritten title plies before (W.contents writer.old) draft →
             BeginsRecord IsText title plies before (W.contents writer.new) };
 
-    /// What was written begins the record of each game that goes on from it.
+    /// Lemma: the output so far is a prefix of the record of every game that continues it.
     fn begins_games()
         ensures { BeginsGames IsText HasWritten };
 
-    /// A move that is legal in the position after those that are written may follow them.
+    /// Lemma: a move that is legal in the position after the written moves satisfies `MayFollow`.
     ghost may_follow: { MayFollowLegal Self.rules HasWritten MayFollow };
 }

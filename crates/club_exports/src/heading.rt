@@ -1,11 +1,11 @@
-//! What a record says of a game beside its moves.
+//! The header data of a record.
 
 use clocks::Moment;
 use club_core::GameEnd;
 use squares::Score;
 
-/// What a record says of a game beside its moves: the names of its event and of its players, the moment of its start,
-/// and its end and its score, or none where it goes on.
+/// The header data of a record: the names of the event and the players, the timestamp of the start, and the end and the
+/// score, which are `None` while the game is running.
 #[derive(Drop)]
 pub struct Heading<'a, E> {
     pub event: &'a str,

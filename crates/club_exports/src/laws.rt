@@ -1,4 +1,4 @@
-//! What is proved of records that are written.
+//! Properties of the written records.
 
 ghost use Rattle.std.specs.Prelude.{ℕ, ◌++◌, List, Option};
 ghost use Rattle.club_core.specs.Game.{Entry};
@@ -9,7 +9,7 @@ ghost use Rattle.club_exports.specs.Exported.{IsWritten};
 use crate::export::Export;
 use crate::exports::Exports;
 
-/// What was written of a game so far begins the record of each game that goes on from it.
+/// Lemma: the output so far is a prefix of the record of every game that continues it.
 pub fn written_entries_begin_games<R: Exports>()
     ensures { (title : Title R.End) (entries more : List (Entry R.Move)) (before now : Option (List ℕ))
         (export : Export R R.Record R.Position R.Move R.End R.Track) →

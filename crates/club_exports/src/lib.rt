@@ -1,4 +1,7 @@
-//! Games of the club as records: written move by move, to any writer, by the format of each game.
+//! Writes games of the club as records, move by move and to any writer.
+//!
+//! Draughts is written in PDN 3.0 (<https://pdn.fmjd.org/>), shogi in CSA V2.2
+//! (<http://www2.computer-shogi.org/protocol/record_v22.html>).
 #![tactic(auto)]
 
 mod draughts;

@@ -1,4 +1,5 @@
-//! Records of shogi, in the standard format of the Computer Shogi Association.
+//! Shogi records in the CSA format.
+//! First is Black (sente).
 
 ghost use Rattle.std.specs.Prelude.{◌≡◌};
 ghost use Rattle.club_core.specs.declared.rows.GameEnd.TheVariants as by;
@@ -18,7 +19,7 @@ use squares::{SMove, Score};
 use std::alloc::Global;
 use std::io::Write;
 
-// What a record says of an end from outside.
+// The CSA end of a game that ended for an outside reason.
 fn outside_told(end: OutsideEnd) -> CsaEnd
     ensures { result ≡ told_end (by.Outside end) }
 {
@@ -31,7 +32,7 @@ fn outside_told(end: OutsideEnd) -> CsaEnd
     }
 }
 
-// What a record says of the end of a game, if it ended.
+// The CSA end of a game, if it ended.
 fn end_told(end: Option<GameEnd<SEnd>>) -> Option<CsaEnd>
     ensures { result ≡ end_told end }
 {
@@ -42,7 +43,6 @@ fn end_told(end: Option<GameEnd<SEnd>>) -> Option<CsaEnd>
     }
 }
 
-// What stands before the moves.
 fn head_of<'a>(heading: &Heading<'a, SEnd>) -> CsaHead<'a>
     ensures { IsCsaHead (title_of heading.now) result }
 {

@@ -1,4 +1,4 @@
--- What an opening finds in files, and what later ones find in them.
+-- What an opening finds in files, and what later openings find in them.
 use Rattle.std.specs.Prelude.{◌≡◌, ◌≢◌, ◌⊎◌, true, ⊤, Option, Some, None}
 use Rattle.sqlite_wal.specs.Recovery.{Image}
 use Rattle.sqlite.specs.Tree.{Trees}
@@ -25,49 +25,48 @@ use Rattle.http_desk.specs.declared.faults.ClubFault.{ClubFault}
 use Rattle.http_desk.specs.declared.faults.ClubFault.TheVariants.{Reopen}
 use Rattle.club_desk.specs.Faults.{told_of_opening}
 
--- The files are those of this legal state: whatever an opening finds in them has its tables, alone or among what other
--- programs made, and these answer as a club's.
+-- The files hold this legal state: whatever an opening finds has its tables, alone or beside foreign tables, in a
+-- schema equivalent to a club's.
 pub record AreFilesOf (s : ClubState) (files : Image) : Type 0 where
   pub legal : IsClub s
   pub finds : (found : Trees) → IsFoundIn files found → HasState s found
 
--- The files are those of this legal state in schema 1, alone or among what other programs made.
+-- The files hold this legal state in schema 1, alone or beside foreign tables.
 pub record AreFirstFilesOf (them : Neighbours) (s : ClubState) (files : Image) : Type 0 where
   pub finds : (found : Trees) → IsFoundIn files found → HasFirst them s found
 
--- the trees list a schema that has the tables of a club, whatever their rows
+-- the database has a schema with a club's tables, whatever their rows
 abbrev pub ListClub : Schema → Trees → Type 0
 ListClub schema trees = HasClubTables schema × IsSound schema trees
 
 abbrev pub database_of : Schema → Trees → Database
 database_of schema trees = record { schema = schema; trees = trees }
 
--- Where an opening found the tables of a club, they are those of a legal state in schema 2.
+-- If an opening found a club's tables, they are those of a legal state in schema 2.
 pub record AreSound (files : Image) : Type 0 where
   pub found : Trees
   pub is_found : IsFoundIn files found
   pub legal : (schema : Schema) → ListClub schema found → HoldClub found
 
--- The tables that an opening found answer as those of a club, by whatever texts they were made.
+-- The schema that an opening found is equivalent to a club's, whatever `CREATE` statements made it.
 pub record AnswerAsClub (files : Image) : Type 0 where
   pub found : Trees
   pub is_found : IsFoundIn files found
   pub shape : (schema : Schema) → IsSound schema found → is_of_club Current schema ≡ true
 
--- Later openings find what an opening found, of whatever a stop leaves.
+-- Later openings find what this one found, whatever a crash leaves.
 pub record AreKept (files : Image) (MayLeave : Image → Type 0) : Type 0 where
   pub found : Trees
   pub is_found : IsFoundIn files found
   pub stays : (left : Image) → MayLeave left → (later : Trees) → IsFoundIn left later → ∥ later ≡ found ∥₁
 
--- What an opening found was not taken as a club's: where the tables of a club stood there, they are blamed; and later
--- openings find the same.
+-- The database was rejected: if it has a club's tables, the reason is true of them; later openings find the same.
 pub record AreRefused (files : Image) (MayLeave : Image → Type 0) (fault : OpenFault) : Type 0 where
   pub kept : AreKept files MayLeave
   pub blames : (schema : Schema) → ListClub schema kept.found → Names Current (database_of schema kept.found) fault
   pub first : (schema : Schema) → ListClub schema kept.found → NamesFirst (database_of schema kept.found) fault
 
--- The same of an upgrade, after which a call of the database may have failed: then later openings may find more.
+-- The same for an upgrade: if a call of the database failed, later openings may find more.
 pub record AreNotUpgraded (files : Image) (MayLeave : Image → Type 0) (fault : OpenFault) : Type 0 where
   pub found : Trees
   pub is_found : IsFoundIn files found
@@ -75,20 +74,20 @@ pub record AreNotUpgraded (files : Image) (MayLeave : Image → Type 0) (fault :
   pub first : (schema : Schema) → ListClub schema found → NamesFirst (database_of schema found) fault
   pub kept : fault ≢ opening.Store → AreKept files MayLeave
 
--- A club's files were copied; or a call of the copy's or of the club's database failed, or memory was refused.
+-- A club's files were copied; or a call of the copy's or of the club's database failed, or memory ran out.
 abbrev pub IsBackedUp : Report → Type 0
 IsBackedUp (report.Unopened fault) = (fault ≡ opening.Store) ⊎ (fault ≡ opening.Memory)
 IsBackedUp other = IsOfCopy other
 
--- What an upgrade of a club of schema 1 came to: later openings find the tables of its state, in schema 2, or where it
--- was not carried over in schema 1, beside the same tables of other programs.
+-- The result of the upgrade of a club of schema 1: later openings find the tables of its state in schema 2, or, if the
+-- upgrade failed, perhaps in schema 1, beside the same foreign tables.
 pub record AreCarriedOver (them : Neighbours) (s : ClubState) (report : Report) (MayLeave : Image → Type 0) : Type 0
   where
     pub answer : IsUpgraded report
     pub leaves : (left : Image) → MayLeave left → (later : Trees) → IsFoundIn left later
         → ∥ AreCarried them s report later ∥₁
 
--- what is told of a stretch: nothing, that a call failed, or why the club was not taken over
+-- the fault of a serving session: none, a failed call, or why the club was not opened
 abbrev pub IsToldOf : Image → (Image → Type 0) → Option ClubFault → Type 0
 IsToldOf files MayLeave None = ⊤
 IsToldOf files MayLeave (Some fault) = (fault ≡ Reopen)

@@ -1,4 +1,4 @@
--- Where members' commands at the desk lead, over files.
+-- Where the commands of a serving session lead, over files.
 use Rattle.std.specs.Prelude.{List, ◌++◌}
 use Rattle.sqlite_wal.specs.Recovery.{Image}
 use Rattle.sqlite.specs.Tree.{Trees}
@@ -7,17 +7,17 @@ use Rattle.store.specs.Histories.{Chapter, IsReachable}
 use Rattle.sessions.specs.Finds.{IsFoundIn}
 use Rattle.club_desk.specs.Turns.{AreTurns, AreWhole}
 
--- the sessions, with commands of members added, led to these tables
+-- the history and commands of a serving session lead to these tables
 pub record IsReachedBy (them : Neighbours) (sessions : List Chapter) (found : Trees) : Type 0 where
   pub turns : List Chapter
   pub are_turns : AreTurns turns
   pub led : IsReachable them (sessions ++ turns) found
 
--- whatever an opening finds in the files, they led to it
+-- they lead to whatever an opening finds in the files
 abbrev pub AreReachableOn : Neighbours → List Chapter → Image → Type 0
 AreReachableOn them sessions files = (found : Trees) → IsFoundIn files found → ∥ IsReachedBy them sessions found ∥₁
 
--- the same, where none of these commands was cut off
+-- the same, if none of these commands was cut off
 abbrev pub AreReachableWhole : Neighbours → List Chapter → Image → Type 0
 AreReachableWhole them sessions files = (found : Trees) → IsFoundIn files found
     → ∥ ((reached : IsReachedBy them sessions found) × AreWhole reached.turns) ∥₁

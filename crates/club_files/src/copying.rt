@@ -1,4 +1,4 @@
-//! A copy of a club in new files.
+//! Backup: a copy of a club in a new file.
 
 ghost use Rattle.std.specs.Prelude.{◌≡◌, ◌⊎◌, Option, None, IfSome};
 ghost use Rattle.sqlite_wal.specs.Files.{image_at};
@@ -27,14 +27,14 @@ use sqlite::{Alter, Connection, FileFrom, FileStore, Leftover};
 use sqlite_disk::{Disk, Start};
 use store::{holds_exactly, holds_nothing};
 
-/// What a backup came to, and the copy, where its files were opened.
+/// The result of a backup, and the copy, if its files were opened.
 pub struct BackedUp<D: Disk> {
     pub report: Report,
     pub copy: Option<Leftover<D>>,
 }
 
 impl<D: Disk + Drop> BackedUp<D> {
-    /// Gives the copy up: what was come to remains.
+    /// Drops the copy and returns the report.
     pub fn into_report(self) -> Report
         ensures { result ≡ self.report }
     {
@@ -46,7 +46,7 @@ impl<D: Disk + Drop> BackedUp<D> {
     }
 }
 
-// Closes a copy that is whole: its log is copied into its file, and taken away.
+// Closes a complete copy: checkpoints its log into the file and removes the log.
 fn finish<T: Start>(
     rt: &HostRuntime,
     copy: Connection<FileStore<FileFrom<T>>>,
@@ -79,7 +79,7 @@ fn finish<T: Start>(
     }
 }
 
-// Copies a club that was taken over into new files at a path, which hold at first what `T` stands for.
+// Copies an open club, which was verified, into a new file at this path.
 fn copy_into<S: Alter, T: Start>(
     rt: &HostRuntime,
     club: &mut Connection<S>,
@@ -107,15 +107,16 @@ fn copy_into<S: Alter, T: Start>(
     }
 }
 
-/// Copies the club in the files of a path, which hold at first what `S` stands for, into new files at another path,
-/// which hold at first what `T` stands for: opens the club's files as soon as no other program uses them, which it
-/// waits for up to five seconds, and takes the club over; only then makes the file of the copy, for its owner alone,
-/// where nothing stands; copies the club; and closes both. Gives what it came to, and the files where they were opened.
+/// Copies the club in the file at `file` into a new file at `path`. `S` and `T` are the assumptions on their initial
+/// contents. Waits up to 5 s for the lock on the club, opens and checks it, and only then creates the copy, with mode
+/// 0600, if nothing exists at its path. Returns the report with the copy, and the club's store if it was opened.
 ///
-/// Later openings find in the club's files what this one found, of whatever a stop leaves. Tables that are not taken as
-/// a club's are blamed for it, and nothing is made of a copy. Where a copy is reported as made, the club is legal, and
-/// an opening of the copy finds its tables, of whatever a stop leaves, in the file of the copy alone. Another copy has
-/// no table, or is whole.
+/// # Guarantees
+///
+/// - `kept`: the club's files hold what they held, also after a crash.
+/// - `refuses`, `untaken`: the reason why a file was rejected is true, and no copy is created.
+/// - `copied`, `sound`: after `Report::Copied` the club is legal, and the copy's file alone holds all its tables.
+/// - `cut_off`: after an error or a crash the copy is empty or complete.
 pub fn back_up<S: RepeatableStart, T: Start>(
     rt: &HostRuntime,
     file: &str,

@@ -1,4 +1,4 @@
-//! A stretch of serving over the files of a path, from their opening to their closing.
+//! One serving session over a club's files, from opening to closing.
 
 ghost use Rattle.std.specs.Prelude.{◌≡◌, ◌⊎◌, Option, None, Ok, Err, IfSome, IfOk};
 ghost use Rattle.sqlite_wal.specs.Files.{image_at};
@@ -23,14 +23,18 @@ use http_port::Visits;
 use sessions::close;
 use sqlite::{FileFrom, FileStore};
 
-/// A stretch of serving over the files of a path, which hold at first what `S` stands for: opens them, where no other
-/// program uses them, which is said at once and not waited for, takes the club over, serves those who come until the
-/// desk is to give way, and closes. Gives the fault that further ones are to be told, or why the files were not opened;
-/// and the files where they were. Where sessions led to whatever an opening finds in the files, they lead, with
-/// commands of members and of the officer added, to whatever an opening finds in them after it, of whatever a stop
-/// leaves; where no fault is told, none of these was cut off. Files that are not taken over are blamed for it, and
-/// later openings find in them what this one found; those that are taken over are a club's, and of a club's files only
-/// a call that failed is told.
+/// Runs one serving session over the club's files: locks, opens and checks them, serves clients until the server must
+/// release the file, and closes.
+/// It does not wait for the lock. `S` is the assumption on their initial contents. Returns the fault that later
+/// requests get, if any, or why the files were not opened; and the store if they were.
+///
+/// # Guarantees
+///
+/// - `led`: whatever a crash leaves, the next opening finds a state that the earlier history and commands of members
+///   and of the officer lead to.
+/// - `whole`: without a fault none of these commands was cut off.
+/// - `told`, `taken`: a rejected file is unchanged and the reason is true; an accepted file holds a legal club.
+/// - `good`: over a legal club, only a failed call or lack of memory is a fault.
 pub fn serve_files<S: RepeatableStart, V: Visits>(
     rt: &HostRuntime,
     file: &str,
@@ -53,7 +57,7 @@ pub fn serve_files<S: RepeatableStart, V: Visits>(
         IsToldOf (image_at S.Start) (store_state store).may_leave told) }
     ensures taken { IfSome result.1 (λ store. IsClean (store_view store) →
         IfOk result.0 (λ told. IfTaken told (AreSound (image_at S.Start)))) }
-    // By whatever texts its tables were made, those that were taken over answer as a club's.
+    // The schema of an accepted file is equivalent to a club's, whatever `CREATE` statements made it.
     ensures shape { IfSome result.1 (λ store. IsClean (store_view store) →
         IfOk result.0 (λ told. IfTaken told (AnswerAsClub (image_at S.Start)))) }
     ensures good { IfSome result.1 (λ store. IsClean (store_view store) →

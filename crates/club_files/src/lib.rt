@@ -1,4 +1,6 @@
-//! The club over the files of a path, from their opening to their closing: an order, or a stretch of the desk.
+//! Runs one order or one serving session over a club's files: locks, opens, checks, executes and closes them.
+//!
+//! - The files, a database and its write-ahead log, have SQLite's format: <https://www.sqlite.org/fileformat2.html>
 #![tactic(auto)]
 
 ghost use Rattle.std.specs.Prelude.{◌≡◌};
@@ -16,7 +18,7 @@ pub use order::obey;
 use sqlite::{FileFrom, FileStore};
 use sqlite_disk::Start;
 
-/// Gives the files up, where they were opened: what was come to over them remains.
+/// Drops the store, if the files were opened, and returns the result.
 pub fn give_up<T, S: Start>(done: (T, Option<FileStore<FileFrom<S>>>)) -> T
     ensures { result ≡ done.0 }
 {

@@ -1,4 +1,4 @@
-//! The files of a path, opened as soon as no other program uses them.
+//! Opens a club's files, waiting for their lock.
 
 ghost use Rattle.std.specs.Prelude.{◌≡◌, ◌≢◌, ◌⊎◌, IfOk, IfErr};
 ghost use Rattle.sqlite_wal.specs.Files.{image_at};
@@ -19,25 +19,23 @@ use std::hash::{BuildHasher, RandomState};
 use std::thread::sleep;
 use std::time::Duration;
 
-// How often files that are in use are asked for again by an order, and how long is waited before each time: five
-// seconds in all.
+// How often an order retries while the files are locked, with a pause before each retry: 5 s in all.
 const TURNS_OF_AN_ORDER: u8 = 50;
 
-// The same for a stretch of serving, before which those who come are heard on, and not kept waiting.
+// A serving session does not retry, so that clients do not wait.
 const TURNS_OF_A_STRETCH: u8 = 0;
 
 const PAUSE_MILLISECONDS: u64 = 100;
 
-// How many frames the log of an order's files has at most once they are closed without being copied into the database
-// file, and one more: it is copied whatever it has.
+// The checkpoint threshold of an order, in frames of the log: every commit checkpoints.
 const FRAMES_OF_AN_ORDER: usize = 1;
 
-// The same for a stretch of serving: a commit does not copy each time.
+// The checkpoint threshold of a serving session, in frames of the log: not every commit checkpoints.
 const FRAMES_OF_A_STRETCH: usize = 1000;
 
-/// What the files of a path hold at first, for as many openings as are tried.
+/// The assumption on what the files hold at first, for several attempts to open them.
 pub trait RepeatableStart: Start + Sized {
-    /// The same again.
+    /// The same assumption again.
     fn again(&self) -> Self;
 }
 
@@ -47,7 +45,7 @@ impl RepeatableStart for Wary {
     }
 }
 
-// From how many frames on the log is copied into the database file.
+// The checkpoint threshold, in frames of the log.
 fn frames_for(purpose: Purpose) -> usize {
     match purpose {
         Purpose::Making => FRAMES_OF_AN_ORDER,
@@ -56,7 +54,7 @@ fn frames_for(purpose: Purpose) -> usize {
     }
 }
 
-// How often files that are in use are asked for again.
+// How often a locked file is retried.
 fn turns_for(purpose: Purpose) -> u8 {
     match purpose {
         Purpose::Making => TURNS_OF_AN_ORDER,
@@ -65,7 +63,7 @@ fn turns_for(purpose: Purpose) -> u8 {
     }
 }
 
-// What a connection to the files goes by.
+// The options of the connection.
 fn options(rt: &HostRuntime, purpose: Purpose) -> Result<Options, Report>
     ensures { IfErr result (λ report. (report ≡ InUse) ⊎ (report ≡ NotOpened)) }
 {
@@ -79,7 +77,7 @@ fn options(rt: &HostRuntime, purpose: Purpose) -> Result<Options, Report>
     }
 }
 
-// Opens the files, unless another program uses them.
+// Opens the files, unless another program has locked them.
 fn open_once<S: Start>(
     rt: &HostRuntime,
     file: &str,
@@ -109,14 +107,19 @@ fn open_once<S: Start>(
     }
 }
 
-// Whether a path is one that SQLite takes for no file, as `Connection::open_from` has it.
+// Whether SQLite treats the path as no file (`:memory:` or a URI), as `Connection::open_from` does.
 fn names_no_file(file: &str) -> bool {
     file == ":memory:" || file.starts_with("file:")
 }
 
-/// Opens the files of a path, which hold at first what `S` stands for, where no other program uses them: an order waits
-/// five seconds for that, a stretch of serving does not wait. Where a club is made and there are none, they are made,
-/// for their owner alone; else it is said that there is no club, and nothing was touched.
+/// Opens the files at a path. An order waits up to 5 s for the lock; a serving session does not wait.
+/// Only the creation of a club creates a missing file, with mode 0600. `S` is the assumption on their contents.
+///
+/// # Errors
+///
+/// - `Report::InUse`: another program has locked the file.
+/// - `Report::Unopened(OpenFault::Foreign)`: there is no club; never if one is to be created. Nothing was touched.
+/// - `Report::NotOpened`: the path names no database file, or opening failed.
 pub(crate) fn open_in_turn<S: RepeatableStart>(
     rt: &HostRuntime,
     file: &str,
@@ -146,8 +149,12 @@ pub(crate) fn open_in_turn<S: RepeatableStart>(
     }
 }
 
-/// Makes files at a path for their owner alone, and opens them; they hold at first what `S` stands for. Where anything
-/// stands there, or they cannot be made or opened, that is said, and what stood there was not touched.
+/// Creates a file at a path, with mode 0600, and opens it. `S` is the assumption on its contents.
+///
+/// # Errors
+///
+/// `Report::Uncopied` if anything exists at the path, or the file cannot be created or opened. An existing file is not
+/// touched.
 pub(crate) fn open_new<S: Start>(
     rt: &HostRuntime,
     file: &str,

@@ -1,4 +1,4 @@
-//! An order over the files of a path, from their opening to their closing.
+//! One order over a club's files, from opening to closing.
 
 ghost use Rattle.std.specs.Prelude.{◌≡◌, ◌≢◌, ◌⊎◌, ◌++◌, false, None, IfSome};
 ghost use Rattle.sqlite_wal.specs.Files.{image_at};
@@ -31,7 +31,7 @@ use sessions::close;
 use sqlite::{FileFrom, FileStore};
 use std::io::Write;
 
-// For what the files of a task are opened.
+// The mode in which a task opens the files.
 fn purpose_of(task: &Task) -> Purpose
     ensures { task.now ≡ Init → result ≡ Making }
 {
@@ -41,18 +41,22 @@ fn purpose_of(task: &Task) -> Purpose
     }
 }
 
-/// Does what is ordered, at that moment, over the files of the order's path, which hold at first what `S` stands for:
-/// opens them as soon as no other program uses them, which it waits for up to five seconds; makes a club, gives the
-/// club that stands there a command of the officer's, or orders in turn, asks it a question and writes what that is
-/// shown to `out`, tests that the rows are a club's or carries them over to schema 2; and closes. Of a backup it tests
-/// the rows alone, and makes none. Gives what it came to, and the files where they were opened.
+/// Runs one order over the club's files: waits up to 5 s for the lock, opens, checks, executes, closes.
+/// `S` is the assumption on their initial contents. A backup is only verified here; `back_up` makes it. Returns the
+/// report, and the store if it was opened.
 ///
-/// Where sessions led to whatever an opening finds in the files, they lead, with this command or these orders as one
-/// more, to whatever an opening finds in them after it, of whatever a stop leaves, beside the same tables of other
-/// programs. Where they were new, or had tables of other programs alone, and a club was to be made, no session leads to
-/// that, beside these tables, or there is no club still. The answer is the machine's, what is shown is the club's, and
-/// a club's files are found sound. Files that are found sound are a club's; those that are not taken as a club's are
-/// blamed for it, and later openings find in them what this one found. Only a question writes to `out`.
+/// # Guarantees
+///
+/// - `led`: whatever a crash leaves, the next opening finds a state that the earlier history and this order lead to,
+///   beside the same foreign tables.
+/// - `begun`, `behind`: after the creation of a club, or a crash in it, there is an empty club or no club.
+/// - `answer`, `given`, `asked`: the reported outcomes and the text written to `out` are those of the club's
+///   specification.
+/// - `refuses`, `withheld`: the reason why a file was rejected is true, and the file is unchanged. Only an upgrade in
+///   which a database call failed may have changed it.
+/// - `passes`, `sound`: `verify` reports a legal club as sound, unless a call fails or memory runs out, and nothing
+///   else.
+/// - `silent`: only a query writes to `out`.
 pub fn obey<S: RepeatableStart, W: Write>(
     rt: &HostRuntime,
     order: &Order,
@@ -66,7 +70,7 @@ pub fn obey<S: RepeatableStart, W: Write>(
         order.entry.now.task ≡ Init → AreVoid (image_at S.Start) →
         (left : Image) → (store_state store).may_leave left →
         (found : Trees) → IsFoundIn left found → ∥ IsBegun result.0 found ∥₁) }
-    // So it is behind the tables of other programs, whose rows stay.
+    // Beside foreign tables, too, which keep their rows.
     ensures behind { IfSome result.1 (λ store. IsClean (store_view store) →
         order.entry.now.task ≡ Init → (them : _) → AreWithoutClub them (image_at S.Start) →
         (left : Image) → (store_state store).may_leave left →
@@ -87,7 +91,7 @@ pub fn obey<S: RepeatableStart, W: Write>(
         IfVerify order.entry.now.task (IsPassed result.0)) }
     ensures sound { IfSome result.1 (λ store. IsClean (store_view store) →
         IfVerify order.entry.now.task (result.0 ≡ Sound → AreSound (image_at S.Start))) }
-    // By whatever texts its tables were made, those that were taken over answer as a club's.
+    // The schema of an accepted file is equivalent to a club's, whatever `CREATE` statements made it.
     ensures shape { IfSome result.1 (λ store. IsClean (store_view store) →
         IfTakesOver order.entry.now.task (IfTaken result.0 (AnswerAsClub (image_at S.Start)))) }
     ensures refuses { IfSome result.1 (λ store. IsClean (store_view store) →

@@ -1,4 +1,5 @@
-//! What stands at a path before anything is opened there. Only the making of a club and of its copy make a file.
+//! Checks on a path before a file is opened there.
+//! Only the creation of a club or of a backup creates a file; nothing else touches what is not a club's file.
 
 ghost use Rattle.std.specs.Prelude.{◌≡◌, ◌≢◌, ◌⊎◌, IfErr};
 ghost use Rattle.club_opening.specs.declared.fault.OpenFault.TheVariants.{Foreign};
@@ -11,39 +12,39 @@ use std::io::{ErrorKind, Read};
 use std::os::unix::fs::OpenOptionsExt;
 use store::OpenFault;
 
-/// For what files are opened.
+/// The mode in which files are opened.
 #[derive(Clone, Copy, PartialEq)]
 pub(crate) enum Purpose {
-    /// A club is made in them.
+    /// To create a club.
     Making,
-    /// One order is done over them.
+    /// For one order.
     Ordering,
-    /// Members are served over them.
+    /// For a serving session.
     Serving,
 }
 
-/// What stands at a path.
+/// The kind of a path.
 enum Place {
-    /// There is no file, or an empty one without a log; a folder for it there is.
+    /// There is no file, or an empty one without a log; its directory exists.
     Nothing,
     /// A file that may be a club's.
     Database,
-    /// A database's file, at rest, in which no club's table is listed.
+    /// A SQLite database without a log, in which no table of a club is listed.
     Foreign,
-    /// What is no database's file, or cannot be looked at.
+    /// Not a database file, or not accessible.
     Other,
 }
 
-// The bytes that the file of every database of SQLite begins with.
+// The magic header of a SQLite database (file format, section 1.3.1).
 const BEGINNING: [u8; 16] = *b"SQLite format 3\0";
 
-// The least size of a page, and the largest (SQLite's file format, 1.3.2).
+// The minimum and maximum page size in bytes (file format, section 1.3.2).
 const LEAST_PAGE: usize = 512;
 
 const LARGEST_PAGE: u64 = 65_536;
 
-// The kind of a page that is the whole of a table's tree (SQLite's file format, 1.6). On the first page of a file it
-// stands after the header of 100 bytes; that tree lists the file's tables.
+// The type byte of a table leaf page (file format, section 1.6). If page 1 is one, it is the whole schema table; its
+// header follows the database header of 100 bytes.
 const WHOLE_TREE: u8 = 13;
 
 const HEADER_BYTES: usize = 100;
@@ -51,14 +52,13 @@ const HEADER_BYTES: usize = 100;
 // The name of one of a club's tables.
 const OF_A_CLUB: [u8; 10] = *b"challenges";
 
-// How the names of logs end, behind that of their file.
+// The suffixes of SQLite's log files.
 const LOGS: [&str; 2] = ["-wal", "-journal"];
 
-// What a new file of a club allows: its owner reads and writes it, and nobody else, as keys of members will stand in
-// it.
+// The mode of a new file: only its owner can read and write it, since it will hold members' keys.
 const OWNER_ALONE: u32 = 0o600;
 
-// Makes a file for its owner alone, where there is none: whether it was made.
+// Creates a file with mode 0600; false if one exists or creation fails.
 fn make_private(rt: &HostRuntime, file: &str) -> bool {
     OpenOptions::new()
         .write(true)
@@ -68,7 +68,7 @@ fn make_private(rt: &HostRuntime, file: &str) -> bool {
         .is_ok()
 }
 
-// Whether there is a folder in which the file would stand.
+// Whether the directory of the file exists.
 fn has_folder(rt: &HostRuntime, file: &str) -> bool {
     match file.rsplit_once('/') {
         Some((folder, _)) if !folder.is_empty() => {
@@ -78,7 +78,7 @@ fn has_folder(rt: &HostRuntime, file: &str) -> bool {
     }
 }
 
-// Whether a file with this end of its name stands beside the file.
+// Whether the file with this suffix exists; true if out of memory.
 fn has_beside(rt: &HostRuntime, file: &str, end: &str) -> bool {
     match format!(in rt.alloc(); "{file}{end}") {
         Ok(beside) => metadata(rt, beside.as_str()).is_ok(),
@@ -86,12 +86,12 @@ fn has_beside(rt: &HostRuntime, file: &str, end: &str) -> bool {
     }
 }
 
-// Whether all that a database holds stands in its file.
+// Whether the file has no log, so that it alone is the database.
 fn is_at_rest(rt: &HostRuntime, file: &str) -> bool {
     !has_beside(rt, file, "-wal") && !has_beside(rt, file, "-journal")
 }
 
-// The first page of a file, and what may follow it; nothing where it cannot be read.
+// The first bytes of a file, which include its first page; empty if it cannot be read.
 fn beginning_of(rt: &HostRuntime, file: &str) -> Vec<u8> {
     let mut bytes = Vec::new(rt.alloc());
     match File::open(rt, file) {
@@ -103,8 +103,8 @@ fn beginning_of(rt: &HostRuntime, file: &str) -> Vec<u8> {
     }
 }
 
-// The first page, where the header says its size, in two bytes from the 17th on, of which 1 stands for the largest, and
-// all of it is there.
+// The first page, if all of it is there. Its size is a big-endian number at offset 16, where 1 means 65536 (file
+// format, section 1.3.2).
 fn first_page(bytes: &[u8]) -> Option<&[u8]> {
     let size = match bytes.get(16..18) {
         Some([0, 1]) => LARGEST_PAGE as usize,
@@ -117,7 +117,7 @@ fn first_page(bytes: &[u8]) -> Option<&[u8]> {
     bytes.get(..size)
 }
 
-// Whether the page lists all tables of a file, and none with a name of a club's.
+// Whether page 1 is the whole schema table and does not name a club's table.
 fn lists_no_club(page: &[u8]) -> bool {
     page.get(HEADER_BYTES) == Some(&WHOLE_TREE)
         && !page
@@ -125,8 +125,8 @@ fn lists_no_club(page: &[u8]) -> bool {
             .any(|name| name.eq_ignore_ascii_case(&OF_A_CLUB))
 }
 
-// What a file that is not empty is. Where a log stands beside it the log tells what the database holds, and a write
-// that was cut off may have left anything in the file, and in the beginning of the log.
+// The kind of a file that is not empty. If it has a write-ahead log, the log decides what the database holds: a torn
+// write may have left anything in the file.
 fn kind_of(rt: &HostRuntime, file: &str) -> Place {
     let bytes = beginning_of(rt, file);
     if !bytes.starts_with(&BEGINNING) {
@@ -153,9 +153,14 @@ fn look(rt: &HostRuntime, file: &str) -> Place {
     }
 }
 
-/// Makes the file for its owner alone where a club is to be made and there is none. Else says why nothing is opened:
-/// there is no club, or what stands at the path is no database's file. Then nothing was touched. A club is also made
-/// behind the tables of another program.
+/// Creates the file, with mode 0600, if a club is to be created and there is none; foreign tables are no obstacle.
+///
+/// # Errors
+///
+/// - `Report::Unopened(OpenFault::Foreign)`: there is no club, and none is to be created.
+/// - `Report::NotOpened`: not a database file, or not accessible.
+///
+/// Nothing was touched in either case.
 pub(crate) fn prepare(rt: &HostRuntime, file: &str, purpose: Purpose) -> Result<(), Report>
     ensures { IfErr result (λ report.
         (report ≡ NotOpened) ⊎ ((report ≡ Unopened Foreign) × (purpose ≢ Making))) }
@@ -164,7 +169,7 @@ pub(crate) fn prepare(rt: &HostRuntime, file: &str, purpose: Purpose) -> Result<
         Place::Database => Ok(()),
         Place::Other => Err(Report::NotOpened),
         Place::Nothing if purpose == Purpose::Making => {
-            // Where that fails, the opening says why.
+            // If this fails, the opening reports why.
             let _made = make_private(rt, file);
             Ok(())
         }
@@ -173,7 +178,7 @@ pub(crate) fn prepare(rt: &HostRuntime, file: &str, purpose: Purpose) -> Result<
     }
 }
 
-// Whether anything stands at a path, be it a link to nothing, or that cannot be told.
+// Whether anything exists at a path, even a dangling symbolic link; true if that is unknown.
 fn is_taken(rt: &HostRuntime, path: &str) -> bool {
     match symlink_metadata(rt, path) {
         Ok(_) => true,
@@ -181,7 +186,7 @@ fn is_taken(rt: &HostRuntime, path: &str) -> bool {
     }
 }
 
-// The same of the name of a log beside a file.
+// As `is_taken`, of the file with this suffix.
 fn is_taken_beside(rt: &HostRuntime, file: &str, end: &str) -> bool {
     match format!(in rt.alloc(); "{file}{end}") {
         Ok(beside) => is_taken(rt, beside.as_str()),
@@ -189,9 +194,9 @@ fn is_taken_beside(rt: &HostRuntime, file: &str, end: &str) -> bool {
     }
 }
 
-/// Makes a file for its owner alone, where nothing stands at its path nor at those of its logs: whether it was made.
-/// What stands there is not touched. A file that has the name of a log is not made: it would be taken for the log of
-/// another one.
+/// Creates a file with mode 0600, if nothing exists at its path or at those of its logs. Returns whether it was
+/// created; what exists is not touched.
+/// A path with the suffix of a log is rejected: SQLite would take the file for the log of another.
 pub(crate) fn make_new(rt: &HostRuntime, file: &str) -> bool {
     for end in LOGS {
         if file.ends_with(end) || is_taken_beside(rt, file, end) {
@@ -201,7 +206,7 @@ pub(crate) fn make_new(rt: &HostRuntime, file: &str) -> bool {
     make_private(rt, file)
 }
 
-/// Takes away the log beside a file: whether it is gone.
+/// Removes the write-ahead log of a file; returns whether it was removed.
 pub(crate) fn forget_log(rt: &HostRuntime, file: &str) -> bool {
     match format!(in rt.alloc(); "{file}-wal") {
         Ok(log) => remove_file(rt, log.as_str()).is_ok(),

@@ -1,4 +1,4 @@
--- What is read of a CSA text is a game by the rules of shogi.
+-- A game that is read from a CSA text is a game by the rules of shogi.
 use Rattle.std.proofs.Common.{◌≡◌, ℕ, zero, suc, ◌+◌, List, [], ◌∷◌, ◌++◌, length, Bool, true, false, ◌&&◌, Option}
 use Rattle.std.proofs.Common.{Some, None, Result, Ok, Err, refl, sym, ap, ◌∙◌, subst}
 use Rattle.std.specs.Prelude.{slice_get, if◌then◌else◌}
@@ -38,7 +38,7 @@ use Rattle.club_games.specs.CsaReading.{with_moves, record_reading, RecordsRead,
 use Rattle.club_games.specs.CsaReading.{ordered_reading, statements_reading, csa_reading, found_game, part_of}
 use Rattle.club_games.specs.CsaReading.{shogi_records}
 
--- a replay of a line that is played by the rules is one
+-- replaying moves after a line played by the rules yields such a line
 module _ (ms : List SMove) (line : IsPlayedLine shogi opening ms) (rest : SMove → Replayed) (ns : List SMove)
     (goes_on : (m : SMove) → IsPlayedLine shogi opening (ms ++ m ∷ []) → rest m ≡ Ok ns → IsPlayedLine shogi opening ns)
   where
@@ -64,7 +64,7 @@ replay-line ms (w ∷ ws) ns line read =
     next-line ms line (λ m. replayed (ms ++ m ∷ []) ws) ns (λ m more. replay-line (ms ++ m ∷ []) ws ns more)
     (end_of opening ms) (meant (last_position opening ms) w) refl read
 
--- where the rules ended the game, the score is theirs
+-- if the rules ended the game, the score is theirs
 settled-score : (fits same : Bool) (claim by_rule s : Score) → same_score claim by_rule ≡ same
     → ◌≡◌ {A = Result Score CsaFault} (if fits && same then Ok claim else Err fault.ResultDiffers) (Ok s) → s ≡ by_rule
 settled-score true true claim by_rule s is told = let claimed_is : claim ≡ s = cc in
@@ -84,7 +84,7 @@ ending-score : (word : Option EndWord) (p : ShogiPosition) (end : SEnd) (s : Sco
 ending-score None p end s told = cc
 ending-score (Some w) p end s told = claim-score w (claimed w p.turn) p end s told
 
--- a record ends with a declaration only where the side to move may make one
+-- a record ends with a declared win only if the side to move may declare one
 settled-fits : (fits same : Bool) (claim s : Score)
     → ◌≡◌ {A = Result Score CsaFault} (if fits && same then Ok claim else Err fault.ResultDiffers) (Ok s) → fits ≡ true
 settled-fits true same claim s told = refl
@@ -106,7 +106,7 @@ declared-fits (Some word.BlackIllegal) p end s told says = cc
 declared-fits (Some word.WhiteIllegal) p end s told says = cc
 declared-fits (Some word.Interrupted) p end s told says = cc
 
--- what is read of a record is a game by the rules
+-- the game that is read from a record is a game by the rules
 scored-game : (placed : List Placed) (ms : List SMove) (said : Result Score CsaFault) (r : Recorded SMove)
     → IsPlayedLine shogi opening ms → score_in placed ms (end_of opening ms) ≡ said
     → with_score (says_declared (end_in placed)) ms said ≡ Ok r

@@ -1,4 +1,4 @@
--- The reading of CSA texts as functions: what a text is read as, by the statements of its records.
+-- The CSA reader as a function of the statements of a text.
 use Rattle.std.specs.Prelude.{ℕ, zero, suc, ◌+◌, List, [], ◌∷◌, ◌++◌, length, slice_get, Bool, true, false, Option}
 use Rattle.std.specs.Prelude.{Some, None, Result, Ok, Err, if◌then◌else◌}
 use Rattle.std.specs.Option.{option_map}
@@ -46,7 +46,7 @@ use Rattle.club_games.specs.Shogi.{refusal_of}
 abbrev pub same_role : Role → Role → Bool
 same_role a b = sameb role_of.the_type a b
 
--- whether a piece that has this code after a step promoted in it
+-- whether a piece promotes in a step after which the record names it by this code; None if neither fits
 abbrev pub promotion_of : SPiece → Role → Option Bool
 promotion_of piece code =
     if same_role code piece.role
@@ -57,7 +57,7 @@ abbrev pub promotion_at : Option SPiece → Role → Option Bool
 promotion_at None code = None
 promotion_at (Some piece) code = promotion_of piece code
 
--- the kind in a hand whose code this is
+-- the kind of piece in hand with this code
 abbrev pub dropped_kind : Role → Option HandKind
 dropped_kind role.Rook = Some in_hand.Rook
 dropped_kind role.Bishop = Some in_hand.Bishop
@@ -72,7 +72,7 @@ abbrev pub meant_from : ShogiPosition → WrittenMove → Option ℕ → Option 
 meant_from p w None = option_map (λ kind. Drop kind w.to) (dropped_kind w.role)
 meant_from p w (Some from) = option_map (λ promote. Step from w.to promote) (promotion_at (map.get p.board from) w.role)
 
--- the move that a written move means in a position, if it means one
+-- the move that a written move denotes in a position, if any
 abbrev pub meant : ShogiPosition → WrittenMove → Option SMove
 meant p w = if same_side w.side p.turn then meant_from p w w.from else None
 
@@ -80,18 +80,18 @@ meant p w = if same_side w.side p.turn then meant_from p w w.from else None
 abbrev pub Replayed : Type 0
 Replayed = Result (List SMove) CsaFault
 
--- a move that is checked, after which the replay goes on
+-- a checked move: the rest of the replay if it is legal, else a fault at its ply
 abbrev pub go_on : ℕ → Replayed → Result (Unit {0}) Illegal → Replayed
 go_on ply rest (Ok u) = rest
 go_on ply rest (Err cause) = Err (fault.Illegal ply cause)
 
--- the next move of a replay: a fault where the game has ended, or where the move is none or not legal
+-- the next move of a replay: a fault if the game has ended, or if the text denotes no legal move
 abbrev pub replay_next : List SMove → (SMove → Replayed) → Option SEnd → Option SMove → Replayed
 replay_next ms rest (Some end) m = Err (fault.AfterEnd (length ms + 1))
 replay_next ms rest None None = Err (fault.Illegal (length ms + 1) illegal.NoSuchMove)
 replay_next ms rest None (Some m) = go_on (length ms + 1) (rest m) (check_of (last_position opening ms) m)
 
--- written moves, played after these
+-- the replay of written moves after these moves
 abbrev pub replayed : List SMove → List WrittenMove → Replayed
 replayed ms [] = Ok ms
 replayed ms (w ∷ ws) =
@@ -122,7 +122,7 @@ and_more (Err f) more = Err f
 and_more (Ok g) (Err f) = Err f
 and_more (Ok g) (Ok gs) = Ok (g ∷ gs)
 
--- the games of records, or the fault of the first that is refused
+-- the games of the records, or the fault of the first record that is refused
 abbrev pub records_reading : List (List Placed) → RecordsRead
 records_reading [] = Ok []
 records_reading (placed ∷ records) = and_more (record_reading placed) (records_reading records)
@@ -135,7 +135,7 @@ abbrev pub is_version : Statement → Bool
 is_version statement.Version = true
 is_version _ = false
 
--- statements begin with a version, and stand in their order
+-- the statements must begin with a version and be in order
 abbrev pub statements_reading : List Placed → Option Statement → RecordsRead
 statements_reading placed None = Err (fault.BadText 1)
 statements_reading placed (Some first) =
@@ -145,7 +145,7 @@ statements_reading placed (Some first) =
 unfoldable pub csa_reading : List ℕ → RecordsRead
 csa_reading text = statements_reading (text_statements text) (first_statement (text_statements text))
 
--- why the club refuses a text with that fault; memory is no fault of a text
+-- the club's refusal for a fault; the reading function has no fault of memory, so that case is arbitrary
 abbrev pub csa_refusal : CsaFault → RecordRefusal
 csa_refusal fault.Memory = record_refusal.Unfinished Csa
 csa_refusal (fault.BadText line) = record_refusal.BadText Csa line
@@ -156,7 +156,7 @@ csa_refusal fault.Unfinished = record_refusal.Unfinished Csa
 csa_refusal (fault.AfterEnd ply) = record_refusal.AfterEnd Csa ply
 csa_refusal fault.ResultDiffers = record_refusal.ResultDiffers Csa
 
--- the game of a record as the club has it
+-- a game that was read, as the club's type
 abbrev pub game_of : CsaGame → Recorded SMove
 game_of g = record { moves = g.moves.items; score = g.score; declared = g.declared }
 
@@ -168,7 +168,7 @@ abbrev pub part_of : ℕ → RecordsRead → Reading SMove
 part_of before (Err f) = refused (csa_refusal f)
 part_of before (Ok games) = found_game (slice_get games before)
 
--- a part of a text, which counts from 1
+-- a part of a text; parts count from 1
 abbrev pub csa_part : List ℕ → ℕ → Reading SMove
 csa_part text zero = no_part
 csa_part text (suc before) = part_of before (csa_reading text)

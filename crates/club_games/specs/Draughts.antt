@@ -1,4 +1,4 @@
--- International draughts as a game of the club.
+-- International draughts as an instance of GameRules.
 use Rattle.std.specs.Prelude.{true, false, Result, Ok, Err}
 use Rattle.squares.specs.declared.draughts.moves.DMove.{DMove}
 use Rattle.squares.specs.DraughtsBoard.{Position}
@@ -33,7 +33,7 @@ refusal_of illegal.NoSuchMove = NoSuchMove game.Draughts
 refusal_of illegal.MustCapture = MustCapture
 refusal_of illegal.NotLongest = NotLongest
 
--- why a text is refused; the reading of a text is a function, and has no fault of memory
+-- the refusal of a text; the reading function has no fault of memory, so that case is arbitrary
 abbrev pub text_refusal : MoveFault → MoveRefusal
 text_refusal (fault.BadText offset) = BadText game.Draughts offset
 text_refusal fault.Ambiguous = Ambiguous

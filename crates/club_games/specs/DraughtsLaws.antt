@@ -1,4 +1,4 @@
--- What holds of draughts as a game of the club.
+-- The laws of GameRules for draughts.
 use Rattle.std.proofs.Common.{Contains, ◌↔◌, ◌≡◌, ◌⊎◌, inl, inr, ℕ, zero, suc, ◌+◌, ◌-◌, ◌≤◌, ◌<◌, Bool, true, false}
 use Rattle.std.proofs.Common.{cond, not, nat_eq, nat_le, List, [], ◌∷◌, length, Option, Some, None, is_some, Ok, IsSome}
 use Rattle.std.proofs.Common.{refl, sym, ap, ◌∙◌, subst, arith, eqb-true, eq-eqb}
@@ -79,7 +79,7 @@ draughts-reads_back p m e =
     let legal = check-legal p m e in
     ap move_read ((reading-ok p (move_text p m) m).1 (reads-back p m (move_text p m) legal (text-is p m legal)))
 
--- ---- sameness
+-- ---- equality
 
 pub draughts-same_is : SameIs draughts
 draughts-same_is a b = (same_move-same a b, same_move-itself a b)
@@ -87,7 +87,7 @@ draughts-same_is a b = (same_move-same a b, same_move-itself a b)
 pub draughts-same_position_is : SamePositionIs draughts
 draughts-same_position_is = tells-equal same_position same_position-same same_position-itself
 
--- ---- the last ply
+-- ---- the ply limit
 
 abbrev some_end : Bool → Bool → Bool → Bool → Bool → Bool → Option DEnd
 some_end stuck thrice kings three two limit =
@@ -123,7 +123,7 @@ draughts-starts_running =
     λ i. some_end (not (man-has_move i)) (nat_le 3 (0 + cond (same_position-itself opening i) 1 0)) false false false
     false
 
--- ---- positions on lines keep to the board
+-- ---- reachable positions have no pieces off the board
 
 beyond : (n : ℕ) → 50 < n → map.get opening.board n ≡ None
 unfolding opening

@@ -1,4 +1,4 @@
--- Whether a text (FEN) stands for the opening of draughts, as a function.
+-- Whether a FEN text denotes the initial position of draughts, as a function.
 use Rattle.std.specs.Prelude.{ℕ, zero, suc, List, [], ◌∷◌, ◌++◌, length, Bool, false, Option, Some, None, Ok, Err}
 use Rattle.std.specs.Prelude.{if◌then◌else◌}
 use Rattle.squares.specs.declared.sides.Side.{Side}
@@ -11,7 +11,7 @@ use Rattle.pdn.specs.FenForm.{Header, HeaderReading, read_header, RestReading, r
 use Rattle.pdn.specs.FenForm.{FenForm}
 use Rattle.pdn.specs.ReadFen.{repeated, position_of}
 
--- what follows an item: a comma and the items after it, or the end of the list
+-- after an item: a comma and more items, or the end of the list
 abbrev pub after_item : (List Item → List ℕ → ItemsReading) → List Item → List ℕ → Option (List ℕ) → ItemsReading
 after_item more items rest None = Ok (record { items = items; rest = rest })
 after_item more items rest (Some text) = more items text
@@ -20,7 +20,7 @@ abbrev pub with_item : (List Item → List ℕ → ItemsReading) → List Item �
 with_item more before (Err offset) = Err offset
 with_item more before (Ok front) = after_item more (before ++ front.item ∷ []) front.rest (past_byte 44 front.rest)
 
--- up to so many items, parted by commas
+-- a list of at most n items, separated by commas
 abbrev pub items_reading : ℕ → ℕ → Side → List Item → List ℕ → ItemsReading
 items_reading zero total side before text = Err 0
 items_reading (suc n) total side before text =
@@ -52,7 +52,7 @@ abbrev pub header_reading : ℕ → ℕ → HeaderReading → FenReading
 header_reading n total (Err offset) = Err offset
 header_reading n total (Ok header) = first_reading n total header (list_reading n total header.first [] header.rest)
 
--- the form of a text; it has no more items than bytes
+-- the form of a text, which has at most as many items as bytes
 unfoldable pub form_reading : List ℕ → FenReading
 form_reading text = header_reading (length text) (length text) (read_header text)
 
@@ -64,6 +64,6 @@ abbrev pub is_opening_form : FenReading → Bool
 is_opening_form (Err offset) = false
 is_opening_form (Ok form) = is_opening_unless form (repeated form.items)
 
--- whether a text stands for the opening
+-- whether a text denotes the initial position
 abbrev pub is_opening : List ℕ → Bool
 is_opening text = is_opening_form (form_reading text)

@@ -1,4 +1,4 @@
--- Each side of both games has a move in the opening: a man of First goes forward, and a pawn of First does.
+-- In the initial position of both games First has a legal move.
 use Rattle.std.proofs.Common.{◌≡◌, ℕ, zero, suc, Bool, true, false, cond, ◌||◌, ◌&&◌, List, [], ◌∷◌, length, Option}
 use Rattle.std.proofs.Common.{Some, None, Ok, refl, ap, ◌∙◌, arith, get_or}
 use Rattle.std.specs.Prelude.{if◌then◌else◌, nat_lt, is_none, ◌==◌, map as list_map}
@@ -35,7 +35,7 @@ use Rattle.shogi_moves.specs.Search.{piece_reaches, side_reaches}
 
 -- ---- draughts
 
--- what stands on a square of the opening
+-- the content of a square in the initial position
 abbrev cell : ℕ → Option DPiece
 cell zero = None
 cell (suc k) = get_or (list_map draughts.opening_piece (range_with_len 1 50)) k None
@@ -62,7 +62,7 @@ man-has_move = list_any_at (can_move draughts.opening) (range_with_len 1 50) 30 
 
 -- ---- shogi
 
--- attack, of squares that are told by a function
+-- attacks on a board that is given as a function of the square
 abbrev Cells : Type 0
 Cells = ℕ → Option SPiece
 
@@ -109,7 +109,7 @@ king-is : (board : ShogiBoard) (side : Side)
 unfolding king_attacked
 king-is board side = λ i. list_any (λ square. attacked-is board side square i) all_squares
 
--- what stands on a square of the opening
+-- the content of a square in the initial position
 abbrev opened : Cells
 opened n = get_or (list_map opening_cell (range_with_len 0 81)) n None
 
@@ -120,7 +120,7 @@ opened-are n = get-shogi_board_of (list_map opening_cell (range_with_len 0 81)) 
 abbrev pawn : SPiece
 pawn = record { side = First; role = role.Pawn }
 
--- what stands after the pawn's step
+-- the content of a square after the pawn's step
 abbrev pushed : Cells
 pushed n = cond (eq_by_cmp nat_cmp n 59) (Some pawn) (cond (eq_by_cmp nat_cmp n 60) None (opened n))
 

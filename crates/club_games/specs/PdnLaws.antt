@@ -1,4 +1,4 @@
--- What is read of a PDN text is a game by the rules of draughts.
+-- A game that is read from a PDN text is a game by the rules of draughts.
 use Rattle.std.proofs.Common.{◌≡◌, ℕ, suc, List, [], ◌∷◌, ◌++◌, length, Bool, true, false, nat_eq, ◌&&◌, Option, Some}
 use Rattle.std.proofs.Common.{None, Result, Ok, Err, refl, sym, ap, ◌∙◌, subst}
 use Rattle.std.specs.Prelude.{codes, if◌then◌else◌}
@@ -30,12 +30,12 @@ use Rattle.club_games.specs.PdnReading.{lexed, lexed_reading, Lexed, Replayed, r
 use Rattle.club_games.specs.PdnReading.{with_score, with_moves, begins_even, formed_reading, pdn_reading, whole}
 use Rattle.club_games.specs.PdnReading.{draughts_records}
 
--- a move that a text stands for is legal
+-- a move that a text denotes is legal
 read-legal : (p : Position) (form : Form) (m : DMove) → StandsFor p form m → Legal p m
 read-legal p (quiet from to) m is = is.1
 read-legal p (capture from middle to) m is = is.0
 
--- a replay of a line that is played by the rules is one
+-- replaying texts after a line played by the rules yields such a line
 module _ (ms : List DMove) (line : IsPlayedLine draughts opening ms) (text : List ℕ) (rest : DMove → Replayed)
     (ns : List DMove) (goes_on : (m : DMove) → IsPlayedLine draughts opening (ms ++ m ∷ []) → rest m ≡ Ok ns
     → IsPlayedLine draughts opening ns) where
@@ -58,7 +58,7 @@ replay-line ms (text ∷ texts) ns line read =
     next-line ms line text (λ m. replayed (ms ++ m ∷ []) texts) ns (λ m more. replay-line (ms ++ m ∷ []) texts ns more)
     (end_of opening ms) (move_value.move_reading (last_position opening ms) text) refl refl read
 
--- where the rules ended the game, the score is theirs
+-- if the rules ended the game, the score is theirs
 settled-score : (same tag : Bool) (claim by_rule s : Score) → same_score claim by_rule ≡ same
     → ◌≡◌ {A = Result Score PdnFault} (if same && tag then Ok claim else Err fault.ResultDiffers) (Ok s) → s ≡ by_rule
 settled-score true true claim by_rule s is told = let claimed_is : claim ≡ s = cc in
@@ -72,7 +72,7 @@ claim-score None by_rule by_tag s told = cc
 claim-score (Some claim) by_rule by_tag s told =
     settled-score (same_score claim by_rule) (agrees claim by_tag) claim by_rule s refl told
 
--- what is read of tokens is a game by the rules
+-- the game that is read from tokens is a game by the rules
 scored-game : (tokens : List Placed) (ms : List DMove) (said_is : Result Score PdnFault) (r : Recorded DMove)
     → IsPlayedLine draughts opening ms → score_in tokens ms ≡ said_is → with_score ms said_is ≡ Ok r
     → IsGameByRules draughts r

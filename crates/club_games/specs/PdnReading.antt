@@ -1,4 +1,4 @@
--- The reading of PDN texts as a function: what a text is read as, by its tokens.
+-- The PDN reader as a function of the tokens of a text.
 use Rattle.std.specs.Prelude.{ℕ, zero, suc, ◌+◌, ◌-◌, ◌==◌, List, [], ◌∷◌, ◌++◌, length, Bool, true, false, Option}
 use Rattle.std.specs.Prelude.{Some, None, Result, Ok, Err, codes, if◌then◌else◌}
 use Rattle.squares.specs.declared.sides.Score.{Score}
@@ -24,7 +24,7 @@ use Rattle.club_rules.specs.Records.{Recorded, Reading, GameRecords, game, no_pa
 use Rattle.club_games.specs.Draughts.{refusal_of}
 use Rattle.club_games.specs.FenReading.{is_opening}
 
--- tokens, and where they stop, if not at the text's end
+-- the tokens of a text, and the offset at which the lexer stopped, unless at the end
 pub record Lexed : Type 0 where
   pub tokens : List Placed
   pub stop : Option ℕ
@@ -38,7 +38,7 @@ after_front at skips takes stuck = record { tokens = []; stop = Some at }
 after_front at skips takes (skipped rest) = skips rest
 after_front at skips takes (found token rest) = with_token at token (takes token rest)
 
--- the tokens of a text, which has fewer bytes than so many; the whole text has so many
+-- the lexer: n exceeds the number of bytes left, total is the length of the whole text
 abbrev pub lexed : ℕ → ℕ → Bool → Bool → List ℕ → Lexed
 lexed zero total line free text = record { tokens = []; stop = None }
 lexed (suc n) total line free text =
@@ -51,13 +51,13 @@ lexed (suc n) total line free text =
 abbrev pub Replayed : Type 0
 Replayed = Result (List DMove) PdnFault
 
--- the next move of a replay: a fault where the game has ended, or where its text is refused
+-- the next move of a replay: a fault if the game has ended, or if its text is refused
 abbrev pub replay_next : List DMove → (DMove → Replayed) → Option DEnd → move_value.Reading → Replayed
 replay_next ms rest (Some end) read = Err (fault.AfterEnd (length ms + 1))
 replay_next ms rest None (Err f) = Err (at_ply (length ms + 1) f)
 replay_next ms rest None (Ok m) = rest m
 
--- texts of moves, played after these
+-- the replay of texts of moves after these moves
 abbrev pub replayed : List DMove → List (List ℕ) → Replayed
 replayed ms [] = Ok ms
 replayed ms (text ∷ texts) =
@@ -75,12 +75,12 @@ abbrev pub with_moves : List Placed → Replayed → GameRead
 with_moves tokens (Ok ms) = with_score ms (score_in tokens ms)
 with_moves tokens (Err f) = Err f
 
--- whether a position from which the game begins, if one is given, is the opening
+-- whether the FEN tag, if any, denotes the initial position
 abbrev pub begins_even : Option (List ℕ) → Bool
 begins_even None = true
 begins_even (Some text) = is_opening text
 
--- the game of tokens of the form: of this kind of draughts, from the opening
+-- the game of well-formed tokens: international draughts, from the initial position
 abbrev pub tokens_reading : List Placed → GameRead
 tokens_reading tokens =
     if is_other_type tokens
@@ -100,7 +100,7 @@ lexed_reading l = formed_reading l.tokens (bad_at l.tokens l.stop)
 unfoldable pub pdn_reading : List ℕ → GameRead
 pdn_reading text = lexed_reading (lexed (suc (length text)) (length text) true true text)
 
--- why the club refuses a text with that fault; memory is no fault of a text
+-- the club's refusal for a fault; the reading function has no fault of memory, so that case is arbitrary
 abbrev pub pdn_refusal : PdnFault → RecordRefusal
 pdn_refusal fault.Memory = record_refusal.Unfinished Pdn
 pdn_refusal (fault.BadText offset) = record_refusal.BadText Pdn offset
@@ -112,7 +112,7 @@ pdn_refusal fault.Unfinished = record_refusal.Unfinished Pdn
 pdn_refusal (fault.AfterEnd ply) = record_refusal.AfterEnd Pdn ply
 pdn_refusal fault.ResultDiffers = record_refusal.ResultDiffers Pdn
 
--- the game of a text as the club has it
+-- a game that was read, as the club's type
 abbrev pub game_of : PdnGame → Recorded DMove
 game_of g = record { moves = g.moves.items; score = g.score; declared = false }
 

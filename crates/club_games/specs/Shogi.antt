@@ -1,4 +1,4 @@
--- Shogi as a game of the club.
+-- Shogi as an instance of GameRules.
 use Rattle.std.specs.Prelude.{ℕ, ◌==◌, ◌&&◌, List, Bool, false, Option, Some, None, Result, Ok, Err}
 use Rattle.std.proofs.Math.Bool.{beq}
 use denote.Enum.Bare.{sameb}
@@ -43,16 +43,16 @@ refusal_of illegal.TwoPawns = TwoPawns
 refusal_of illegal.KingAttacked = KingAttacked
 refusal_of illegal.DropMate = DropMate
 
--- the move of a text, or how far the text goes along with moves' texts
+-- the move of a text, or a syntax error at the end of its longest prefix that can begin a move
 abbrev pub move_read : Option SMove → ℕ → Result SMove MoveRefusal
 move_read (Some m) reach = Ok m
 move_read None reach = Err (BadText game.Shogi reach)
 
--- a text that stands for a position, whatever the number of the next move
+-- the text is the SFEN of the position, with any move number
 abbrev pub IsPositionText : List ℕ → ShogiPosition → Type 0
 IsPositionText text p = (number : ℕ) × IsSfenText text p number
 
--- whether two kinds are one, as `==` tells it
+-- equality of kinds of pieces, as `==` computes it
 abbrev pub same_kind : HandKind → HandKind → Bool
 same_kind a b = sameb the_type a b
 

@@ -1,4 +1,4 @@
--- What holds of shogi as a game of the club.
+-- The laws of GameRules for shogi.
 use Rattle.std.proofs.Common.{Contains, ◌↔◌, ◌≡◌, ℕ, ◌+◌, ◌≤◌, ◌<◌, Bool, true, false, cond, not, ◌&&◌, nat_eq, List}
 use Rattle.std.proofs.Common.{[], ◌∷◌, length, Option, Some, None, Ok, IsSome, refl, ap, ◌∙◌, arith}
 use Rattle.std.proofs.Common.{eqb-true, eq-eqb}
@@ -86,7 +86,7 @@ pub shogi-reads_back : ReadsBack shogi
 shogi-reads_back p m e =
     ap (λ o. move_read o (usi_reach (usi_text m))) (usi_reading-text m (move-on p m (check-legal p m e).pseudo.moves))
 
--- ---- sameness
+-- ---- equality
 
 move-same : (a b : SMove) → same_move a b ≡ true → a ≡ b
 move-same (Step from to promote) (Step from_b to_b promote_b) e =
@@ -121,7 +121,7 @@ shogi-same_is = tells-equal same_move move-same move-itself
 pub shogi-same_position_is : SamePositionIs shogi
 shogi-same_position_is = tells-equal same_shogi_position same_shogi_position-same same_shogi_position-itself
 
--- ---- the last ply
+-- ---- the ply limit
 
 abbrev some_end : Bool → Bool → SEnd → Bool → Option SEnd
 some_end stuck repeated repetition limit =
@@ -154,7 +154,7 @@ shogi-starts_running =
     λ i. some_end (not (has_first_move i)) (nat_le 4 (0 + cond (same_shogi_position-itself opening i) 1 0))
     (repetition opening (opening ∷ [])) false
 
--- ---- positions on lines are positions of the board and the sets
+-- ---- reachable positions have a legal set of pieces, all on the board or in hand
 
 pub record IsSound (p : ShogiPosition) : Type 0 where
   pub sound : IsShogiPosition p.board p.hands
@@ -235,7 +235,7 @@ shogi-numbers_give_tracks track = refl
 pub shogi-tracks_give_numbers : TracksGiveNumbers shogi
 shogi-tracks_give_numbers a b = refl
 
--- after a move of one side the other side's number stays
+-- a move raises each side's count of successive checks by at most one
 checks-next : (track : Tail) (gives_check : Bool) (turn : Side) →
     ((tail_after track gives_check turn).first_checks ≤ track.first_checks + 1)
     × ((tail_after track gives_check turn).second_checks ≤ track.second_checks + 1)

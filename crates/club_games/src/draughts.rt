@@ -1,4 +1,4 @@
-//! International draughts as one of the club's games.
+//! The rules of international draughts for the club.
 
 ghost use Rattle.std.specs.Prelude.{◌≡◌};
 ghost use Rattle.club_games.specs.Draughts.{draughts, refusal_of};
@@ -14,7 +14,7 @@ use std::alloc::Global;
 /// International draughts.
 pub struct Draughts;
 
-/// Why the club refuses a move that the rules refuse.
+/// The club's refusal for a move that the rules refuse.
 pub fn refusal_of(illegal: Illegal) -> MoveRefusal
     ensures { result ≡ refusal_of illegal }
 {

@@ -1,4 +1,4 @@
-//! Records of draughts, in Portable Draughts Notation.
+//! Records of draughts games, in Portable Draughts Notation (PDN).
 
 ghost use Rattle.std.specs.Prelude.{◌≡◌, ◌≢◌, IfOk};
 ghost use Rattle.club_rules.specs.Records.{recorded_of};
@@ -12,7 +12,7 @@ use pdn_games::{PdnFault, PdnGame, read_game};
 use squares::DMove;
 use std::alloc::Global;
 
-// Why the club refuses a text with that fault. Memory is no fault of a text.
+// The club's refusal for a fault of a text. Out of memory is an error, not a refusal.
 fn refusal_of_text(fault: PdnFault) -> Result<RecordRefusal, Memory>
     ensures value { IfOk result (λ refusal. refusal ≡ pdn_refusal fault) }
     ensures told { IfOk result (λ refusal. fault ≢ PdnFault.Memory) }
@@ -37,7 +37,7 @@ fn refusal_of_text(fault: PdnFault) -> Result<RecordRefusal, Memory>
     }
 }
 
-// The game of a record as the club has it.
+// A game that was read, as the club's type; draughts has no declared wins.
 fn game_of(game: PdnGame) -> RecordedGame<DMove>
     ensures { recorded_of result ≡ game_of game }
 {

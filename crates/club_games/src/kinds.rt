@@ -1,6 +1,6 @@
-//! What is done by the rules of a kind of games.
+//! Static dispatch by the kind of a game.
 
-/// Calls a function of some rules by those of a kind of games: `by_kind!(kind, judge::<_>(line))` calls
+/// Calls a generic function with the rules of a game's kind: `by_kind!(kind, judge::<_>(line))` calls
 /// `judge::<Draughts>(line)` or `judge::<Shogi>(line)`.
 #[macro_export]
 macro_rules! by_kind {

@@ -1,4 +1,4 @@
-//! Shogi as one of the club's games.
+//! The rules of shogi for the club.
 
 ghost use Rattle.std.specs.Prelude.{◌≡◌};
 ghost use Rattle.club_games.specs.Shogi.{shogi, refusal_of, same_move};
@@ -14,7 +14,7 @@ use std::alloc::Global;
 /// Shogi.
 pub struct Shogi;
 
-/// Why the club refuses a move that the rules refuse.
+/// The club's refusal for a move that the rules refuse.
 pub fn refusal_of(illegal: Illegal) -> MoveRefusal
     ensures { result ≡ refusal_of illegal }
 {
@@ -29,7 +29,6 @@ pub fn refusal_of(illegal: Illegal) -> MoveRefusal
     }
 }
 
-// Whether two moves are one.
 fn is_same(a: &SMove, b: &SMove) -> bool
     ensures { result ≡ same_move a.now b.now }
 {

@@ -1,4 +1,4 @@
-//! Records of shogi, in the format of the Computer Shogi Association.
+//! Records of shogi games, in the format of the Computer Shogi Association (CSA).
 
 ghost use Rattle.std.specs.Prelude.{◌≡◌, ◌≢◌, IfOk, map, slice_get};
 ghost use Rattle.club_rules.specs.Records.{reading_of};
@@ -11,7 +11,7 @@ use memory::Memory;
 use squares::SMove;
 use std::alloc::Global;
 
-// Why the club refuses a text with that fault. Memory is no fault of a text.
+// The club's refusal for a fault of a text. Out of memory is an error, not a refusal.
 fn refusal_of_text(fault: CsaFault) -> Result<RecordRefusal, Memory>
     ensures value { IfOk result (λ refusal. refusal ≡ csa_refusal fault) }
     ensures told { IfOk result (λ refusal. fault ≢ CsaFault.Memory) }
@@ -35,7 +35,7 @@ fn refusal_of_text(fault: CsaFault) -> Result<RecordRefusal, Memory>
     }
 }
 
-// The game before which so many others stand, if there is one.
+// The game with this index, counted from 0, or `NoPart`.
 fn game_after(before: u64, games: Vec<CsaGame>) -> RecordReading<SMove>
     ensures { reading_of result ≡ found_game (slice_get (map game_of games.items) before) }
 {

@@ -1,4 +1,4 @@
--- What an import does, as the program's values say it.
+-- Maps the values of an import in the code to those of the specification.
 use Rattle.std.specs.Prelude.{◌≡◌, Option, Some, None}
 use Rattle.club_rules.specs.GameRules.{GameRules}
 use Rattle.club_rules.specs.Records as record_is
@@ -14,27 +14,27 @@ use Rattle.club_imports.specs.declared.played.PlayedGame.{PlayedGame}
 abbrev pub IsPlayedOf : {P M E T : Type 0} → GameRules P M E T → Game M → PlayedGame M → Type 0
 IsPlayedOf rules game played = (played.moves.items ≡ moves_of game) × (played.result ≡ result_of rules game)
 
--- what was played in the game, if there is one
+-- the moves and the result of the game under the key, if there is one
 abbrev pub ShowsPlayed : {P M E T : Type 0} → GameRules P M E T → Option (Game M) → Option (PlayedGame M) → Type 0
 ShowsPlayed rules None None = Unit {0}
 ShowsPlayed rules (Some game) None = ⊥
 ShowsPlayed rules None (Some played) = ⊥
 ShowsPlayed rules (Some game) (Some played) = IsPlayedOf rules game played
 
--- what was read is a game by the rules, if it is one
+-- if a game was read, its moves are legal and its score agrees with the rules
 abbrev pub IsByRules : {P M E T : Type 0} → GameRules P M E T → Reading M → Type 0
 IsByRules rules (record_is.game r) = IsGameByRules rules r
 IsByRules rules record_is.no_part = Unit {0}
 IsByRules rules (record_is.refused refusal) = Unit {0}
 
--- the outcome that an import stands for
+-- the outcome of an import
 abbrev pub importing_of : {M : Type 0} → given_importing.Importing M → Outcome (Imported M)
 importing_of (importing.Adds new) =
     accepted (record { pairing = new.pairing; recorded = recorded_of new.recorded }) (game_seated new.game)
 importing_of (importing.Repeated id) = repeated (game_seated id)
 importing_of (importing.Refused refusal) = refused refusal
 
--- the game that is added is one by the rules
+-- if a game is added, its moves are legal and its score agrees with the rules
 abbrev pub AddsByRules : {P M E T : Type 0} → GameRules P M E T → given_importing.Importing M → Type 0
 AddsByRules rules (importing.Adds new) = IsGameByRules rules (recorded_of new.recorded)
 AddsByRules rules (importing.Repeated id) = Unit {0}

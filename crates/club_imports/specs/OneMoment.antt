@@ -1,4 +1,4 @@
--- Moves that are all made at one moment.
+-- Moves that all have the same timestamp.
 use Rattle.std.specs.Prelude.{ℕ, zero, suc, List, [], ◌∷◌}
 use Rattle.club_core.specs.Game.{Clocks}
 

@@ -1,4 +1,4 @@
-//! What an import does to the club.
+//! The decision on an import.
 
 ghost use Rattle.std.specs.Prelude.{◌≡◌, ◌≤◌, ◌<◌, ℕ, length, Option, IfOk, IfNone, string_bytes};
 ghost use Rattle.std.specs.Option.{option_map};
@@ -25,7 +25,7 @@ use club_rules::{
 };
 use std::alloc::Global;
 
-/// A game to be added, under the next id, with what its record says.
+/// A new game with its id and what its record states.
 #[derive(Drop)]
 pub struct NewGame<M> {
     pub game: u32,
@@ -33,7 +33,7 @@ pub struct NewGame<M> {
     pub recorded: RecordedGame<M>,
 }
 
-/// What an import does: it adds a game, it repeats the import or the game of that id, or it is refused.
+/// The outcome of an import: a new game, a repeat (with the id of the game), or a refusal.
 #[derive(Drop)]
 pub enum Importing<M> {
     Adds(NewGame<M>),
@@ -47,7 +47,7 @@ fn is_same_format(one: RecordFormat, other: RecordFormat) -> bool
     one == other
 }
 
-/// The part of the import's text, read. A text that is too long, or of another game's format, has none.
+/// Reads the part of the import's text. There is no part if the text is too long or of the other game's format.
 fn read_import<R: Records>(
     alloc: Global,
     command: &Import,
@@ -75,7 +75,7 @@ fn has_part<M>(reading: &RecordReading<M>) -> bool
     }
 }
 
-/// The game under the key, if it is of the same event and players and ended as the record says.
+/// The id of the game under the key, if it has the same event and players, and the record's moves and score.
 fn repeat_of_import<R: Records>(
     command: &Import,
     reading: &RecordReading<R::Move>,
@@ -96,7 +96,7 @@ fn repeat_of_import<R: Records>(
     None
 }
 
-/// Why no game is added, before what the record itself is refused for.
+/// The refusals that are checked before the record's own.
 fn refusal_of_import<R: Records>(
     command: &Import,
     reading: &RecordReading<R::Move>,
@@ -123,7 +123,7 @@ fn refusal_of_import<R: Records>(
     None
 }
 
-/// What a record that was read adds to an event, between two players that were found.
+/// Adds a record that was read to an event, if both players were found.
 fn import_game<R: Rules>(
     event: u32,
     first: Option<u32>,
@@ -155,7 +155,7 @@ fn import_game<R: Rules>(
     })
 }
 
-/// What was read, in an event with declarations or without: in one without them a declaration is no end of a game.
+/// Refuses a record that ends with a declaration, if the event has no declarations.
 fn read_in<R: Rules>(
     format: RecordFormat,
     declares: bool,
@@ -173,7 +173,7 @@ fn read_in<R: Rules>(
     }
 }
 
-/// What is read is added, refused, or no record at all.
+/// Adds the game that was read, or refuses it.
 fn import_between<R: Rules>(
     event: u32,
     first: Option<u32>,
@@ -193,7 +193,7 @@ fn import_between<R: Rules>(
     }
 }
 
-/// What an import does, once the names were looked up.
+/// Decides an import after the names are looked up.
 fn import_found<R: Records>(
     alloc: Global,
     command: &Import,
@@ -223,10 +223,21 @@ fn import_found<R: Records>(
     Ok(import_between::<R>(event, first, second, games, reading))
 }
 
-/// What an import does, by the members and the events in the order of their ids, the game under its key if there is
-/// one, with what was played in it if it is of this kind, and the number of games. The officer alone imports. The new
-/// game's id is the next one, and what is added is a game by the rules. A refusal of the record comes after all
-/// others; a declaration in an event without declarations is one.
+/// Imports a recorded game; only the officer may.
+///
+/// `members` and `events` are in the order of ids. `under_key` is the game that already has the key, `played` its moves
+/// and result if it is of this kind, and `games` the number of games. The new game gets the next id.
+///
+/// Refusals of the record come after all others. A declaration in an event without declarations is one of them.
+///
+/// # Errors
+///
+/// `Memory` if out of memory.
+///
+/// # Guarantees
+///
+/// - `value`: the outcome is that of the specified transition `import_found`.
+/// - `by_rules`: a new game has only legal moves, and its score agrees with the rules.
 pub fn import<R: Records>(
     alloc: Global,
     members: &[Member],

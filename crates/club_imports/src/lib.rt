@@ -1,4 +1,4 @@
-//! Importing recorded games: what a record does to the club, or why it is refused.
+//! The transition that imports a recorded game into a club, or its refusal.
 #![tactic(auto)]
 
 pub mod imports;

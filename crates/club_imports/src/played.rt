@@ -1,4 +1,4 @@
-//! Games that were played, beside their records.
+//! Comparison of a stored game with a record.
 
 ghost use Rattle.std.specs.Prelude.{◌≡◌, Option};
 ghost use Rattle.club_rules.specs.Records.{recorded_of, reading_of};
@@ -9,7 +9,7 @@ ghost use Rattle.club_imports.specs.Importing.{IsPlayedOf, ShowsPlayed};
 use club_rules::{RecordReading, RecordedGame, Rules};
 use squares::Score;
 
-/// What was played in a game: its moves, and its result, which is none while it is running.
+/// The moves of a stored game, and its result, which is `None` while the game is running.
 #[derive(Drop)]
 pub struct PlayedGame<M> {
     pub moves: Vec<M>,
@@ -25,7 +25,7 @@ fn has_score(ended: Option<Score>, score: Score) -> bool
     }
 }
 
-/// Whether two lists of moves are one.
+/// Whether two lists of moves are equal.
 fn are_same<R: Rules>(moves: &[R::Move], others: &[R::Move]) -> bool
     ensures { result ≡ same_moves R.rules moves.now others.now }
 {
@@ -40,7 +40,7 @@ fn are_same<R: Rules>(moves: &[R::Move], others: &[R::Move]) -> bool
     true
 }
 
-/// Whether the record is that of what was played.
+/// Whether the game has the record's moves and the record's score.
 fn is_record_of<R: Rules>(played: &PlayedGame<R::Move>, recorded: &RecordedGame<R::Move>) -> bool
     ensures { (game : Game R.Move) → IsPlayedOf R.rules game played.now →
         result ≡ is_record_of R.rules game (recorded_of recorded.now) }
@@ -49,7 +49,7 @@ fn is_record_of<R: Rules>(played: &PlayedGame<R::Move>, recorded: &RecordedGame<
         && are_same::<R>(played.moves.as_slice(), recorded.moves.as_slice())
 }
 
-/// Whether what was read is the record of what was played.
+/// Whether a record was read and equals the stored game.
 pub fn reads_record_of<R: Rules>(
     played: &Option<PlayedGame<R::Move>>,
     reading: &RecordReading<R::Move>,

@@ -1,4 +1,4 @@
-//! The row of a recorded game.
+//! The row of an imported game.
 
 ghost use Rattle.std.specs.Prelude.{◌≡◌, ◌≤◌, ◌<◌, ◌+◌, ◌^◌, ℕ, Bool, length, Some, IfOk, IsTrue};
 ghost use Rattle.squares.specs.declared.sides.Side.TheVariants.{First};
@@ -17,7 +17,7 @@ use club_rules::{Memory, RecordedGame, Rules};
 use squares::{Score, Side};
 use std::alloc::Global;
 
-/// Where a line stands after its moves, and what they left behind.
+/// The position and the track after the moves of a line.
 #[derive(Drop)]
 struct LineState<R: Rules> {
     position: R::Position,
@@ -49,7 +49,7 @@ pub struct Left {
 }
 
 impl Left {
-    /// That side's.
+    /// The seconds that a side has left.
     pub fn of(self, side: Side) -> u64
         ensures { (moment : ℕ) → result ≡ left_of side (clocks_with self.first self.second moment) }
     {
@@ -59,7 +59,7 @@ impl Left {
         }
     }
 
-    /// With an increment more for that side, whose move took no time.
+    /// Adds an increment (in seconds) for a side, whose move took no time.
     pub fn with(self, side: Side, increment: u64) -> Left
         requires first { self.first + increment < 2 ^ 64 }
         requires second { self.second + increment < 2 ^ 64 }
@@ -79,7 +79,7 @@ impl Left {
     }
 }
 
-/// The seconds left after so many moves that took none, each adding the increment to its player's.
+/// The seconds left after moves that took no time, each adding the increment to the mover's clock.
 fn left_after(budget: u64, increment: u64, plies: usize) -> Left
     requires budget { IsTrue (is_budget budget) }
     requires increment { IsTrue (is_increment increment) }
@@ -99,7 +99,7 @@ fn left_after(budget: u64, increment: u64, plies: usize) -> Left
     left
 }
 
-/// How a recorded game ended: by the rules, and else as its record says.
+/// The end of a recorded game: by the rules, otherwise as the record states.
 fn end_of_record<E>(end: Option<E>, score: Score) -> Option<GameEnd<E>>
     ensures { result ≡ end_with end (recorded_end end score) }
 {
@@ -109,8 +109,12 @@ fn end_of_record<E>(end: Option<E>, score: Score) -> Option<GameEnd<E>>
     }
 }
 
-/// The row of a recorded game that is added at that moment, each player having the budget and gaining the increment at
-/// each move.
+/// The row of a recorded game that is imported at this timestamp. The budget and the increment are in seconds; each
+/// move adds the increment and takes no time.
+///
+/// # Errors
+///
+/// `Memory` if out of memory.
 pub fn imported_row<R: Rules>(
     alloc: Global,
     key: &str,

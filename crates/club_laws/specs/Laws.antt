@@ -1,4 +1,4 @@
--- The laws of the club's machine.
+-- Properties of the club's state machine.
 use Rattle.std.specs.Prelude.{◌≡◌, ◌≤◌, ◌+◌, ℕ, List, length, Option, Some, None, Bool, true, false}
 use Rattle.club_core.specs.ClubRules.{ClubRules}
 use Rattle.club_requests.specs.Limits.{last_moment}
@@ -11,8 +11,9 @@ use Rattle.club_core.specs.State.{on_game, sweep, open_challenge, withdraw_chall
 use Rattle.club_core.specs.State.{is_accepted, step, next, fold, accepted_of}
 use Rattle.club_core.specs.LegalState.{IsLegalState}
 
--- no move came since that command, where it is an offer of a draw: its ply is still the next one
+-- the command can still be repeated: a draw offer is still for the next ply, and the command is no sweep
 module _ {DM SM : Type 0} where
+  -- the ply is the next one of the game
   abbrev pub HasNextPly : ℕ → Option (AnyGame DM SM) → Type 0
   HasNextPly ply None = ⊥
   HasNextPly ply (Some (draughts game)) = ply ≡ length game.entries + 1
@@ -37,47 +38,46 @@ module _ {DM SM : Type 0} where
   StillRepeats s (withdraw_challenge number) = Unit {0}
   StillRepeats s (answer_challenge challenger number accept) = Unit {0}
 
--- what an offer of a draw is answered once a move came since, by whether the game is over
+-- the refusal of a draw offer that is sent again after a later move, given whether the game is over
 abbrev pub passed_offer : Bool → Refusal
 passed_offer true = GameOver
 passed_offer false = WrongPly
 
 module _ {DP DM DE DT SP SM SE ST : Type 0} (rules : ClubRules DP DM DE DT SP SM SE ST) where
-  -- folding the accepted requests alone gives the same state
+  -- folding only the accepted requests gives the same state
   abbrev pub FoldsAccepted : Type 0
   FoldsAccepted = (s : State DM SM) (rs : List Request) → fold rules s (accepted_of rules s rs) ≡ fold rules s rs
 
-  -- a request that is refused or repeated leaves the state
+  -- a refused or repeated request leaves the state unchanged
   abbrev pub LeavesState : Type 0
   LeavesState = (s : State DM SM) (r : Request) → is_accepted (step rules s r) ≡ false → next rules s r ≡ s
 
-  -- the moment of the last accepted request never falls
+  -- the timestamp of the last accepted request never decreases
   abbrev pub NeverFalls : Type 0
   NeverFalls = (s : State DM SM) (r : Request) → s.last ≤ (next rules s r).last
 
-  -- a request leaves a legal state legal
+  -- a request with a valid timestamp keeps a legal state legal
   abbrev pub KeepsLegal : Type 0
   KeepsLegal =
       (s : State DM SM) (r : Request) → r.moment ≤ last_moment → IsLegalState rules s →
       IsLegalState rules (next rules s r)
 
-  -- An accepted command that comes again from the one who gave it, at any moment and whatever requests stand between,
-  -- is repeated with the same answer: an offer of a draw so long as no move came since, a sweep never, every other
-  -- command always.
+  -- Idempotence: an accepted command, sent again by the same caller at any time and after any requests, is repeated
+  -- with the same reply. A draw offer is repeated until the next move, a sweep never, every other command always.
   abbrev pub AnswersAgain : Type 0
   AnswersAgain =
       (s after : State DM SM) (r : Request) (reply : Reply) (between : List Request) (moment : ℕ) →
       IsLegalState rules s → step rules s r ≡ accepted after reply → StillRepeats (fold rules after between) r.command →
       step rules (fold rules after between) (record r { moment = moment }) ≡ repeated reply
 
-  -- there is such a game, and it is over
+  -- the game exists and is over
   abbrev pub is_over_in : Option (AnyGame DM SM) → Bool
   is_over_in None = false
   is_over_in (Some (draughts game)) = is_over rules.draughts game
   is_over_in (Some (shogi game)) = is_over rules.shogi game
 
-  -- An accepted offer of a draw that comes again from the one who made it, once a move came since, is refused: as the
-  -- game is over, or else for its ply.
+  -- A draw offer that is sent again by the same caller after a later move is refused, because the game is over or
+  -- because of its ply.
   abbrev pub RefusesPassedOffers : Type 0
   RefusesPassedOffers =
       (s after : State DM SM) (r : Request) (id ply : ℕ) (reply : Reply) (between : List Request) (moment : ℕ) →

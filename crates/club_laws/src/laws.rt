@@ -1,4 +1,6 @@
-//! Laws of the whole machine, over two kinds of games: each is what a function with an empty body ensures.
+//! The properties of the state machine, for any two games.
+//!
+//! Each is the `ensures` clause of a function with an empty body.
 
 ghost use Rattle.std.specs.Prelude.{ℕ, IsTrue};
 ghost use Rattle.club_requests.specs.Limits.{is_budget, is_increment};
@@ -12,39 +14,41 @@ ghost use Rattle.club_laws.specs.Laws.{RefusesPassedOffers};
 use club_core::GameView;
 use club_rules::{Records, Rules};
 
-/// The requests that were accepted lead alone to the same state.
+/// Replaying only the accepted requests of a sequence leads to the same state.
 pub fn accepted_suffice<D: Records, S: Records>()
     ensures { FoldsAccepted (both D.rules S.rules D.records S.records) }
 {}
 
-/// A request that is refused or repeated leaves the state.
+/// A refused or repeated request does not change the state.
 pub fn others_leave<D: Records, S: Records>()
     ensures { LeavesState (both D.rules S.rules D.records S.records) }
 {}
 
-/// The moment of the last accepted request never falls.
+/// The timestamp of the last accepted request never decreases.
 pub fn moments_rise<D: Records, S: Records>()
     ensures { NeverFalls (both D.rules S.rules D.records S.records) }
 {}
 
-/// A request, at a moment that there is, leaves a legal state legal.
+/// A request with a valid timestamp (at most `Moment::LAST`) keeps a legal state legal.
 pub fn requests_keep_legal<D: Records, S: Records>()
     ensures { KeepsLegal (both D.rules S.rules D.records S.records) }
 {}
 
-/// An accepted command that comes again from the one who gave it is repeated with the same answer, at any moment and
-/// whatever requests stand between.
+/// Commands are idempotent: an accepted command, sent again by the same caller, is repeated with the same answer, at
+/// any time and after any other requests.
+///
+/// Exceptions are a sweep, and a draw offer after a later move.
 pub fn repeats_answer_again<D: Records, S: Records>()
     ensures { AnswersAgain (both D.rules S.rules D.records S.records) }
 {}
 
-/// An accepted offer of a draw that comes again once a move came since is refused: with 56 GameOver where the game has
-/// ended, and else with 57 WrongPly.
+/// A draw offer that is sent again after a later move is refused: 56 `GameOver` if the game has ended, otherwise 57
+/// `WrongPly`.
 pub fn passed_offers_are_refused<D: Records, S: Records>()
     ensures { RefusesPassedOffers (both D.rules S.rules D.records S.records) }
 {}
 
-/// A view that shows a legal game of an event is sound, so that a command can be decided over it.
+/// A view that represents a legal game of an event satisfies `IsSound`, which `decide` requires.
 pub fn shown_is_sound<R: Rules>(view: &GameView<R>)
     ensures { (game : Game R.Move) (ply : ℕ) → IsTrue (is_budget view.now.budget) →
         IsTrue (is_increment view.now.increment) →

@@ -1,4 +1,4 @@
-//! The laws of the club's machine: what holds of every request, in whatever order they come.
+//! Properties of the club's state machine, proved for every sequence of requests.
 #![tactic(auto)]
 
 pub mod laws;

@@ -1,4 +1,4 @@
--- A game as a person looks at it: its players, whose turn it is and what each has left, the board, and the moves.
+-- A game printed for a person: its players, the side to move and the clocks, the board, and the moves.
 use Rattle.std.specs.Prelude.{ℕ, suc, ◌+◌, ◌-◌, ◌/◌, ◌%◌, ◌==◌, List, [], ◌∷◌, ◌++◌, length, map}
 use Rattle.std.specs.Prelude.{Option, Some, None, codes, decimal, nat_lt, string_bytes, if◌then◌else◌}
 use Rattle.squares.specs.declared.sides.Side.{Side}
@@ -9,8 +9,8 @@ use Rattle.club_lists.specs.Clock.{left_now}
 use Rattle.club_lists.specs.GameSummary.{Over, GameSummary}
 use Rattle.club_lists.specs.declared.board.BoardView.{BoardView}
 
--- the kind of a game, the names of its event and of its players, the diagram of its last position, and its moves as
--- they are written
+-- data of a printed game: its kind, the names of the event and the players, the diagram of the last position, and the
+-- moves in notation
 pub record Board : Type 0 where
   pub kind : GameKind
   pub event : List ℕ
@@ -37,14 +37,14 @@ heading id board =
     codes "Game " ++ (decimal id ++ (codes " " ++ (board.event ++ (codes ": " ++ (board.first ++ (codes " - "
     ++ (board.second ++ codes "\n")))))))
 
--- W for White and B for Black: First is White in draughts, and Black in shogi
+-- W for White and B for Black; First is White in draughts and Black in shogi
 abbrev pub side_letter : GameKind → Side → List ℕ
 side_letter Draughts First = codes "W"
 side_letter Draughts Second = codes "B"
 side_letter Shogi First = codes "B"
 side_letter Shogi Second = codes "W"
 
--- `SIDE to move, ply PLIES, FIRST SECONDS, SECOND SECONDS`, with what each has left at this moment
+-- `SIDE to move, ply PLIES, FIRST SECONDS, SECOND SECONDS`, with the seconds left at this timestamp
 abbrev pub turn_line : ℕ → GameSummary → Board → List ℕ
 turn_line moment told board =
     side_letter board.kind told.turn ++ (codes " to move, ply " ++ (decimal told.plies ++ (codes ", " ++ (board.first
@@ -61,27 +61,26 @@ standing_line moment told board (Some over) = ended_line over
 
 -- ---- the moves
 
--- A move after so many plies: in draughts White's stands after the number of the two moves, `1. 32-28`; in shogi each
--- stands after its own, `1. 7g7f`.
+-- A move after `plies` plies. Draughts numbers pairs of moves, `1. 32-28`; shogi numbers each move, `1. 7g7f`.
 abbrev pub move_text : GameKind → ℕ → List ℕ → List ℕ
 move_text Draughts plies text = if plies % 2 == 0 then decimal (plies / 2 + 1) ++ (codes ". " ++ text) else text
 move_text Shogi plies text = decimal (plies + 1) ++ (codes ". " ++ text)
 
--- what parts a text of so many columns from what a line has: nothing where it has nothing, a blank where both fit 72
--- columns, and else the line's end
+-- separator before a text of `wide` columns: nothing at the start of a line, a space if both fit 72 columns, otherwise
+-- a newline
 abbrev pub gap : (filled wide : ℕ) → List ℕ
 gap filled wide = if filled == 0 then [] else if nat_lt wide (72 - filled) then codes " " else codes "\n"
 
--- the columns that the line has with it
+-- columns of the line after the text is added
 abbrev pub filled_with : (filled wide : ℕ) → ℕ
 filled_with filled wide =
     if filled == 0 then wide else if nat_lt wide (72 - filled) then filled + 1 + wide else wide
 
--- the end of a line that has something
+-- newline of a line that is not empty
 abbrev pub line_end : ℕ → List ℕ
 line_end filled = if filled == 0 then [] else codes "\n"
 
--- the moves after so many plies, in a line that has so many columns already
+-- the moves after `plies` plies, in a line that has `filled` columns
 abbrev pub moves_from : GameKind → (plies filled : ℕ) → List (List ℕ) → List ℕ
 moves_from kind plies filled [] = line_end filled
 moves_from kind plies filled (text ∷ texts) =
@@ -89,9 +88,9 @@ moves_from kind plies filled (text ∷ texts) =
     ++ (move_text kind plies text
     ++ moves_from kind (suc plies) (filled_with filled (length (move_text kind plies text))) texts)
 
--- ---- all of it
+-- ---- whole text
 
--- the game of which this is told, at a moment
+-- the text of a game at a timestamp
 abbrev pub board_text : ℕ → GameSummary → Board → List ℕ
 board_text moment told board =
     heading told.id board

@@ -10,26 +10,25 @@ use Rattle.club_lists.specs.Json.{quoted_or_null, number_or_null, field, counted
 use Rattle.club_lists.specs.Lines.{player_name}
 use Rattle.club_lists.specs.GameSummary.{GameSummary, deadline, is_over}
 
--- the last second in which a move is in time, unless it lies past every moment
+-- last second in which a move is in time; none if beyond the last timestamp
 abbrev pub deadline_within : GameSummary → Option ℕ
 deadline_within told = if nat_le (deadline told) last_moment then Some (deadline told) else None
 
--- what holds of a running game alone
+-- a value that only a running game has
 abbrev pub while_running : {A : Type 0} → GameSummary → Option A → Option A
 while_running told value = if is_over told then None else value
 
--- the side is to move in a running game
+-- the game is running and the side is to move
 abbrev pub is_running_side : Side → GameSummary → Bool
 is_running_side side told = if is_over told then false else same_side side told.turn
 
--- the seconds that a side has left at this moment: those that have gone are taken of the side to move, and no more than
--- it has
+-- seconds that a side has left at this timestamp: the clock of the side to move runs, but not below zero
 abbrev pub left_now : ℕ → Side → GameSummary → ℕ
 left_now moment side told =
     if is_running_side side told then left_of side told.clocks - (moment - told.clocks.since)
     else left_of side told.clocks
 
--- the seconds that each side had left after its last move, and those that each has left at this moment, First's first
+-- `left` is the seconds after each side's last move, `now` those at this timestamp; First comes first
 abbrev pub clock_text : List Member → ℕ → GameSummary → List ℕ
 clock_text members moment told =
     field (codes "{") (codes "deadline") (number_or_null (while_running told (deadline_within told)))

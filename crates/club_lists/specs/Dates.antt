@@ -1,4 +1,4 @@
--- A moment as it is written.
+-- Timestamps as text.
 use Rattle.std.specs.Prelude.{◌≡◌, ◌≤◌, ◌<◌, ◌⊎◌, ℕ, ◌/◌, ◌%◌, ◌+◌, List, [], ◌∷◌, ◌++◌, codes, unsigned_abs}
 use Rattle.clocks.specs.Civil.{IsCivil}
 use Rattle.clocks.specs.declared.dates.CivilTime.{CivilTime}
@@ -16,12 +16,12 @@ date_text at =
     ++ (45 ∷ two_digits at.month ++ (45 ∷ two_digits at.day
     ++ (84 ∷ two_digits at.hour ++ (58 ∷ two_digits at.minute ++ (58 ∷ two_digits at.second ++ 90 ∷ []))))))
 
--- the date and the time of a moment in UTC
+-- date and time of a timestamp in UTC
 pub record IsDate (moment : ℕ) (text : List ℕ) : Type 0 where
   pub at : CivilTime
   pub shown : IsCivil moment at
   pub is : text ≡ date_text at
 
--- the same of a second that may lie past every moment, which is then `never`
+-- the same for a second that may be beyond the last timestamp, which is written as `never`
 abbrev pub IsUntil : ℕ → List ℕ → Type 0
 IsUntil second text = ((second ≤ last_moment) × IsDate second text) ⊎ ((last_moment < second) × (text ≡ codes "never"))

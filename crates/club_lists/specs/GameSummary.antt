@@ -1,15 +1,15 @@
--- What is told of a game without its moves.
+-- The summary of a game, without its moves.
 use Rattle.std.specs.Prelude.{ℕ, ◌+◌, ◌-◌, ◌&&◌, Bool, not, is_some, nat_lt, List, Option}
 use Rattle.squares.specs.declared.sides.Side.{Side}
 use Rattle.club_core.specs.Game.{Clocks, left_of}
 
--- the name of the end of a game, and the score as it is written
+-- name of the end and score, as text
 pub record Over : Type 0 where
   pub end : List ℕ
   pub result : List ℕ
 
--- its id, those of its event and of its players, its key if it has one, how many plies were played, the side to move,
--- the clocks, the side that offers a draw, and how it ended, if it has
+-- ids of the game, event and players; key if any; number of plies; side to move; clocks; side that offers a draw; end
+-- if it is over
 pub record GameSummary : Type 0 where
   pub id : ℕ
   pub event : ℕ
@@ -22,17 +22,17 @@ pub record GameSummary : Type 0 where
   pub offer : Option Side
   pub over : Option Over
 
--- the seconds that the side to move had left after its last move
+-- seconds that the side to move had left after its last move
 abbrev pub left_in : GameSummary → ℕ
 left_in told = left_of told.turn told.clocks
 
--- the last second in which a move is in time
+-- last second in which a move is in time
 abbrev pub deadline : GameSummary → ℕ
 deadline told = told.clocks.since + left_in told
 
 abbrev pub is_over : GameSummary → Bool
 is_over told = is_some told.over
 
--- the game goes on, and more seconds have gone by this moment than the side to move had left
+-- the game is running and its side to move has exceeded the time limit at this timestamp
 abbrev pub is_late : ℕ → GameSummary → Bool
 is_late moment told = not (is_over told) && nat_lt (left_in told) (moment - told.clocks.since)

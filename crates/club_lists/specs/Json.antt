@@ -1,5 +1,5 @@
--- JSON with no blanks. Names and results have no letter that JSON escapes: a name is letters, digits, '.', '_' and '-'
--- (`is_name`), so each stands between its quotes as it is. The keys of an object stand in the order of the alphabet.
+-- JSON without whitespace. Names and results need no escapes: a name has only letters, digits, '.', '_' and '-'
+-- (`is_name`). The keys of an object are in alphabetical order.
 use Rattle.std.specs.Prelude.{ℕ, Bool, true, false, List, [], ◌∷◌, ◌++◌, Option, Some, None, codes, decimal}
 
 unfoldable pub quoted : List ℕ → List ℕ
@@ -13,18 +13,18 @@ abbrev pub number_or_null : Option ℕ → List ℕ
 number_or_null None = codes "null"
 number_or_null (Some n) = decimal n
 
--- a member of an object behind its mark, which is `{` before the first one and `,` before each other
+-- member of an object after a mark: `{` before the first one, `,` before the others
 unfoldable pub field : List ℕ → List ℕ → List ℕ → List ℕ
 field mark key value = mark ++ (quoted key ++ (58 ∷ value))
 
--- one whose value is a text, and one whose value is a number
+-- members with a string value and with an integer value
 unfoldable pub named : List ℕ → List ℕ → List ℕ → List ℕ
 named mark key name = field mark key (quoted name)
 
 unfoldable pub counted : List ℕ → List ℕ → ℕ → List ℕ
 counted mark key n = field mark key (decimal n)
 
--- an item of a list, behind a comma unless it is the first
+-- item of an array, after a comma unless it is the first
 abbrev pub item : Bool → List ℕ → List ℕ
 item true text = text
 item false text = 44 ∷ text
@@ -36,6 +36,6 @@ items first (text ∷ texts) = item first text ++ items false texts
 abbrev pub array : List (List ℕ) → List ℕ
 array texts = 91 ∷ items true texts ++ 93 ∷ []
 
--- a list of two numbers
+-- array of two integers
 abbrev pub two : ℕ → ℕ → List ℕ
 two first second = 91 ∷ decimal first ++ (44 ∷ decimal second ++ 93 ∷ [])

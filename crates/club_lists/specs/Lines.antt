@@ -1,4 +1,4 @@
--- The lines of the lists of a club.
+-- The lists of a club as lines of text.
 use Rattle.std.specs.Prelude.{◌≡◌, ◌==◌, ◌&&◌, ℕ, suc, not, List, [], ◌∷◌, ◌++◌, codes, decimal, Bool, true, false}
 use Rattle.std.specs.Prelude.{Option, Some, None, count_by}
 use Rattle.squares.specs.declared.sides.Side.{Side}
@@ -12,14 +12,14 @@ use Rattle.club_lists.specs.Dates.{IsUntil}
 use Rattle.club_lists.specs.Listing.{event_of, first_name, second_name, is_listed}
 use Rattle.club_lists.specs.GameSummary.{Over, GameSummary, deadline, is_over}
 
--- the text of each element, one after another, the ids counting up from this one
+-- the texts of the elements, concatenated; ids count up from this one
 abbrev pub numbered : {A : Type 0} → (ℕ → A → List ℕ) → ℕ → List A → List ℕ
 numbered text id [] = []
 numbered text id (x ∷ xs) = text id x ++ numbered text (suc id) xs
 
 -- ---- members
 
--- `member ID NAME`: the key of a member is never written
+-- `member ID NAME`; keys are never written
 abbrev pub member_line : ℕ → Member → List ℕ
 member_line id member = codes "member " ++ (decimal id ++ (codes " " ++ (member.name ++ codes "\n")))
 
@@ -32,7 +32,7 @@ abbrev pub game_name : GameKind → List ℕ
 game_name Draughts = codes "draughts"
 game_name Shogi = codes "shogi"
 
--- how many games an event has, and how many of them run
+-- numbers of all and of running games of an event
 abbrev pub games_of : ℕ → List GameSummary → ℕ
 games_of event games = count_by (λ told. told.event == event) games
 
@@ -46,7 +46,7 @@ event_tail event games running =
     ++ (decimal event.terms.increment ++ (codes " " ++ (decimal games ++ (codes " " ++ (decimal running
     ++ codes "\n"))))))))
 
--- `event ID NAME`, and the rest
+-- `event ID NAME`, followed by the tail
 abbrev pub event_text : ℕ → Event → (games running : ℕ) → List ℕ
 event_text id event games running =
     codes "event " ++ (decimal id ++ (codes " " ++ (event.name ++ (codes " " ++ event_tail event games running))))
@@ -59,46 +59,46 @@ event_lines games events = numbered (event_line games) 1 events
 
 -- ---- games
 
--- a key, or `=` where there is none
+-- the key, or `=` if there is none
 abbrev pub key_text : Option (List ℕ) → List ℕ
 key_text None = codes "="
 key_text (Some key) = key
 
--- the name of the player of a side
+-- name of the player of a side
 abbrev pub player_name : List Member → Side → GameSummary → List ℕ
 player_name members First told = first_name members told
 player_name members Second told = second_name members told
 
--- `end NAME RESULT`, or `turn NAME until` and the last second in which the move is in time
+-- `end NAME RESULT`, or `turn NAME until DEADLINE`
 abbrev pub StandsAs : List Member → GameSummary → Option Over → List ℕ → Type 0
 StandsAs members told (Some over) text = text ≡ codes "end " ++ (over.end ++ (codes " " ++ over.result))
 StandsAs members told None text = (second : List ℕ) × IsUntil (deadline told) second
     × (text ≡ codes "turn " ++ (player_name members told.turn told ++ (codes " until " ++ second)))
 
--- `SECOND KEY ply PLIES`, and how the game stands
+-- `SECOND KEY ply PLIES`, followed by the state
 abbrev pub game_tail : List Member → GameSummary → List ℕ → List ℕ
 game_tail members told stands =
     second_name members told ++ (codes " " ++ (key_text told.key ++ (codes " ply " ++ (decimal told.plies
     ++ (codes " " ++ (stands ++ codes "\n"))))))
 
--- `game ID EVENT FIRST`, and the rest
+-- `game ID EVENT FIRST`, followed by the tail
 abbrev pub game_line : List Member → List Event → GameSummary → List ℕ → List ℕ
 game_line members events told stands =
     codes "game " ++ (decimal told.id ++ (codes " " ++ (event_of events told ++ (codes " " ++ (first_name members told
     ++ (codes " " ++ game_tail members told stands))))))
 
 module _ (members : List Member) (events : List Event) where
-  -- the line of a game
+  -- line of a game
   abbrev pub IsGameLine : GameSummary → List ℕ → Type 0
   IsGameLine told line = (stands : List ℕ) × StandsAs members told told.over stands
       × (line ≡ game_line members events told stands)
 
-  -- what a list has of a game: its line where it is listed
+  -- the game's line if it passes the filter, otherwise nothing
   abbrev pub IsPart : Bool → GameSummary → List ℕ → Type 0
   IsPart true told text = IsGameLine told text
   IsPart false told text = text ≡ []
 
-  -- the lines of those games that are listed, in their order
+  -- lines of the games that pass the filter, in order
   abbrev pub AreGameLines : Listing → ℕ → List GameSummary → List ℕ → Type 0
   AreGameLines listing moment [] text = text ≡ []
   AreGameLines listing moment (told ∷ games) text =

@@ -1,4 +1,4 @@
--- Which games are listed, and why a list is refused.
+-- The filter of a list of games, and the refusal of a list.
 use Rattle.std.specs.Prelude.{ℕ, Bool, true, false, not, ◌&&◌, ◌||◌, List, [], ◌∷◌, Option, Some, None, string_bytes}
 use Rattle.std.specs.Option.{option_map}
 use Rattle.std.specs.Str.{bytes_eq}
@@ -15,7 +15,7 @@ use Rattle.club_questions.specs.declared.questions.Which.{Which}
 use Rattle.club_questions.specs.declared.questions.Which.TheVariants.{All, Running, Overdue}
 use Rattle.club_lists.specs.GameSummary.{GameSummary, is_late, is_over}
 
--- the name of a member, and of an event, that is there
+-- name of a member or event; empty if it does not exist
 abbrev pub member_name : Option Member → List ℕ
 member_name None = []
 member_name (Some member) = member.name
@@ -24,18 +24,18 @@ abbrev pub event_name : Option Event → List ℕ
 event_name None = []
 event_name (Some event) = event.name
 
--- the name is the one that is asked for, if one is
+-- the name passes the filter, if there is one
 abbrev pub is_asked : Option (List ℕ) → List ℕ → Bool
 is_asked None name = true
 is_asked (Some asked) name = bytes_eq name asked
 
--- the moment counts for the overdue games alone: those that a sweep at it ends
+-- the state of the game passes the filter; only `Overdue` depends on the timestamp
 abbrev pub is_which : Which → ℕ → GameSummary → Bool
 is_which All moment told = true
 is_which Running moment told = not (is_over told)
 is_which Overdue moment told = is_late moment told
 
--- a name is asked for, and none has it
+-- a name is given and no element has it
 abbrev pub is_unknown : {A : Type 0} → (List ℕ → A → Bool) → List A → Option (List ℕ) → Bool
 is_unknown has all None = false
 is_unknown has all (Some name) = not (list_any (has name) all)
@@ -49,7 +49,7 @@ second_name members told = member_name (place members told.second)
 abbrev pub event_of : List Event → GameSummary → List ℕ
 event_of events told = event_name (place events told.event)
 
--- a player of the game has the name that is asked for, if one is
+-- a player of the game passes the filter by name, if there is one
 abbrev pub has_asked : List Member → Option (List ℕ) → GameSummary → Bool
 has_asked members asked told = is_asked asked (first_name members told) || is_asked asked (second_name members told)
 
@@ -60,13 +60,13 @@ module _ (members : List Member) (events : List Event) (listing : Listing) where
   abbrev pub member_asked : Option (List ℕ)
   member_asked = option_map (λ name. string_bytes name) listing.member
 
-  -- the game is of the event that is asked for and has the player who is, and is one of those
+  -- the game passes the filter by event, player and state
   abbrev pub is_listed : ℕ → GameSummary → Bool
   is_listed moment told =
       is_asked event_asked (event_of events told)
       && (has_asked members member_asked told && is_which listing.which moment told)
 
-  -- there is no event of the name that is given, or no member of the name that is
+  -- the given event or the given member does not exist
   abbrev pub listing_refusal : Option Refusal
   listing_refusal =
       first_refusal

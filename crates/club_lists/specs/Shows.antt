@@ -1,4 +1,4 @@
--- What members are shown of a club as JSON.
+-- Games, events and challenges as members see them, as JSON.
 use Rattle.std.specs.Prelude.{ℕ, ◌++◌, ◌&&◌, ◌||◌, List, [], ◌∷◌, map, filter, Bool, true, false, not, Option, Some}
 use Rattle.std.specs.Prelude.{None}
 use Rattle.std.specs.Prelude.{codes, if◌then◌else◌}
@@ -16,7 +16,7 @@ use Rattle.club_lists.specs.Lines.{game_name, player_name}
 use Rattle.club_lists.specs.Listing.{event_name, event_of, first_name, has_asked, member_name, second_name}
 use Rattle.club_lists.specs.GameSummary.{GameSummary, is_over}
 
--- the name of the member who has the key
+-- name of the member with this key
 abbrev pub name_by : List ℕ → List Member → Option (List ℕ)
 name_by key [] = None
 name_by key (member ∷ members) = if has_member_key key member then Some member.name else name_by key members
@@ -42,7 +42,7 @@ abbrev pub event_games_text : List Member → List Event → List ℕ → List G
 event_games_text members events name games =
     field (codes "{") (codes "games") (array (event_game_texts members events name games)) ++ codes "}"
 
--- ---- whom and in what a member may challenge
+-- ---- events and opponents for a challenge
 
 unfoldable pub event_data : Event → List ℕ
 event_data event =
@@ -51,26 +51,26 @@ event_data event =
     ++ (named (codes ",") (codes "game") (game_name event.game)
     ++ (counted (codes ",") (codes "increment") event.terms.increment ++ codes "}")))
 
--- a member who does not have the key
+-- the member has another key
 abbrev pub is_other : List ℕ → Member → Bool
 is_other key member = not (has_member_key key member)
 
 abbrev pub other_texts : List ℕ → List Member → List (List ℕ)
 other_texts key members = map (λ m. quoted m.name) (filter (is_other key) members)
 
--- all events, and all members but the one who has the key
+-- all events, and all members except the one with this key
 abbrev pub inviting_text : List ℕ → List Member → List Event → List ℕ
 inviting_text key members events =
     field (codes "{") (codes "events") (array (map event_data events))
     ++ (field (codes ",") (codes "members") (array (other_texts key members)) ++ codes "}")
 
--- ---- what a member plays and is challenged to
+-- ---- games and challenges of a member
 
--- the name of the player who offers a draw
+-- name of the player who offers a draw
 abbrev pub offerer : List Member → GameSummary → Option (List ℕ)
 offerer members told = option_map (λ side. player_name members side told) told.offer
 
--- a running game of the one who asks, up to its id, and the rest
+-- a running game of the caller: up to its id, and the rest
 unfoldable pub own_game_front : List Member → List Event → GameSummary → List ℕ
 own_game_front members events told =
     field (codes "{") (codes "deadline") (number_or_null (deadline_within told))
@@ -87,7 +87,7 @@ own_game_back members told =
 abbrev pub own_game_text : List Member → List Event → GameSummary → List ℕ
 own_game_text members events told = own_game_front members events told ++ own_game_back members told
 
--- a running game of the member of this name
+-- the game is running and the member with this name plays in it
 abbrev pub is_own : List Member → List ℕ → GameSummary → Bool
 is_own members name told = not (is_over told) && has_asked members (Some name) told
 
@@ -100,7 +100,7 @@ is_open Withdrawn = false
 is_open Refused = false
 is_open (Accepted game) = false
 
--- the game that a challenge has started, if it was accepted
+-- the game that an accepted challenge started
 abbrev pub started : ChallengeState → Option ℕ
 started Open = None
 started Withdrawn = None
@@ -120,27 +120,27 @@ state_text Refused = codes "refused"
 state_text (Accepted game) = codes "accepted"
 
 module _ (members : List Member) where
-  -- who challenges, and who is challenged
+  -- names of the challenger and of the challenged member
   abbrev pub from_name : Challenge → List ℕ
   from_name c = member_name (place members c.member)
 
   abbrev pub to_name : Challenge → List ℕ
   to_name c = member_name (place members c.other)
 
-  -- who of them is to play First, and who Second
+  -- names of the players as First and as Second
   abbrev pub first_of : Challenge → List ℕ
   first_of c = if c.first then from_name c else to_name c
 
   abbrev pub second_of : Challenge → List ℕ
   second_of c = if c.first then to_name c else from_name c
 
-  -- an open challenge to or from the member of this name, or one of the member's own that was accepted
+  -- the member sees open challenges to or from him, and his own accepted ones
   abbrev pub is_shown : List ℕ → Challenge → Bool
   is_shown name c =
       bytes_eq (from_name c) name && (is_open c.standing || is_accepted c.standing)
       || bytes_eq (to_name c) name && is_open c.standing
 
-  -- a challenge, up to the game that it has started, and the rest
+  -- a challenge: up to the game that it started, and the rest
   unfoldable pub challenge_front : List Event → Challenge → List ℕ
   challenge_front events c =
       named (codes "{") (codes "event") (event_name (place events c.event))
@@ -161,7 +161,7 @@ module _ (members : List Member) where
   abbrev pub challenge_texts : List Event → List ℕ → List Challenge → List (List ℕ)
   challenge_texts events name challenges = map (challenge_text events) (filter (is_shown name) challenges)
 
--- the challenges and the running games of the member of this name
+-- challenges and running games of the member with this name
 abbrev pub mine_text : List Member → List Event → List ℕ → ℕ → List Challenge → List GameSummary → List ℕ
 mine_text members events name moment challenges games =
     field (codes "{") (codes "challenges") (array (challenge_texts members events name challenges))

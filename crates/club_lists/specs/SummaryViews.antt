@@ -1,4 +1,4 @@
--- What the values of the program tell of games.
+-- Maps the summaries of games in the code to those of the specification.
 use Rattle.std.specs.Prelude.{List, map, string_bytes}
 use Rattle.std.specs.Option.{option_map}
 use Rattle.club_lists.specs.declared.told.GameOver.{GameOver}
@@ -22,6 +22,6 @@ told_by game = record {
   over = option_map over_by game.over;
 }
 
--- those of several games
+-- the same for a list
 abbrev pub all_by : List ToldGame → List GameSummary
 all_by games = map told_by games

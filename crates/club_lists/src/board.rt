@@ -1,4 +1,4 @@
-//! A game as a person looks at it.
+//! A game printed for a person to read.
 
 ghost use Rattle.std.specs.Prelude.{◌≡◌, ◌++◌, ◌<◌, ◌^◌, IfOk, OnOk, codes, decimal, map, string_bytes};
 ghost use Rattle.club_lists.specs.Board.{board_by, board_text, filled_with, gap, heading, line_end, move_text};
@@ -12,23 +12,23 @@ use club_rules::GameKind;
 use squares::Side;
 use std::alloc::{AllocError, Global};
 
-/// What is shown of a game beside what lists tell of it.
+/// The data of a printed game that `ToldGame` does not have.
 #[derive(Debug, Drop)]
 pub struct BoardView {
     pub kind: GameKind,
-    /// The name of its event.
+    /// The name of the event.
     pub event: String,
-    /// The name of the player who has the first move.
+    /// The name of the player who moves first.
     pub first: String,
-    /// The name of the other.
+    /// The name of the opponent.
     pub second: String,
-    /// The lines of its last position.
+    /// The diagram of the last position, as lines.
     pub diagram: String,
-    /// Its moves, as they are written.
+    /// The moves, in notation.
     pub moves: Vec<String>,
 }
 
-// The line of a game's number, its event and its players.
+// The line with the game's id, event and players.
 fn heading(alloc: Global, id: u32, view: &BoardView) -> Result<String, AllocError>
     ensures { IfOk result (λ line. string_bytes line ≡ heading id (board_by view.now)) }
 {
@@ -38,7 +38,7 @@ fn heading(alloc: Global, id: u32, view: &BoardView) -> Result<String, AllocErro
     format!(in alloc; "Game {id} {event}: {first} - {second}\n")
 }
 
-// The letter of a side: First is White in draughts, and Black in shogi.
+// The letter of a side. First is White in draughts and Black in shogi.
 fn side_letter(kind: GameKind, side: Side) -> &'static str
     ensures { result.now ≡ side_letter kind side }
 {
@@ -50,7 +50,7 @@ fn side_letter(kind: GameKind, side: Side) -> &'static str
     }
 }
 
-// The line of who is to move, and of what each has left.
+// The line with the side to move and the seconds that each side has left.
 fn turn_line(
     alloc: Global,
     game: &ToldGame,
@@ -68,7 +68,7 @@ fn turn_line(
     format!(in alloc; "{side} to move, ply {plies}, {first} {first_left}, {second} {second_left}\n")
 }
 
-// The line of how a game stands at a moment.
+// The line with the state of a game: its end, or the side to move.
 fn standing_line(
     alloc: Global,
     game: &ToldGame,
@@ -88,14 +88,14 @@ fn standing_line(
     }
 }
 
-// A move with the number before it.
+// A move after its number.
 fn numbered(alloc: Global, number: usize, text: &str) -> Result<String, AllocError>
     ensures { IfOk result (λ numbered. string_bytes numbered ≡ decimal number ++ (codes ". " ++ text.now)) }
 {
     format!(in alloc; "{number}. {text}")
 }
 
-// A move after so many plies.
+// A move after `plies` plies, with its number if the notation has one.
 fn move_text(alloc: Global, kind: GameKind, plies: usize, text: &str) -> Result<String, AllocError>
     requires { plies < 2 ^ 63 }
     ensures { IfOk result (λ shown. string_bytes shown ≡ move_text kind plies text.now) }
@@ -112,7 +112,7 @@ fn move_text(alloc: Global, kind: GameKind, plies: usize, text: &str) -> Result<
     }
 }
 
-// What parts a text of so many columns from what a line has.
+// The separator before a text of `wide` columns in a line of `filled` columns.
 fn gap(filled: usize, wide: usize) -> &'static str
     ensures { result.now ≡ gap filled wide }
 {
@@ -125,7 +125,7 @@ fn gap(filled: usize, wide: usize) -> &'static str
     "\n"
 }
 
-// The columns that the line has with it.
+// The columns of the line after the text is added.
 fn filled_with(filled: usize, wide: usize) -> usize
     ensures { result ≡ filled_with filled wide }
 {
@@ -138,7 +138,7 @@ fn filled_with(filled: usize, wide: usize) -> usize
     wide
 }
 
-// The end of a line that has something.
+// The newline of a line that is not empty.
 fn line_end(filled: usize) -> &'static str
     ensures { result.now ≡ line_end filled }
 {
@@ -148,7 +148,7 @@ fn line_end(filled: usize) -> &'static str
     "\n"
 }
 
-// Adds the moves, and the end of their last line.
+// Appends the moves, in lines of at most 72 columns.
 fn push_moves(
     alloc: Global,
     text: &mut String,
@@ -171,8 +171,12 @@ fn push_moves(
     Ok(())
 }
 
-/// A game at a moment: its number, its event and its players; who is to move and what each has left, or how it ended;
-/// its last position; and its moves.
+/// A game at a timestamp: its id, event and players; the side to move and the clocks, or the end; the diagram; and the
+/// moves.
+///
+/// # Errors
+///
+/// `AllocError` if out of memory.
 pub fn board_text(
     alloc: Global,
     game: &ToldGame,

@@ -16,7 +16,7 @@ use club_core::Member;
 use squares::Side;
 use std::alloc::{AllocError, Global};
 
-/// The last second in which a move is in time, or null past the last moment.
+/// The last Unix second in which a move is in time, or null if it is beyond `Moment::LAST`.
 pub(crate) fn deadline_text(alloc: Global, game: &ToldGame) -> Result<String, AllocError>
     ensures { IfOk result (λ text. string_bytes text ≡ number_or_null (deadline_within (told_by game.now))) }
 {
@@ -29,7 +29,7 @@ pub(crate) fn deadline_text(alloc: Global, game: &ToldGame) -> Result<String, Al
     }
 }
 
-// The same of a running game, and null of one that has ended.
+// The deadline of a running game; null if it has ended.
 fn running_deadline(alloc: Global, game: &ToldGame) -> Result<String, AllocError>
     ensures { IfOk result (λ text. string_bytes text ≡
         number_or_null (while_running (told_by game.now) (deadline_within (told_by game.now)))) }
@@ -40,7 +40,7 @@ fn running_deadline(alloc: Global, game: &ToldGame) -> Result<String, AllocError
     deadline_text(alloc, game)
 }
 
-// The name of the player to move in a running game, and null of one that has ended.
+// The player to move in a running game; null if it has ended.
 fn running_turn(alloc: Global, members: &[Member], game: &ToldGame) -> Result<String, AllocError>
     ensures { IfOk result (λ text. string_bytes text ≡ quoted_or_null (while_running (told_by game.now)
         (Some (player_name (members_of members.now) game.now.turn (told_by game.now))))) }
@@ -51,7 +51,7 @@ fn running_turn(alloc: Global, members: &[Member], game: &ToldGame) -> Result<St
     quoted(alloc, turn_name(members, game))
 }
 
-// Whether the side is to move in a running game.
+// Whether the game is running and the side is to move.
 fn is_running_side(side: Side, game: &ToldGame) -> bool
     ensures { result ≡ is_running_side side (told_by game.now) }
 {
@@ -65,7 +65,7 @@ fn is_running_side(side: Side, game: &ToldGame) -> bool
     }
 }
 
-/// The seconds that First has left at this moment.
+/// The seconds that First has left at this timestamp.
 pub(crate) fn first_now(game: &ToldGame, moment: Moment) -> u64
     ensures { result ≡ left_now moment First (told_by game.now) }
 {
@@ -76,7 +76,7 @@ pub(crate) fn first_now(game: &ToldGame, moment: Moment) -> u64
     game.left_first
 }
 
-/// The seconds that Second has left at this moment.
+/// The seconds that Second has left at this timestamp.
 pub(crate) fn second_now(game: &ToldGame, moment: Moment) -> u64
     ensures { result ≡ left_now moment Second (told_by game.now) }
 {
@@ -87,7 +87,11 @@ pub(crate) fn second_now(game: &ToldGame, moment: Moment) -> u64
     game.left_second
 }
 
-/// The clock of a game at a moment.
+/// The clock of a game at a timestamp, as a JSON object. All times are in seconds.
+///
+/// # Errors
+///
+/// `AllocError` if out of memory.
 pub fn clock_text(
     alloc: Global,
     members: &[Member],

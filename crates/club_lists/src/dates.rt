@@ -1,4 +1,4 @@
-//! A moment as it is written.
+//! Timestamps as text.
 
 ghost use Rattle.std.specs.Prelude.{◌≡◌, ◌++◌, OnOk, IfOk, string_bytes};
 ghost use Rattle.club_lists.specs.Dates.{two_digits, date_text, IsDate};
@@ -6,7 +6,7 @@ ghost use Rattle.club_lists.specs.Dates.{two_digits, date_text, IsDate};
 use clocks::{CivilTime, Moment, civil};
 use std::alloc::{AllocError, Global};
 
-// Adds the last two digits of a number.
+// Appends the last two digits of a number.
 fn push_two(text: &mut String, number: u16) -> Result<(), AllocError>
     ensures { OnOk result (string_bytes text.new ≡ string_bytes text.old ++ two_digits number) }
 {
@@ -15,7 +15,7 @@ fn push_two(text: &mut String, number: u16) -> Result<(), AllocError>
     Ok(())
 }
 
-// A mark, and two digits.
+// Appends a separator and two digits.
 fn push_next(text: &mut String, mark: &str, number: u8) -> Result<(), AllocError>
     ensures { OnOk result (string_bytes text.new ≡ string_bytes text.old ++ (mark.now ++ two_digits number)) }
 {
@@ -24,7 +24,7 @@ fn push_next(text: &mut String, mark: &str, number: u8) -> Result<(), AllocError
     Ok(())
 }
 
-// A date and a time of day, as `2026-11-27T08:25:00Z`.
+// A date and time in the format `2026-11-27T08:25:00Z`.
 fn date_of(alloc: Global, at: &CivilTime) -> Result<String, AllocError>
     ensures { IfOk result (λ text. string_bytes text ≡ date_text at.now) }
 {
@@ -41,7 +41,11 @@ fn date_of(alloc: Global, at: &CivilTime) -> Result<String, AllocError>
     Ok(text)
 }
 
-/// The date and the time of a moment in UTC.
+/// The date and time of a timestamp in UTC, in the format `2026-11-27T08:25:00Z`.
+///
+/// # Errors
+///
+/// `AllocError` if out of memory.
 pub fn date_text(alloc: Global, moment: Moment) -> Result<String, AllocError>
     ensures { IfOk result (λ text. IsDate moment (string_bytes text)) }
 {

@@ -1,4 +1,4 @@
-//! The games of an event whose records are written.
+//! The games of an event whose records are exported.
 
 ghost use Rattle.std.specs.Prelude.{◌≡◌, IfOk};
 ghost use Rattle.club_core.specs.Answer.{events_of};
@@ -12,7 +12,7 @@ use club_core::Event;
 use club_rules::GameKind;
 use std::alloc::{AllocError, Global};
 
-/// The game that is played in the event of this name; draughts where there is none.
+/// The game of the event with this name; `Draughts` if there is no such event.
 pub fn event_kind(events: &[Event], name: &str) -> GameKind
     ensures { result ≡ event_kind (events_of events.now) name.now }
 {
@@ -24,7 +24,11 @@ pub fn event_kind(events: &[Event], name: &str) -> GameKind
     GameKind::Draughts
 }
 
-/// The ids of the games of the event of this name, in their order.
+/// The ids of the games of the event with this name, in order.
+///
+/// # Errors
+///
+/// `AllocError` if out of memory.
 pub fn event_game_ids(
     alloc: Global,
     events: &[Event],

@@ -1,11 +1,11 @@
-//! JSON with no blanks.
+//! Writing of JSON without whitespace.
 
 ghost use Rattle.std.specs.Prelude.{◌≡◌, ◌++◌, map, IfOk, OnOk, string_bytes};
 ghost use Rattle.club_lists.specs.Json.{quoted, field, named, counted, item, array, two};
 
 use std::alloc::{AllocError, Global};
 
-/// A text between quotes, which has no letter that JSON escapes.
+/// A JSON string. The text must have no characters that JSON escapes.
 #[tactic(auto, unfolding(crate::specs::Json::quoted))]
 pub(crate) fn quoted(alloc: Global, name: &str) -> Result<String, AllocError>
     ensures { IfOk result (λ text. string_bytes text ≡ quoted name.now) }
@@ -17,7 +17,7 @@ pub(crate) fn quoted(alloc: Global, name: &str) -> Result<String, AllocError>
     Ok(text)
 }
 
-/// Adds a member of an object behind its mark.
+/// Appends a member of an object after `mark`, which is `{` or `,`.
 #[tactic(auto, unfolding(crate::specs::Json::field, crate::specs::Json::quoted))]
 pub(crate) fn push_field(
     text: &mut String,
@@ -35,7 +35,7 @@ pub(crate) fn push_field(
     Ok(())
 }
 
-/// Adds one whose value is a text.
+/// Appends a member with a string value.
 #[tactic(auto, unfolding(crate::specs::Json::named, crate::specs::Json::field, crate::specs::Json::quoted))]
 pub(crate) fn push_named(
     text: &mut String,
@@ -51,7 +51,7 @@ pub(crate) fn push_named(
     Ok(())
 }
 
-/// Adds one whose value is a number.
+/// Appends a member with an integer value.
 #[tactic(auto, unfolding(crate::specs::Json::counted, crate::specs::Json::field))]
 pub(crate) fn push_counted(
     text: &mut String,
@@ -66,7 +66,7 @@ pub(crate) fn push_counted(
     Ok(())
 }
 
-// Adds an item of a list.
+// Appends an item of an array, after a comma unless it is the first.
 fn push_item(text: &mut String, is_first: bool, added: &str) -> Result<(), AllocError>
     ensures { OnOk result (string_bytes text.new ≡ string_bytes text.old ++ item is_first added.now) }
 {
@@ -78,7 +78,7 @@ fn push_item(text: &mut String, is_first: bool, added: &str) -> Result<(), Alloc
     Ok(())
 }
 
-/// A list of these items.
+/// An array of these items.
 pub(crate) fn array(alloc: Global, items: &[String]) -> Result<String, AllocError>
     ensures { IfOk result (λ text. string_bytes text ≡ array (map (λ t. string_bytes t) items.now)) }
 {
@@ -93,7 +93,7 @@ pub(crate) fn array(alloc: Global, items: &[String]) -> Result<String, AllocErro
     Ok(text)
 }
 
-/// A list of two numbers.
+/// An array of two integers.
 pub(crate) fn two(alloc: Global, first: u64, second: u64) -> Result<String, AllocError>
     ensures { IfOk result (λ text. string_bytes text ≡ two first second) }
 {

@@ -1,4 +1,6 @@
-//! The texts of lists: the members, the events and the games of a club, a line each. No rows.
+//! The texts of a club's lists, boards and JSON objects, without access to the store.
+//!
+//! JSON follows RFC 8259: <https://www.rfc-editor.org/rfc/rfc8259>.
 #![tactic(auto)]
 
 pub mod board;

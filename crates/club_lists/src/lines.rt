@@ -1,4 +1,4 @@
-//! The lines of the lists of a club.
+//! The lists of a club as lines of text.
 
 ghost use Rattle.std.specs.Prelude.{◌≡◌, ◌==◌, IfOk, not, ◌&&◌, string_bytes};
 ghost use Rattle.std.specs.Option.{option_map};
@@ -22,7 +22,11 @@ use club_rules::GameKind;
 use squares::Side;
 use std::alloc::{AllocError, Global};
 
-/// The members, a line each. No line has a key.
+/// The members, one per line, without their keys.
+///
+/// # Errors
+///
+/// `AllocError` if out of memory.
 pub fn members_text(alloc: Global, members: &[Member]) -> Result<String, AllocError>
     ensures { IfOk result (λ text. string_bytes text ≡ member_lines (members_of members.now)) }
 {
@@ -36,7 +40,7 @@ pub fn members_text(alloc: Global, members: &[Member]) -> Result<String, AllocEr
     Ok(text)
 }
 
-/// The name of a game.
+/// The name of a game: `draughts` or `shogi`.
 pub(crate) fn game_name(game: GameKind) -> &'static str
     ensures { result.now ≡ game_name game }
 {
@@ -46,7 +50,7 @@ pub(crate) fn game_name(game: GameKind) -> &'static str
     }
 }
 
-// How many games an event has.
+// The number of games of an event.
 fn games_of(games: &[ToldGame], event: usize) -> usize
     ensures { result ≡ games_of event (all_by games.now) }
 {
@@ -56,7 +60,6 @@ fn games_of(games: &[ToldGame], event: usize) -> usize
         .count()
 }
 
-// Whether a game of the event is running.
 fn is_running_in(game: &ToldGame, event: usize) -> bool
     ensures { result ≡ ((told_by game.now).event == event && not (is_over (told_by game.now))) }
 {
@@ -66,7 +69,7 @@ fn is_running_in(game: &ToldGame, event: usize) -> bool
     !game.is_over()
 }
 
-// How many of them run.
+// The number of running games of an event.
 fn running_of(games: &[ToldGame], event: usize) -> usize
     ensures { result ≡ running_of event (all_by games.now) }
 {
@@ -76,7 +79,7 @@ fn running_of(games: &[ToldGame], event: usize) -> usize
         .count()
 }
 
-// The game of an event, its budget and its increment, how many games it has and how many run.
+// The end of an event's line: its game, budget, increment and numbers of games.
 fn event_tail(
     alloc: Global,
     event: &Event,
@@ -91,7 +94,7 @@ fn event_tail(
     format!(in alloc; "{game} {budget} {increment} {games} {running}\n")
 }
 
-// The line of an event with so many games, of which so many run.
+// An event's line, given its numbers of games.
 fn event_text(
     alloc: Global,
     id: usize,
@@ -106,7 +109,6 @@ fn event_text(
     format!(in alloc; "event {id} {name} {tail}")
 }
 
-// The line of an event.
 fn event_line(
     alloc: Global,
     games: &[ToldGame],
@@ -119,7 +121,11 @@ fn event_line(
     event_text(alloc, id, event, games_of(games, id), running)
 }
 
-/// The events, a line each, with how many games each has and how many of them run.
+/// The events, one per line, with the numbers of all and of running games.
+///
+/// # Errors
+///
+/// `AllocError` if out of memory.
 pub fn events_text(
     alloc: Global,
     events: &[Event],
@@ -137,7 +143,7 @@ pub fn events_text(
     Ok(text)
 }
 
-// The last second in which a move in the game is in time.
+// The date and time of the deadline, or `never`.
 fn until_text(alloc: Global, game: &ToldGame) -> Result<String, AllocError>
     ensures { IfOk result (λ text. IsUntil (deadline (told_by game.now)) (string_bytes text)) }
 {
@@ -147,7 +153,7 @@ fn until_text(alloc: Global, game: &ToldGame) -> Result<String, AllocError>
     }
 }
 
-/// The name of the player who is to move.
+/// The name of the player to move.
 pub(crate) fn turn_name<'a>(members: &'a [Member], game: &ToldGame) -> &'a str
     ensures { result.now ≡ player_name (members_of members.now) game.now.turn (told_by game.now) }
 {
@@ -157,7 +163,7 @@ pub(crate) fn turn_name<'a>(members: &'a [Member], game: &ToldGame) -> &'a str
     }
 }
 
-// How a game stands.
+// The state of a game: its end, or the player to move and the deadline.
 fn stands_as(alloc: Global, members: &[Member], game: &ToldGame) -> Result<String, AllocError>
     ensures { IfOk result (λ text.
         StandsAs (members_of members.now) (told_by game.now) (told_by game.now).over (string_bytes text)) }
@@ -176,7 +182,7 @@ fn stands_as(alloc: Global, members: &[Member], game: &ToldGame) -> Result<Strin
     }
 }
 
-// A key, or the mark of a game that has none.
+// The key, or `=` if the game has none.
 fn key_text(key: &Option<String>) -> &str
     ensures { result.now ≡ key_text (option_map (λ k. string_bytes k) key.now) }
 {
@@ -186,7 +192,7 @@ fn key_text(key: &Option<String>) -> &str
     }
 }
 
-// The end of the line of a game that stands so.
+// The end of a game's line, given its state.
 fn game_tail(
     alloc: Global,
     members: &[Member],
@@ -202,7 +208,7 @@ fn game_tail(
     format!(in alloc; "{second} {key} ply {plies} {stands}\n")
 }
 
-// The line of a game that stands so.
+// A game's line, given its state.
 fn game_text(
     alloc: Global,
     members: &[Member],
@@ -220,7 +226,6 @@ fn game_text(
     format!(in alloc; "game {id} {event} {first} {tail}")
 }
 
-// The line of a game.
 fn game_line(
     alloc: Global,
     members: &[Member],
@@ -234,7 +239,7 @@ fn game_line(
     game_text(alloc, members, events, game, stands.as_str())
 }
 
-// What a list has of a game: its line where it is listed.
+// The game's line if it passes the filter, otherwise nothing.
 fn part_of(
     alloc: Global,
     listing: &Listing,
@@ -254,7 +259,11 @@ fn part_of(
     }
 }
 
-/// The games that are listed at this moment, a line each.
+/// The games that pass the filter at this timestamp, one per line.
+///
+/// # Errors
+///
+/// `AllocError` if out of memory.
 pub fn games_text(
     alloc: Global,
     listing: &Listing,

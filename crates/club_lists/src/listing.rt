@@ -1,4 +1,4 @@
-//! Which games are listed.
+//! The filter of a list of games.
 
 ghost use Rattle.std.specs.Prelude.{◌≡◌, string_bytes};
 ghost use Rattle.std.specs.List.{list_any};
@@ -17,7 +17,7 @@ use club_core::{Event, Member};
 use club_questions::{Listing, Which};
 use club_requests::Refusal;
 
-/// The name of the member of an id: empty where there is none.
+/// The name of the member with an id; empty if there is none.
 pub fn member_name(members: &[Member], id: u32) -> &str
     ensures { result.now ≡ member_name (place (members_of members.now) id) }
 {
@@ -30,7 +30,7 @@ pub fn member_name(members: &[Member], id: u32) -> &str
     }
 }
 
-/// The name of the event of an id: empty where there is none.
+/// The name of the event with an id; empty if there is none.
 pub fn event_name(events: &[Event], id: u32) -> &str
     ensures { result.now ≡ event_name (place (events_of events.now) id) }
 {
@@ -43,7 +43,7 @@ pub fn event_name(events: &[Event], id: u32) -> &str
     }
 }
 
-// Whether a name is the one that is asked for, if one is.
+// Whether a name passes the filter, which may be absent.
 fn is_asked(asked: &Option<String>, name: &str) -> bool
     ensures { result ≡ is_asked (option_map (λ n. string_bytes n) asked.now) name.now }
 {
@@ -53,7 +53,7 @@ fn is_asked(asked: &Option<String>, name: &str) -> bool
     }
 }
 
-// Whether the game is one of those.
+// Whether the game has the state that the filter requires.
 fn is_which(which: Which, game: &ToldGame, moment: Moment) -> bool
     ensures { result ≡ is_which which moment (told_by game.now) }
 {
@@ -64,7 +64,7 @@ fn is_which(which: Which, game: &ToldGame, moment: Moment) -> bool
     }
 }
 
-// Whether a player of the game has the name that is asked for.
+// Whether a player of the game passes the filter by name.
 fn has_player(asked: &Option<String>, members: &[Member], game: &ToldGame) -> bool
     ensures { result ≡ has_asked (members_of members.now) (option_map (λ n. string_bytes n) asked.now)
         (told_by game.now) }
@@ -75,7 +75,7 @@ fn has_player(asked: &Option<String>, members: &[Member], game: &ToldGame) -> bo
     is_asked(asked, member_name(members, game.second))
 }
 
-/// Whether the game is listed at this moment.
+/// Whether the game passes the filter at this timestamp.
 pub fn is_listed(
     listing: &Listing,
     members: &[Member],
@@ -95,21 +95,20 @@ pub fn is_listed(
     is_which(listing.which, game, moment)
 }
 
-/// Whether an event has the name.
+/// Whether an event has this name.
 pub fn is_event(events: &[Event], name: &str) -> bool
     ensures { result ≡ list_any (has_event_name name.now) (events_of events.now) }
 {
     events.iter().any(|event| event.name.as_str() == name)
 }
 
-// Whether a member has the name.
 fn is_member(members: &[Member], name: &str) -> bool
     ensures { result ≡ list_any (has_member_name name.now) (members_of members.now) }
 {
     members.iter().any(|member| member.name.as_str() == name)
 }
 
-/// Why a list is refused: it is of an event or of a member whom nobody knows.
+/// The refusal of a list whose event or member does not exist.
 pub fn listing_refusal(listing: &Listing, members: &[Member], events: &[Event]) -> Option<Refusal>
     ensures { result ≡ listing_refusal (members_of members.now) (events_of events.now) listing.now }
 {

@@ -1,4 +1,4 @@
-//! What a member plays and is challenged to, as JSON.
+//! The running games and the challenges of a member, as JSON.
 
 ghost use Rattle.std.specs.Prelude.{◌≡◌, ◌++◌, IfOk, OnOk, map, string_bytes};
 ghost use Rattle.club_core.specs.Answer.{events_of, members_of};
@@ -16,7 +16,7 @@ use clocks::Moment;
 use club_core::{Challenge, ChallengeState, Event, Member};
 use std::alloc::{AllocError, Global};
 
-// The game that a challenge has started, or null.
+// The game that a challenge started, or null.
 fn started_text(alloc: Global, standing: ChallengeState) -> Result<String, AllocError>
     ensures { IfOk result (λ text. string_bytes text ≡ number_or_null (started standing)) }
 {
@@ -28,7 +28,7 @@ fn started_text(alloc: Global, standing: ChallengeState) -> Result<String, Alloc
     }
 }
 
-// How a challenge stands.
+// The name of a challenge's state.
 fn state_text(standing: ChallengeState) -> &'static str
     ensures { result.now ≡ state_text standing }
 {
@@ -40,7 +40,6 @@ fn state_text(standing: ChallengeState) -> &'static str
     }
 }
 
-// Whether a challenge waits for its answer.
 fn is_open(standing: ChallengeState) -> bool
     ensures { result ≡ is_open standing }
 {
@@ -52,7 +51,6 @@ fn is_open(standing: ChallengeState) -> bool
     }
 }
 
-// Whether a challenge was accepted.
 fn is_accepted(standing: ChallengeState) -> bool
     ensures { result ≡ is_accepted standing }
 {
@@ -64,7 +62,7 @@ fn is_accepted(standing: ChallengeState) -> bool
     }
 }
 
-// The name of the member who is to play First.
+// The name of the member who moves first.
 fn first_of<'a>(members: &'a [Member], challenge: &Challenge) -> &'a str
     ensures { result.now ≡ first_of (members_of members.now) challenge.now }
 {
@@ -75,7 +73,7 @@ fn first_of<'a>(members: &'a [Member], challenge: &Challenge) -> &'a str
     }
 }
 
-// The name of the other.
+// The name of the opponent.
 fn second_of<'a>(members: &'a [Member], challenge: &Challenge) -> &'a str
     ensures { result.now ≡ second_of (members_of members.now) challenge.now }
 {
@@ -86,7 +84,7 @@ fn second_of<'a>(members: &'a [Member], challenge: &Challenge) -> &'a str
     }
 }
 
-// Whether a challenge is shown to the member of this name.
+// Whether the member with this name sees the challenge.
 fn is_shown(members: &[Member], name: &str, challenge: &Challenge) -> bool
     ensures { result ≡ is_shown (members_of members.now) name.now challenge.now }
 {
@@ -104,7 +102,7 @@ fn is_shown(members: &[Member], name: &str, challenge: &Challenge) -> bool
     false
 }
 
-// A challenge, up to the game that it has started.
+// A challenge, up to the game that it started.
 #[tactic(auto, unfolding(crate::specs::Shows::challenge_front))]
 fn challenge_front(
     alloc: Global,
@@ -129,7 +127,7 @@ fn challenge_front(
     Ok(text)
 }
 
-// Adds the rest of it.
+// Appends the rest of a challenge.
 #[tactic(auto, unfolding(crate::specs::Shows::challenge_back))]
 fn push_challenge(
     text: &mut String,
@@ -147,7 +145,6 @@ fn push_challenge(
     Ok(())
 }
 
-// A challenge.
 fn challenge_text(
     alloc: Global,
     members: &[Member],
@@ -162,7 +159,7 @@ fn challenge_text(
     Ok(text)
 }
 
-// The challenges that are shown to the member of this name.
+// The challenges that the member with this name sees.
 fn challenge_texts(
     alloc: Global,
     members: &[Member],
@@ -183,7 +180,11 @@ fn challenge_texts(
     Ok(texts)
 }
 
-/// The challenges and the running games of the member of this name, at this moment.
+/// The challenges and the running games of the member with this name, as a JSON object with the timestamp.
+///
+/// # Errors
+///
+/// `AllocError` if out of memory.
 pub fn mine_text(
     alloc: Global,
     members: &[Member],

@@ -1,4 +1,4 @@
-//! What members are shown of the games and the events of a club as JSON.
+//! Games and events as members see them, as JSON.
 
 ghost use Rattle.std.specs.Prelude.{◌≡◌, ◌++◌, None, Some, IfOk, IfSome, OnOk, map, string_bytes};
 ghost use Rattle.std.specs.Option.{option_map};
@@ -19,7 +19,7 @@ use club_core::{Event, Member};
 use squares::Side;
 use std::alloc::{AllocError, Global};
 
-/// The name of the member who has a key.
+/// The name of the member with this key.
 pub fn name_by<'a>(members: &'a [Member], key: &str) -> Option<&'a str>
     ensures some { IfSome result (λ name. Some name.now ≡ name_by key.now (members_of members.now)) }
     ensures none { result ≡ None → name_by key.now (members_of members.now) ≡ None }
@@ -54,7 +54,7 @@ fn result_text(alloc: Global, game: &ToldGame) -> Result<String, AllocError>
     }
 }
 
-// A game of an event.
+// A game in the list of an event.
 #[tactic(auto, unfolding(crate::specs::Shows::event_game_text))]
 fn event_game_text(alloc: Global, members: &[Member], game: &ToldGame) -> Result<String, AllocError>
     ensures { IfOk result (λ text. string_bytes text ≡
@@ -73,14 +73,13 @@ fn event_game_text(alloc: Global, members: &[Member], game: &ToldGame) -> Result
     Ok(text)
 }
 
-/// Whether the game is of the event of this name.
+/// Whether the game belongs to the event with this name.
 pub(crate) fn is_of_event(events: &[Event], name: &str, game: &ToldGame) -> bool
     ensures { result ≡ is_of_event (events_of events.now) name.now (told_by game.now) }
 {
     event_name(events, game.event) == name
 }
 
-// The games of the event of this name.
 fn event_game_texts(
     alloc: Global,
     members: &[Member],
@@ -101,7 +100,11 @@ fn event_game_texts(
     Ok(texts)
 }
 
-/// The games of the event of this name.
+/// The games of the event with this name, as a JSON object.
+///
+/// # Errors
+///
+/// `AllocError` if out of memory.
 pub fn event_games_text(
     alloc: Global,
     members: &[Member],
@@ -120,7 +123,6 @@ pub fn event_games_text(
     Ok(text)
 }
 
-// An event.
 #[tactic(auto, unfolding(crate::specs::Shows::event_data))]
 fn event_data(alloc: Global, event: &Event) -> Result<String, AllocError>
     ensures { IfOk result (λ text. string_bytes text ≡ event_data (event_of event.now)) }
@@ -134,7 +136,6 @@ fn event_data(alloc: Global, event: &Event) -> Result<String, AllocError>
     Ok(text)
 }
 
-// The events.
 fn event_texts(alloc: Global, events: &[Event]) -> Result<Vec<String>, AllocError>
     ensures { IfOk result (λ texts. map (λ t. string_bytes t) texts.items ≡ map event_data (events_of events.now)) }
 {
@@ -145,14 +146,14 @@ fn event_texts(alloc: Global, events: &[Event]) -> Result<Vec<String>, AllocErro
     Ok(texts)
 }
 
-// Whether a member does not have the key.
+// Whether a member has another key.
 fn is_other(key: &str, member: &Member) -> bool
     ensures { result ≡ is_other key.now (member_of member.now) }
 {
     member.key.as_str() != key
 }
 
-// The names of those who do not have the key.
+// The names of the members with another key.
 fn other_texts(alloc: Global, key: &str, members: &[Member]) -> Result<Vec<String>, AllocError>
     ensures { IfOk result (λ texts. map (λ t. string_bytes t) texts.items ≡
         other_texts key.now (members_of members.now)) }
@@ -167,7 +168,11 @@ fn other_texts(alloc: Global, key: &str, members: &[Member]) -> Result<Vec<Strin
     Ok(texts)
 }
 
-/// All events, and all members but the one who has the key.
+/// All events, and all members except the one with this key, as a JSON object.
+///
+/// # Errors
+///
+/// `AllocError` if out of memory.
 pub fn inviting_text(
     alloc: Global,
     key: &str,
@@ -200,7 +205,7 @@ fn offer_text(alloc: Global, members: &[Member], game: &ToldGame) -> Result<Stri
     }
 }
 
-// A running game of the one who asks, up to its id.
+// A running game of the caller, up to its id.
 #[tactic(auto, unfolding(crate::specs::Shows::own_game_front))]
 fn own_game_front(
     alloc: Global,
@@ -220,7 +225,7 @@ fn own_game_front(
     Ok(text)
 }
 
-// Adds the rest of it.
+// Appends the rest of a running game.
 #[tactic(auto, unfolding(crate::specs::Shows::own_game_back))]
 fn push_own_game(
     alloc: Global,
@@ -240,7 +245,7 @@ fn push_own_game(
     Ok(())
 }
 
-// A running game of the one who asks.
+// A running game of the caller.
 fn own_game_text(
     alloc: Global,
     members: &[Member],
@@ -255,7 +260,7 @@ fn own_game_text(
     Ok(text)
 }
 
-// Whether the game is a running one of the member of this name.
+// Whether the game is running and the member with this name plays in it.
 fn is_own(members: &[Member], name: &str, game: &ToldGame) -> bool
     ensures { result ≡ is_own (members_of members.now) name.now (told_by game.now) }
 {
@@ -268,7 +273,7 @@ fn is_own(members: &[Member], name: &str, game: &ToldGame) -> bool
     member_name(members, game.second) == name
 }
 
-/// The running games of the member of this name.
+/// The running games of the member with this name.
 pub(crate) fn own_game_texts(
     alloc: Global,
     members: &[Member],

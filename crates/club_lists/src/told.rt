@@ -1,4 +1,4 @@
-//! What is told of a game without its moves.
+//! The summary of a game, without its moves.
 
 ghost use Rattle.std.specs.Prelude.{◌≡◌, ◌≤◌, ◌↔◌, IsSome, IfSome};
 ghost use Rattle.club_requests.specs.Limits.{last_moment};
@@ -8,37 +8,37 @@ ghost use Rattle.club_lists.specs.SummaryViews.{told_by};
 use clocks::{Clock, Moment};
 use squares::Side;
 
-/// How a game ended.
+/// The end of a game.
 #[derive(Debug, Drop)]
 pub struct GameOver {
     /// The name of the end.
     pub end: String,
-    /// First's score and Second's, as in `2-0`.
+    /// The scores of First and Second, as in `2-0`.
     pub result: String,
 }
 
-/// What is told of a game without its moves. Its event and its players are ids.
+/// The summary of a game, without its moves. The event and the players are ids.
 #[derive(Debug, Drop)]
 pub struct ToldGame {
     pub id: u32,
     pub event: u32,
     pub first: u32,
     pub second: u32,
-    /// None of a game that a challenge started.
+    /// `None` if a challenge started the game.
     pub key: Option<String>,
-    /// How many plies were played.
+    /// The number of plies played.
     pub plies: u32,
     /// The side to move.
     pub turn: Side,
-    /// The seconds that First has left, as First's last move left them.
+    /// The seconds that First had left after its last move.
     pub left_first: u64,
-    /// The same of Second.
+    /// The seconds that Second had left after its last move.
     pub left_second: u64,
-    /// The moment of the last ply, or the start.
+    /// The timestamp of the last move, or of the start.
     pub since: Moment,
-    /// The side that offers a draw.
+    /// The side that has made a draw offer that is still valid.
     pub offer: Option<Side>,
-    /// None while the game is running.
+    /// `None` while the game is running.
     pub over: Option<GameOver>,
 }
 
@@ -53,7 +53,7 @@ impl ToldGame {
         }
     }
 
-    /// The last second in which a move is in time, unless it lies past every moment.
+    /// The last Unix second in which a move is in time. `None` if it is beyond `Moment::LAST`.
     pub fn deadline(&self) -> Option<Moment>
         ensures some { IsSome result ↔ (deadline (told_by self.now) ≤ last_moment) }
         ensures value { IfSome result (λ at. at ≡ deadline (told_by self.now)) }
@@ -74,7 +74,7 @@ impl ToldGame {
         self.over.is_some()
     }
 
-    /// Whether the game goes on, and the side to move has used more seconds by this moment than it had left.
+    /// Whether the game is running and the side to move has exceeded the time limit at this timestamp.
     pub fn is_late(&self, moment: Moment) -> bool
         ensures { result ≡ is_late moment (told_by self.now) }
     {

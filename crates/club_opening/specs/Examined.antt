@@ -1,4 +1,4 @@
--- The rows of a club's games in a database, and how many of its games were found there.
+-- The rows of the games in a database, and the games that were found in them.
 use Rattle.std.specs.Prelude.{◌≡◌, ◌⊎◌, ◌≤◌, ◌<◌, ◌+◌, ℕ, suc, pos, List, map, take, length, Option, Some, None}
 use Rattle.std.specs.Prelude.{slice_get}
 use Rattle.sqlite.specs.Order.{Row}
@@ -43,22 +43,22 @@ moves_in db = map (cells (standing Moves)) (db (tree_of Moves))
 abbrev pub seen_in : Trees → List Row
 seen_in db = map (cells (standing Seen)) (db (tree_of Seen))
 
--- those of the rows that begin with none of the numbers 1 to k
+-- the rows whose first column is none of 1 to k
 abbrev pub past : ℕ → List Row → List Row
 past = without (λ k. pos (suc k))
 
--- the rows are those of this game of the club, which has this id: its own, and those of moves that begin as it
+-- the row and the moves with this id are those of this game of the club
 pub record IsGameOf (s : ClubState) (id : ℕ) (row : GameRecord) (db : Trees) (game : ClubGame) : Type 0 where
   pub legal : IsLegalIn both_games s game
   pub row_is : game_cells row ≡ row_of_game both_games s.events id game
   pub moves_are : HaveSame (beginning_with row.id (moves_in db)) (rows_of_moves both_games s.events id game)
 
--- and so are those of positions
+-- so are the positions
 pub record IsFoundAs (s : ClubState) (id : ℕ) (row : GameRecord) (db : Trees) (game : ClubGame) : Type 0 where
   pub game_is : IsGameOf s id row db game
   pub seen_are : HaveSame (beginning_with row.id (seen_in db)) (rows_of_seen both_games id game)
 
--- So many games of the club were found: these rows are theirs, and the rows of moves with their numbers.
+-- The first `count` games were found: their rows and their moves are those of legal games.
 pub record WerePlayed (s : ClubState) (rows : List GameRecord) (db : Trees) (count : ℕ) : Type 0 where
   pub games : List ClubGame
   pub number_of : length games ≡ count
@@ -67,22 +67,22 @@ pub record WerePlayed (s : ClubState) (rows : List GameRecord) (db : Trees) (cou
   pub moves_are : (n : ℕ) (g : ClubGame) → slice_get games n ≡ Some g
       → HaveSame (beginning_with (pos (1 + n)) (moves_in db)) (rows_of_moves both_games s.events (1 + n) g)
 
--- the rows of positions with the numbers of these games are theirs
+-- the rows of positions with the ids of these games are theirs
 abbrev pub AreSeenOf : List ClubGame → Trees → Type 0
 AreSeenOf games db = (n : ℕ) (g : ClubGame) → slice_get games n ≡ Some g
     → HaveSame (beginning_with (pos (1 + n)) (seen_in db)) (rows_of_seen both_games (1 + n) g)
 
--- So many games of the club were found, with the rows of moves and of positions with their numbers.
+-- The first `count` games were found, with their moves and positions.
 pub record WereFound (s : ClubState) (rows : List GameRecord) (db : Trees) (count : ℕ) : Type 0 where
   pub played : WerePlayed s rows db count
   pub seen_are : AreSeenOf played.games db
 
--- A table is called damaged, and no legal club whose register these rows are has the tables of the database.
+-- A table is reported as damaged, and no legal club with these rows has the tables of the database.
 abbrev pub NamesPlay : Rows → Database → OpenFault → Type 0
 NamesPlay rows db fault = (t : Table) × (fault ≡ Damaged t)
     × ((version : Version) (s : ClubState) → IsClubOf version s → IsRegisterOf s rows → ¬ HasClub version db s)
 
--- the club has these members and events, and its last moment is this one
+-- the club has these members and events, and this is its last timestamp
 pub record IsOf (s : ClubState) (rows : Rows) (last : Option ℕ) : Type 0 where
   pub people : HasPeople s rows
   pub moment : last ≡ Some s.last
@@ -96,19 +96,19 @@ IsAfter table wrong = (t : Table) → wrong ≡ Some t → order table < order t
 abbrev pub IsPlayed : Option Table → Type 0
 IsPlayed wrong = (t : Table) → wrong ≡ Some t → t ≡ Meta
 
--- Of two wrong tables the first is named, and none where there is none.
+-- of two wrong tables the one that is reported first; none if there is none
 pub record IsOneOf (one other named : Option Table) : Type 0 where
   pub none : named ≡ None → (one ≡ None) × (other ≡ None)
   pub some : (t : Table) → named ≡ Some t → (one ≡ Some t) ⊎ (other ≡ Some t)
   pub first : (t u : Table) → named ≡ Some t → (one ≡ Some u) ⊎ (other ≡ Some u) → order t ≤ order u
 
--- A table is named where so many of its rows are no game's.
+-- the table is wrong if `count`, its number of rows without a game, is not 0
 pub record NamesLeft (table : Table) (count : ℕ) (named : Option Table) : Type 0 where
   pub none : named ≡ None → count ≡ 0
   pub some : (t : Table) → named ≡ Some t → (t ≡ table) × (0 < count)
 
--- What was read of a game's rows tells: how many are of its moves and of its positions, and that all of them are those
--- of a legal game at its place, or a wrong table.
+-- The result for one game: its numbers of moves and positions; and either all its rows are those of a legal game at its
+-- index, or a table is wrong.
 pub record IsGameFound (rows : Rows) (last : Option ℕ) (place : ℕ) (game : GameRecord) (moves seen : ℕ)
     (wrong : Option Table) (db : Database) : Type 0 where
   pub moves_number : moves ≡ length (beginning_with game.id (moves_in (club_trees db)))
@@ -126,12 +126,12 @@ pub record IsGameFound (rows : Rows) (last : Option ℕ) (place : ℕ) (game : G
   pub games_wrong : wrong ≡ Some Games → GamesWrong rows db
   pub seen_wrong : wrong ≡ Some Seen → SeenWrong rows db
 
--- none of the rows of moves and of positions is another's than those of the first so many games
+-- every row of moves and of positions belongs to one of the first `count` games
 pub record NoneIsLeft (db : Trees) (count : ℕ) : Type 0 where
   pub moves : length (past count (moves_in db)) ≡ 0
   pub seen : length (past count (seen_in db)) ≡ 0
 
--- What was read of all games tells: they are those of a club, and no row is another's, or a wrong table.
+-- The result for all games: they are those of a club and no row belongs to none of them, or a table is wrong.
 pub record AreGamesFound (rows : Rows) (last : Option ℕ) (wrong : Option Table) (db : Database) : Type 0 where
   pub found : wrong ≡ None → (s : ClubState) → IsOf s rows last
       → WereFound s rows.games.items (club_trees db) (length rows.games.items)
@@ -152,7 +152,7 @@ pub record AreGamesFound (rows : Rows) (last : Option ℕ) (wrong : Option Table
   pub games_wrong : wrong ≡ Some Games → GamesWrong rows db
   pub seen_wrong : wrong ≡ Some Seen → HaveIds rows → SeenWrong rows db
 
--- and what is left of the rows when so many games were read, of which a table was wrong or none
+-- the same after the first `place` games, with the numbers of rows that are left
 pub record AreLeftAfter (rows : Rows) (last : Option ℕ) (place moves seen : ℕ) (wrong : Option Table) (db : Database)
     : Type 0 where
   pub found : wrong ≡ None → (s : ClubState) → IsOf s rows last → WereFound s rows.games.items (club_trees db) place
@@ -177,20 +177,20 @@ pub record AreLeftAfter (rows : Rows) (last : Option ℕ) (place moves seen : �
   pub moves_beyond : HaveIds rows → moves ≡ length (beyond rows place (moves_in (club_trees db)))
   pub seen_beyond : IsAfter Seen wrong → HaveIds rows → seen ≡ length (beyond rows place (seen_in (club_trees db)))
 
--- what was read of all games tells, with the rowids of both tables
+-- the result for all games, with the rowids of both tables checked
 pub record IsPlayExamined (rows : Rows) (last : Option ℕ) (wrong : Option Table) (old new : State) : Type 0 where
   pub games : AreGamesFound rows last wrong old.now
   pub same : IsUnchanged old new
   pub moves_apart : AreApart (club_trees old.now 8)
   pub seen_apart : AreApart (club_trees old.now 12)
 
--- the scores that were read are those of the club whose games the rows are, each once
+-- the scores are those of the club with these games, each once
 pub record AreScoresExamined (rows : Rows) (old new : State) : Type 0 where
   pub rows_of : List Row
   pub read : IsReadAs (standing Scores) 3 rows_of old new
   pub are : (t : ClubState) → AreGamesOf t rows.games.items → AreEachOnce rows_of (scores_in both_games t.games)
 
--- What was examined of rows that were read: they and those of moves, positions and scores are those of one club.
+-- The result for a register: these rows with the moves, positions and scores are those of one club.
 pub record AreExamined (rows : Rows) (old new : State) : Type 0 where
   pub moment : ℕ
   pub last : (rows.meta.last ≡ pos moment) × (moment ≤ last_moment)

@@ -1,4 +1,4 @@
--- How it is written why a database is not that of a club.
+-- The texts of the errors of an opening.
 use Rattle.std.specs.Prelude.{List, ℕ, ◌++◌, codes}
 use Rattle.std.specs.Fmt.{signed_decimal}
 use Rattle.store_tables.specs.Names.{table_name}

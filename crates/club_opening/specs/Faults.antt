@@ -1,11 +1,11 @@
--- The fault that names a table whose rows were not read.
+-- The error for a table that could not be read.
 use Rattle.store_tables.specs.declared.names.Table.{Table}
 use Rattle.store_sql.specs.declared.fault.ReadFault.{ReadFault}
 use Rattle.store_sql.specs.declared.fault.ReadFault.TheVariants as read
 use Rattle.club_opening.specs.declared.fault.OpenFault.{OpenFault}
 use Rattle.club_opening.specs.declared.fault.OpenFault.TheVariants as given
 
--- why the rows of this table were not read
+-- the error for this table
 abbrev pub told : Table → ReadFault → OpenFault
 told table read.Missing = given.Foreign
 told table read.Mistyped = given.Damaged table

@@ -1,5 +1,5 @@
--- What is known of the rows of games where a value of theirs has another type than its column: of which event and of
--- which players each is, and which games were read.
+-- Rows of games in which a value has the wrong type: the ids, events and players that can be read, and the games by
+-- which the moves are checked.
 use Rattle.std.specs.Prelude.{◌≡◌, ◌⊎◌, ℤ, negsuc, List, [], ◌∷◌, map}
 use Rattle.sqlite_value.specs.declared.value.Value.{Value}
 use Rattle.sqlite_value.specs.declared.value.Value.TheVariants.{Int}
@@ -22,34 +22,34 @@ use Rattle.club_opening.specs.RightTables.{IsUnheld, IsUntyped}
 use Rattle.club_opening.specs.declared.fault.OpenFault.{OpenFault}
 use Rattle.club_opening.specs.declared.fault.OpenFault.TheVariants.{Damaged, Memory, Store}
 
--- the whole number that a value is, or one that is no id
+-- the integer value, or -1, which is no id
 abbrev pub known : Value → ℤ
 known (Int n) = n
 known _ = negsuc 0
 
--- the id of a game, its event and its players
+-- the id, event and players of a game
 abbrev pub game_seat : GameRecord → List ℤ
 game_seat game = game.id ∷ game.event ∷ game.first ∷ game.second ∷ []
 
--- those that a row tells
+-- the same, from its row
 abbrev pub row_seat : Row → List ℤ
 row_seat row = known (column row 0) ∷ known (column row 2) ∷ known (column row 3) ∷ known (column row 4) ∷ []
 
--- The game of a row by which its moves are judged: the row's own, or where a value is of another type, one that has the
--- row's id and names no event.
+-- The game by which the moves are checked: that of the row, or, if a value has the wrong type, one with the row's id
+-- and no valid event.
 abbrev pub IsJudged : Row → GameRecord → Type 0
 IsJudged row game = (row ≡ game_cells game)
     ⊎ ((¬ IsGame row) × (game.id ≡ known (column row 0)) × (game.event ≡ negsuc 0))
 
--- each of these is that of its row
+-- the games of these rows
 abbrev pub AreJudged : List Row → List GameRecord → Type 0
 AreJudged [] [] = Unit {0}
 AreJudged [] (game ∷ judged) = ⊥
 AreJudged (row ∷ shown) [] = ⊥
 AreJudged (row ∷ shown) (game ∷ judged) = IsJudged row game × AreJudged shown judged
 
--- The rows of games were shown, and one of them has a value of another type: these have their ids, events and players,
--- and by these their moves are judged.
+-- The rows of games were read and a value has the wrong type. `known_games` have the ids, events and players that can
+-- be read; `judged_games` are those by which the moves are checked.
 pub record AreGamesKnown (known_games judged_games : List GameRecord) (old new : State) : Type 0 where
   pub shown : List Row
   pub keeps : Keeps (standing Games) (club_trees old.now) shown
@@ -59,8 +59,8 @@ pub record AreGamesKnown (known_games judged_games : List GameRecord) (old new :
   pub untyped : IsUntyped Games old.now
   pub same : IsUnchanged old new
 
--- No other table is called damaged than the challenges, where they are wrong by what is known of the games; the moves,
--- where they are wrong by the games that were read; or the games.
+-- The table reported as damaged is: challenges, if they are wrong by the known games; moves, if they are wrong by the
+-- judged games; or games.
 abbrev pub NamesUntyped : (known_rows judged_rows : Rows) → Database → OpenFault → Type 0
 NamesUntyped known_rows judged_rows db fault = (fault ≡ Store)
     ⊎ ((fault ≡ Memory)

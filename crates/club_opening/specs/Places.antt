@@ -1,4 +1,4 @@
--- The rows of a club that are read whole, and what a fault says of the rows of all tables.
+-- The rows of a club that are read whole, and the meaning of an error about rows.
 use Rattle.std.specs.Prelude.{◌≡◌, ◌≢◌, ◌⊎◌, ℕ, ◌≤◌, ℤ, pos, map, Option, Some, None}
 use Rattle.sqlite.specs.Effect.{Database}
 use Rattle.store_tables.specs.declared.rows.Rows.{Rows}
@@ -11,7 +11,7 @@ use Rattle.club_opening.specs.Versions.{IsNoClub}
 use Rattle.club_opening.specs.declared.fault.OpenFault.{OpenFault}
 use Rattle.club_opening.specs.declared.fault.OpenFault.TheVariants.{Damaged, Memory}
 
--- The rows are those of the club, but for the moves, the positions and the scores of its games.
+-- The rows are those of the club, except the moves, positions and scores of its games.
 pub record IsRegisterOf (s : ClubState) (rows : Rows) : Type 0 where
   pub last : rows.meta.last ≡ pos s.last
   pub members : map member_cells rows.members.items ≡ numbered_from member_row 1 s.members
@@ -24,20 +24,20 @@ pub record IsRegisterOf (s : ClubState) (rows : Rows) : Type 0 where
 abbrev pub IsNoRegister : Rows → Type 0
 IsNoRegister rows = (s : ClubState) → IsClub s → ¬ IsRegisterOf s rows
 
--- the last second of the year 9999
+-- the last second of the year 9999, as a Unix timestamp
 abbrev pub last_moment : ℕ
 last_moment = 253402300799
 
--- the moment that a row tells, or none where it tells none
+-- the timestamp in a row, or none if it is out of range
 abbrev pub IsMomentOf : ℤ → Option ℕ → Type 0
 IsMomentOf stored None = (n : ℕ) → n ≤ last_moment → stored ≢ pos n
 IsMomentOf stored (Some n) = (stored ≡ pos n) × (n ≤ last_moment)
 
--- Memory was refused, or a table is called damaged, and then these rows are of no legal club.
+-- out of memory, or a table is reported as damaged and no legal club has these rows
 abbrev pub BlamesRows : Rows → OpenFault → Type 0
 BlamesRows rows fault = (fault ≡ Memory)
     ⊎ ((t : Table) × (fault ≡ Damaged t) × IsNoRegister rows)
 
--- A table is called damaged, and no legal club has the tables of the database.
+-- a table is reported as damaged, and no legal club has the tables of the database
 abbrev pub NamesRows : Database → OpenFault → Type 0
 NamesRows db fault = (t : Table) × (fault ≡ Damaged t) × IsNoClub db

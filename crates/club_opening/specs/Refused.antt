@@ -1,4 +1,4 @@
--- What is said of a database that was just opened: a club stands there, or it was not taken as a club's.
+-- What is promised about a database that was just opened: it holds a club, or it was rejected.
 use Rattle.std.specs.Prelude.{◌≡◌}
 use Rattle.sqlite.specs.Tree.{Trees}
 use Rattle.sqlite.specs.State.{State, Opens}
@@ -10,18 +10,17 @@ use Rattle.club_opening.specs.RightTables.{NamesFirst}
 use Rattle.club_opening.specs.Versions.{LeavesRows}
 use Rattle.club_opening.specs.declared.fault.OpenFault.{OpenFault}
 
--- a stop leaves what the opening found, and nothing else
+-- whatever a crash leaves is what the opening found
 abbrev pub IsKept : State → State → Type 0
 IsKept old new = (db : Trees) → new.may_leave db → db ≡ old.committed.trees
 
--- a legal state has the tables that stand there, alone or among what other programs made
+-- the database has the tables of a legal state, alone or beside foreign tables
 pub record HoldClub (trees : Trees) : Type 0 where
   pub state : ClubState
   pub legal : IsClub state
   pub leaves : LeavesRows Current (tables state) trees
 
--- The tables were not taken as a club's: they are blamed, a damaged table is the first wrong one, and they stay as they
--- were found.
+-- The database was rejected: the reason is true, a damaged table is the first wrong one, and nothing changed.
 pub record IsRefusal (old new : State) (fault : OpenFault) : Type 0 where
   pub blames : HasClubTables old.now.schema → Names Current old.now fault
   pub first : HasClubTables old.now.schema → NamesFirst old.now fault

@@ -1,4 +1,4 @@
--- When the rows of moves are right, where the rows of events and of games are those that were read.
+-- When the rows of moves are right, given the events and games that were read.
 use Rattle.std.specs.Prelude.{◌≡◌, ℕ, zero, suc, ℤ, pos, not, List, [], ◌∷◌, map, get_or, filter, Some, None, slice_get}
 use Rattle.std.specs.Prelude.{Bool}
 use Rattle.std.specs.List.{AllByRecursion}
@@ -30,21 +30,21 @@ use Rattle.club_rows.specs.Club.{ClubState, IsClub, both_games, tables}
 use Rattle.club_audit.specs.GameAudit.{IsRightOf}
 use Rattle.club_opening.specs.Blames.{HoldsNone}
 
--- the rows of moves that begin with the id of the game are those of the moves of a legal game of this kind and these
--- terms, which has its id and its start, or there are none
+-- the rows of moves of this game are the moves of a legal game of this kind with these terms, its id and its start; or
+-- there are none
 pub record HasItsMoves (rows : List Row) (game : GameRecord) (kind : GameKind) (terms : Terms) : Type 0 where
   pub moves : List MoveRow
   pub same : HaveSame (beginning_with game.id rows) (map move_cells moves)
   pub are : IsRightOf kind terms None game moves [] Moves
 
--- the rules of the event of this id say this of declarations
+-- the event rules say this about declarations in the event with this id
 abbrev pub DeclaresIn : Version → Content → ℤ → Bool → Type 0
 DeclaresIn First content id declares = declares_number declares ≡ 0
 DeclaresIn Current content id declares =
     Has (content (tree_of EventRules)) (Int id ∷ number (declares_number declares) ∷ [])
 
--- Each row of moves has the types of its columns and begins with the id of a game; and of each game whose event there
--- is, with a kind, terms and rules, they are right.
+-- Each row of moves has the right types and belongs to a game. The moves of each game are right, if its event exists,
+-- with a kind, terms and rules.
 pub record HaveMoves (version : Version) (content : Content) : Type 0 where
   pub typed : AllByRecursion IsMove (content (tree_of Moves))
   pub owned : (row : Row) → Has (content (tree_of Moves)) row
@@ -55,7 +55,7 @@ pub record HaveMoves (version : Version) (content : Content) : Type 0 where
       → event.game ≡ pos (kind_number kind) → GivesTerms event budget increment
       → HasItsMoves (content (tree_of Moves)) game kind (terms_told budget increment declares)
 
--- the same of rows of games and of events that were read
+-- the same, with the games and events that were read
 pub record HaveMovesOf (rows : Rows) (moves : List Row) : Type 0 where
   pub typed : AllByRecursion IsMove moves
   pub owned : (row : Row) → Has moves row → (place : ℕ) × (game : GameRecord)
@@ -65,8 +65,8 @@ pub record HaveMovesOf (rows : Rows) (moves : List Row) : Type 0 where
       → (kind : GameKind) (budget increment : ℕ) → event.game ≡ pos (kind_number kind)
       → GivesTerms event budget increment → HasItsMoves moves game kind (terms_told budget increment declares)
 
--- The rows of moves of a game that was read have the types of their columns, and they are right where its event is
--- there, with a kind, terms and rules.
+-- The moves of a game that was read have the right types, and they are right if its event exists, with a kind, terms
+-- and rules.
 pub record HasMovesOf (rows : Rows) (moves : List Row) (game : GameRecord) : Type 0 where
   pub typed : (row : Row) → Has (beginning_with game.id moves) row → IsMove row
   pub played : (id : ℕ) (event : EventRow) (declares : Bool) → NamesEvent rows game id event
@@ -74,7 +74,7 @@ pub record HasMovesOf (rows : Rows) (moves : List Row) (game : GameRecord) : Typ
       → event.game ≡ pos (kind_number kind) → GivesTerms event budget increment
       → HasItsMoves moves game kind (terms_told budget increment declares)
 
--- a legal club has the people and the games that were read, and these rows of moves
+-- a legal club has the members, events and games that were read, and these rows of moves
 pub record HaveGamesOf (rows : Rows) (moves : List Row) : Type 0 where
   pub state : ClubState
   pub legal : IsClub state
@@ -87,33 +87,33 @@ pub record HaveSeenOf (rows : Rows) (moves positions : List Row) : Type 0 where
   pub games : HaveGamesOf rows moves
   pub same : HaveSame positions (tables games.state 12)
 
--- ---- rows that no game owns
+-- ---- rows without a game
 
--- the id of the game at this place
+-- the id of the game at this index
 abbrev pub id_at : Rows → ℕ → ℤ
 id_at rows place = get_or (map (λ g. g.id) rows.games.items) place (pos 0)
 
--- whatever content the database holds, its rows of moves are not right for the games and the events that were read
+-- whatever content the database holds, its moves are not right for the games and events that were read
 abbrev pub MovesWrong : Rows → Database → Type 0
 MovesWrong rows db =
     HoldsNone db (λ version content. HaveMovesOf rows (map (cells (standing Moves)) (club_trees db (tree_of Moves))))
 
--- whatever content the database holds, the games that were read are those of no legal club with its rows of moves
+-- whatever content the database holds, no legal club has the games that were read with its moves
 abbrev pub GamesWrong : Rows → Database → Type 0
 GamesWrong rows db =
     HoldsNone db (λ version content. HaveGamesOf rows (map (cells (standing Moves)) (club_trees db (tree_of Moves))))
 
--- nor is there one with these games and with its rows of moves and of positions
+-- no legal club has these games with its moves and positions
 abbrev pub SeenWrong : Rows → Database → Type 0
 SeenWrong rows db = HoldsNone db (λ version content.
     HaveSeenOf rows (map (cells (standing Moves)) (club_trees db (tree_of Moves)))
     (map (cells (standing Seen)) (club_trees db (tree_of Seen))))
 
--- those of the rows that begin with none of the first so many of these ids
+-- the rows whose first column is none of the first k of these ids
 abbrev pub without : (ℕ → ℤ) → ℕ → List Row → List Row
 without ids zero rows = rows
 without ids (suc k) rows = filter (λ x. not (same_key (0 ∷ []) x (Int (ids k) ∷ []))) (without ids k rows)
 
--- with the id of none of the first so many games
+-- the rows that belong to none of the first k games
 abbrev pub beyond : Rows → ℕ → List Row → List Row
 beyond games = without (id_at games)

@@ -1,5 +1,4 @@
--- When the rows of a table are those of a legal club, where those of the tables before it are, and what a fault says
--- then.
+-- When the rows of a table are right, given the tables before it, and which table an error names.
 use Rattle.std.specs.Prelude.{◌≡◌, ◌≢◌, ◌⊎◌, ◌<◌, ◌≤◌, ◌^◌, ℕ, List, length, map, Option, Some, IsTrue}
 use Rattle.sqlite.specs.Effect.{Database}
 use Rattle.sqlite.specs.Order.{Row, column}
@@ -60,18 +59,18 @@ abbrev pub HasTable : Table → Version → Type 0
 HasTable EventRules First = ⊥
 HasTable t version = Unit {0}
 
--- Some legal club of this version has the rows of this table, and those of each table before it.
+-- A legal club of this version has the rows of this table and of each table before it.
 pub record AreOfClub (version : Version) (t : Table) (content : Content) : Type 0 where
   pub state : ClubState
   pub legal : IsClubOf version state
   pub same : (u : Table) → HasTable u version → order u ≤ order t
       → HaveSame (rows_in u content) (rows_in u (tables_at version state))
 
--- one of the rows has this id
+-- a row has this id
 abbrev pub HasId : List Row → ℕ → Type 0
 HasId rows id = (row : Row) × Has rows row × (column row 0 ≡ number id)
 
--- One of the rows of games has this id, and is of this event and of these players, each on this side.
+-- A row of games has this id, this event and these players, each on its side.
 pub record HasGame (games : List Row) (id : ℕ) (pairing : Pairing) : Type 0 where
   pub row : Row
   pub there : Has games row
@@ -80,7 +79,7 @@ pub record HasGame (games : List Row) (id : ℕ) (pairing : Pairing) : Type 0 wh
   pub first_is : column row 3 ≡ number pairing.first
   pub second_is : column row 4 ≡ number pairing.second
 
--- The challenge names members, an event and, where it was accepted, a game of an id of 32 bits, all of which there are.
+-- The challenge names members, an event and, if it was accepted, a game, all of which exist.
 pub record IsChallengeIn (content : Content) (c : Challenge) : Type 0 where
   pub number : IsTrue (is_challenge_number c.number)
   pub member : HasId (content (tree_of Members)) c.member
@@ -89,39 +88,39 @@ pub record IsChallengeIn (content : Content) (c : Challenge) : Type 0 where
   pub event : HasId (content (tree_of Events)) c.event
   pub game : (id : ℕ) → c.standing ≡ Accepted id → (id < 2 ^ 32) × HasGame (content (tree_of Games)) id (pairing_for c)
 
--- The rows of challenges are those of such challenges, and no two of one member have one number.
+-- The rows are those of such challenges, and no two of one member have the same number.
 pub record HaveChallenges (content : Content) : Type 0 where
   pub challenges : List Challenge
   pub same : HaveSame (content (tree_of Challenges)) (map challenge_row challenges)
   pub each : Each (IsChallengeIn content) challenges
   pub numbers : AreApart goes_by challenges
 
--- The table is right: its rows are those of a legal club with those of the tables before it. Challenges and moves name
--- games, which come later, so of these two it is said what they must be.
+-- The table is right: a legal club has its rows with those of the tables before it. Challenges and moves refer to
+-- games, a later table, so they have conditions of their own.
 abbrev pub IsRight : Table → Version → Content → Type 0
 IsRight Challenges version content = HaveChallenges content
 IsRight Moves version content = HaveMoves version content
 IsRight t version content = AreOfClub version t content
 
--- ---- which is named
+-- ---- which table is named
 
--- the moves, the games and the positions
+-- moves, games or positions
 abbrev pub IsOfPlay : Table → Type 0
 IsOfPlay t = (order Challenges < order t) × (order t < order Scores)
 
--- The named table is not right, and each before it is.
+-- The named table is not right, and each table before it is.
 pub record IsFirstIn (version : Version) (content : Content) (t : Table) : Type 0 where
   pub before : (u : Table) → order u < order t → IsRight u version content
   pub named : ¬ IsRight t version content
 
--- A table that is called damaged is so, in whatever content the database may hold.
+-- A table that is reported as damaged is the first wrong one, whatever content the database holds.
 abbrev pub NamesFirst : Database → OpenFault → Type 0
 NamesFirst db fault = (t : Table) → fault ≡ Damaged t → (version : Version) (content : Content)
     → HoldsRows version content db → IsFirstIn version content t
 
--- ---- one after another
+-- ---- table by table
 
--- no other table than this one is called damaged, and its rows are those of no legal club
+-- only this table is reported as damaged, and no legal club has its rows
 abbrev pub NamesWrong : Table → Database → OpenFault → Type 0
 NamesWrong table db fault = (t : Table) → fault ≡ Damaged t → (t ≡ table) × HoldsNone db (IsRight table)
 
@@ -129,11 +128,11 @@ NamesWrong table db fault = (t : Table) → fault ≡ Damaged t → (t ≡ table
 abbrev pub IsUnheld : Database → Type 0
 IsUnheld db = HoldsNone db (λ version content. Unit {0})
 
--- in no content that the database may hold the rows of the table have the types of its columns
+-- whatever content the database holds, the rows of the table do not have the types of its columns
 abbrev pub IsUntyped : Table → Database → Type 0
 IsUntyped t db = HoldsNone db (λ version content. HasTypes t content)
 
--- Whatever the last moment is: the rows of moves are right, and these games, with them, are those of a club.
+-- The moves are right, and these games with their moves are those of a club, whatever its last timestamp is.
 pub record AreSeated (rows : Rows) (db : Database) : Type 0 where
   pub moves : HaveMovesOf rows (moves_in (club_trees db))
   pub apart : AreApartGames rows.games.items
@@ -142,13 +141,13 @@ pub record AreSeated (rows : Rows) (db : Database) : Type 0 where
   pub none_left : (s : ClubState) → HasPeople s rows
       → length (past (length rows.games.items) (moves_in (club_trees db))) ≡ 0
 
--- the moves, where the games or the positions are named, and the games, where the positions are, are right
+-- the tables of moves and games are right, if a later table of moves, games and positions is named
 abbrev pub AreRightBefore : Rows → Database → Table → Type 0
 AreRightBefore rows db t =
     (order Moves < order t → HaveMovesOf rows (moves_in (club_trees db))) × (order Games < order t → AreSeated rows db)
 
--- A table of play that is wrong for what was read, where those of play before it are right, if the database holds any
--- content.
+-- A table of moves, games or positions that is wrong for the rows that were read; those before it are right, if the
+-- database holds any content.
 pub record IsWrongOfPlay (rows : Rows) (db : Database) (t : Table) : Type 0 where
   pub play : IsOfPlay t
   pub moves : t ≡ Moves → MovesWrong rows db
@@ -156,15 +155,15 @@ pub record IsWrongOfPlay (rows : Rows) (db : Database) (t : Table) : Type 0 wher
   pub seen : t ≡ Seen → SeenWrong rows db
   pub before : IsUnheld db ⊎ AreRightBefore rows db t
 
--- no other table than a wrong one of play is called damaged
+-- only such a table is reported as damaged
 abbrev pub NamesPlayed : Rows → Database → OpenFault → Type 0
 NamesPlayed rows db fault = (t : Table) → fault ≡ Damaged t → IsWrongOfPlay rows db t
 
--- nor is another one wrong, but `meta`
+-- the wrong table is one of moves, games and positions, or `meta`
 abbrev pub IsLater : Option Table → Type 0
 IsLater wrong = (t : Table) → wrong ≡ Some t → IsOfPlay t ⊎ (t ≡ Meta)
 
--- no other table than the challenges is called damaged, and those that were read are no legal club's
+-- only the challenges are reported as damaged, and no legal club has those that were read
 abbrev pub NamesChallenges : Rows → OpenFault → Type 0
 NamesChallenges rows fault = (t : Table) → fault ≡ Damaged t
     → (t ≡ Challenges) × ((cs : List Challenge) → ¬ AreChallenges cs rows)
@@ -176,12 +175,12 @@ pub record HasScores (rows : Rows) (content : Content) : Type 0 where
   pub games : map game_cells rows.games.items ≡ numbered_from (row_of_game both_games state.events) 1 state.games
   pub same : HaveSame (content (tree_of Scores)) (tables state (tree_of Scores))
 
--- no other table than the scores is called damaged, and their rows are those of no legal club with these games
+-- only the scores are reported as damaged, and no legal club with these games has their rows
 abbrev pub NamesScores : Rows → Database → OpenFault → Type 0
 NamesScores rows db fault = (t : Table) → fault ≡ Damaged t
     → (t ≡ Scores) × HoldsNone db (λ version content. HasScores rows content)
 
--- Those games, with the rows of positions, too, are those of a club, and no row is another's.
+-- The games with their moves and positions are those of a club, and no row belongs to none of them.
 pub record ArePlayed (rows : Rows) (db : Database) : Type 0 where
   pub seated : AreSeated rows db
   pub seen_are : (s : ClubState) (people : HasPeople s rows) → AreSeenOf (seated.found s people).games (club_trees db)
@@ -194,20 +193,20 @@ pub record AreScored (rows : Rows) (db : Database) : Type 0 where
   pub keeps : Keeps (standing Scores) (club_trees db) scored
   pub are : (s : ClubState) → AreGamesOf s rows.games.items → AreEachOnce scored (scores_in both_games s.games)
 
--- a table after the challenges, where these are right: one of play; or the scores, where those of play are right; or
--- `meta`, where the scores are right, too
+-- a table after the challenges that is named: one of moves, games and positions; or the scores, if those are right; or
+-- `meta`, if the scores are right, too
 abbrev pub IsNamedAfter : Rows → Database → Table → Type 0
 IsNamedAfter rows db t = IsWrongOfPlay rows db t
     ⊎ (((t ≡ Scores) × ArePlayed rows db × HoldsNone db (λ version content. HasScores rows content))
     ⊎ ((t ≡ Meta) × ArePlayed rows db × AreScored rows db))
 
--- what a fault says of the rows that were read and of those of moves, positions and scores
+-- the meaning of an error about the rows that were read and those of moves, positions and scores
 abbrev pub NamesExamined : Rows → Database → OpenFault → Type 0
 NamesExamined rows db fault = (t : Table) → fault ≡ Damaged t
     → ((t ≡ Challenges) × ((cs : List Challenge) → ¬ AreChallenges cs rows))
     ⊎ (((cs : List Challenge) × AreChallenges cs rows) × IsNamedAfter rows db t)
 
--- these are the rows of the events of each club whose events the database may hold
+-- the rows of events of every club whose events the database may hold
 abbrev pub TellsEvents : List EventRow → Database → Type 0
 TellsEvents rows db = (version : Version) (content : Content) → HoldsRows version content db
     → (s : ClubState) → HaveSame (content (tree_of Events)) (tables s (tree_of Events))

@@ -1,4 +1,4 @@
--- The tables of a club in a database, by the schema of a version.
+-- The tables of a club in a database, by schema version.
 use Rattle.std.specs.Prelude.{◌≡◌, List, map}
 use Rattle.sqlite.specs.Effect.{Database, IsDatabase}
 use Rattle.sqlite.specs.Schema.{Schema}
@@ -16,7 +16,7 @@ use Rattle.club_rows.specs.Club.{ClubState}
 use Rattle.club_rows.specs.FirstSchema.{IsClubOf, tables_at}
 use Rattle.club_rows.specs.Tables.{event_row, numbered_from}
 
--- the database has these rows in the tables of this version, wherever they stand
+-- the database has these rows in the tables of this version, alone or beside foreign tables
 pub record HoldsRows (version : Version) (content : Content) (db : Database) : Type 0 where
   pub schema : HasTablesOf version db.schema
   pub sound : IsDatabase db
@@ -29,11 +29,11 @@ pub record LeavesRows (version : Version) (content : Content) (trees : Trees) : 
   pub sound : IsSound schema trees
   pub tables : AreStored (schema_of version) (by_club schema trees) content
 
--- The database has the tables of this club, in this version, alone or among those that other programs made.
+-- The database has the tables of this club in this version, alone or beside foreign tables.
 abbrev pub HasClub : Version → Database → ClubState → Type 0
 HasClub version db s = HoldsRows version (tables_at version s) db
 
--- the connection has exactly those of this club alone, and leaves them to a stop
+-- the connection has exactly the tables of this club, and so does whatever a crash leaves
 abbrev pub IsExactlyClub : Version → ClubState → State → Type 0
 IsExactlyClub version s = of_schema.IsExactly (schema_of version) (tables_at version s)
 
@@ -41,11 +41,11 @@ IsExactlyClub version s = of_schema.IsExactly (schema_of version) (tables_at ver
 abbrev pub IsOpenedAt : Version → State → Type 0
 IsOpenedAt version = of_schema.IsOpened (schema_of version)
 
--- no legal club has the tables of the database, in whatever version
+-- no legal club has the tables of the database, in any version
 abbrev pub IsNoClub : Database → Type 0
 IsNoClub db = (version : Version) (s : ClubState) → IsClubOf version s → ¬ HasClub version db s
 
--- these are the rows of the events of whatever club has its tables in the database
+-- the rows of events of any club whose tables the database has
 abbrev pub HasEvents : List EventRow → Database → Type 0
 HasEvents rows db = (version : Version) (s : ClubState) → IsClubOf version s → HasClub version db s
     → map event_cells rows ≡ numbered_from event_row 1 s.events

@@ -1,4 +1,4 @@
-//! Which table of a club is wrong, by the rows that are read whole.
+//! The checks on the tables that are read whole: challenges, games and `meta`.
 
 ghost use Rattle.std.specs.Prelude.{◌≡◌, ◌≢◌, ◌≤◌, ℕ, pos, None, Some, IfErr, IfOk, OnOk, List};
 ghost use Rattle.club_audit.specs.Audit.{AreApartGames, HasPeople};
@@ -15,9 +15,10 @@ use club_rows::numbers::moment;
 use std::alloc::Global;
 use store_tables::{Rows, Table};
 
-/// Tests that the challenges are those of a club with these members, events and games, and whether these games stand
-/// beside one another and there is a last moment. A fault names the challenges; of the others the first that is wrong
-/// is given back, since what is wrong in the rows of moves and of positions is named before it.
+/// Checks that the challenges fit these members, events and games, that there are not too many games and no two with
+/// one key, and that `meta` has a valid last timestamp.
+/// Wrong challenges are an error at once. The first of the other wrong tables is returned: wrong moves or positions,
+/// checked later, are reported before it.
 pub(crate) fn audit(alloc: Global, rows: &Rows) -> Result<Option<Table>, OpenFault>
     ensures challenges { OnOk result ((cs : List Challenge) × AreChallenges cs rows.now) }
     ensures apart { IfOk result (λ wrong. IsAfter Table.Games wrong → AreApartGames rows.now.games.items) }

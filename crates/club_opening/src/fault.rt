@@ -1,25 +1,25 @@
-//! Why a database is not that of a club.
+//! Errors of opening: why a database is not a club's.
 
 use std::error::Error;
 use std::fmt;
 use store_tables::Table;
 
-/// Why a database was not taken as a club's. It shows as the number and name of the fault, and what it names.
+/// Why a database was not accepted as a club's.
 #[derive(Debug, Clone, Copy, PartialEq, Eq, Drop)]
 pub enum OpenFault {
-    /// A table or a column of a club is missing, or one that is to be made stands there.
+    /// A table or column of a club is missing, or a table that must be created exists already.
     Foreign,
-    /// The tables are of the schema with this number.
+    /// The tables have the schema with this number, which is not accepted.
     Schema(i64),
-    /// This table has rows that no club has.
+    /// This table has rows that no legal club has.
     Damaged(Table),
     /// A call of the database failed.
     Store,
-    /// The allocator refused.
+    /// Out of memory.
     Memory,
 }
 
-/// Writes the number, the name and then what it names, parted by blanks: `70 Foreign`, `72 Damaged games`.
+/// Writes the number, the name and its argument, separated by spaces: `70 Foreign`, `72 Damaged games`.
 impl fmt::Display for OpenFault {
     ghost use Rattle.std.specs.Prelude.{Some};
     ghost use Rattle.club_opening.specs.FaultText.{open_fault_text};

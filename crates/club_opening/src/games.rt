@@ -1,4 +1,5 @@
-//! Examining the games of a club, one after another: each by its row, and by those of its moves and of its positions.
+//! Checks the games of a club one at a time: the game's row with its rows of moves and of positions.
+//! Only the moves and positions of one game are in memory at once.
 
 ghost use Rattle.std.specs.Prelude.{◌≡◌, ◌≢◌, ◌⊎◌, ◌<◌, None, Some, IsTrue, IfOk, IfErr, IfSome, is_ok, map};
 ghost use Rattle.std.specs.Prelude.{length, slice_get};
@@ -31,21 +32,21 @@ use std::alloc::Global;
 use store_sql::{ReadFault, Select, check_rowids, read_by_first};
 use store_tables::{GameRecord, MoveRow, Rows, SeenRow, Table};
 
-/// How many rows of moves and of positions there are.
+/// The numbers of rows of moves and of positions.
 #[derive(Clone, Copy, Drop)]
 pub(crate) struct RowCounts {
     pub moves: usize,
     pub seen: usize,
 }
 
-/// What was found of the rows of a game: how many are its own, and the first wrong table, if there is one.
+/// The result for one game: its numbers of rows, and the first wrong table, if any.
 #[derive(Clone, Copy, Drop)]
 struct Found {
     own: RowCounts,
     wrong: Option<Table>,
 }
 
-/// The place of a table in the order in which wrong ones are named.
+/// The rank of a table in the order in which wrong tables are reported.
 fn order_of(table: Table) -> u8
     ensures { result ≡ order table }
 {
@@ -62,7 +63,7 @@ fn order_of(table: Table) -> u8
     }
 }
 
-/// The one of two wrong tables that is named first.
+/// The one of two wrong tables that is reported first.
 fn first_of(one: Option<Table>, other: Option<Table>) -> Option<Table>
     ensures { IsOneOf one other result }
 {
@@ -81,14 +82,14 @@ fn first_of(one: Option<Table>, other: Option<Table>) -> Option<Table>
     }
 }
 
-/// A table with so many rows that are no game's, which is wrong where there are some.
+/// The table, as wrong, if `count` of its rows belong to no game.
 fn left_over(count: usize, table: Table) -> Option<Table>
     ensures { NamesLeft table count result }
 {
     if count > 0 { Some(table) } else { None }
 }
 
-/// How many rows a table has, which a fault names so. Its rowids are tested.
+/// Counts the rows of a table and checks its rowids. An error names `table`.
 pub(crate) fn count_of<T: Select, S: Alter>(
     alloc: Global,
     conn: &mut Connection<S>,
@@ -111,7 +112,7 @@ pub(crate) fn count_of<T: Select, S: Alter>(
     }
 }
 
-/// The rows of a table that begin with the id of a game. A fault names the table so.
+/// Reads the rows of a table whose first column is the id of the game. An error names `table`.
 fn read_of<T: Select, S: Alter>(
     alloc: Global,
     conn: &mut Connection<S>,
@@ -132,8 +133,7 @@ fn read_of<T: Select, S: Alter>(
     }
 }
 
-/// The rows of positions that begin with the id of a game, or None where a value of theirs is of another type than its
-/// column.
+/// Reads the rows of positions of the game; `None` if a value has the wrong type for its column.
 fn read_seen<S: Alter>(
     alloc: Global,
     conn: &mut Connection<S>,
@@ -160,7 +160,6 @@ fn read_seen<S: Alter>(
     }
 }
 
-/// The moment, if one is given.
 fn given(last: &Option<Moment>) -> Option<Moment>
     ensures { result ≡ last.now }
 {
@@ -170,7 +169,7 @@ fn given(last: &Option<Moment>) -> Option<Moment>
     }
 }
 
-/// What these rows of the game at this place, from 0, show, up to the last moment, if there is one.
+/// Checks the rows of the game at index `place` (from 0), up to the last timestamp if there is one.
 fn found_of(
     alloc: Global,
     rows: &Rows,
@@ -198,9 +197,10 @@ fn found_of(
     }
 }
 
-/// Reads all rows of the game at this place, from 0, and tests whether they are those of a legal game, up to the last
-/// moment, if there is one. Where its rows of positions have values of other types, the moves and the game are judged
-/// before these are named.
+/// Reads all rows of the game at index `place` (from 0) and checks that they are those of a legal game, up to the last
+/// timestamp if there is one.
+/// If a position has a value of the wrong type, the moves and the game are still checked, since they are reported
+/// before positions.
 fn examine_game<S: Alter>(
     alloc: Global,
     conn: &mut Connection<S>,
@@ -250,9 +250,9 @@ fn examine_game<S: Alter>(
     }
 }
 
-/// Reads the rows of all games, one game after another, of so many rows of moves and of positions, and tests that
-/// they are those of legal games, up to the last moment, if there is one, and that there are no others: the first wrong
-/// table by them, or the one that is known, whichever is named first.
+/// Checks the rows of all games, one game at a time, and that no row of moves or of positions belongs to no game.
+/// `all` are the numbers of rows in both tables. Returns the first wrong table: one found here, or `known`, whichever
+/// is reported first.
 pub(crate) fn examine_games<S: Alter>(
     alloc: Global,
     conn: &mut Connection<S>,

@@ -1,4 +1,5 @@
-//! The rows of games, and what is known of them where a value is of another type than its column.
+//! Rows of games in which a value has the wrong type for its column.
+//! Challenges and moves are reported before games, so they are checked by the values that can be read.
 
 ghost use Rattle.std.specs.Prelude.{◌≡◌, negsuc, true, false, IfOk, IfErr, All, is_ok, map};
 ghost use Rattle.sqlite.specs.Held.{state};
@@ -25,7 +26,7 @@ use std::alloc::Global;
 use store_sql::show_all;
 use store_tables::{GameRecord, Table, TableRow, Unread, parse_all};
 
-/// The whole number that a value is, or -1, which is no id.
+/// The integer value, or -1, which is no id, if the value is not an integer.
 fn whole(value: ValueRef<'_>) -> i64
     ensures { result ≡ known (owned value.entry) }
 {
@@ -35,7 +36,7 @@ fn whole(value: ValueRef<'_>) -> i64
     }
 }
 
-/// The whole number in a column, or -1.
+/// The integer in a column, or -1.
 fn whole_at(row: &Row, at: usize) -> i64
     ensures { result ≡ known (column row.now at) }
 {
@@ -45,7 +46,7 @@ fn whole_at(row: &Row, at: usize) -> i64
     }
 }
 
-/// What is known of a game by a row that may have values of other types: its id, its event and its players.
+/// The id, event and players of a game whose row may have values of wrong types; the other columns are placeholders.
 fn known_game(alloc: Global, row: &Row) -> GameRecord
     ensures { game_seat result ≡ row_seat row.now }
 {
@@ -70,7 +71,6 @@ fn known_game(alloc: Global, row: &Row) -> GameRecord
     }
 }
 
-/// What is known of each game.
 fn known_games(alloc: Global, shown: &[Row]) -> Result<Vec<GameRecord>, OpenFault>
     ensures known { IfOk result (λ games. map game_seat games.items ≡ map row_seat shown.now) }
     ensures memory { IfErr result (λ e. e ≡ OpenFault.Memory) }
@@ -84,7 +84,7 @@ fn known_games(alloc: Global, shown: &[Row]) -> Result<Vec<GameRecord>, OpenFaul
     Ok(games)
 }
 
-/// A game with the id of this row, which names no event.
+/// A game with the id of this row and no valid event.
 fn nameless(alloc: Global, row: &Row) -> GameRecord
     ensures id { result.id ≡ known (column row.now 0) }
     ensures event { result.event ≡ negsuc 0 }
@@ -110,7 +110,7 @@ fn nameless(alloc: Global, row: &Row) -> GameRecord
     }
 }
 
-/// The game of a row; or, where a value is of another type, one with its id that names no event.
+/// The game of a row; if a value has the wrong type, one with the row's id and no valid event.
 fn judged_game(alloc: Global, row: &Row) -> Result<GameRecord, OpenFault>
     ensures judged { IfOk result (IsJudged row.now) }
     ensures memory { IfErr result (λ e. e ≡ OpenFault.Memory) }
@@ -125,7 +125,7 @@ fn judged_game(alloc: Global, row: &Row) -> Result<GameRecord, OpenFault>
     }
 }
 
-/// The games of all rows, so far.
+/// The games of all rows, by `judged_game`.
 fn judged_games(alloc: Global, shown: &[Row]) -> Result<Vec<GameRecord>, OpenFault>
     ensures judged { IfOk result (λ games. AreJudged shown.now games.items) }
     ensures memory { IfErr result (λ e. e ≡ OpenFault.Memory) }
@@ -143,8 +143,8 @@ fn judged_games(alloc: Global, shown: &[Row]) -> Result<Vec<GameRecord>, OpenFau
     Ok(games)
 }
 
-/// The rows of games, and whether each value is of the type of its column. Where one is not, these rows have what is
-/// known of the games, and those by which their moves are judged stand beside.
+/// The games that were read, and whether each value has the type of its column.
+/// If not, `games` has ids, events and players only, and `judged` has the games by which the moves are checked.
 #[derive(Drop)]
 pub(crate) struct GameRows {
     pub games: Vec<GameRecord>,
@@ -152,7 +152,7 @@ pub(crate) struct GameRows {
     pub are_typed: bool,
 }
 
-/// What is known of the games by these values.
+/// The games of rows of which some value has the wrong type.
 fn untyped_games(alloc: Global, shown: &[Row]) -> Result<GameRows, OpenFault>
     ensures known { IfOk result (λ found. (map game_seat found.games.items ≡ map row_seat shown.now) ×
         AreJudged shown.now found.judged.items) }
@@ -173,7 +173,7 @@ fn untyped_games(alloc: Global, shown: &[Row]) -> Result<GameRows, OpenFault>
     }
 }
 
-/// The rows of games that these values show.
+/// The games of these rows.
 fn games_of(alloc: Global, shown: &[Row]) -> Result<GameRows, OpenFault>
     ensures typed { IfOk result (λ found. found.are_typed ≡ true → shown.now ≡ map game_cells found.games.items) }
     ensures known { IfOk result (λ found. found.are_typed ≡ false → (¬ All IsGame shown.now) ×
@@ -199,7 +199,7 @@ fn games_of(alloc: Global, shown: &[Row]) -> Result<GameRows, OpenFault>
     }
 }
 
-/// All rows of games, or what is known of the games where a value is of another type than its column.
+/// Reads all rows of games, also if a value has the wrong type for its column.
 pub(crate) fn read_games<S: Alter>(
     alloc: Global,
     conn: &mut Connection<S>,

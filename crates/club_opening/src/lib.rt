@@ -1,4 +1,6 @@
-//! What an opening asks of a database: that its tables are those of a club, every row of them. It changes nothing.
+//! Checks, when a database is opened, that its schema and every row are those of a legal club.
+//!
+//! Reads only; the database is not changed.
 #![tactic(auto)]
 
 mod audit;

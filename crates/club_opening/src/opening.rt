@@ -1,4 +1,4 @@
-//! Examining the tables of a database that was opened.
+//! The check of a whole database: `examine` and `examine_from`.
 
 ghost use Rattle.std.specs.Prelude.{◌≡◌, ◌≢◌, ◌⊎◌, true, false, None, Some, IfErr, IfOk, OnOk, is_ok};
 ghost use Rattle.sqlite.specs.State.{HasCleanDisk, IsUnchanged};
@@ -33,8 +33,8 @@ use sqlite::{Alter, Connection};
 use std::alloc::Global;
 use store_tables::{GameRecord, MoveRow, Rows, ScoreRow, SeenRow, Table, Version};
 
-/// Tests that the moves and the positions are those of the games, which were read: the first wrong table by them, or
-/// the one that is known, whichever is named first.
+/// Checks the moves and positions against the games, which were read. Returns the first wrong table: one found here, or
+/// `known`, whichever is reported first.
 fn examine_play<S: Alter>(
     alloc: Global,
     conn: &mut Connection<S>,
@@ -75,7 +75,7 @@ fn examine_play<S: Alter>(
     }
 }
 
-/// What is named where a row of games has a value of another type: the moves, where they are wrong; else the games.
+/// The error if a row of games has a value of the wrong type: wrong moves are reported first, then the games.
 fn named_by(wrong: Option<Table>) -> OpenFault
     ensures moves { wrong ≡ Some Table.Moves → result ≡ OpenFault.Damaged Table.Moves }
     ensures games { wrong ≢ Some Table.Moves → result ≡ OpenFault.Damaged Table.Games }
@@ -86,7 +86,7 @@ fn named_by(wrong: Option<Table>) -> OpenFault
     }
 }
 
-/// What is named where a row of games has a value of another type, and reading the moves came to this fault.
+/// The error if a row of games has a value of the wrong type and reading the moves returned this error.
 fn named_for(fault: OpenFault) -> OpenFault
     ensures damaged { (t : Table) → fault ≡ OpenFault.Damaged t →
         ((t ≡ Table.Moves) × (result ≡ OpenFault.Damaged Table.Moves))
@@ -99,7 +99,6 @@ fn named_for(fault: OpenFault) -> OpenFault
     }
 }
 
-/// The same rows with other games.
 fn with_games(rows: Rows, judged: Vec<GameRecord>) -> Rows
     ensures { result ≡ record rows { games = judged } }
 {
@@ -121,8 +120,8 @@ fn with_games(rows: Rows, judged: Vec<GameRecord>) -> Rows
     }
 }
 
-/// What is named where a row of games has a value of another type: the challenges, where these are wrong by what is
-/// known of the games; else the moves, where they are wrong by the games that were read; else the games.
+/// The error if a row of games has a value of the wrong type: challenges that are wrong by the ids, events and players
+/// that were read; else wrong moves; else the games.
 pub(crate) fn name_untyped<S: Alter>(
     alloc: Global,
     conn: &mut Connection<S>,
@@ -148,7 +147,7 @@ pub(crate) fn name_untyped<S: Alter>(
     }
 }
 
-/// Tests that the scores are those of the games, which were read.
+/// Checks the scores against the games, which were read.
 fn examine_scores<S: Alter>(
     alloc: Global,
     conn: &mut Connection<S>,
@@ -176,7 +175,7 @@ fn examine_scores<S: Alter>(
     }
 }
 
-/// The wrong table, where it is named before the scores.
+/// The wrong table, if it is reported before the scores.
 fn before_scores(wrong: Option<Table>) -> Option<Table>
     ensures some { (t : _) → result ≡ Some t → wrong ≡ Some t }
     ensures none { result ≡ None → (wrong ≡ None) ⊎ (wrong ≡ Some Table.Meta) }
@@ -189,21 +188,34 @@ fn before_scores(wrong: Option<Table>) -> Option<Table>
     }
 }
 
-/// Tests that the tables are those of a club of schema 2, or answer as they do, and changes nothing. Of wrong tables
-/// the first is named, in the order members, events, rules of events, challenges, moves, games, positions, scores,
-/// `meta`. Where rows of games have values of other types, the moves of the other games are looked at before the games
-/// are named. Schema 1 is refused by its number.
+/// Checks that the database holds a legal club of schema 2, and changes nothing.
+/// Wrong tables are reported in the order members, events, event rules, challenges, moves, games, positions, scores,
+/// `meta`.
+///
+/// # Errors
+///
+/// - `OpenFault::Foreign`: a table or column is missing, the schema number does not fit the tables, or they answer
+///   queries differently from a club's.
+/// - `OpenFault::Schema`: `meta` has another schema number, for example 1.
+/// - `OpenFault::Damaged`: the first table with wrong rows.
+/// - `OpenFault::Store`: a call of the database failed.
+/// - `OpenFault::Memory`: out of memory.
+///
+/// # Guarantees
+///
+/// `held`: a database that passes holds a legal club. `good`: a legal club passes, unless a call fails or memory runs
+/// out. `blames`, `first`: the error is true of the rows, and a damaged table is the first wrong one.
 pub fn examine<S: Alter>(alloc: Global, conn: &mut Connection<S>) -> Result<(), OpenFault>
     ensures reads { Reads (is_ok result) (state S.Store conn.old) (state S.Store conn.new) }
     ensures found { HasCleanDisk (state S.Store conn.new) → OnOk result (IsOpened (state S.Store conn.old) → (s : _) ×
         IsClub s × IsExactly (tables s) (state S.Store conn.new)) }
-    // By whatever texts its tables were made, they answer as those of a club.
+    // The schema is equivalent to a club's, whatever `CREATE` statements made it.
     ensures shape { OnOk result (is_of_club Current (state S.Store conn.old).now.schema ≡ true) }
     ensures same { HasCleanDisk (state S.Store conn.new) → OnOk result (
         IsClubSchema (state S.Store conn.old).now.schema →
         ((state S.Store conn.old).now.schema ≡ club_schema) ×
         IsUnchanged (state S.Store conn.old) (state S.Store conn.new)) }
-    // Where its tables stand, alone or among what other programs made, nothing was changed; and they have the rows of
+    // If the tables of schema 2 exist, alone or beside foreign tables, nothing was changed and their rows are those of
     // a legal club.
     ensures stays { HasCleanDisk (state S.Store conn.new) → OnOk result (
         HasTablesOf Current (state S.Store conn.old).now.schema →
@@ -215,7 +227,7 @@ pub fn examine<S: Alter>(alloc: Global, conn: &mut Connection<S>) -> Result<(), 
         HasClubTables (state S.Store conn.old).now.schema → Names Current (state S.Store conn.old).now e) }
     ensures first { HasCleanDisk (state S.Store conn.new) → IfErr result (λ e.
         HasClubTables (state S.Store conn.old).now.schema → NamesFirst (state S.Store conn.old).now e) }
-    // A legal club, alone or among what other programs made, is taken.
+    // A legal club, alone or beside foreign tables, is accepted.
     ensures good { HasCleanDisk (state S.Store conn.new) → IfErr result (λ e. (s : ClubState) → IsClub s →
         HoldsRows Current (tables s) (state S.Store conn.old).now →
         is_of_club Current (state S.Store conn.old).now.schema ≡ true →
@@ -228,8 +240,18 @@ pub fn examine<S: Alter>(alloc: Global, conn: &mut Connection<S>) -> Result<(), 
     Ok(())
 }
 
-/// Tests that the tables are those of a club of a version from the oldest on, and changes nothing: which version, and
-/// its rows. Of wrong tables the first is named, as by `examine`; a version before the oldest is refused by its number.
+/// Checks that the database holds a legal club of version `oldest` or later, and returns the version and the rows that
+/// are read whole.
+/// Changes nothing. Wrong tables are reported in the order of `examine`.
+///
+/// # Errors
+///
+/// As `examine`; `OpenFault::Schema` for a version before `oldest`.
+///
+/// # Guarantees
+///
+/// `held`: the rows returned are those of the legal club in the database. `good`: a legal club of an accepted version
+/// passes, unless a call fails or memory runs out.
 pub fn examine_from<S: Alter>(
     alloc: Global,
     conn: &mut Connection<S>,
@@ -248,8 +270,8 @@ pub fn examine_from<S: Alter>(
         IsClubSchema (state S.Store conn.old).now.schema →
         ((state S.Store conn.old).now.schema ≡ schema_of found.version) ×
         IsUnchanged (state S.Store conn.old) (state S.Store conn.new)) }
-    // Where the tables of a version stand, alone or among what other programs made, nothing was changed; and they have
-    // the rows of a legal club, to which those that were read belong.
+    // If the tables of a version exist, alone or beside foreign tables, nothing was changed, and the rows returned are
+    // those of the legal club in them.
     ensures stays { HasCleanDisk (state S.Store conn.new) → IfOk result (λ found.
         HasClubTables (state S.Store conn.old).now.schema →
         HasTablesOf found.version (state S.Store conn.old).now.schema ×
@@ -262,7 +284,7 @@ pub fn examine_from<S: Alter>(
         HasClubTables (state S.Store conn.old).now.schema → Names oldest (state S.Store conn.old).now e) }
     ensures first { HasCleanDisk (state S.Store conn.new) → IfErr result (λ e.
         HasClubTables (state S.Store conn.old).now.schema → NamesFirst (state S.Store conn.old).now e) }
-    // A legal club of a version that is taken, alone or among what other programs made, is found to be one.
+    // A legal club of an accepted version, alone or beside foreign tables, is accepted.
     ensures good { HasCleanDisk (state S.Store conn.new) → IfErr result (λ e. (version : _) (s : ClubState) →
         IsClubOf version s → HoldsRows version (tables_at version s) (state S.Store conn.old).now →
         is_of_club version (state S.Store conn.old).now.schema ≡ true →
@@ -283,7 +305,7 @@ pub fn examine_from<S: Alter>(
     }
 }
 
-/// Tests that these rows, which were read, and those of moves, positions and scores are those of a club.
+/// Checks these rows, which were read, with the moves, positions and scores, which are read here.
 fn examine_rows<S: Alter>(
     alloc: Global,
     conn: &mut Connection<S>,

@@ -1,4 +1,4 @@
-//! All rows of each table, as rows of its type.
+//! Reads the tables of a club and checks members, events and event rules.
 
 ghost use Rattle.std.specs.Prelude.{◌≡◌, ◌≢◌, ◌⊎◌, ℕ, pos, true, None, Some, IfSome, IfOk, IfErr, OnOk, IsTrue, List};
 ghost use Rattle.std.specs.Prelude.{[], ◌∷◌, is_ok, length, map};
@@ -39,7 +39,8 @@ use store_tables::{
 };
 use table_shapes::versions_of;
 
-/// A text that is not understood names a table or a column that is missing, or makes a table that stands.
+/// The error for a failed statement: `Foreign` if the statement was rejected (a table or column is missing, or the
+/// table to create exists), else `Store`.
 pub fn fault_of(error: Error) -> OpenFault
     ensures store { IsNoInput error → result ≡ OpenFault.Store }
     ensures foreign { result ≡ OpenFault.Foreign → ¬ IsNoInput error }
@@ -52,7 +53,7 @@ pub fn fault_of(error: Error) -> OpenFault
     }
 }
 
-/// Why the rows of this table were not read.
+/// The error for a table whose rows could not be read.
 pub(crate) fn fault_in(table: Table, fault: ReadFault) -> OpenFault
     ensures { result ≡ told table fault }
 {
@@ -64,7 +65,7 @@ pub(crate) fn fault_in(table: Table, fault: ReadFault) -> OpenFault
     }
 }
 
-/// All rows of a table, which a fault names so.
+/// Reads all rows of a table. An error names `table`.
 pub(crate) fn read<T: Select, S: Alter>(
     alloc: Global,
     conn: &mut Connection<S>,
@@ -84,7 +85,7 @@ pub(crate) fn read<T: Select, S: Alter>(
     }
 }
 
-/// The row of `meta`, or None where there is not one row, with the id 1.
+/// The row of `meta`; `None` unless there is exactly one row, with id 1.
 fn one_meta(shown: &[Row]) -> Result<Option<MetaRow>, OpenFault>
     ensures some { IfOk result (λ o. IfSome o (λ found. (shown.now ≡ meta_cells found ∷ []) × (found.id ≡ pos 1))) }
     ensures none { IfOk result (λ o. o ≡ None → ¬ IsOneMeta shown.now) }
@@ -106,7 +107,7 @@ fn one_meta(shown: &[Row]) -> Result<Option<MetaRow>, OpenFault>
     }
 }
 
-/// The row of `meta`, or None where there is not one row, with the id 1.
+/// Reads the row of `meta`; `None` unless there is exactly one row, with id 1.
 fn read_meta<S: Alter>(conn: &mut Connection<S>) -> Result<Option<MetaRow>, OpenFault>
     ensures reads { Reads (is_ok result) (state S.Store conn.old) (state S.Store conn.new) }
     ensures some { HasCleanDisk (state S.Store conn.new) → IfOk result (λ o. IfSome o (λ found.
@@ -127,7 +128,7 @@ fn read_meta<S: Alter>(conn: &mut Connection<S>) -> Result<Option<MetaRow>, Open
     one_meta(&shown)
 }
 
-/// The members, tested to be those of a legal club.
+/// Reads the members and checks that they are those of a legal club.
 fn read_members<S: Alter>(
     alloc: Global,
     conn: &mut Connection<S>,
@@ -153,7 +154,7 @@ fn read_members<S: Alter>(
     Ok(members)
 }
 
-/// The events, tested to be those of a legal club.
+/// Reads the events and checks that they are those of a legal club.
 fn read_events<S: Alter>(
     alloc: Global,
     conn: &mut Connection<S>,
@@ -185,14 +186,14 @@ fn other_schema(found: &MetaRow) -> OpenFault
     OpenFault::Schema(found.schema)
 }
 
-/// What the row of `meta` tells, or what stands for it where there is not one row, with the id 1.
+/// The schema version and the row of `meta`, or the substitute of `no_meta`.
 #[derive(Drop)]
 pub(crate) struct FileHead {
     version: Version,
     meta: MetaRow,
 }
 
-/// What the row of `meta` tells of the version of the tables and of the last moment.
+/// Reads the schema version and the last timestamp from `meta`.
 fn read_version<S: Alter>(conn: &mut Connection<S>) -> Result<FileHead, OpenFault>
     ensures reads { Reads (is_ok result) (state S.Store conn.old) (state S.Store conn.new) }
     ensures found { HasCleanDisk (state S.Store conn.new) → IfOk result (λ told.
@@ -224,7 +225,6 @@ fn read_version<S: Alter>(conn: &mut Connection<S>) -> Result<FileHead, OpenFaul
     }
 }
 
-/// The version of a schema's number, if there is one.
 fn version_of(number: i64) -> Option<Version>
     ensures some { IfSome result (λ version. number ≡ pos (schema_number version)) }
     ensures none { result ≡ None → ¬ IsNumberFrom First number }
@@ -236,7 +236,7 @@ fn version_of(number: i64) -> Option<Version>
     }
 }
 
-/// Why tables of this version are refused, where versions are taken from the oldest on.
+/// The error for tables of this version, unless it is `oldest` or later.
 fn refused(oldest: Version, version: Version) -> Option<OpenFault>
     ensures none { result ≡ None → (oldest ≡ Current) → version ≡ Current }
     ensures some { IfSome result (λ e.
@@ -248,7 +248,7 @@ fn refused(oldest: Version, version: Version) -> Option<OpenFault>
     }
 }
 
-/// Tests that a table stands, of which no row is read yet.
+/// Checks that a table and its columns exist, before any of its rows is read.
 fn check_table<T: Select, S: Alter>(conn: &mut Connection<S>, table: Table) -> Result<(), OpenFault>
     ensures reads { Reads (is_ok result) (state S.Store conn.old) (state S.Store conn.new) }
     ensures same { HasCleanDisk (state S.Store conn.new) →
@@ -263,7 +263,7 @@ fn check_table<T: Select, S: Alter>(conn: &mut Connection<S>, table: Table) -> R
     }
 }
 
-/// Tests that the tables stand that each version has but `meta`, before any row of them is read.
+/// Checks that the tables that are common to all versions exist, except `meta`.
 fn check_tables<S: Alter>(conn: &mut Connection<S>) -> Result<(), OpenFault>
     ensures reads { Reads (is_ok result) (state S.Store conn.old) (state S.Store conn.new) }
     ensures same { HasCleanDisk (state S.Store conn.new) →
@@ -282,7 +282,7 @@ fn check_tables<S: Alter>(conn: &mut Connection<S>) -> Result<(), OpenFault>
     }
 }
 
-/// Tests that the table of the rules of events stands exactly where the version has it.
+/// Checks that the table of event rules exists exactly if the version has it.
 fn check_rules<S: Alter>(conn: &mut Connection<S>, version: Version) -> Result<(), OpenFault>
     ensures reads { Reads (is_ok result) (state S.Store conn.old) (state S.Store conn.new) }
     ensures same { HasCleanDisk (state S.Store conn.new) → OnOk result (
@@ -308,7 +308,7 @@ fn check_rules<S: Alter>(conn: &mut Connection<S>, version: Version) -> Result<(
     Ok(())
 }
 
-/// Tests that the tables of members, events, challenges and games stand.
+/// Checks that the tables of members, events, challenges and games exist.
 fn check_people<S: Alter>(conn: &mut Connection<S>) -> Result<(), OpenFault>
     ensures reads { Reads (is_ok result) (state S.Store conn.old) (state S.Store conn.new) }
     ensures same { HasCleanDisk (state S.Store conn.new) →
@@ -335,7 +335,7 @@ fn check_people<S: Alter>(conn: &mut Connection<S>) -> Result<(), OpenFault>
     }
 }
 
-/// Tests that the tables of moves, positions and scores stand.
+/// Checks that the tables of moves, positions and scores exist.
 fn check_play<S: Alter>(conn: &mut Connection<S>) -> Result<(), OpenFault>
     ensures reads { Reads (is_ok result) (state S.Store conn.old) (state S.Store conn.new) }
     ensures same { HasCleanDisk (state S.Store conn.new) →
@@ -358,7 +358,8 @@ fn check_play<S: Alter>(conn: &mut Connection<S>) -> Result<(), OpenFault>
     }
 }
 
-/// What stands for the row of `meta` where there is not one row, with the id 1: a moment that no club has.
+/// The substitute for a missing or wrong row of `meta`: its timestamp is invalid, so `meta` is reported if no earlier
+/// table is wrong.
 fn no_meta() -> MetaRow
     ensures { (n : ℕ) → result.last ≢ pos n }
 {
@@ -369,7 +370,7 @@ fn no_meta() -> MetaRow
     }
 }
 
-/// The rules of events of schema 1, by the rows of these: none has declarations.
+/// The event rules of a club of schema 1, which has no table for them: no event allows declarations.
 fn undeclared(alloc: Global, events: &[EventRow]) -> Result<Vec<EventRuleRow>, OpenFault>
     ensures rules { IfOk result (λ rules. map event_rule_cells rules.items ≡ map undeclared_row events.now) }
     ensures memory { IfErr result (λ e. e ≡ OpenFault.Memory) }
@@ -387,7 +388,7 @@ fn undeclared(alloc: Global, events: &[EventRow]) -> Result<Vec<EventRuleRow>, O
     Ok(rules)
 }
 
-/// The rules of the events, tested to be those of a legal club: those of their table, or none of schema 1.
+/// Reads the event rules and checks them against the events; schema 1 has none to read.
 fn read_rules<S: Alter>(
     alloc: Global,
     conn: &mut Connection<S>,
@@ -422,17 +423,17 @@ fn read_rules<S: Alter>(
     Ok(rules)
 }
 
-/// The rows of a club that are read whole, and the version of its tables.
+/// The rows of a club that are read whole, and the schema version.
 #[derive(Drop)]
 pub struct Register {
-    /// The version of the tables.
+    /// The version of the schema.
     pub version: Version,
-    /// All rows but those of moves, positions and scores. In schema 1 the rules of events are those that schema 2 has
-    /// for them.
+    /// All rows except those of moves, positions and scores. For schema 1, `event_rules` are those that an upgrade
+    /// writes.
     pub rows: Rows,
 }
 
-/// What the row of `meta` tells, where the version is taken, from the oldest on, and all its tables stand.
+/// Reads `meta` and checks that the version is `oldest` or later and that all its tables exist.
 fn read_head<S: Alter>(conn: &mut Connection<S>, oldest: Version) -> Result<FileHead, OpenFault>
     ensures reads { Reads (is_ok result) (state S.Store conn.old) (state S.Store conn.new) }
     ensures found { HasCleanDisk (state S.Store conn.new) → IfOk result (λ told.
@@ -466,8 +467,9 @@ fn read_head<S: Alter>(conn: &mut Connection<S>, oldest: Version) -> Result<File
     }
 }
 
-/// The same, where the tables answer as those of the version, by whatever texts they were made. Tables of another
-/// schema are called so by its number.
+/// As `read_head`; also checks that the schema is equivalent to that of the version, whatever `CREATE` statements made
+/// it.
+/// An unaccepted schema number is reported before a schema that differs.
 fn read_shaped<S: Alter>(
     alloc: Global,
     conn: &mut Connection<S>,
@@ -504,7 +506,7 @@ fn read_shaped<S: Alter>(
     }
 }
 
-/// The people of a club, and what tells of them: its members, its events and their rules.
+/// The version, `meta`, members, events and event rules of a club.
 #[derive(Drop)]
 pub(crate) struct People {
     pub version: Version,
@@ -514,9 +516,9 @@ pub(crate) struct People {
     pub event_rules: Vec<EventRuleRow>,
 }
 
-/// The people of a club, and nothing changed, where its version is taken: from the oldest on. Tables that would not
-/// answer as a club's are refused before their rows are read. The members, the events and their rules are tested as
-/// they are read, so that of tables with wrong rows the first is named.
+/// Reads the version, `meta`, members, events and event rules.
+/// The schema is checked before any row is read. Each table is checked before the next is read, so that the first wrong
+/// table is reported.
 fn read_people<S: Alter>(
     alloc: Global,
     conn: &mut Connection<S>,
@@ -560,9 +562,9 @@ fn read_people<S: Alter>(
     }
 }
 
-/// All rows of a club but those of moves, positions and scores, and nothing changed, where its version is taken: from
-/// the oldest on. Of tables with wrong rows the first is named; where a row of games has a value of another type, the
-/// challenges and the moves are tested before the games are named.
+/// Reads all rows except those of moves, positions and scores.
+/// The first wrong table is reported; if a row of games has a value of the wrong type, challenges and moves are checked
+/// before games are reported.
 pub(crate) fn read_rows<S: Alter>(
     alloc: Global,
     conn: &mut Connection<S>,

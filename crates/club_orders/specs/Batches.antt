@@ -1,5 +1,5 @@
--- A batch: questions that are asked first, and orders that are given to a club in turn up to the first fault. What is
--- printed of it, and what it is to the club.
+-- A batch: queries that must not be refused, then requests in turn up to the first fault. Its output, and its effect on
+-- the club.
 use Rattle.std.specs.Prelude.{◌≡◌, ◌⊎◌, ◌≤◌, ℕ, Bool, true, false, List, [], ◌∷◌, ◌++◌, length, map, take, decimal}
 use Rattle.std.specs.Prelude.{Option, Some, None, IsSome, IfSome, codes}
 use Rattle.std.specs.List.{list_any}
@@ -24,13 +24,13 @@ use Rattle.club_orders.specs.declared.batched.Batched.{Batched}
 use Rattle.club_orders.specs.declared.report.Report.{Report}
 use Rattle.club_orders.specs.declared.report.Report.TheVariants as report
 
--- ---- what is printed
+-- ---- output
 
--- the line of an order that was answered: its number, and its outcome
+-- the line of one request: its number and outcome
 abbrev pub answer_line : ℕ → Outcome → List ℕ
 answer_line number outcome = decimal number ++ (codes " " ++ (outcome_text outcome ++ codes "\n"))
 
--- such a line for each outcome, with the number that stands at its place
+-- one line for each outcome, with the number at the same index
 abbrev pub answer_lines : List ℕ → List Outcome → List ℕ
 answer_lines [] outcomes = []
 answer_lines (number ∷ numbers) [] = []
@@ -51,7 +51,7 @@ is_refused (outcome.Accepted answer) = false
 is_refused (outcome.Repeated answer) = false
 is_refused (outcome.Refused refusal) = true
 
--- 3 where a fault ended the batch, else 1 where some order was refused
+-- 3 if a fault ended the batch, else 1 if a request was refused, else 0
 abbrev pub status_of : Option StoreFault → Bool → ℕ
 status_of (Some fault) any_refused = 3
 status_of None true = 1
@@ -60,50 +60,50 @@ status_of None false = 0
 abbrev pub batch_status : Batched → ℕ
 batch_status batched = status_of batched.fault (list_any is_refused batched.outcomes.items)
 
--- a text, or where the writer failed a beginning of it, was written
+-- a text, or a prefix of it if the writer failed, was written
 pub record IsBegunWith (before now : Option (List ℕ)) (text : List ℕ) : Type 0 where
   pub front : List ℕ
   pub rest : List ℕ
   pub is : text ≡ front ++ rest
   pub written : Appends before now front
 
--- it is told why a batch ended, or that memory was refused for that
+-- the fault that ended the batch was printed, or that there was no memory to print it
 pub record IsFaultToldOf (fault : StoreFault) (before now : Option (List ℕ)) : Type 0 where
   pub text : List ℕ
   pub is_text : (text ≡ fault_text fault) ⊎ (text ≡ codes "store 75 Memory\n")
   pub count : ℕ
   pub written : Appends before now (take count text)
 
--- it is told that a line could not be made, or not be written
+-- it was printed that a line could not be built or written
 pub record IsUnprinted (before now : Option (List ℕ)) : Type 0 where
   pub text : List ℕ
   pub is_text : (text ≡ codes "store 75 Memory\n") ⊎ (text ≡ codes "store 77 Output\n")
   pub count : ℕ
   pub written : Appends before now (take count text)
 
--- What is told of a batch with the status of a fault: the one that ended it, behind the lines of all orders that were
--- answered; or that a beginning of these is all that could be printed.
+-- The output of a batch with exit status 3: the lines of all executed requests and then the fault, or a prefix of these
+-- lines and why the rest is missing.
 abbrev pub IsBatchTold : Batched → (out out_now err err_now : Option (List ℕ)) → Type 0
 IsBatchTold batched out out_now err err_now =
     (Appends out out_now (lines_of batched) × IfSome batched.fault (λ fault. IsFaultToldOf fault err err_now)
     × IsSome batched.fault)
     ⊎ (IsBegunWith out out_now (lines_of batched) × IsUnprinted err err_now)
 
--- ---- what it is to the club
+-- ---- effect
 
--- there is a text that the question is shown, or it is refused
+-- the query has an answer, or this refusal
 abbrev pub IsAsked : ClubState → (moment : ℕ) → Question → Option Refusal → Type 0
 IsAsked s moment question None = (text : List ℕ) × IsText s moment question text
 IsAsked s moment question (Some why) = IsRefused s question why
 
--- none of the questions is refused, or the first that is is refused so
+-- no query is refused, or this is the refusal of the first that is
 abbrev pub AreAsked : ClubState → (moment : ℕ) → List Question → Option Refusal → Type 0
 AreAsked s moment [] refusal = refusal ≡ None
 AreAsked s moment (question ∷ questions) refusal =
     (IsAsked s moment question None × AreAsked s moment questions refusal)
     ⊎ ((why : Refusal) × IsAsked s moment question (Some why) × (refusal ≡ Some why))
 
--- The orders were given to the club in turn, all of them or those up to a fault, and their outcomes are the machine's.
+-- The requests were executed in turn, all of them or up to a fault, with the outcomes of the specification.
 pub record AreGiven (s : ClubState) (batch : Batch) (batched : Batched) : Type 0 where
   pub numbers : batched.numbers.items ≡ batch.numbers.items
   pub within : length batched.outcomes.items ≤ length batch.requests.items
@@ -112,8 +112,8 @@ pub record AreGiven (s : ClubState) (batch : Batch) (batched : Batched) : Type 0
   pub whole : batched.fault ≡ None → length batched.outcomes.items ≡ length batch.requests.items
   pub fault : IfSome batched.fault (λ fault. (fault ≡ store_fault.Store) ⊎ (fault ≡ store_fault.Memory))
 
--- No question is refused, and the orders were given; or one is, and none was. Or a call of the database failed or
--- memory was refused before the first order.
+-- No query is refused and the requests were executed; or one is refused and none was; or a call failed or memory ran
+-- out before the first request.
 abbrev pub AnswersBatch : ClubState → (moment : ℕ) → Batch → Report → Type 0
 AnswersBatch s moment batch (report.Batched batched) =
     AreAsked s moment batch.questions.items None × AreGiven s batch batched
@@ -123,7 +123,7 @@ AnswersBatch s moment batch (report.Unopened fault) = (fault ≡ open_fault.Stor
 AnswersBatch s moment batch (report.Stopped fault) = (fault ≡ store_fault.Store) ⊎ (fault ≡ store_fault.Memory)
 AnswersBatch s moment batch _ = ⊥
 
--- the orders are one session, up to the fault where one ended them; where none was given there is no session
+-- the requests are one session, which ends at the fault if there is one; without requests there is no session
 abbrev pub batch_sessions : List Request → Report → List Chapter
 batch_sessions requests (report.Batched batched) =
     session_of requests (record { outcomes = batched.outcomes; fault = batched.fault }) ∷ []

@@ -1,4 +1,4 @@
--- What a report is about, and what is printed of it where explanations are asked for.
+-- The explanation of a report, and how it is printed.
 use Rattle.std.specs.Prelude.{ℕ, ◌==◌, List, [], ◌++◌, take, Option, Some, None, Bool, true, false}
 use Rattle.std.specs.Prelude.{if◌then◌else◌, pos, negsuc, ℤ}
 use Rattle.std.specs.Io.KnownBytes.{Appends}
@@ -28,7 +28,7 @@ use Rattle.club_orders.specs.declared.report.Report.TheVariants.{Listening, Unbo
 use Rattle.club_orders.specs.declared.report.Report.TheVariants.{AlreadyUpgraded, Batched, Copied, Uncopied}
 use Rattle.club_orders.specs.Report.{report_status, report_text, IsFaultText}
 
--- of the games of a member who is none
+-- a list of games names a member who does not exist
 abbrev pub games_explained : Refusal → Explanation
 games_explained BadValue = explanation.Value ListedMember
 games_explained refusal = explanation.Refusal refusal
@@ -37,18 +37,18 @@ abbrev pub question_explained : Question → Refusal → Explanation
 question_explained (Games listing) refusal = games_explained refusal
 question_explained question refusal = explanation.Refusal refusal
 
--- why a task is refused
+-- the explanation of a refused task
 abbrev pub task_explained : Task → Refusal → Explanation
 task_explained (task.Request command) refusal = refusal_explained refusal command
 task_explained (task.Ask question) refusal = question_explained question refusal
 task_explained _ refusal = explanation.Refusal refusal
 
--- 70: a club is made where nothing stands, and else there has to be one
+-- fault 70: `init` needs a database without a club, every other task one with a club
 abbrev pub foreign_explained : Task → ExplainedFault
 foreign_explained task.Init = fault.NotEmpty
 foreign_explained _ = fault.NoClub
 
--- 71: schema 1 is that of earlier versions of the program
+-- fault 71: schema 1 is older than the program, any other number newer
 abbrev pub schema_explained : ℤ → ExplainedFault
 schema_explained (pos n) = if n == 1 then fault.OlderSchema else fault.LaterSchema
 schema_explained (negsuc n) = fault.LaterSchema
@@ -69,7 +69,7 @@ abbrev pub answer_explained : Task → Outcome → Option Explanation
 answer_explained task (outcome.Refused refusal) = Some (task_explained task refusal)
 answer_explained task _ = None
 
--- a refusal and a fault have an explanation, and what was done has none
+-- a refusal or a fault has an explanation, a success has none
 abbrev pub report_explained : Task → Report → Option Explanation
 report_explained task (Answered outcome) = answer_explained task outcome
 report_explained task (Unopened fault) = Some (explanation.Fault (opening_explained task fault))
@@ -91,11 +91,11 @@ report_explained task Shown = None
 report_explained task (Batched batched) = None
 report_explained task (Listening port) = None
 
--- the line of a report could not be made, or where it was done not be written
+-- the line of a report was lost: of a success its output failed, else memory ran out
 abbrev pub lost_explained : Report → ExplainedFault
 lost_explained report = if report_status report == 0 then fault.NoOutput else fault.Memory
 
--- where the program ends with the report's own status the report is explained, and else that its line was lost
+-- the explanation of the report if the program exits with the report's status, else of the loss of its line
 abbrev pub explained_at : (status : ℕ) → Task → Report → Option Explanation
 explained_at status task report =
     if status == report_status report then report_explained task report
@@ -106,15 +106,14 @@ second_line true (Some e) = line_of e
 second_line true None = []
 second_line false e = []
 
--- the line of the refusal, and behind it its explanation where that is asked for, or where the writer fails a beginning
--- of that
+-- the line of the refusal, then its explanation if requested, or a prefix of these if the writer failed
 pub record IsRefusalExplained (explains : Bool) (task : Task) (report : Report) (before now : Option (List ℕ)) : Type 0
   where
     pub more : ℕ
     pub written : Appends before now
         (report_text report ++ take more (second_line explains (explained_at 1 task report)))
 
--- the same of a fault, where the first line may be a beginning, too
+-- the same for a fault, of which the first line may be cut off, too
 pub record IsFaultExplained (explains : Bool) (task : Task) (report : Report) (before now : Option (List ℕ)) : Type 0
   where
     pub text : List ℕ

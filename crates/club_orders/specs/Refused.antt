@@ -1,4 +1,4 @@
--- Which orders take a club over, and what is said of tables that are taken over, or not upgraded.
+-- Which tasks open a club, and what is promised about files that are opened, rejected or not upgraded.
 use Rattle.std.specs.Prelude.{◌≡◌, ◌≢◌, ◌⊎◌, List, pos, true, ⊤}
 use Rattle.sqlite.specs.Tree.{Trees}
 use Rattle.sqlite.specs.State.{State, Opens}
@@ -17,26 +17,26 @@ use Rattle.store.specs.Histories.{Chapter, HasState, IsHistory, IsReachable}
 use Rattle.club_words.specs.declared.words.Task.{Task}
 use Rattle.club_words.specs.declared.words.Task.TheVariants as task
 
--- The tables were not upgraded. An upgrade takes either version, and may have begun to write where a call of the
--- database failed.
+-- The tables were not upgraded. An upgrade accepts both versions; if a call of the database failed, it may have begun
+-- to write.
 pub record IsUpgradeRefusal (old new : State) (fault : OpenFault) : Type 0 where
   pub blames : HasClubTables old.now.schema → Names First old.now fault
   pub first : HasClubTables old.now.schema → NamesFirst old.now fault
   pub kept : fault ≢ Store → Opens old → IsKept old new
 
--- tables of schema 1 are refused by their number; or a call of the database failed, or memory was refused
+-- schema 1 is rejected by its number; or a call of the database failed, or memory ran out
 abbrev pub IsOlder : OpenFault → Type 0
 IsOlder fault = (fault ≡ Schema (pos 1)) ⊎ ((fault ≡ Store) ⊎ (fault ≡ Memory))
 
--- A legal state of schema 1 has the tables that stand there, alone or among what other programs made, and these answer
--- as a club's.
+-- The database has the tables of a legal state of schema 1, alone or beside foreign tables, in a schema equivalent to a
+-- club's.
 pub record HasFirst (them : Neighbours) (s : ClubState) (trees : Trees) : Type 0 where
   pub legal : IsFirstClub s
   pub leaves : LeavesFirst them (first_tables s) trees
   pub shape : is_of_club First leaves.schema ≡ true
 
--- A club was taken over: it is not of schema 1, and legal if its tables are a club's. Its state and its history go on
--- from what was found, beside the same tables of other programs, and so they do from whatever a stop leaves.
+-- A club was opened: it is not of schema 1, and legal if its tables are a club's. Its state and its history continue
+-- from what was found, beside the same foreign tables, and also from whatever a crash leaves.
 pub record IsTakenOver (old new : State) : Type 0 where
   pub newer : (them : Neighbours) (s : ClubState) → ¬ HasFirst them s old.committed.trees
   pub legal : HasClubTables old.now.schema → HoldClub old.committed.trees
@@ -47,7 +47,7 @@ pub record IsTakenOver (old new : State) : Type 0 where
   pub leads : (them : Neighbours) (sessions : List Chapter) → IsReachable them sessions old.committed.trees
       → (db : Trees) → new.may_leave db → IsReachable them sessions db
 
--- every task but the making of a club and its upgrade takes one over
+-- every task opens a club, except its creation and its upgrade
 abbrev pub IfTakesOver : Task → Type 0 → Type 0
 IfTakesOver task.Init Holds = ⊤
 IfTakesOver task.Upgrade Holds = ⊤

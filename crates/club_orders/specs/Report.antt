@@ -1,4 +1,4 @@
--- What an order came to: what is printed, the status of the program, and the sessions that it adds to a club's history.
+-- The result of an order: its output, the exit status, and the steps that it adds to the club's history.
 use Rattle.std.specs.Prelude.{◌≡◌, ◌≢◌, ◌⊎◌, ℕ, List, [], ◌∷◌, ◌++◌, take, Option, Some, None, Result, Ok, Err}
 use Rattle.std.specs.Prelude.{Bool, true, false, codes, decimal, ⊤}
 use Rattle.std.specs.Io.KnownBytes.{Appends}
@@ -37,7 +37,7 @@ use Rattle.club_words.specs.declared.batches.Batch.{Batch}
 use Rattle.club_words.specs.declared.words.Task.{Task}
 use Rattle.club_words.specs.declared.words.Task.TheVariants as task
 
--- what is printed of an order, beside what a question was shown, and of a batch beside the lines of its orders
+-- the line that is printed; the answer to a query and the lines of a batch are printed separately
 abbrev pub report_text : Report → List ℕ
 report_text Ready = codes "ready\n"
 report_text Sound = codes "sound\n"
@@ -64,7 +64,7 @@ outcome_status (outcome.Accepted answer) = 0
 outcome_status (outcome.Repeated answer) = 0
 outcome_status (outcome.Refused refusal) = 1
 
--- 0 for what was done, 1 for what was refused, 3 for a fault
+-- 0 for success, 1 for a refusal, 3 for a fault
 abbrev pub report_status : Report → ℕ
 report_status Ready = 0
 report_status Sound = 0
@@ -86,53 +86,52 @@ report_status (Listening port) = 0
 report_status Unbound = 3
 report_status NoMemory = 3
 
--- what is told where the status is that of a fault: the report itself, that memory was refused, or that what was done
--- could not be written
+-- the error line with exit status 3: the report itself, out of memory, or that the output failed after a success
 abbrev pub IsFaultText : Report → List ℕ → Type 0
 IsFaultText report text =
     ((report_status report ≢ 0) × (text ≡ report_text report))
     ⊎ ((text ≡ codes "store 75 Memory\n") ⊎ ((report_status report ≡ 0) × (text ≡ codes "store 77 Output\n")))
 
--- such a text is written, or where the writer fails a beginning of it
+-- that line, or a prefix of it if the writer failed, was written
 pub record IsFaultTold (report : Report) (before now : Option (List ℕ)) : Type 0 where
   pub text : List ℕ
   pub is_text : IsFaultText report text
   pub count : ℕ
   pub written : Appends before now (take count text)
 
--- ---- what it adds to the history of a club
+-- ---- effect on the history of the club
 
--- a command of the officer's
+-- a command of the officer
 abbrev pub given : Command → ℕ → Request
 given command moment = request Officer command moment
 
--- the session of one request that the report tells of: answered, or cut off by a fault
+-- the session of one request in the report: answered, or cut off by a fault
 abbrev pub request_sessions : Request → Report → List Chapter
 request_sessions asked (Answered outcome) = answered_session asked outcome ∷ []
 request_sessions asked (Stopped fault) = cut_session asked ∷ []
 request_sessions asked _ = []
 
--- the upgrade that the report tells of: answered, or cut off
+-- the upgrade in the report: answered or cut off
 abbrev pub upgrade_of : Report → Chapter
 upgrade_of Upgraded = upgraded true
 upgrade_of AlreadyUpgraded = upgraded true
 upgrade_of _ = upgraded false
 
--- making a club adds nothing, nor does reading
+-- creating a club and reading add no step
 abbrev pub task_sessions : Task → ℕ → Report → List Chapter
 task_sessions (task.Request command) moment report = request_sessions (given command moment) report
 task_sessions task.Upgrade moment report = upgrade_of report ∷ []
 task_sessions (task.Batch batch) moment report = batch_sessions batch.requests.items report
 task_sessions _ moment report = []
 
--- the command was answered so, or a call of the database failed or memory was refused
+-- the command has this outcome, or a call of the database failed, or memory ran out
 abbrev pub Answers : Report → (Outcome → Type 0) → Type 0
 Answers (Answered outcome) Holds = Holds outcome
 Answers (Unopened fault) Holds = (fault ≡ open_fault.Store) ⊎ (fault ≡ open_fault.Memory)
 Answers (Stopped fault) Holds = (fault ≡ store_fault.Store) ⊎ (fault ≡ store_fault.Memory)
 Answers _ Holds = ⊥
 
--- ---- what is said of one kind of task
+-- ---- properties of one kind of task
 
 abbrev pub IfRequest : Task → (Command → Type 0) → Type 0
 IfRequest (task.Request command) Holds = Holds command
@@ -150,22 +149,22 @@ abbrev pub IfVerify : Task → Type 0 → Type 0
 IfVerify task.Verify Holds = Holds
 IfVerify _ Holds = ⊤
 
--- only a question writes to what is handed to it
+-- only a query writes to the output that it is given
 abbrev pub writes : Task → Bool
 writes (task.Ask question) = true
 writes _ = false
 
--- ---- a question
+-- ---- queries
 
--- what is reported of one that was answered, or not
+-- the report of a query
 abbrev pub ask_report : Result (Option Refusal) AskFault → Report
 ask_report (Ok None) = Shown
 ask_report (Ok (Some refusal)) = Answered (outcome.Refused refusal)
 ask_report (Err ask_fault.Output) = Unwritten
 ask_report (Err (ask_fault.Club fault)) = Stopped fault
 
--- The text that the question is shown was written, or there is none and nothing was; or the writer or a call of the
--- database failed, or memory was refused, and a beginning of it was written.
+-- The answer to the query was written; or it is refused and nothing was; or the writer or a call failed, or memory ran
+-- out, and a prefix of the answer was written.
 abbrev pub Shows : ClubState → (moment : ℕ) → Question → Option (List ℕ) → Option (List ℕ) → Report → Type 0
 Shows s moment question before now Shown = HasShown s moment question None before now
 Shows s moment question before now (Answered (outcome.Refused refusal)) =
@@ -177,68 +176,68 @@ Shows s moment question before now (Stopped fault) =
     ((fault ≡ store_fault.Store) ⊎ (fault ≡ store_fault.Memory)) × HasShownSome s moment question before now
 Shows s moment question before now _ = ⊥
 
--- ---- a test
+-- ---- verification
 
--- the file was found sound; or a call of the database failed, or memory was refused
+-- the file is sound; or a call of the database failed, or memory ran out
 abbrev pub IsPassed : Report → Type 0
 IsPassed Sound = ⊤
 IsPassed (Unopened fault) = (fault ≡ open_fault.Store) ⊎ (fault ≡ open_fault.Memory)
 IsPassed _ = ⊥
 
--- ---- a copy
+-- ---- backup
 
--- it was made; or a call of the copy's or of the club's database failed, or memory was refused
+-- the copy was made; or a call of the copy's or of the club's database failed, or memory ran out
 abbrev pub IsOfCopy : Report → Type 0
 IsOfCopy Copied = ⊤
 IsOfCopy Uncopied = ⊤
 IsOfCopy (Stopped fault) = (fault ≡ store_fault.Store) ⊎ (fault ≡ store_fault.Memory)
 IsOfCopy _ = ⊥
 
--- ---- an upgrade
+-- ---- upgrade
 
--- the file was carried over; or a call of the database failed, or memory was refused
+-- the file was upgraded; or a call of the database failed, or memory ran out
 abbrev pub IsUpgraded : Report → Type 0
 IsUpgraded Upgraded = ⊤
 IsUpgraded (Unopened fault) = (fault ≡ open_fault.Store) ⊎ (fault ≡ open_fault.Memory)
 IsUpgraded _ = ⊥
 
--- the tables of the state in schema 2; or, where the file was not carried over, in schema 1
+-- the tables of the state in schema 2; if the upgrade failed, perhaps in schema 1
 abbrev pub AreCarried : Neighbours → ClubState → Report → Trees → Type 0
 AreCarried them s Upgraded trees = LeavesBeside them (tables s) trees
 AreCarried them s _ trees = LeavesFirst them (first_tables s) trees ⊎ LeavesBeside them (tables s) trees
 
--- what an upgrade of a club of schema 1 came to, beside the same tables of other programs
+-- the result of the upgrade of a club of schema 1, beside the same foreign tables
 pub record IsCarriedOver (them : Neighbours) (s : ClubState) (report : Report) (new : State) : Type 0 where
   pub answer : IsUpgraded report
   pub leaves : (db : Trees) → new.may_leave db → AreCarried them s report db
 
--- the file was of schema 2; or a call of the database failed, or memory was refused
+-- the file was of schema 2; or a call of the database failed, or memory ran out
 abbrev pub IsRepeated : Report → Type 0
 IsRepeated AlreadyUpgraded = ⊤
 IsRepeated (Unopened fault) = (fault ≡ open_fault.Store) ⊎ (fault ≡ open_fault.Memory)
 IsRepeated _ = ⊥
 
--- the fault of a report that the file was not taken as a club's
+-- holds for the fault, if the report is that the file was not accepted
 abbrev pub IfUnopened : Report → (OpenFault → Type 0) → Type 0
 IfUnopened (Unopened fault) Holds = Holds fault
 IfUnopened _ Holds = ⊤
 
--- the report is of a file that was taken as a club's
+-- holds if the file was accepted
 abbrev pub IfTaken : Report → Type 0 → Type 0
 IfTaken (Unopened fault) Holds = ⊤
 IfTaken _ Holds = Holds
 
--- the report is that the file was not taken as a club's, by such a fault
+-- the report is that the file was not accepted, with such a fault
 abbrev pub OnlyUnopened : Report → (OpenFault → Type 0) → Type 0
 OnlyUnopened (Unopened fault) Holds = Holds fault
 OnlyUnopened _ Holds = ⊥
 
--- The club with nothing in it stands; or none was made, and there is still no table, or it stands nevertheless.
+-- There is an empty club; or none was created, and there is no table, or an empty club after all.
 abbrev pub IsBegun : Report → Trees → Type 0
 IsBegun Ready trees = IsReachable alone [] trees
 IsBegun _ trees = IsEmpty trees ⊎ IsReachable alone [] trees
 
--- The same of a club that was to be made behind the tables of these programs.
+-- The same for a club that is created beside these foreign tables.
 abbrev pub IsBegunBehind : Neighbours → Report → Trees → Type 0
 IsBegunBehind them Ready trees = IsReachable them [] trees
 IsBegunBehind them _ trees = LeavesNoClub them trees ⊎ IsReachable them [] trees

@@ -1,4 +1,4 @@
-//! Orders that are given to a club in turn.
+//! Execution of a batch: queries, then requests in turn.
 
 ghost use Rattle.std.specs.Prelude.{◌≡◌, ◌⊎◌, false, refl, IfOk, IfErr, OnOk, is_ok};
 ghost use Rattle.sqlite.specs.State.{HasCleanDisk};
@@ -20,7 +20,7 @@ use std::alloc::Global;
 use std::io::{Write, sink};
 use store::{AskFault, Club, Run, StoreFault};
 
-// Why a question is refused, if it is. What it is shown is written nowhere.
+// The refusal of a query, if it is refused. Its answer is discarded.
 fn refusal_of<S: Alter>(
     alloc: Global,
     club: &mut Club<S>,
@@ -37,12 +37,12 @@ fn refusal_of<S: Alter>(
     match club.ask(alloc, question, moment, &mut sink()) {
         Ok(refusal) => Ok(refusal),
         Err(AskFault::Club(fault)) => Err(fault),
-        // A sink takes whatever is written to it, so this is not to be.
+        // A sink accepts all that is written, so this cannot happen.
         Err(AskFault::Output) => Err(StoreFault::Store),
     }
 }
 
-// Why the first of the questions that are refused is, if one is.
+// The refusal of the first query that is refused, if any.
 fn refusal_among<S: Alter>(
     alloc: Global,
     club: &mut Club<S>,
@@ -76,7 +76,7 @@ impl ClubTask for Batch {
 
     ghost no_chapter = { λ batch moment fault. refl };
 
-    // Asks the questions, and where none is refused gives the club the orders, up to the first fault.
+    // Runs the queries; if none is refused, executes the requests up to the first fault.
     fn do_in<S: Alter, W: Write>(
         &self,
         alloc: Global,
@@ -84,7 +84,7 @@ impl ClubTask for Batch {
         moment: Moment,
         _out: &mut W,
     ) -> Report {
-        // The numbers come first, so that no outcome is lost for want of memory.
+        // The numbers are copied first: no outcome may be lost for want of memory.
         let numbers = match Vec::from_slice(alloc, self.numbers.as_slice()) {
             Ok(numbers) => numbers,
             Err(_) => return Report::Stopped(StoreFault::Memory),

@@ -1,4 +1,4 @@
-//! What orders that were given in turn came to, and how it is printed.
+//! The results of a batch, and their output.
 
 ghost use Rattle.std.specs.Prelude.{◌≡◌, ◌≢◌, ◌⊎◌, ◌++◌, [], OnOk, string_bytes};
 ghost use Rattle.std.specs.Io.KnownBytes.{Appends};
@@ -13,20 +13,20 @@ use std::alloc::AllocError;
 use std::io::Write;
 use store::StoreFault;
 
-/// What orders that were given in turn came to.
+/// The results of a batch.
 #[derive(Debug, Drop)]
 pub struct Batched {
-    /// The number of each order, also of those that were not answered.
+    /// The line number of each request, also of those that were not executed.
     pub numbers: Vec<u64>,
-    /// The outcomes of those that were answered, in their order.
+    /// The outcomes of the requests that were executed, in order.
     pub outcomes: Vec<Outcome>,
-    /// The fault after which no order more was given, if there was one.
+    /// The fault that ended the batch, if any.
     pub fault: Option<StoreFault>,
 }
 
-// Why the lines of a batch are not all printed.
+// Why the output of a batch is incomplete.
 enum Unprinted {
-    // No memory was to be had for a line.
+    // Out of memory for a line.
     Memory,
     // The writer failed.
     Output,
@@ -55,7 +55,7 @@ fn any_refused(outcomes: &[Outcome]) -> bool
 }
 
 impl Batched {
-    /// The status that the program ends with.
+    /// The exit status: `FAULT` after a fault, `REFUSED` if a request was refused, else `DONE`.
     pub fn status(&self) -> u8
         ensures { result ≡ batch_status self.now }
     {
@@ -70,7 +70,11 @@ impl Batched {
     }
 }
 
-/// Adds the line of a fault, if there is one, to a text.
+/// Appends the line of the fault, if there is one.
+///
+/// # Errors
+///
+/// `AllocError` if out of memory.
 pub(crate) fn write_fault(text: &mut String, fault: &Option<StoreFault>) -> Result<(), AllocError>
     ensures { OnOk result (string_bytes text.new ≡ string_bytes text.old ++ fault_line fault.now) }
 {
@@ -80,7 +84,7 @@ pub(crate) fn write_fault(text: &mut String, fault: &Option<StoreFault>) -> Resu
     }
 }
 
-// Makes a text the line of an order that was answered.
+// Sets `line` to the line of one request: its number and outcome.
 fn write_answer(line: &mut String, number: u64, outcome: &Outcome) -> Result<(), AllocError>
     ensures { OnOk result (string_bytes line.new ≡ answer_line number outcome.now) }
 {
@@ -88,7 +92,6 @@ fn write_answer(line: &mut String, number: u64, outcome: &Outcome) -> Result<(),
     writeln!(line, "{number} {outcome}")
 }
 
-// Prints the line of an order that was answered.
 fn print_answer<O: Write>(
     line: &mut String,
     number: u64,
@@ -109,7 +112,6 @@ fn print_answer<O: Write>(
     }
 }
 
-// Prints the lines of the orders that were answered.
 fn print_answers<O: Write>(
     line: &mut String,
     numbers: &[u64],
@@ -133,7 +135,7 @@ fn print_answers<O: Write>(
     Ok(())
 }
 
-// Tells the fault that ended a batch.
+// Prints the fault that ended a batch to standard error.
 fn tell_fault<E: Write>(line: String, fault: &StoreFault, err: &mut E) -> u8
     ensures status { result ≡ 3 }
     ensures told { IsFaultToldOf fault.now (E.contents err.old) (E.contents err.new) }
@@ -148,10 +150,14 @@ fn tell_fault<E: Write>(line: String, fault: &StoreFault, err: &mut E) -> u8
     FAULT
 }
 
-/// Prints a batch: a line for each order that was answered, in turn, with its number and its outcome, to the standard
-/// output; then the fault, if one ended it, to the standard error. Gives the status: 0 where nothing was refused, 1
-/// where some order was, 3 at a fault, also where a line could not be made or written. `line` has the room that was set
-/// aside for a line.
+/// Prints a batch: one line for each executed request, with its number and outcome, to standard output; then the fault,
+/// if any, to standard error.
+/// Returns the exit status: 0 if nothing was refused, 1 if a request was, 3 after a fault or if a line could not be
+/// built or written. `line` is a buffer with preallocated room for a line.
+///
+/// # Guarantees
+///
+/// `printed`, `quiet`: without a fault standard output gets every line, and standard error nothing.
 pub fn print_batch<O: Write, E: Write>(
     line: String,
     batched: &Batched,

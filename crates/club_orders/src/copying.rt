@@ -1,4 +1,4 @@
-//! What a club that is held is copied into.
+//! Copies an open club into an empty database.
 
 ghost use Rattle.std.specs.Prelude.{◌≡◌, ◌≤◌, ◌⊎◌, false};
 ghost use Rattle.sqlite.specs.State.{HasCleanDisk};
@@ -17,10 +17,14 @@ use sqlite::{Alter, Connection};
 use std::alloc::Global;
 use store::StoreFault;
 
-/// Copies a club that was taken over into an empty database, by one transaction with one commit. The club is read and
-/// stays as it is. A copy that is reported as made has exactly the club's tables, now and after a stop; another one has
-/// no table, or is whole. It is the copy that failed where that is reported, and the club still holds what it held;
-/// where a call of the club's failed, or memory was refused, nothing was done to the copy.
+/// Copies a verified club into an empty database, in one transaction with one commit. The club is only read.
+/// Reports `Report::Copied`, or `Report::Uncopied` if writing the copy failed, or `Report::Stopped` if reading the club
+/// failed or memory ran out.
+///
+/// # Guarantees
+///
+/// `copied`: a reported copy has exactly the club's tables. `cut_off`: after an error or a crash the copy is empty or
+/// complete. `untouched`: after `Stopped` the copy was not touched.
 pub fn back_up<S: Alter, T: Alter>(
     alloc: Global,
     club: &mut Connection<S>,

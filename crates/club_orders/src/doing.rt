@@ -1,4 +1,4 @@
-//! What an order does over a connection.
+//! Execution of one order over a connection.
 
 ghost use Rattle.std.specs.Prelude.{◌≡◌, ◌≢◌, ◌≤◌, ◌++◌, ◌∷◌, [], false, true, refl, ⊤};
 ghost use Rattle.sqlite.specs.State.{HasCleanDisk, Opens, IsLive};
@@ -38,7 +38,7 @@ use store::{
     holds_what_sessions_left, leaves_what_sessions_left, upgrade,
 };
 
-// Makes the tables of a club.
+// Creates a club.
 fn init<S: Alter>(alloc: Global, conn: Connection<S>) -> (Report, Connection<S>)
     requires { conn.in_transaction ≡ false }
     ensures idle { result.1.in_transaction ≡ false }
@@ -48,7 +48,7 @@ fn init<S: Alter>(alloc: Global, conn: Connection<S>) -> (Report, Connection<S>)
         (db : _) → (state S.Store result.1).may_leave db → IsBegun result.0 db }
     ensures empty { HasCleanDisk (state S.Store result.1) → Opens (state S.Store conn) → IsLive (state S.Store conn) →
         IsEmpty (state S.Store conn).committed.trees → IfUnopened result.0 (λ fault. fault ≡ OpenFault.Store) }
-    // Behind the tables of other programs, whose rows stay.
+    // Beside foreign tables, which keep their rows.
     ensures behind { HasCleanDisk (state S.Store result.1) → Opens (state S.Store conn) → IsLive (state S.Store conn) →
         (them : _) → LeavesNoClub them (state S.Store conn).committed.trees →
         IfUnopened result.0 (λ fault. fault ≡ OpenFault.Store)
@@ -83,7 +83,7 @@ impl ClubTask for Command {
 
     ghost no_chapter = { λ c moment fault. refl };
 
-    // The officer gives it.
+    // The command is executed as the officer's.
     fn do_in<S: Alter, W: Write>(
         &self,
         alloc: Global,
@@ -98,7 +98,7 @@ impl ClubTask for Command {
     }
 }
 
-// What is reported of a question that was answered, or not.
+// The report of a query.
 fn asked(answer: Result<Option<Refusal>, AskFault>) -> Report
     ensures taken { IfUnopened result (λ fault. ⊥) }
     ensures report { result ≡ ask_report answer }
@@ -131,7 +131,7 @@ impl ClubTask for Question {
     }
 }
 
-// Carries a club of schema 1 over to schema 2.
+// Migrates a club of schema 1 to schema 2.
 fn carry<S: Alter>(alloc: Global, conn: Connection<S>) -> (Report, Connection<S>)
     requires { conn.in_transaction ≡ false }
     ensures idle { result.1.in_transaction ≡ false }
@@ -159,7 +159,7 @@ fn carry<S: Alter>(alloc: Global, conn: Connection<S>) -> (Report, Connection<S>
     }
 }
 
-// What is reported of an upgrade.
+// The report of an upgrade.
 fn carried(done: Upgrade) -> Report
     ensures done { done ≡ Upgrade.Done → result ≡ Report.Upgraded }
     ensures already { done ≡ Upgrade.Already → result ≡ Report.AlreadyUpgraded }
@@ -172,7 +172,13 @@ fn carried(done: Upgrade) -> Report
     }
 }
 
-/// Tests that the rows are those of a club, and changes nothing: one that is found sound holds exactly what it held.
+/// Checks every row of a club, and changes nothing. Reports `Report::Sound`, or `Report::Unopened` with the reason, and
+/// returns the connection.
+///
+/// # Guarantees
+///
+/// `legal`: a file reported as sound holds a legal club. `passes`: a legal club is sound, unless a call fails or memory
+/// runs out. `keeps`: the file is unchanged.
 pub fn verify<S: Alter>(alloc: Global, conn: Connection<S>) -> (Report, Connection<S>)
     requires { conn.in_transaction ≡ false }
     ensures idle { result.1.in_transaction ≡ false }
@@ -189,7 +195,7 @@ pub fn verify<S: Alter>(alloc: Global, conn: Connection<S>) -> (Report, Connecti
     ensures named { result.0 ≢ Report.Sound → OnlyUnopened result.0 (λ fault. ⊤) }
     ensures same { HasCleanDisk (state S.Store result.1) → result.0 ≡ Report.Sound →
         KeepsContent (state S.Store conn) (state S.Store result.1) }
-    // By whatever texts its tables were made, those that were taken over answer as a club's.
+    // The schema of an accepted file is equivalent to a club's, whatever `CREATE` statements made it.
     ensures shape { IfTaken result.0 (is_of_club Current (state S.Store conn).now.schema ≡ true) }
     ensures refuses { HasCleanDisk (state S.Store result.1) →
         IfUnopened result.0 (IsRefusal (state S.Store conn) (state S.Store result.1)) }
@@ -206,14 +212,16 @@ pub fn verify<S: Alter>(alloc: Global, conn: Connection<S>) -> (Report, Connecti
     }
 }
 
-/// Does what is asked for over a connection that was just opened, at that moment, and gives the connection back:
-/// makes a club, gives the club that stands there a command of the officer's, or orders in turn, asks it a question and
-/// writes what that is shown to `out`, tests that the rows are those of a club, or carries a club of schema 1 over to
-/// schema 2; every other word refuses schema 1 by its number. Of a backup it does what comes first, and tests the rows.
-/// The answer is the machine's. Sessions that led to what the opening found lead, with this request or these orders as
-/// one more, to whatever a stop leaves, beside the same tables of other programs; where there was no table, or none but
-/// those of other programs, and a club was to be made, none led to it, or there is none still. Tables that are not
-/// taken as a club's are blamed for it, and stay as they were found; those that are found sound are a club's.
+/// Executes a task at this timestamp over a newly opened connection, and returns the report and the connection.
+/// A backup only verifies here. Every task except the upgrade rejects schema 1. Only a query writes to `out`.
+///
+/// # Guarantees
+///
+/// - `answer`, `given`, `asked`: the reported outcomes and the text written are those of the club's specification.
+/// - `led`: whatever a crash leaves is reached by the earlier history and this task, beside the same foreign tables.
+/// - `begun`, `behind`: after the creation of a club, or a crash in it, there is an empty club or no club.
+/// - `refuses`, `withheld`: the reason why a file was rejected is true, and the file is unchanged. Only an upgrade in
+///   which a database call failed may have changed it.
 pub fn act<S: Alter, W: Write>(
     alloc: Global,
     conn: Connection<S>,
@@ -227,11 +235,11 @@ pub fn act<S: Alter, W: Write>(
     ensures begun { HasCleanDisk (state S.Store result.1) → Opens (state S.Store conn) → IsLive (state S.Store conn) →
         task.now ≡ Init → IsEmpty (state S.Store conn).committed.trees →
         (db : _) → (state S.Store result.1).may_leave db → IsBegun result.0 db }
-    // A club is not made where there is no table only where a call failed.
+    // In a database without tables the creation fails only if a call fails.
     ensures empty { HasCleanDisk (state S.Store result.1) → Opens (state S.Store conn) → IsLive (state S.Store conn) →
         task.now ≡ Init → IsEmpty (state S.Store conn).committed.trees →
         IfUnopened result.0 (λ fault. fault ≡ OpenFault.Store) }
-    // So it is behind the tables of other programs, whose rows stay.
+    // Beside foreign tables, too, which keep their rows.
     ensures behind { HasCleanDisk (state S.Store result.1) → Opens (state S.Store conn) → IsLive (state S.Store conn) →
         task.now ≡ Init → (them : _) → LeavesNoClub them (state S.Store conn).committed.trees →
         IfUnopened result.0 (λ fault. fault ≡ OpenFault.Store)
@@ -255,7 +263,7 @@ pub fn act<S: Alter, W: Write>(
     ensures legal { HasCleanDisk (state S.Store result.1) → Opens (state S.Store conn) → IsLive (state S.Store conn) →
         HasClubTables (state S.Store conn).now.schema → IfVerify task.now (result.0 ≡ Report.Sound →
         HoldClub (state S.Store conn).committed.trees) }
-    // By whatever texts its tables were made, those that were taken over answer as a club's.
+    // The schema of an accepted file is equivalent to a club's, whatever `CREATE` statements made it.
     ensures shape { IfTakesOver task.now (IfTaken result.0 (
         is_of_club Current (state S.Store conn).now.schema ≡ true)) }
     ensures refuses { HasCleanDisk (state S.Store result.1) → IfTakesOver task.now (IfUnopened result.0

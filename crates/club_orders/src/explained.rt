@@ -1,4 +1,4 @@
-//! Reports with explanations.
+//! Prints reports with an explanation as a second line.
 
 ghost use Rattle.std.specs.Prelude.{◌≡◌, ◌≢◌, ◌⊎◌, ℕ, [], take, string_bytes};
 ghost use Rattle.std.specs.Io.KnownBytes.{Appends};
@@ -16,7 +16,7 @@ use explanations::{ExplainedFault, Explanation, WrongValue, refused};
 use std::io::Write;
 use store::{OpenFault, StoreFault};
 
-// What a refusal of a question is about: a list of games is the only one that is asked of a member by name.
+// The explanation of a query's refusal. Only a list of games takes a member's name as a value.
 fn question_explained(question: &Question, refusal: Refusal) -> Explanation
     ensures { result ≡ question_explained question.now refusal }
 {
@@ -28,7 +28,6 @@ fn question_explained(question: &Question, refusal: Refusal) -> Explanation
     }
 }
 
-// What a refusal of a task is about.
 fn task_explained(task: &Task, refusal: Refusal) -> Explanation
     ensures { result ≡ task_explained task.now refusal }
 {
@@ -39,7 +38,7 @@ fn task_explained(task: &Task, refusal: Refusal) -> Explanation
     }
 }
 
-// What it is about that a file was not taken as a club's.
+// The explanation of a file that was not accepted.
 fn opening_explained(task: &Task, fault: OpenFault) -> ExplainedFault
     ensures { result ≡ opening_explained task.now fault }
 {
@@ -56,7 +55,6 @@ fn opening_explained(task: &Task, fault: OpenFault) -> ExplainedFault
     }
 }
 
-// What a fault of an open club is about.
 fn stop_explained(fault: StoreFault) -> ExplainedFault
     ensures { result ≡ stop_explained fault }
 {
@@ -67,7 +65,7 @@ fn stop_explained(fault: StoreFault) -> ExplainedFault
     }
 }
 
-// What an answer is about, where it is a refusal.
+// The explanation of an outcome, if it is a refusal.
 fn answer_explained(task: &Task, outcome: &Outcome) -> Option<Explanation>
     ensures { result ≡ answer_explained task.now outcome.now }
 {
@@ -77,7 +75,7 @@ fn answer_explained(task: &Task, outcome: &Outcome) -> Option<Explanation>
     }
 }
 
-// What a report is about, where it is one of a refusal or a fault.
+// The explanation of a report, if it is a refusal or a fault.
 fn report_explained(task: &Task, report: &Report) -> Option<Explanation>
     ensures { result ≡ report_explained task.now report.now }
 {
@@ -99,13 +97,13 @@ fn report_explained(task: &Task, report: &Report) -> Option<Explanation>
         Report::AlreadyUpgraded => None,
         Report::Copied => None,
         Report::Shown => None,
-        // What a batch came to is told order by order.
+        // The report of a batch has a line for each request instead.
         Report::Batched(_) => None,
         Report::Listening(_) => None,
     }
 }
 
-// What it is about that the line of a report could not be made or written: where the order was done, its output failed.
+// The explanation if a report's line was lost: of a successful order its output failed, else memory ran out.
 fn lost_explained(report: &Report) -> ExplainedFault
     ensures { result ≡ lost_explained report.now }
 {
@@ -116,7 +114,7 @@ fn lost_explained(report: &Report) -> ExplainedFault
     }
 }
 
-// What is explained where the program ends with a status: the report, or that its line was lost.
+// The explanation to print with this exit status: of the report, or of the loss of its line.
 fn explained_at(status: u8, task: &Task, report: &Report) -> Option<Explanation>
     ensures { result ≡ explained_at status task.now report.now }
 {
@@ -127,7 +125,7 @@ fn explained_at(status: u8, task: &Task, report: &Report) -> Option<Explanation>
     }
 }
 
-// The second line: none where it is not asked for, or nothing is to be explained.
+// The second line; empty if none was requested or there is nothing to explain.
 fn second_line(explains: bool, explanation: Option<Explanation>) -> &'static str
     ensures { result.now ≡ second_line explains explanation }
 {
@@ -140,8 +138,9 @@ fn second_line(explains: bool, explanation: Option<Explanation>) -> &'static str
     }
 }
 
-/// Prints a report as `print` does, and gives the status that it gives. Where that is asked for, there stands behind a
-/// refusal or a fault, as a second line on the standard error, what it means for the task and what can be done.
+/// Prints a report as `print` does and returns the same exit status.
+/// If `explains`, a refusal or fault is followed on standard error by a line that says what it means for the task and
+/// what to do.
 pub fn print_explained<O: Write, E: Write>(
     line: String,
     task: &Task,

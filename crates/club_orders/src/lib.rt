@@ -1,4 +1,4 @@
-//! What an order does over one file of a club, what it came to, and how that is printed.
+//! Executes the officer's commands over one open file of a club, and prints the results.
 #![tactic(auto)]
 
 pub mod batch;

@@ -1,4 +1,4 @@
-//! What an order came to, and how it is printed.
+//! The report of an order, and its output.
 
 ghost use Rattle.std.specs.Prelude.{◌≡◌, ◌≢◌, ◌⊎◌, ◌++◌, ℕ, [], OnOk, take, string_bytes};
 ghost use Rattle.std.specs.Io.KnownBytes.{Appends};
@@ -11,63 +11,63 @@ use std::alloc::AllocError;
 use std::io::Write;
 use store::{OpenFault, StoreFault};
 
-/// The order was done.
+/// Exit status: success.
 pub const DONE: u8 = 0;
 
-/// The order was refused.
+/// Exit status: the order was refused.
 pub const REFUSED: u8 = 1;
 
-/// The words are no order.
+/// Exit status: the command line cannot be parsed.
 pub const BAD_WORDS: u8 = 2;
 
-/// A fault of the store, of the standard output or of what is read.
+/// Exit status: a fault of the store, of input or output, of the clock or of memory.
 pub const FAULT: u8 = 3;
 
-/// What an order came to.
+/// The result of an order.
 #[derive(Debug, Drop)]
 pub enum Report {
-    /// A club was made.
+    /// A club was created.
     Ready,
-    /// A command was answered.
+    /// A command has this outcome, or a query was refused.
     Answered(Outcome),
-    /// Orders were given in turn, up to the first fault.
+    /// A batch was executed, up to the first fault.
     Batched(Batched),
-    /// The rows of the file are those of a club.
+    /// The file holds a legal club.
     Sound,
-    /// The file was of schema 1, and is now of schema 2.
+    /// The file was of schema 1 and is now of schema 2.
     Upgraded,
-    /// The file was of schema 2, and stays as it is.
+    /// The file is of schema 2 already and is unchanged.
     AlreadyUpgraded,
-    /// A copy of the club was made.
+    /// A backup was written.
     Copied,
-    /// What a question is shown was written.
+    /// The answer to a query was written.
     Shown,
-    /// The writer of what a question is shown failed.
+    /// The writer of a query's answer failed.
     Unwritten,
-    /// The file of a copy was not made, or not written.
+    /// The file of a backup was not created or not written.
     Uncopied,
-    /// No club was made, or none was found.
+    /// No club was created or opened.
     Unopened(OpenFault),
     /// A call on the open club failed.
     Stopped(StoreFault),
-    /// The file is in use, so it was not opened.
+    /// The file was not opened: another program uses it.
     InUse,
-    /// The file was not opened.
+    /// The file was not opened for another reason.
     NotOpened,
-    /// The machine has no clock, or one that is set to no moment that there is.
+    /// The system clock is missing or outside 0..=253402300799.
     NoMoment,
-    /// The record of an import cannot be read.
+    /// The record to import cannot be read.
     Unread,
-    /// The desk listens on the port.
+    /// The server listens on this port.
     Listening(u16),
-    /// The port is not to be had.
+    /// The port cannot be bound.
     Unbound,
-    /// The allocator refused before anything was done.
+    /// Out of memory before anything was done.
     NoMemory,
 }
 
 impl Report {
-    /// The status that the program ends with.
+    /// The exit status of the program.
     pub fn status(&self) -> u8
         ensures { result ≡ report_status self.now }
     {
@@ -97,8 +97,8 @@ impl Report {
     }
 }
 
-// Adds the report to a text: what was done, why it was refused, or after `store` the number and name of the fault. Of a
-// batch it is the fault that ended it, if one did.
+// Appends the report: the result, the refusal, or `store` with the number and name of the fault. Of a batch, only its
+// fault.
 fn write_report(text: &mut String, report: &Report) -> Result<(), AllocError>
     ensures { OnOk result (string_bytes text.new ≡ string_bytes text.old ++ report_text report.now) }
 {
@@ -125,7 +125,7 @@ fn write_report(text: &mut String, report: &Report) -> Result<(), AllocError>
     }
 }
 
-/// Says that a line could not be made, or not be printed.
+/// Prints an error line instead of one that could not be built or printed; returns `FAULT`.
 pub(crate) fn unprinted<E: Write>(err: &mut E, line: &str) -> u8
     ensures status { result ≡ 3 }
     ensures told { (n : ℕ) × Appends (E.contents err.old) (E.contents err.new) (take n line.now) }
@@ -134,10 +134,10 @@ pub(crate) fn unprinted<E: Write>(err: &mut E, line: &str) -> u8
     FAULT
 }
 
-/// Prints a report: what was done to the standard output, a refusal or a fault to the standard error. What a question
-/// is shown stands there before, and nothing more is printed; the lines of a batch are printed by `print_batch`. Gives
-/// the status, which is that of a fault where the line could not be made or written. `line` is empty, and has the room
-/// that was set aside for it.
+/// Prints a report: a result to standard output, a refusal or fault to standard error. Returns the exit status, or 3 if
+/// the line could not be built or written.
+/// The answer to a query is already printed, so nothing follows it; the lines of a batch are printed by `print_batch`.
+/// `line` is an empty buffer with preallocated room for a line.
 pub fn print<O: Write, E: Write>(line: String, report: &Report, out: &mut O, err: &mut E) -> u8
     requires { string_bytes line ≡ [] }
     ensures status { (result ≡ report_status report.now) ⊎ (result ≡ 3) }

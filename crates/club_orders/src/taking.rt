@@ -1,4 +1,4 @@
-//! A club that an order takes over, and what is done with it.
+//! Opens a club and executes a task on it.
 
 ghost use Rattle.std.specs.Prelude.{◌≡◌, ◌≤◌, ◌⊎◌, ◌++◌, ℕ, List, [], Option, false, true, IfOk, IfErr};
 ghost use Rattle.sqlite.specs.State.{HasCleanDisk, Opens, IsLive};
@@ -25,14 +25,18 @@ use store::{
     leaves_what_sessions_left,
 };
 
-/// Takes the club that stands there over, or hands the connection back and tells why not. It changes nothing.
+/// Opens the club in the connection's database, or returns the connection and the reason. Changes nothing.
+///
+/// # Errors
+///
+/// The errors of `adopt`, with the connection.
 pub(crate) fn take_over<S: Alter>(
     alloc: Global,
     conn: Connection<S>,
 ) -> Result<Club<S>, Unopened<S>>
     requires { conn.in_transaction ≡ false }
     ensures ready { IfOk result (λ club. club.needs_reopening ≡ false) }
-    // By whatever texts its tables were made, those that were taken over answer as a club's.
+    // The schema of an accepted file is equivalent to a club's, whatever `CREATE` statements made it.
     ensures shape { IfOk result (λ club. is_of_club Current (state S.Store conn).now.schema ≡ true) }
     ensures taken { IfOk result (λ club. HasCleanDisk (state S.Store club.connection) → Opens (state S.Store conn) →
         IsLive (state S.Store conn) → IsTakenOver (state S.Store conn) (state S.Store club.connection)) }
@@ -42,7 +46,7 @@ pub(crate) fn take_over<S: Alter>(
     ensures kept { IfOk result (λ club. Reads true (state S.Store conn) (state S.Store club.connection)) }
     ensures idle { IfErr result (λ u. u.conn.in_transaction ≡ false) }
     ensures reads { IfErr result (λ u. OnlyReads (state S.Store conn) (state S.Store u.conn)) }
-    // A legal club, alone or among what other programs made, is taken.
+    // A legal club, alone or beside foreign tables, is accepted.
     ensures good { IfErr result (λ u. HasCleanDisk (state S.Store u.conn) → Opens (state S.Store conn) →
         IsLive (state S.Store conn) → (s : ClubState) → IsClub s → HasState s (state S.Store conn).committed.trees →
         (u.fault ≡ OpenFault.Store) ⊎ (u.fault ≡ OpenFault.Memory)) }
@@ -62,21 +66,21 @@ pub(crate) fn take_over<S: Alter>(
     adopt(alloc, conn)
 }
 
-/// A task that is done with a club which was taken over.
+/// A task on an open club.
 pub(crate) trait ClubTask {
     ghost use Rattle.club_opening.specs.declared.fault.OpenFault.{OpenFault};
     ghost use Rattle.club_opening.specs.declared.fault.OpenFault.TheVariants as open_fault;
     ghost use Rattle.club_orders.specs.declared.report.Report.{Report};
     ghost use Rattle.club_orders.specs.declared.report.Report.TheVariants.{Unopened};
 
-    /// What is reported of the task is the answer of a club in this state, at this moment, where a writer had these
-    /// bytes before and has these after it.
+    /// The report is the club's answer in this state at this timestamp, if the writer had the first bytes before and
+    /// has the second after.
     ghost IsAnswer: { Self → ClubState → ℕ → Option (List ℕ) → Option (List ℕ) → Report → Type 0 };
 
-    /// What the task adds to the history of the club.
+    /// The steps that the task adds to the history of the club.
     ghost chapters: { Self → ℕ → Report → List Chapter };
 
-    /// Does the task at a moment, and tells what it came to.
+    /// Executes the task at this timestamp and reports the result.
     fn do_in<S: Alter, W: Write>(
         &self,
         alloc: Global,
@@ -96,17 +100,16 @@ pub(crate) trait ClubTask {
             (db : _) → (state S.Store club.new.connection).may_leave db →
             IsReachable them (sessions ++ chapters self.now moment result) db };
 
-    /// Where a call of the database failed or memory was refused before the club was taken over, that is its answer.
+    /// If a call failed or memory ran out while the club was opened, that fault is an answer.
     ghost untaken: { (task : Self) (s : ClubState) (moment : ℕ) (bytes : Option (List ℕ)) (fault : OpenFault) →
         (fault ≡ open_fault.Store) ⊎ (fault ≡ open_fault.Memory) →
         IsAnswer task s moment bytes bytes (Unopened fault) };
 
-    /// A club that was not taken over has no chapter more.
+    /// If the club was not opened, the history has no new step.
     ghost no_chapter: { (task : Self) (moment : ℕ) (fault : OpenFault) → chapters task moment (Unopened fault) ≡ [] };
 }
 
-/// Takes the club that stands there over and does a task with it, or tells why it was not taken; and gives the
-/// connection back.
+/// Opens the club and executes a task on it, or reports why it was not opened; returns the connection.
 pub(crate) fn do_in_club<S: Alter, T: ClubTask, W: Write>(
     alloc: Global,
     conn: Connection<S>,
@@ -120,7 +123,7 @@ pub(crate) fn do_in_club<S: Alter, T: ClubTask, W: Write>(
     ensures answer { HasCleanDisk (state S.Store result.1) → Opens (state S.Store conn) → IsLive (state S.Store conn) →
         (s : ClubState) → IsClub s → HasState s (state S.Store conn).committed.trees →
         T.IsAnswer task.now s moment (W.contents out.old) (W.contents out.new) result.0 }
-    // By whatever texts its tables were made, those that were taken over answer as a club's.
+    // The schema of an accepted file is equivalent to a club's, whatever `CREATE` statements made it.
     ensures shape { IfTaken result.0 (is_of_club Current (state S.Store conn).now.schema ≡ true) }
     ensures refuses { HasCleanDisk (state S.Store result.1) →
         IfUnopened result.0 (IsRefusal (state S.Store conn) (state S.Store result.1)) }

@@ -1,16 +1,15 @@
-//! Bytes that are written as far as a writer takes them.
+//! Writes bytes, retrying after an interrupted call.
 
 ghost use Rattle.std.specs.Prelude.{◌≡◌, ℕ, true, take};
 ghost use Rattle.std.specs.Io.KnownBytes.{Appends};
 
 use std::io::{Error, ErrorKind, Write};
 
-// Whether a call was interrupted and may be tried again.
 fn is_interrupted(error: &Error) -> bool {
     matches!(error.kind(), ErrorKind::Interrupted)
 }
 
-/// Writes bytes, or where the writer fails a beginning of them: whether all were written. Nothing is flushed.
+/// Writes all bytes, without a flush. Returns false if the writer failed; then it has a prefix of them.
 pub(crate) fn write_out<W: Write>(writer: &mut W, bytes: &[u8]) -> bool
     ensures whole { result ≡ true → Appends (W.contents writer.old) (W.contents writer.new) bytes.now }
     ensures beginning { (n : ℕ) × Appends (W.contents writer.old) (W.contents writer.new) (take n bytes.now) }

@@ -1,10 +1,10 @@
--- What the program prints of a report over the file, beside what is printed of an order that the desk did.
+-- The output of a command over the file, to compare with that of one executed by the server.
 use Rattle.std.specs.Prelude.{◌++◌, ◌==◌, List, ℕ, [], if◌then◌else◌}
 use Rattle.club_orders.specs.declared.report.Report.{Report}
 use Rattle.club_orders.specs.Report.{report_status, report_text}
 use Rattle.officer_door.specs.Printed.{Print}
 
--- what a question is shown, which is nothing at a command, and then the line of the report
+-- the answer to a query, which a command does not have, then the line of the report
 abbrev pub report_print : (shown : List ℕ) → Report → Print
 report_print shown report =
     if report_status report == 0

@@ -1,4 +1,4 @@
--- What a stretch of serving came to, and what becomes of those who come after it.
+-- The step after a serving session, by its result.
 use Rattle.std.specs.Prelude.{Option, Some, None, Result, Ok, Err, Bool, true, false}
 use Rattle.club_orders.specs.declared.report.Report.{Report}
 use Rattle.club_orders.specs.declared.report.Report.TheVariants.{InUse, Unopened}
@@ -7,7 +7,7 @@ use Rattle.http_desk.specs.declared.faults.ClubFault.TheVariants.{Foreign, Schem
 use Rattle.club_program.specs.declared.course.Course.{Course}
 use Rattle.club_program.specs.declared.course.Course.TheVariants.{GoesOn, IsKept, IsTold}
 
--- where a call failed, the club is opened anew for the next one: nobody else is told of it
+-- after a failed call the club is reopened, and no further request gets the fault
 abbrev pub after_fault : ClubFault → Course
 after_fault Reopen = GoesOn
 after_fault Foreign = IsTold Foreign
@@ -16,7 +16,7 @@ after_fault Damaged = IsTold Damaged
 after_fault Store = IsTold Store
 after_fault Memory = IsTold Memory
 
--- where another program has the files, the desk waits for them
+-- if another program holds the file, the server waits for it
 abbrev pub course_of : Result (Option ClubFault) Report → Course
 course_of (Ok None) = GoesOn
 course_of (Ok (Some fault)) = after_fault fault
@@ -24,7 +24,7 @@ course_of (Err InUse) = IsKept
 course_of (Err (Unopened fault)) = IsTold Foreign
 course_of (Err _) = IsTold Store
 
--- what the file holds does not change by itself, but a call that failed may succeed, and memory may be had again
+-- the content of the file lasts; a failed call may succeed later, and so may an allocation
 abbrev pub lasts : ClubFault → Bool
 lasts Foreign = true
 lasts Schema = true

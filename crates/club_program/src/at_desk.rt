@@ -1,4 +1,4 @@
-//! An order that the desk does which holds the file.
+//! Execution of a command by the running server that holds the file.
 
 ghost use Rattle.std.specs.Prelude.{◌≡◌, ◌≤◌, ℕ, List, [], Ok, Err, IfSome};
 ghost use Rattle.club_orders.specs.declared.report.Report.TheVariants as report;
@@ -15,8 +15,7 @@ use club_words::{Order, Task};
 use http_port::clock;
 use officer_door::{Answered, order as ask, print_answered};
 
-// The text of the record that an order brings, where it is one that a desk can do: not one that wants the file for
-// itself.
+// The record that an order imports; `None` if the server cannot execute the order.
 fn text_of(order: &Order) -> Option<&[u8]> {
     match &order.task {
         Task::Request(Command::Import(given)) => Some(&given.text),
@@ -26,7 +25,7 @@ fn text_of(order: &Order) -> Option<&[u8]> {
     }
 }
 
-// Prints what a desk answered: what it would have been without one.
+// Prints an answer of the server.
 fn print_told(rt: &HostRuntime, order: &Order, answered: &Answered) -> u8
     ensures { result ≤ 3 }
 {
@@ -36,8 +35,7 @@ fn print_told(rt: &HostRuntime, order: &Order, answered: &Answered) -> u8
     }
 }
 
-/// What is printed of an order that the desk did is what is printed of its report over the file: of what a command was
-/// answered, and of what a question is shown.
+/// A command prints the same whether the server or the program itself executes it, for commands and for queries.
 pub fn is_printed_alike()
     ensures answered { (given : Outcome) → printed given ≡ report_print [] (report.Answered given) }
     ensures shown { (text : List ℕ) → shown_printed (Ok text) ≡ report_print text report.Shown }
@@ -45,8 +43,8 @@ pub fn is_printed_alike()
         shown_printed (Err refusal) ≡ report_print [] (report.Answered (outcome.Refused refusal)) }
 {}
 
-/// Has the desk that holds the file do what the words order, and prints what it answered: the status, or none where
-/// there is no such desk, or it gave no answer. Then the order was done once, or not at all, and is given again.
+/// Executes a command on the running server and prints the answer. `None` if no server holds the file or its answer
+/// is incomplete: the command took effect once or not at all, and can be repeated.
 pub(crate) fn done_at_desk(rt: &HostRuntime, words: &[String], order: &Order) -> Option<u8>
     ensures { IfSome result (λ status. status ≤ 3) }
 {

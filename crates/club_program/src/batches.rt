@@ -1,4 +1,4 @@
-//! Orders in turn: those of a text, and those that seat a round robin.
+//! Batches of commands from a text, and the games of a round robin.
 
 ghost use Rattle.std.specs.Prelude.{◌≤◌};
 
@@ -13,11 +13,11 @@ use club_words::{BadWords, Batch, BatchWords, Line, Order, RoundRobin, Task, giv
 use http_port::clock;
 use std::alloc::AllocError;
 
-// Why a batch is not begun.
+// Why a batch was not started.
 enum Unbegun {
-    // The orders are none.
+    // A line is no command.
     Words(BadWords),
-    // Something else.
+    // Another reason.
     Report(Report),
 }
 
@@ -50,7 +50,7 @@ impl From<Unseated> for Unbegun {
     }
 }
 
-// Adds an order to a batch, once its record was read.
+// Adds a command to a batch, with the record that it imports.
 fn add_order(
     rt: &HostRuntime,
     batch: &mut Batch,
@@ -69,7 +69,7 @@ fn add_order(
     Ok(())
 }
 
-// The orders of a text at a moment, with the records that they import.
+// The batch in a text, with the records that it imports.
 fn batch_in(rt: &HostRuntime, path: &str, moment: Moment) -> Result<Batch, Unbegun> {
     let text = read_batch(rt, path)?;
     let orders = read_orders(rt.alloc(), text.as_slice())?;
@@ -80,7 +80,7 @@ fn batch_in(rt: &HostRuntime, path: &str, moment: Moment) -> Result<Batch, Unbeg
     Ok(batch)
 }
 
-// The moment that words give, or that of the machine's clock.
+// The timestamp of the command line, or of the system clock.
 fn moment_for(rt: &HostRuntime, now: Option<Moment>) -> Result<Moment, Unbegun> {
     match now.or(clock(rt)) {
         Some(moment) => Ok(moment),
@@ -88,7 +88,6 @@ fn moment_for(rt: &HostRuntime, now: Option<Moment>) -> Result<Moment, Unbegun> 
     }
 }
 
-// The order to do a batch over a file.
 fn order_for(file: String, moment: Moment, batch: Batch, explains: bool) -> Order {
     Order {
         file,
@@ -99,7 +98,6 @@ fn order_for(file: String, moment: Moment, batch: Batch, explains: bool) -> Orde
     }
 }
 
-// The order that the words of a batch give.
 fn batch_order(rt: &HostRuntime, words: BatchWords) -> Result<Order, Unbegun> {
     let moment = moment_for(rt, words.now)?;
     let batch = batch_in(rt, words.orders.as_str(), moment)?;
@@ -113,7 +111,7 @@ fn seats_at(rt: &HostRuntime, robin: &RoundRobin) -> Result<(Moment, Batch), Unb
     Ok((moment, batch))
 }
 
-// Prints why a batch is not begun, with an explanation where one is asked for.
+// Prints why a batch was not started.
 fn print_unbegun(rt: &HostRuntime, unbegun: Unbegun, explains: bool) -> u8
     ensures { result ≤ 3 }
 {
@@ -123,7 +121,7 @@ fn print_unbegun(rt: &HostRuntime, unbegun: Unbegun, explains: bool) -> u8
     }
 }
 
-/// Does the orders that the words read, in turn.
+/// Executes a batch of commands; returns the exit status.
 pub(crate) fn run_batch(rt: &HostRuntime, words: BatchWords) -> u8
     ensures { result ≤ 3 }
 {
@@ -134,7 +132,7 @@ pub(crate) fn run_batch(rt: &HostRuntime, words: BatchWords) -> u8
     }
 }
 
-// Prints the seats of a batch as lines that a batch takes.
+// Prints the commands of a round robin as lines of a batch.
 fn print_seats(rt: &HostRuntime, batch: &Batch, explains: bool) -> u8
     ensures { result ≤ 3 }
 {
@@ -144,7 +142,7 @@ fn print_seats(rt: &HostRuntime, batch: &Batch, explains: bool) -> u8
     }
 }
 
-/// Seats a round robin, or prints its seats.
+/// Seats a round robin, or prints its commands for a dry run; returns the exit status.
 pub(crate) fn run_round_robin(rt: &HostRuntime, robin: RoundRobin) -> u8
     ensures { result ≤ 3 }
 {

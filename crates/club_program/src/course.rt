@@ -1,4 +1,4 @@
-//! What a stretch of serving came to, and what becomes of those who come after it.
+//! The step after a serving session, by its result.
 
 ghost use Rattle.std.specs.Prelude.{◌≡◌};
 ghost use Rattle.club_program.specs.Course.{after_fault, course_of, lasts};
@@ -6,18 +6,17 @@ ghost use Rattle.club_program.specs.Course.{after_fault, course_of, lasts};
 use club_orders::Report;
 use http_desk::ClubFault;
 
-/// What becomes of those who come after a stretch.
+/// The step after a serving session.
 #[derive(Clone, Copy, Debug, PartialEq, Eq)]
 pub(crate) enum Course {
-    /// They are served over the club, which is opened anew.
+    /// Open the club again for the next request.
     GoesOn,
-    /// Another program has the files.
+    /// Wait: another program holds the file.
     IsKept,
-    /// They are told why there is no club.
+    /// Answer the requests with this fault.
     IsTold(ClubFault),
 }
 
-// What becomes of those who come after a fault.
 fn after_fault(fault: ClubFault) -> Course
     ensures { result ≡ after_fault fault }
 {
@@ -31,8 +30,8 @@ fn after_fault(fault: ClubFault) -> Course
     }
 }
 
-/// What a stretch came to: where a call failed, the club is opened anew for the next one; where another program has
-/// the files, the desk waits for them; else those who come are told why there is no club.
+/// The step after a session: after a failed call the club is reopened; if another program holds the file, the server
+/// waits; otherwise requests get the fault.
 pub(crate) fn course_of(done: Result<Option<ClubFault>, Report>) -> Course
     ensures { result ≡ course_of done }
 {
@@ -45,7 +44,8 @@ pub(crate) fn course_of(done: Result<Option<ClubFault>, Report>) -> Course
     }
 }
 
-/// Whether a fault stands until somebody changes the file, so that it is told for a while without another look.
+/// Whether a fault lasts until someone changes the file, so that it can be reported for a while without another
+/// check.
 pub(crate) fn lasts(fault: ClubFault) -> bool
     ensures { result ≡ lasts fault }
 {

@@ -1,5 +1,5 @@
-//! What the program does, from its words to its exit status: an officer's order or orders over one file, or the desk
-//! over it.
+//! The program behind `club`: from the command line to output and exit status, for single commands, batches and the
+//! server.
 #![tactic(auto)]
 
 ghost use Rattle.std.specs.Prelude.{◌≤◌};
@@ -21,9 +21,9 @@ use printing::refuse_words;
 use service::run_service;
 use words::{given_words, said};
 
-/// Reads the program's words, does what they order and prints what that came to, with an explanation where one is asked
-/// for. Gives the exit status: 0 where it was done, 1 where it was refused, 2 where the words are no order, 3 at a
-/// fault.
+/// Parses the command line, executes it, prints the result, and returns the exit status.
+///
+/// The status is 0 if the command was done, 1 if it was refused, 2 if the command line is malformed, 3 at a fault.
 pub fn run(rt: &HostRuntime) -> u8
     ensures { result ≤ 3 }
 {

@@ -1,4 +1,4 @@
-//! An officer's order over one file.
+//! Execution of one command over a file.
 
 ghost use Rattle.std.specs.Prelude.{◌≤◌};
 
@@ -12,12 +12,11 @@ use http_port::clock;
 use officer_door::ask_for;
 use sqlite_disk::Wary;
 
-// Copies the club in a file into a new one.
 fn backed_up(rt: &HostRuntime, file: &str, copy: &str) -> Report {
     give_up(back_up(rt, file, copy, Wary, Wary)).into_report()
 }
 
-// Does what is ordered over the file, at the moment that the words give or that of the machine's clock.
+// Executes a command at the timestamp of the command line or of the system clock.
 fn obeyed(rt: &HostRuntime, order: &Order) -> Report {
     match order.now.or(clock(rt)) {
         Some(moment) => give_up(obey(rt, order, moment, Wary, &mut rt.stdout())),
@@ -25,7 +24,7 @@ fn obeyed(rt: &HostRuntime, order: &Order) -> Report {
     }
 }
 
-/// Does what is ordered over the file. A desk that holds the file gives it up for so long.
+/// Executes a command over the file; a server that holds it releases it meanwhile.
 pub(crate) fn done(rt: &HostRuntime, order: &Order) -> Report {
     let _leave = ask_for(rt, order.file.as_str());
     match &order.task {
@@ -34,8 +33,8 @@ pub(crate) fn done(rt: &HostRuntime, order: &Order) -> Report {
     }
 }
 
-/// Does what is ordered over the file, and prints what it came to, with an explanation where one is asked for. The room
-/// for the line is set aside before.
+/// Executes a command over the file and prints the report; returns the exit status. The line is allocated first, so
+/// that the report can be printed when out of memory.
 pub(crate) fn run_order(rt: &HostRuntime, order: &Order) -> u8
     ensures { result ≤ 3 }
 {
@@ -47,8 +46,7 @@ pub(crate) fn run_order(rt: &HostRuntime, order: &Order) -> u8
     print_in(rt, line, &order.task, &report, order.explains)
 }
 
-// Does what the words order: at the desk that holds the file, or, where there is none or where what it came to is to be
-// explained, over the file.
+// Executes a command: on the running server, if there is one and no explanation is wanted; otherwise over the file.
 fn run_words(rt: &HostRuntime, words: &[String], order: &Order) -> u8
     ensures { result ≤ 3 }
 {
@@ -61,7 +59,7 @@ fn run_words(rt: &HostRuntime, words: &[String], order: &Order) -> u8
     }
 }
 
-/// Does what the words order, once the record of an import was read.
+/// Reads the record of an import, then executes the command; returns the exit status.
 pub(crate) fn run_with_record(rt: &HostRuntime, words: &[String], order: Order) -> u8
     ensures { result ≤ 3 }
 {

@@ -1,4 +1,4 @@
-//! What was come to, printed.
+//! Printing of results and faults.
 
 ghost use Rattle.std.specs.Prelude.{◌≡◌, ◌≤◌, [], IfOk, string_bytes};
 
@@ -7,17 +7,21 @@ use club_words::{BadWords, Task};
 use std::alloc::AllocError;
 use std::io::Write;
 
-// The room that is set aside for the line that is printed, in bytes.
+// The capacity allocated for the printed line, in bytes.
 const LINE_BYTES: usize = 256;
 
-/// The room for a line.
+/// An empty line with capacity.
+///
+/// # Errors
+///
+/// `AllocError` if out of memory.
 pub(crate) fn line_room(rt: &HostRuntime) -> Result<String, AllocError>
     ensures { IfOk result (λ line. string_bytes line ≡ []) }
 {
     String::with_capacity(rt.alloc(), LINE_BYTES)
 }
 
-/// Says that no memory was to be had, in whatever room there is.
+/// Reports that memory ran out, without an allocated line.
 #[tactic(auto, using(crate::proofs::StatusLemmas::printed_small))]
 pub(crate) fn print_without_room(rt: &HostRuntime, task: &Task, explains: bool) -> u8
     ensures { result ≤ 3 }
@@ -33,8 +37,7 @@ pub(crate) fn print_without_room(rt: &HostRuntime, task: &Task, explains: bool) 
     )
 }
 
-/// Prints what was come to by the room for a line, with an explanation where one is asked for; of the orders of a batch
-/// there is none.
+/// Prints a report into an allocated line, with an explanation if wanted; batches have none.
 #[tactic(auto, using(crate::proofs::StatusLemmas::printed_small, crate::proofs::StatusLemmas::batch_printed_small))]
 pub(crate) fn print_in(
     rt: &HostRuntime,
@@ -59,7 +62,7 @@ pub(crate) fn print_in(
     }
 }
 
-/// Prints what was come to, with an explanation where one is asked for.
+/// Prints a report, with an explanation if wanted; returns the exit status.
 pub(crate) fn print_report(rt: &HostRuntime, task: &Task, report: &Report, explains: bool) -> u8
     ensures { result ≤ 3 }
 {
@@ -69,7 +72,7 @@ pub(crate) fn print_report(rt: &HostRuntime, task: &Task, report: &Report, expla
     }
 }
 
-/// Prints a text that was asked for.
+/// Prints a text to standard output; returns the exit status.
 pub(crate) fn print_text(rt: &HostRuntime, text: &str) -> u8
     ensures { result ≤ 3 }
 {
@@ -79,7 +82,6 @@ pub(crate) fn print_text(rt: &HostRuntime, text: &str) -> u8
     }
 }
 
-// Prints the line that answers `--version`.
 fn print_version(rt: &HostRuntime, line: String) -> u8
     ensures { result ≤ 3 }
 {
@@ -89,7 +91,7 @@ fn print_version(rt: &HostRuntime, line: String) -> u8
     }
 }
 
-/// Says why the words are no order, or prints the version that they ask for.
+/// Prints why the command line is malformed, or the version if it asks for that; returns the exit status.
 pub(crate) fn refuse_words(rt: &HostRuntime, bad: BadWords) -> u8
     ensures { result ≤ 3 }
 {

@@ -1,4 +1,4 @@
-//! The texts that orders take: the record of a game, and the orders of a batch.
+//! Input files: the record of a game, and the lines of a batch.
 
 ghost use Rattle.std.specs.Prelude.{◌≡◌, IfOk, IfSome, take};
 
@@ -8,13 +8,13 @@ use club_words::Order;
 use std::fs::File;
 use std::io::{ErrorKind, Read};
 
-// The bytes of a record that are looked at: one more than it may have, so that a longer one is seen to be.
+// The most bytes read of a record: one more than allowed, so that a longer one is noticed.
 const RECORD_BYTES: u64 = 65_537;
 
-// The same of the orders of a batch.
+// The most bytes read of a batch: one more than allowed.
 const ORDERS_BYTES: u64 = BATCH_BYTES as u64 + 1;
 
-// Reads so many bytes, or all where there are fewer.
+// Reads at most `most` bytes.
 fn read_bytes<I: Read + Drop>(rt: &HostRuntime, input: I, most: u64) -> Result<Vec<u8>, Report>
     ensures { IfOk result (λ read. IfSome (I.remaining input) (λ bytes. read.items ≡ take most bytes)) }
 {
@@ -26,7 +26,7 @@ fn read_bytes<I: Read + Drop>(rt: &HostRuntime, input: I, most: u64) -> Result<V
     }
 }
 
-// Reads so many bytes of a file, or of the standard input.
+// Reads at most `most` bytes of a file, or of standard input if the path is `-`.
 fn read_path(rt: &HostRuntime, path: &str, most: u64) -> Result<Vec<u8>, Report> {
     if path == "-" {
         return read_bytes(rt, rt.stdin(), most);
@@ -38,16 +38,31 @@ fn read_path(rt: &HostRuntime, path: &str, most: u64) -> Result<Vec<u8>, Report>
 }
 
 /// The text of a record.
+///
+/// # Errors
+///
+/// - `NoMemory` if out of memory.
+/// - `Unread` if it cannot be read.
 pub(crate) fn read_record(rt: &HostRuntime, path: &str) -> Result<Vec<u8>, Report> {
     read_path(rt, path, RECORD_BYTES)
 }
 
-/// The text of the orders of a batch.
+/// The text of a batch.
+///
+/// # Errors
+///
+/// - `NoMemory` if out of memory.
+/// - `Unread` if it cannot be read.
 pub(crate) fn read_batch(rt: &HostRuntime, path: &str) -> Result<Vec<u8>, Report> {
     read_path(rt, path, ORDERS_BYTES)
 }
 
-/// The text of the record that an import asks for.
+/// The text of the record that an order imports, if it does.
+///
+/// # Errors
+///
+/// - `NoMemory` if out of memory.
+/// - `Unread` if it cannot be read.
 pub(crate) fn record_in(rt: &HostRuntime, order: &Order) -> Result<Option<Vec<u8>>, Report> {
     match &order.record {
         Some(path) => {

@@ -1,4 +1,4 @@
-//! The desk over a file: stretches of serving, between which it gives way to other programs.
+//! The server over a file: serving sessions, between which it releases the file to other programs.
 
 ghost use Rattle.std.specs.Prelude.{◌≤◌};
 
@@ -15,17 +15,16 @@ use sqlite_disk::Wary;
 use std::alloc::AllocError;
 use std::time::Duration;
 
-// How long the files are given up after a stretch, so that who waits for them finds them free.
+// The time for which the file stays released after a session, so that a waiting program can lock it.
 const GIVEN_UP_MILLISECONDS: u64 = 200;
 
-// How long is waited before files that another program has are asked for again.
+// The interval between attempts to open a file that another program holds.
 const AGAIN_MILLISECONDS: u64 = 100;
 
-// How often they are asked for before those who come are told that they cannot be had: for a second, since a word asks
-// for them and has been waited for. From then on each is told at once.
+// The number of attempts, over about a second, before requests get a fault. After that each request gets it at once.
 const PATIENCE: u32 = 10;
 
-// Asks another desk for the files, if one holds them; where there is none, this one's door is opened.
+// Opens the control socket, or leases the file if another server has one.
 fn ask_or_open(rt: &HostRuntime, file: &str, callers: &mut Callers<'_>) -> Option<Leave> {
     if callers.has_door() {
         return None;
@@ -37,14 +36,14 @@ fn ask_or_open(rt: &HostRuntime, file: &str, callers: &mut Callers<'_>) -> Optio
     leave
 }
 
-// A stretch over the files, unless another program has them.
+// Runs one serving session.
 fn serve_stretch(rt: &HostRuntime, file: &str, callers: &mut Callers<'_>) -> Course {
     let _leave = ask_or_open(rt, file, callers);
     callers.begin();
     course_of(give_up(serve_files(rt, file, Wary, callers)))
 }
 
-// Tells those who are to be served now, and where the fault lasts those who come for a while, why there is no club.
+// Answers requests with the fault: those that are ready, and for a lasting fault also those that follow for a while.
 fn tell(rt: &HostRuntime, callers: &mut Callers<'_>, fault: ClubFault) {
     if lasts(fault) {
         callers.begin();
@@ -54,8 +53,8 @@ fn tell(rt: &HostRuntime, callers: &mut Callers<'_>, fault: ClubFault) {
     serve_closed(rt.alloc(), callers, fault);
 }
 
-// Hears those who come until there is something to do, another program having the files since so many tries: false
-// where no one more is to be served.
+// Receives clients until there is something to do, after so many attempts to open the file; `false` if no more
+// connections will follow.
 fn hear(callers: &mut Callers<'_>, tries: u32) -> bool {
     if tries > PATIENCE {
         return callers.await_for(Duration::from_millis(AGAIN_MILLISECONDS));
@@ -69,13 +68,13 @@ fn hear(callers: &mut Callers<'_>, tries: u32) -> bool {
     callers.await_next()
 }
 
-// Leaves the files to the one who asks for them, or for a while to whoever takes them: false where no one more is to be
-// served.
+// Leases the file to a waiting process, or leaves it released for a while; `false` if no more connections will
+// follow.
 fn give_way(callers: &mut Callers<'_>) -> bool {
     callers.lend() || callers.hear(Duration::from_millis(GIVEN_UP_MILLISECONDS))
 }
 
-// Serves as many as are to be let in, over a file.
+// Serves over a file until no more connections will follow.
 fn serve(rt: &HostRuntime, file: &str, callers: &mut Callers<'_>) {
     let mut tries: u32 = 0;
     for _ in 0..u64::MAX {
@@ -104,14 +103,13 @@ fn serve(rt: &HostRuntime, file: &str, callers: &mut Callers<'_>) {
     }
 }
 
-// Prints what was come to of a service.
 fn told(rt: &HostRuntime, service: &Service, report: &Report) -> u8
     ensures { result ≤ 3 }
 {
     print_report(rt, &Task::Verify, report, service.explains)
 }
 
-// Listens on the port of a service, says so, and serves those who come.
+// Listens on the port, prints that, and serves; returns the exit status.
 fn listen(rt: &HostRuntime, service: &Service) -> u8
     ensures { result ≤ 3 }
 {
@@ -134,7 +132,7 @@ fn listen(rt: &HostRuntime, service: &Service) -> u8
     status
 }
 
-// The order to test the file of a service.
+// The order that verifies the file.
 fn test_of(rt: &HostRuntime, service: &Service) -> Result<Order, AllocError> {
     Ok(Order {
         file: service.file.clone()?,
@@ -145,7 +143,7 @@ fn test_of(rt: &HostRuntime, service: &Service) -> Result<Order, AllocError> {
     })
 }
 
-/// Serves over a file, if it is a club's.
+/// Verifies the file, then serves over it; returns the exit status.
 pub(crate) fn run_service(rt: &HostRuntime, service: &Service) -> u8
     ensures { result ≤ 3 }
 {

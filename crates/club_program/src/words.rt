@@ -1,10 +1,15 @@
-//! The words that the program was given.
+//! The command line: the words given to the program, and their parsing.
 
 use club_words::{BadWords, Words, read_words};
 use std::alloc::AllocError;
 use std::io::ErrorKind;
 
-/// The program's words, the first being its own name.
+/// The words of the command line, the program's name first.
+///
+/// # Errors
+///
+/// - `Memory` if out of memory.
+/// - `Text` if a word is not UTF-8.
 pub(crate) fn given_words(rt: &HostRuntime) -> Result<Vec<String>, BadWords> {
     let words = match std::env::args(rt) {
         Ok(words) => words,
@@ -17,12 +22,11 @@ pub(crate) fn given_words(rt: &HostRuntime) -> Result<Vec<String>, BadWords> {
     Ok(words.collect(rt.alloc())?)
 }
 
-// The words as texts.
 fn texts<'a>(rt: &HostRuntime, words: &'a [String]) -> Result<Vec<&'a str>, AllocError> {
     words.iter().map(|word| word.as_str()).collect(rt.alloc())
 }
 
-// How many words an option takes that stands at a place before the file; none where there is no such option.
+// The number of words of the option at an index; 0 if it is no option of those before the file.
 fn option_words(words: &[&str], at: usize) -> usize {
     match words.get(at) {
         Some(word) if *word == "--now" => 2,
@@ -31,7 +35,7 @@ fn option_words(words: &[&str], at: usize) -> usize {
     }
 }
 
-// The place of a `--` that stands before the file, behind both options at most.
+// The index of a `--` before the file, after at most two options.
 fn dashes_at(words: &[&str]) -> Option<usize> {
     let first: usize = 1;
     let second = first.saturating_add(option_words(words, first));
@@ -42,7 +46,7 @@ fn dashes_at(words: &[&str]) -> Option<usize> {
     }
 }
 
-// The same file by a path that does not begin with a hyphen.
+// The same file by a path that does not start with a hyphen.
 fn plain_path(rt: &HostRuntime, file: &str) -> Result<String, AllocError> {
     if file.starts_with('-') {
         format!(in rt.alloc(); "./{file}")
@@ -51,7 +55,7 @@ fn plain_path(rt: &HostRuntime, file: &str) -> Result<String, AllocError> {
     }
 }
 
-// The words with the file in place of the `--` at a place and of the word behind it.
+// The words, with the file in place of the `--` and the word after it.
 fn with_file<'a>(
     rt: &HostRuntime,
     words: &[&'a str],
@@ -69,7 +73,11 @@ fn with_file<'a>(
     Ok(taken)
 }
 
-/// What the words say. Behind a `--` before it the file may begin with a hyphen.
+/// Parses the command line. After a `--` the file may start with a hyphen.
+///
+/// # Errors
+///
+/// `BadWords` if it is malformed, asks for help or the version, or if out of memory.
 pub(crate) fn said(rt: &HostRuntime, words: &[String]) -> Result<Words, BadWords> {
     let words = texts(rt, words)?;
     let Some(at) = dashes_at(words.as_slice()) else {

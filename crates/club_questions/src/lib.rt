@@ -1,4 +1,4 @@
-//! What may be asked of a club. A question changes nothing.
+//! Queries to a club. A query does not change the club.
 #![tactic(auto)]
 
 pub mod questions;

@@ -1,61 +1,61 @@
-//! Questions: what one who asks is shown.
+//! The queries and their parameters.
 
-/// Which games of a list are shown.
+/// Filter of a list of games.
 #[derive(Clone, Copy, Debug, PartialEq, Eq)]
 pub enum Which {
-    /// All of them.
+    /// All games.
     All,
-    /// Those that have not ended.
+    /// Games that have not ended.
     Running,
-    /// Those that a sweep at that moment would end.
+    /// Games that a sweep at the time of the query would end.
     Overdue,
 }
 
-/// The games that are listed.
+/// Filter of a list of games by event, player and state.
 #[derive(Debug, Drop)]
 pub struct Listing {
-    /// The name of an event, where only its games are shown.
+    /// Only games of the event with this name, if given.
     pub event: Option<String>,
-    /// The name of a member, where only this member's games are shown.
+    /// Only games of the member with this name, if given.
     pub member: Option<String>,
-    /// Which of these.
+    /// Only games in this state.
     pub which: Which,
 }
 
-/// What a club may be asked.
+/// A query to the club.
 #[derive(Debug, Drop)]
 pub enum Question {
-    /// The legal moves of the game of this number, a line each.
+    /// The legal moves of the game with this id, one per line.
     LegalMoves(u64),
-    /// The cross table of the event of this name.
+    /// The cross table of the event with this name.
     CrossTable(String),
-    /// The record of the game of this number, in the format of its kind.
+    /// The record of the game with this id, in the format of its kind.
     Record(u64),
-    /// The members, a line each.
+    /// The members, one per line.
     Members,
-    /// The events, a line each.
+    /// The events, one per line.
     Events,
-    /// Games, a line each.
+    /// Games, one per line.
     Games(Listing),
-    /// What the member who has this key plays and is challenged to, as JSON.
+    /// The running games and challenges of the member with this key, as JSON.
     Mine(String),
-    /// The events, and the members whom the one who has this key may challenge, as JSON.
+    /// The events, and the members whom the member with this key may challenge, as JSON.
     Inviting(String),
-    /// The games of the event of this name, as JSON.
+    /// The games of the event with this name, as JSON.
     EventGames(String),
-    /// The clock of the game of this number, as JSON.
+    /// The clock of the game with this id, as JSON.
     ClockOf(u64),
-    /// The game of this number as members see it, as JSON.
+    /// The game with this id as members see it, as JSON.
     GameBody(u64),
-    /// The legal moves of the game of this number, as JSON.
+    /// The legal moves of the game with this id, as JSON.
     MovesBody(u64),
-    /// A game as a person looks at it: its players, their clocks, the board and the moves.
+    /// A game for a person to read: its players, clocks, board and moves.
     Board {
-        /// The number of the game.
+        /// The id of the game.
         game: u64,
-        /// Whether pieces of shogi are shown by letters, in place of their Japanese names.
+        /// Print shogi pieces as letters instead of Japanese characters.
         letters: bool,
     },
-    /// The records of all games of the event of this name, in the format of its kind.
+    /// The records of all games of the event with this name, in the format of its kind.
     EventRecords(String),
 }

@@ -1,4 +1,4 @@
--- Whose a key is.
+-- The member with a secret key.
 use Rattle.std.specs.Prelude.{ℕ, List, Option, Some, None, option_map}
 use Rattle.club_requests.specs.declared.requests.Caller.{Caller}
 use Rattle.club_requests.specs.declared.requests.Caller.TheVariants.{Officer, Member as CalledMember}
@@ -12,6 +12,6 @@ caller_name members None = None
 caller_name members (Some Officer) = None
 caller_name members (Some (CalledMember id)) = option_map (λ (m : Member). m.name) (place members id)
 
--- the name of the member whom the machine takes one for who shows the key
+-- the name of the member with this key, if there is one
 abbrev pub holder_of : ClubState → List ℕ → Option (List ℕ)
 holder_of s key = caller_name s.members (caller_of s.members (key_holder key))

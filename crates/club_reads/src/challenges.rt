@@ -1,4 +1,4 @@
-//! The challenges of the club.
+//! Reads challenges.
 
 ghost use Rattle.std.specs.Prelude.{◌≡◌, ◌<◌, pos, Some, IfOk, is_ok, IfSome};
 ghost use Rattle.std.specs.Prelude.{IfNone};
@@ -20,7 +20,7 @@ use std::alloc::Global;
 use store_sql::{ChallengeNumber, find};
 use store_tables::ChallengeRow;
 
-// The challenge of which this is the row.
+// Converts a row; `Store` if it is invalid.
 fn challenge_in(row: &ChallengeRow) -> Result<Challenge, CallFault>
     ensures { IfOk result (λ c. challenge_cells row.now ≡ challenge_row c) }
 {
@@ -30,7 +30,7 @@ fn challenge_in(row: &ChallengeRow) -> Result<Challenge, CallFault>
     }
 }
 
-// What is asked for a member's challenge under the member's number for it, if a row can have that number.
+// The query for a member's challenge. None if the number does not fit in a column.
 fn question_of(member: u32, number: u64) -> Option<ChallengeNumber>
     ensures member { IfSome result (λ q. q.member ≡ pos member) }
     ensures number { IfSome result (λ q. q.number ≡ pos number) }
@@ -45,7 +45,12 @@ fn question_of(member: u32, number: u64) -> Option<ChallengeNumber>
     })
 }
 
-/// The challenge of a member, if one is given, under the member's number for it.
+/// Returns the member's challenge with this number, if there is one; None without a member.
+///
+/// # Errors
+///
+/// - `Store` if a call of the database fails, or a row is invalid.
+/// - `Memory` if out of memory.
 pub fn challenge_by<S: Alter>(
     alloc: Global,
     conn: &mut Connection<S>,

@@ -1,4 +1,4 @@
-//! What a decision in a game makes of the positions that stood in it, and of the scores.
+//! Computes the rows of repetition counts and scores that a decision in a game changes.
 
 ghost use Rattle.std.specs.Prelude.{◌≡◌, ◌≢◌, ◌≤◌, ◌+◌, ℕ, pos, length, Some, None, IfOk, is_ok};
 ghost use Rattle.sqlite.specs.State.{HasCleanDisk};
@@ -34,7 +34,7 @@ use std::alloc::Global;
 use store_sql::{ScorePair as PairOf, SeenPosition, find};
 use store_tables::{ScoreRow, SeenRow};
 
-// The row of a position that stands in the game after that ply, once more or for the first time.
+// The row of a position after a ply: its present row with the count incremented, or a new one.
 fn seen_at<R: Rules, S: Alter>(
     alloc: Global,
     conn: &mut Connection<S>,
@@ -59,7 +59,13 @@ fn seen_at<R: Rules, S: Alter>(
     Ok(row)
 }
 
-/// The row of the position that a decision's move leads to, after so many plies; none where it made no move.
+/// Returns the row of the position after the decision's move; None if the decision made no move. `plies` is the number
+/// of plies before it.
+///
+/// # Errors
+///
+/// - `Store` if a call of the database fails, or a row is invalid.
+/// - `Memory` if out of memory.
 pub fn seen_by<R: Rules, S: Alter>(
     alloc: Global,
     conn: &mut Connection<S>,
@@ -92,7 +98,7 @@ pub fn seen_by<R: Rules, S: Alter>(
     }
 }
 
-/// How often the position of the row stood, and after which ply first. Nobody looks at the numbers where there is none.
+/// The position's repetition count and first ply; zeros (unused) if there is no row.
 pub fn stood_by<R: Rules>(seen: &Option<SeenRow>) -> Stood
     ensures { (row : SeenRow) → seen.now ≡ Some row → (id : ℕ) (game : Game R.Move) →
         IsLegalLine R.rules R.rules.start (moves_of game) →
@@ -109,7 +115,6 @@ pub fn stood_by<R: Rules>(seen: &Option<SeenRow>) -> Stood
     }
 }
 
-// The question for the row of a member and an opponent in an event.
 fn pair_of(event: u32, member: u32, opponent: u32) -> PairOf
     ensures event { result.event ≡ pos event }
     ensures member { result.member ≡ pos member }
@@ -122,7 +127,7 @@ fn pair_of(event: u32, member: u32, opponent: u32) -> PairOf
     }
 }
 
-// What a member scored against an opponent in an event so far, if they met.
+// The row of a member's score against an opponent in an event, if they have met.
 fn score_of<S: Alter>(
     alloc: Global,
     conn: &mut Connection<S>,
@@ -140,7 +145,12 @@ fn score_of<S: Alter>(
     Ok(row)
 }
 
-/// The rows of scores of two players whose game ended so.
+/// Returns both players' rows of scores after a game with this score; `one` plays First.
+///
+/// # Errors
+///
+/// - `Store` if a call of the database fails, a row is invalid, or a sum overflows.
+/// - `Memory` if out of memory.
 pub fn scores_with<S: Alter>(
     alloc: Global,
     conn: &mut Connection<S>,
@@ -162,7 +172,12 @@ pub fn scores_with<S: Alter>(
     }
 }
 
-/// The rows of scores that a decision puts: those of the two players where the game has ended by it.
+/// Returns both players' rows of scores if the decision ends the game, else None.
+///
+/// # Errors
+///
+/// - `Store` if a call of the database fails, a row is invalid, or a sum overflows.
+/// - `Memory` if out of memory.
 pub fn scores_by<R: Rules, S: Alter>(
     alloc: Global,
     conn: &mut Connection<S>,

@@ -1,4 +1,4 @@
-//! The events of the club.
+//! Reads events.
 
 ghost use Rattle.std.specs.Prelude.{◌≡◌, ◌≤◌, ◌<◌, ℕ, List, map, Some, None, IfOk, is_ok};
 ghost use Rattle.std.specs.Prelude.{length};
@@ -25,7 +25,7 @@ use std::alloc::Global;
 use store_sql::{find_by_first, list};
 use store_tables::{EventRow, EventRuleRow};
 
-// The event of which these are the row and that of its rules.
+// Converts the rows of an event and of its rules; `Store` if a value is out of range.
 pub(crate) fn event_of(row: &EventRow, rule: &EventRuleRow) -> Result<Event, CallFault>
     ensures { IfOk result (λ e. (id : ℕ) (event : core.Event) → event_cells row.now ≡ event_row id event →
         event_rule_cells rule.now ≡ rule_row id event → event_of e ≡ event) }
@@ -50,7 +50,7 @@ pub(crate) fn event_of(row: &EventRow, rule: &EventRuleRow) -> Result<Event, Cal
     })
 }
 
-// The events of which these are the rows and those of their rules, by id.
+// Converts the rows of all events, in the order of ids.
 fn events_of(
     alloc: Global,
     rows: &[EventRow],
@@ -74,7 +74,12 @@ fn events_of(
     Ok(events)
 }
 
-/// The events of the club, by id.
+/// Returns all events, in the order of ids.
+///
+/// # Errors
+///
+/// - `Store` if a call of the database fails, or a row is invalid.
+/// - `Memory` if out of memory.
 pub fn all_events<S: Alter>(
     alloc: Global,
     conn: &mut Connection<S>,
@@ -90,7 +95,12 @@ pub fn all_events<S: Alter>(
     Ok(events)
 }
 
-/// The event of this id.
+/// Returns the event with this id.
+///
+/// # Errors
+///
+/// - `Store` if a call of the database fails, a row is invalid, or there is no such event.
+/// - `Memory` if out of memory.
 pub fn event_with<S: Alter>(
     alloc: Global,
     conn: &mut Connection<S>,

@@ -1,16 +1,16 @@
-//! What may go wrong where the tables of a club are read.
+//! The fault of a read.
 
 use club_changes::ChangeFault;
 use club_rules::Memory;
 use cross_tables::StandingsFault;
 use std::alloc::{AllocError, AllocFailed};
 
-/// Why a call on the database of a club that is open failed.
+/// Why a call on the database of an open club failed.
 #[derive(Debug, Clone, Copy, PartialEq, Eq, Drop)]
 pub enum CallFault {
-    /// A call of the database failed, or it holds rows that no club has.
+    /// A call of the database failed, or a row is invalid.
     Store,
-    /// The allocator refused.
+    /// Out of memory, except inside a database call.
     Memory,
 }
 

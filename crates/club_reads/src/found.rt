@@ -1,9 +1,9 @@
-//! The one row that is asked for.
+//! Takes the row of a query that returns at most one.
 
 ghost use Rattle.std.specs.Prelude.{◌≡◌, ◌<◌};
 ghost use Rattle.std.specs.Prelude.{slice_get};
 
-/// The first of the rows, if there is one.
+/// The first row, if there is one.
 pub fn first<T: Drop>(rows: Vec<T>) -> Option<T>
     ensures { result ≡ slice_get rows.items 0 }
 {

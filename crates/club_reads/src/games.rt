@@ -1,4 +1,4 @@
-//! The games of the club as they are stored.
+//! Reads stored games.
 
 ghost use Rattle.std.specs.Prelude.{◌≡◌, ◌<◌, ℕ, Some, None, IfOk, is_ok};
 ghost use Rattle.std.specs.Prelude.{length};
@@ -25,7 +25,11 @@ use std::alloc::Global;
 use store_sql::{GameKey, count, find, find_by_first};
 use store_tables::GameRecord;
 
-/// The ids in the row of a game: its own, and those of its event and players.
+/// The ids in the row of a game: its own, its event's and its players'.
+///
+/// # Errors
+///
+/// `Store` if an id is out of range.
 pub fn ids_in(row: &GameRecord) -> Result<KeyedGame, CallFault>
     ensures { IfOk result (λ k. (s : ClubState) (id : ℕ) (game : ClubGame) →
         game_cells row.now ≡ game_in s id game →
@@ -49,7 +53,12 @@ pub fn ids_in(row: &GameRecord) -> Result<KeyedGame, CallFault>
     })
 }
 
-/// The game that stands under a key, if there is one.
+/// Returns the ids of the game with this key, if there is one.
+///
+/// # Errors
+///
+/// - `Store` if a call of the database fails, or a row is invalid.
+/// - `Memory` if out of memory.
 pub fn game_under<S: Alter>(
     alloc: Global,
     conn: &mut Connection<S>,
@@ -66,7 +75,7 @@ pub fn game_under<S: Alter>(
     }
 }
 
-// A game as its row and that of its event tell it.
+// Joins the row of a game with the kind and terms of its event.
 pub(crate) fn read_game<S: Alter>(
     alloc: Global,
     conn: &mut Connection<S>,
@@ -87,7 +96,12 @@ pub(crate) fn read_game<S: Alter>(
     })
 }
 
-/// The game of this number as it is stored, if there is one.
+/// Returns the stored game with this number, if there is one.
+///
+/// # Errors
+///
+/// - `Store` if a call of the database fails, or a row is invalid.
+/// - `Memory` if out of memory.
 pub fn stored_game<S: Alter>(
     alloc: Global,
     conn: &mut Connection<S>,
@@ -109,7 +123,11 @@ pub fn stored_game<S: Alter>(
     }
 }
 
-/// How many games there are.
+/// Counts the games.
+///
+/// # Errors
+///
+/// `Store` if a call of the database fails, or the count does not fit in 32 bits.
 pub fn games_in<S: Alter>(conn: &mut Connection<S>) -> Result<u32, CallFault>
     ensures reads { Reads (is_ok result) (state S.Store conn.old) (state S.Store conn.new) }
     ensures count { HasCleanDisk (state S.Store conn.new) → IfOk result (λ games. (s : ClubState) →

@@ -1,4 +1,4 @@
-//! What an import may ask of the club.
+//! Reads the state of the club that an import needs.
 
 ghost use Rattle.std.specs.Prelude.{◌≡◌, ◌≤◌, ℕ, List, length, Option, Some, IfOk, is_ok};
 ghost use Rattle.sqlite.specs.State.{HasCleanDisk};
@@ -20,7 +20,7 @@ use sqlite::{Alter, Connection};
 use std::alloc::Global;
 use store_sql::{GameKey, find};
 
-// The game that stands under a key as it is stored, if there is one.
+// The stored game with this key, if there is one.
 pub(crate) fn stored_under<S: Alter>(
     alloc: Global,
     conn: &mut Connection<S>,
@@ -39,7 +39,6 @@ pub(crate) fn stored_under<S: Alter>(
     }
 }
 
-// The ids of a stored game.
 fn keyed(under: &Option<StoredGame>) -> Result<Option<KeyedGame>, CallFault>
     ensures { IfOk result (λ k. (s : ClubState) (key : List ℕ) → IsUnder s key under.now →
         k ≡ game_under s.games key) }
@@ -50,7 +49,13 @@ fn keyed(under: &Option<StoredGame>) -> Result<Option<KeyedGame>, CallFault>
     }
 }
 
-/// What the club has that an import under this key may ask of.
+/// Returns the state that an import under this key needs: members, events, the game with the key, and the number of
+/// games.
+///
+/// # Errors
+///
+/// - `Store` if a call of the database fails, or a row is invalid.
+/// - `Memory` if out of memory.
 pub fn read_known<S: Alter>(
     alloc: Global,
     conn: &mut Connection<S>,

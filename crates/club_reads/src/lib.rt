@@ -1,6 +1,6 @@
-//! What the tables of a club tell, over a connection: the rows that a command asks for. Reading changes nothing. A call
-//! fails with `Memory` where memory was refused, and with `Store` where a call of the database failed or where no club
-//! has the rows that it holds.
+//! Queries on the tables of an open club: the rows that a command or a question needs, as typed values. Nothing is
+//! written.
+//! Every call fails with `Store` if a database call fails or a row is invalid, and with `Memory` if out of memory.
 #![tactic(auto)]
 
 mod challenges;

@@ -1,4 +1,4 @@
-//! The moment of the last accepted command.
+//! Reads the timestamp of the last accepted command.
 
 ghost use Rattle.std.specs.Prelude.{◌≡◌, ◌<◌, ℕ, Some, None, IfOk, is_ok};
 ghost use Rattle.sqlite.specs.State.{HasCleanDisk};
@@ -18,7 +18,6 @@ use std::alloc::Global;
 use store_sql::list;
 use store_tables::MetaRow;
 
-// The moment that the row of `meta` has.
 fn last_in(row: &MetaRow) -> Result<Moment, CallFault>
     ensures { IfOk result (λ last. (n : ℕ) → meta_cells row.now ≡ meta_row 2 n → last ≡ n) }
 {
@@ -28,7 +27,12 @@ fn last_in(row: &MetaRow) -> Result<Moment, CallFault>
     }
 }
 
-/// The moment of the last accepted command.
+/// Returns the timestamp of the last accepted command, in Unix seconds.
+///
+/// # Errors
+///
+/// - `Store` if a call of the database fails, or a row is invalid.
+/// - `Memory` if out of memory.
 pub fn last_moment<S: Alter>(alloc: Global, conn: &mut Connection<S>) -> Result<Moment, CallFault>
     ensures reads { Reads (is_ok result) (state S.Store conn.old) (state S.Store conn.new) }
     ensures last { HasCleanDisk (state S.Store conn.new) → IfOk result (λ last. (s : ClubState) →

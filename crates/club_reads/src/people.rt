@@ -1,4 +1,4 @@
-//! The members of the club, and who gives a command.
+//! Reads members, and identifies the caller of a command.
 
 ghost use Rattle.std.specs.Prelude.{◌≡◌, ◌≤◌, ◌<◌, ℕ, List, map, Some, None, IfOk, is_ok};
 ghost use Rattle.std.specs.Prelude.{length, string_bytes};
@@ -30,7 +30,7 @@ use std::alloc::Global;
 use store_sql::{MemberKey, find, find_by_first, list};
 use store_tables::MemberRow;
 
-// The members of which these are the rows, by id.
+// Converts the rows of all members, in the order of ids.
 fn members_of(alloc: Global, rows: &[MemberRow]) -> Result<Vec<Member>, CallFault>
     ensures room { IfOk result (λ members. length members.items ≤ 200) }
     ensures values { IfOk result (λ members. (all : List core_members.Member) →
@@ -49,7 +49,12 @@ fn members_of(alloc: Global, rows: &[MemberRow]) -> Result<Vec<Member>, CallFaul
     Ok(members)
 }
 
-/// The members of the club, by id.
+/// Returns all members, in the order of ids.
+///
+/// # Errors
+///
+/// - `Store` if a call of the database fails, or a row is invalid.
+/// - `Memory` if out of memory.
 pub fn all_members<S: Alter>(
     alloc: Global,
     conn: &mut Connection<S>,
@@ -63,7 +68,7 @@ pub fn all_members<S: Alter>(
     Ok(members)
 }
 
-// The member of whom this is the row.
+// The caller with the id of the row.
 fn member_in(row: &MemberRow) -> Result<Caller, CallFault>
     ensures { IfOk result (λ caller. (id : ℕ) (member : core_members.Member) →
         member_cells row.now ≡ member_row id member → caller ≡ Caller.Member id) }
@@ -74,7 +79,7 @@ fn member_in(row: &MemberRow) -> Result<Caller, CallFault>
     }
 }
 
-// The member who has a key, if there is one.
+// The member with this secret key, as a caller.
 pub(crate) fn member_with<S: Alter>(
     alloc: Global,
     conn: &mut Connection<S>,
@@ -91,7 +96,12 @@ pub(crate) fn member_with<S: Alter>(
     }
 }
 
-/// Who gives a command: the officer, or the member who has the key, if there is one.
+/// Identifies the caller of a command: the officer, or the member with the key. None if no member has the key.
+///
+/// # Errors
+///
+/// - `Store` if a call of the database fails, or a row is invalid.
+/// - `Memory` if out of memory.
 pub fn caller_by<S: Alter>(
     alloc: Global,
     conn: &mut Connection<S>,
@@ -110,7 +120,12 @@ pub fn caller_by<S: Alter>(
     }
 }
 
-/// The name of the member of this id.
+/// Returns the name of the member with this id.
+///
+/// # Errors
+///
+/// - `Store` if a call of the database fails, a row is invalid, or there is no such member.
+/// - `Memory` if out of memory.
 pub fn name_of<S: Alter>(
     alloc: Global,
     conn: &mut Connection<S>,
@@ -128,7 +143,12 @@ pub fn name_of<S: Alter>(
     }
 }
 
-/// The name of the member who has the key, if there is one.
+/// Returns the name of the member with this secret key, if there is one.
+///
+/// # Errors
+///
+/// - `Store` if a call of the database fails, or a row is invalid.
+/// - `Memory` if out of memory.
 pub fn holder_of<S: Alter>(
     alloc: Global,
     conn: &mut Connection<S>,

@@ -1,4 +1,4 @@
-//! What was played in the game that stands under a key.
+//! Reads the moves and the result of a stored game.
 
 ghost use Rattle.std.specs.Prelude.{Option, Some, IfOk, is_ok};
 ghost use Rattle.sqlite.specs.State.{HasCleanDisk};
@@ -21,7 +21,7 @@ use std::alloc::Global;
 use store_sql::find_by_first;
 use store_tables::MoveRow;
 
-// What was played in a stored game.
+// The moves and the result of a stored game.
 pub(crate) fn played_in<R: Rules, S: Alter>(
     alloc: Global,
     conn: &mut Connection<S>,
@@ -42,7 +42,12 @@ pub(crate) fn played_in<R: Rules, S: Alter>(
     }
 }
 
-/// What was played in the game under a key, if there is one of this kind.
+/// Returns the moves and the result of the game `under` a key; None if there is no game, or it is of another kind.
+///
+/// # Errors
+///
+/// - `Store` if a call of the database fails, or the rows are not those of a legal game.
+/// - `Memory` if out of memory.
 pub fn played_under<R: Rules, S: Alter>(
     alloc: Global,
     conn: &mut Connection<S>,

@@ -1,4 +1,4 @@
-//! What the rows of a game show: its view by its own row, and by the rows of the ply that is asked of.
+//! Builds the view of a game from its own row, and from the rows of one ply.
 
 ghost use Rattle.std.specs.Prelude.{◌≡◌, ◌<◌, pos, IfOk, is_ok, None};
 ghost use Rattle.std.specs.Option.{option_map};
@@ -28,7 +28,6 @@ use std::alloc::Global;
 use store_sql::{MovePly, SeenPosition, find};
 use store_tables::MoveRow;
 
-// The question for the row of a position.
 fn position_of<'a>(game: u32, position: &'a str) -> SeenPosition<'a>
     ensures game { result.game ≡ pos game }
     ensures position { result.position.now ≡ position.now }
@@ -39,7 +38,7 @@ fn position_of<'a>(game: u32, position: &'a str) -> SeenPosition<'a>
     }
 }
 
-// How often the last position of a game stood, and after which ply first.
+// The repetition count and first ply of the game's last position.
 fn last_stood<R: Rules, S: Alter>(
     alloc: Global,
     conn: &mut Connection<S>,
@@ -59,7 +58,6 @@ fn last_stood<R: Rules, S: Alter>(
     }
 }
 
-// The question for the row of a ply.
 fn ply_of(game: u32, ply: u32) -> MovePly
     ensures game { result.game ≡ pos game }
     ensures ply { result.ply ≡ pos ply }
@@ -70,7 +68,12 @@ fn ply_of(game: u32, ply: u32) -> MovePly
     }
 }
 
-/// The row of a ply, if it was played.
+/// Returns the row of a ply (from 1), if it was played.
+///
+/// # Errors
+///
+/// - `Store` if a call of the database fails, or a row is invalid.
+/// - `Memory` if out of memory.
 pub fn row_of<R: Rules, S: Alter>(
     alloc: Global,
     conn: &mut Connection<S>,
@@ -87,7 +90,6 @@ pub fn row_of<R: Rules, S: Alter>(
     Ok(row)
 }
 
-// No row of a ply, nor of the one before it.
 fn no_rows() -> PlyRows
     ensures at { result.at ≡ None }
     ensures before { result.before ≡ None }
@@ -98,7 +100,7 @@ fn no_rows() -> PlyRows
     }
 }
 
-// The rows of a ply and of the one before it. No game has a ply past the last one that a game may have.
+// The rows of a ply and of the ply before it. No query for plies that no game can have.
 fn rows_at<R: Rules, S: Alter>(
     alloc: Global,
     conn: &mut Connection<S>,
@@ -122,7 +124,12 @@ fn rows_at<R: Rules, S: Alter>(
     Ok(PlyRows { at, before })
 }
 
-/// The view of a stored game, with no ply asked of.
+/// Builds the view of a stored game, without a ply.
+///
+/// # Errors
+///
+/// - `Store` if a call of the database fails, or a row is invalid.
+/// - `Memory` if out of memory.
 pub fn view<R: Rules, S: Alter>(
     alloc: Global,
     conn: &mut Connection<S>,
@@ -143,7 +150,12 @@ pub fn view<R: Rules, S: Alter>(
     }
 }
 
-/// The view of a stored game, asked of a ply.
+/// Builds the view of a stored game with the move of a ply (from 1).
+///
+/// # Errors
+///
+/// - `Store` if a call of the database fails, or a row is invalid.
+/// - `Memory` if out of memory.
 pub fn asked_view<R: Rules, S: Alter>(
     alloc: Global,
     conn: &mut Connection<S>,

@@ -1,4 +1,4 @@
--- How what a command is answered is written.
+-- The printed form of answers and outcomes.
 use Rattle.std.specs.Prelude.{List, [], ℕ, ◌++◌, codes, decimal, string_bytes, Option, Some, None}
 use Rattle.squares.specs.Sides.{score_text}
 use Rattle.club_rules.specs.declared.names.EndName.{EndName}
@@ -11,7 +11,7 @@ use Rattle.club_requests.specs.declared.answers.Outcome.TheVariants as outcome
 use Rattle.club_requests.specs.OutsideEnd.{outside_text}
 use Rattle.club_requests.specs.Refusal.{refusal_text}
 
--- the end that the rules gave, after a blank
+-- the end that the rules gave, if any, after ` end `
 abbrev pub end_tail : Option EndName → List ℕ
 end_tail None = []
 end_tail (Some end) = codes " end " ++ end_text end

@@ -1,10 +1,10 @@
--- Which values the club takes, and how much it holds.
+-- Limits of the club's values, and its capacity.
 use Rattle.std.specs.Prelude.{ℕ, List, length, Bool, ◌&&◌, ◌||◌, nat_le, ◌==◌}
 use Rattle.std.specs.Char.{is_ascii_alphanumeric}
 use Rattle.std.specs.List.{list_all}
 use Rattle.club_rules.specs.GameRules.{ply_limit}
 
--- the most members, events and games of a club
+-- maximum numbers of members, events and games of a club
 abbrev pub most_members : ℕ
 most_members = 200
 
@@ -14,22 +14,22 @@ most_events = 50
 abbrev pub most_games : ℕ
 most_games = 5000
 
--- the most plies of a game, and bytes of a move's text
+-- maximum numbers of plies of a game, and of bytes of a move's text
 abbrev pub most_plies : ℕ
 most_plies = ply_limit
 
 abbrev pub most_text_bytes : ℕ
 most_text_bytes = 200
 
--- the most bytes of a text of records
+-- maximum number of bytes of a text of records
 abbrev pub most_record_bytes : ℕ
 most_record_bytes = 65536
 
--- the greatest number of a challenge
+-- greatest number of a challenge
 abbrev pub greatest_challenge : ℕ
 greatest_challenge = 9999
 
--- the last moment, in Unix seconds: the end of the year 9999
+-- latest timestamp, in Unix seconds: the end of the year 9999
 abbrev pub last_moment : ℕ
 last_moment = 253402300799
 
@@ -37,22 +37,22 @@ last_moment = 253402300799
 abbrev pub is_name_byte : ℕ → Bool
 is_name_byte c = is_ascii_alphanumeric c || c == 46 || c == 95 || c == 45
 
--- a name of a member or an event, or a key of a game: 1 to 24 such bytes
+-- name of a member or event, or key of a game: 1 to 24 such bytes
 abbrev pub is_name : List ℕ → Bool
 is_name text = nat_le 1 (length text) && nat_le (length text) 24 && list_all is_name_byte text
 
--- a member's key: 8 to 64 letters and digits
+-- key of a member: 8 to 64 letters and digits
 abbrev pub is_member_key : List ℕ → Bool
 is_member_key text = nat_le 8 (length text) && nat_le (length text) 64 && list_all is_ascii_alphanumeric text
 
--- a number under which a member may challenge another
+-- number that a member may give to a challenge
 abbrev pub is_challenge_number : ℕ → Bool
 is_challenge_number number = nat_le 1 number && nat_le number greatest_challenge
 
--- the seconds that each player of a game starts with
+-- initial time of each player, in seconds
 abbrev pub is_budget : ℕ → Bool
 is_budget seconds = nat_le 1 seconds && nat_le seconds 31536000
 
--- the seconds that each move in time adds
+-- time added for each move, in seconds
 abbrev pub is_increment : ℕ → Bool
 is_increment seconds = nat_le seconds 2592000

@@ -1,5 +1,5 @@
--- What a command is answered: a reply where it is accepted or repeats an accepted one, else the first refusal that
--- holds.
+-- The outcome of a command: a reply if it is accepted or repeats an accepted one, otherwise the first refusal that
+-- applies.
 use Rattle.std.specs.Prelude.{ℕ, List, [], ◌∷◌, Option, Some, None, Bool, if◌then◌else◌}
 use Rattle.club_rules.specs.declared.names.EndName.{EndName}
 use Rattle.squares.specs.declared.sides.Score.{Score}
@@ -9,8 +9,8 @@ use Rattle.club_requests.specs.declared.requests.Caller.TheVariants.{Officer, Me
 use Rattle.club_requests.specs.declared.refusals.Refusal.{Refusal}
 use Rattle.club_requests.specs.declared.refusals.Refusal.TheVariants.{NotAllowed}
 
--- what the answer to a move shows: the text as it is written, the mover's seconds left after it, the position after it,
--- and the end that the rules gave at it
+-- the reply to a move: its notation, the mover's seconds left after it, the position after it, and the end that the
+-- rules gave
 pub record MoveReply : Type 0 where
   pub ply : ℕ
   pub text : List ℕ
@@ -18,24 +18,25 @@ pub record MoveReply : Type 0 where
   pub position : List ℕ
   pub end : Option EndName
 
+-- the answer to an accepted command
 pub data Reply : Type 0 where
   member_added : (id : ℕ) → Reply
   event_added : (id : ℕ) → Reply
   game_seated : (id : ℕ) → Reply
   moved : MoveReply → Reply
   draw_offered : (ply : ℕ) → Reply
-  -- the game was ended from outside, with that result
+  -- the game ended for a reason outside its rules, with this result
   game_ended : OutsideEnd → Score → Reply
-  -- so many games were ended by time
+  -- number of games ended by time
   games_swept : (count : ℕ) → Reply
-  -- the number of a challenge is its challenger's
+  -- a challenge's number is the one that its challenger gave it
   challenge_opened : (number : ℕ) → Reply
   challenge_withdrawn : (number : ℕ) → Reply
   challenge_refused : (number : ℕ) → Reply
-  -- the challenge was accepted, and started that game
+  -- the challenge was accepted and started this game
   challenge_accepted : (number game : ℕ) → Reply
 
--- accepted with what stands after it, repeated, or refused
+-- accepted with the new state, repeated, or refused
 pub data Outcome (S : Type 0) : Type 0 where
   accepted : S → Reply → Outcome S
   repeated : Reply → Outcome S
@@ -46,7 +47,7 @@ map_outcome f (accepted after reply) = accepted (f after) reply
 map_outcome f (repeated reply) = repeated reply
 map_outcome f (refused refusal) = refused refusal
 
--- the first refusal whose test holds
+-- the first refusal whose test is true
 abbrev pub first_refusal : List (Bool × Refusal) → Option Refusal
 first_refusal [] = None
 first_refusal (test ∷ tests) = if test.0 then Some test.1 else first_refusal tests
@@ -59,12 +60,12 @@ abbrev pub unless_repeat : {S : Type 0} → Option Reply → Outcome S → Outco
 unless_repeat (Some reply) outcome = repeated reply
 unless_repeat None outcome = outcome
 
--- a command that the officer alone gives
+-- a command that only the officer may give
 abbrev pub by_officer : {S : Type 0} → Caller → Outcome S → Outcome S
 by_officer Officer outcome = outcome
 by_officer (Member id) outcome = refused NotAllowed
 
--- a command that members alone give
+-- a command that only members may give
 abbrev pub by_member : {S : Type 0} → Caller → (ℕ → Outcome S) → Outcome S
 by_member Officer outcome = refused NotAllowed
 by_member (Member id) outcome = outcome id

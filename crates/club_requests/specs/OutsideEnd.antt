@@ -1,4 +1,4 @@
--- The names of the ends from outside, as they are printed and stored.
+-- Names of the ends outside the rules, as they are printed and stored.
 use Rattle.std.specs.Prelude.{List, ℕ, codes}
 use Rattle.club_requests.specs.declared.outside_end.OutsideEnd.{OutsideEnd}
 use Rattle.club_requests.specs.declared.outside_end.OutsideEnd.TheVariants.{Resigned, Agreed, Time, Declared, Recorded}

@@ -1,4 +1,4 @@
--- The refusals of commands: their numbers, their names and how they are written.
+-- Refusals of commands: their numbers, names and printed form.
 use Rattle.std.specs.Prelude.{List, [], ℕ, ◌++◌, codes, decimal}
 use Rattle.club_rules.specs.MoveRefusal.{move_refusal_number, move_refusal_name, move_refusal_tail}
 use Rattle.club_rules.specs.RecordRefusal.{record_refusal_number, record_refusal_name, record_refusal_tail}
@@ -57,12 +57,12 @@ refusal_name NotDeclarable = codes "NotDeclarable"
 refusal_name (Play ply refusal) = move_refusal_name refusal
 refusal_name (Record refusal) = record_refusal_name refusal
 
--- the ply of a text that several moves fit, and else what the rules of the game name
+-- the ply if the text is ambiguous, otherwise the parameters of the move's refusal
 abbrev pub play_tail : ℕ → MoveRefusal → List ℕ
 play_tail ply Ambiguous = codes " " ++ decimal ply
 play_tail ply refusal = move_refusal_tail refusal
 
--- the numbers that follow the name, each after a blank
+-- the parameters that follow the name, each after a space
 abbrev pub refusal_tail : Refusal → List ℕ
 refusal_tail (Play ply refusal) = play_tail ply refusal
 refusal_tail (Record refusal) = record_refusal_tail refusal
@@ -85,6 +85,6 @@ refusal_tail BadValue = []
 refusal_tail Full = []
 refusal_tail NotDeclarable = []
 
--- the number, the name and then the refusal's numbers, parted by blanks
+-- the number, the name and the parameters, separated by spaces
 abbrev pub refusal_text : Refusal → List ℕ
 refusal_text r = decimal (refusal_number r) ++ codes " " ++ refusal_name r ++ refusal_tail r

@@ -1,4 +1,4 @@
-//! What a command is answered.
+//! Answers to commands.
 
 use crate::outside_end::OutsideEnd;
 use crate::refusals::Refusal;
@@ -6,8 +6,8 @@ use club_rules::EndName;
 use squares::Score;
 use std::fmt;
 
-/// What a move is answered: its text as it is written, the mover's seconds left after it, the position after it as
-/// text, and the end that the rules gave at it.
+/// The answer to a move: its notation, the mover's seconds left after it, the position after it as text, and the end of
+/// the game that the rules gave.
 #[derive(Debug, Drop)]
 pub struct Moved {
     pub ply: u32,
@@ -17,31 +17,31 @@ pub struct Moved {
     pub end: Option<EndName>,
 }
 
-/// The answer to an accepted command. A member, an event and a game are named by their ids.
+/// The answer to an accepted command. Members, events and games are given by id.
 #[derive(Debug, Drop)]
 pub enum Answer {
     Member(u32),
     Event(u32),
     Game(u32),
     Moved(Moved),
-    /// A draw was offered at that ply.
+    /// A draw was offered at this ply.
     Offered { ply: u32 },
-    /// The game was ended from outside, with that result.
+    /// The game ended for a reason outside its rules, with this result.
     Ended { end: OutsideEnd, result: Score },
-    /// So many games were ended by time.
+    /// The number of games that were ended by time.
     Swept { count: u32 },
-    /// The challenge of that number of the caller's was opened.
+    /// The caller's challenge with this number was opened.
     ChallengeOpened { number: u32 },
-    /// The caller took the challenge back.
+    /// The caller withdrew the challenge.
     ChallengeWithdrawn { number: u32 },
-    /// The challenge, which has that number of its challenger's, was refused.
+    /// The challenge was refused; the number is the challenger's.
     ChallengeRefused { number: u32 },
-    /// The challenge was accepted, and started that game.
+    /// The challenge was accepted and started this game; the number is the challenger's.
     ChallengeAccepted { number: u32, game: u32 },
 }
 
-/// What a command is answered: a repeat has the answer of the command that it repeats, and like a refusal it changes
-/// nothing.
+/// The outcome of a command. A repeat returns the answer of the command that it repeats. Only an accepted command
+/// changes the club.
 #[derive(Debug, Drop)]
 pub enum Outcome {
     Accepted(Answer),
@@ -49,10 +49,14 @@ pub enum Outcome {
     Refused(Refusal),
 }
 
-/// Writes what is named, as `member 1`, `game 2` or `ply 3 32-28`, and after a move that ended the game ` end
-/// Repetition`. An offer of a draw is written as `offer ply 5`, an end from outside with its result, `end Agreed 1-1`,
-/// a sweep with the number of games that it ended, `sweep 3`, and a challenge with what became of it, `challenge 3
-/// open` or `challenge 3 accepted game 7`.
+/// Writes the answer.
+///
+/// - an id: `member 1`, `event 1`, `game 2`
+/// - a move: `ply 3 32-28`, or `ply 8 9-4 end Repetition` if it ended the game
+/// - a draw offer: `offer ply 5`
+/// - an end with its result: `end Agreed 1-1`
+/// - a sweep with the number of games ended: `sweep 3`
+/// - a challenge with its state: `challenge 3 open`, `challenge 3 accepted game 7`
 impl fmt::Display for Answer {
     ghost use Rattle.std.specs.Prelude.{Some};
     ghost use Rattle.club_requests.specs.AnswerText.{answer_text};
@@ -78,7 +82,7 @@ impl fmt::Display for Answer {
     }
 }
 
-/// Writes the ply, the move and the end that the rules gave at it: `ply 8 9-4 end Repetition`.
+/// Writes the ply, the move and the end that the rules gave: `ply 8 9-4 end Repetition`.
 impl fmt::Display for Moved {
     ghost use Rattle.std.specs.Prelude.{Some};
     ghost use Rattle.club_requests.specs.AnswerText.{moved_text};
@@ -95,7 +99,7 @@ impl fmt::Display for Moved {
     }
 }
 
-/// Writes the word of the outcome and then what was answered, or the refusal: `accepted game 2`, `refused 58 Conflict`.
+/// Writes the kind of outcome, then the answer or the refusal: `accepted game 2`, `refused 58 Conflict`.
 impl fmt::Display for Outcome {
     ghost use Rattle.std.specs.Prelude.{Some};
     ghost use Rattle.club_requests.specs.AnswerText.{outcome_text};

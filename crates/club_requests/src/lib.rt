@@ -1,5 +1,5 @@
-//! What may be asked of a club and what it answers: commands with who gives them and when, answers, refusals, and the
-//! values that are taken.
+//! The requests that a club accepts and its answers: commands, callers, outcomes, refusals, and the limits of their
+//! values.
 #![tactic(auto)]
 
 pub mod answers;

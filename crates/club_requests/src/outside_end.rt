@@ -1,4 +1,4 @@
-//! How games end other than by their rules.
+//! Ends of games for reasons outside their rules.
 
 ghost use Rattle.std.specs.Prelude.{◌≡◌};
 ghost use Rattle.club_requests.specs.OutsideEnd.{outside_text};
@@ -6,18 +6,18 @@ ghost use Rattle.club_requests.specs.OutsideEnd.{outside_text};
 use squares::Score;
 use std::fmt;
 
-/// How a game ended other than by its rules.
+/// The reason why a game ended, if it is not one of the game's rules.
 #[derive(Clone, Copy, Debug, PartialEq, Eq)]
 pub enum OutsideEnd {
-    /// The side to move gave up.
+    /// The side to move resigned.
     Resigned,
     /// The players agreed on a draw.
     Agreed,
-    /// The side to move had no time left.
+    /// The side to move exceeded the time limit.
     Time,
-    /// The side to move declared that it had won, its king having entered the enemy's camp.
+    /// The side to move declared a win by entering king.
     Declared,
-    /// A record says so.
+    /// An imported record states this score.
     Recorded(Score),
 }
 

@@ -1,4 +1,4 @@
-//! Why a command is refused.
+//! The refusals of commands.
 
 ghost use Rattle.std.specs.Prelude.{◌≡◌};
 ghost use Rattle.club_requests.specs.Refusal.{refusal_number, refusal_name, refusal_text};
@@ -6,56 +6,58 @@ ghost use Rattle.club_requests.specs.Refusal.{refusal_number, refusal_name, refu
 use club_rules::{MoveRefusal, RecordRefusal};
 use std::fmt;
 
-/// Why a command is refused. Of several reasons the first in this order is given, a repeat of an accepted command
-/// coming after `NotInThisGame` and before `GameOver`; those of a text or a move come last.
+/// The reason why a command is refused. If several apply, the first in the order below is given.
+///
+/// The check for a repeat of an accepted command comes after `NotInThisGame` and before `GameOver`. Refusals of a
+/// move's text, of a move or of a record come last.
 #[derive(Clone, Copy, Debug, PartialEq, Eq)]
 pub enum Refusal {
     /// No member has the key.
     UnknownKey,
-    /// The command is the officer's, or a player's own.
+    /// Only the officer, or only a player, may give this command.
     NotAllowed,
     /// No event has the name.
     UnknownEvent,
     /// No game has the number.
     UnknownGame,
-    /// The member has no challenge of the number, or it is not to the caller.
+    /// The caller has no challenge of this number, or the challenge is not addressed to the caller.
     UnknownChallenge,
     /// The member plays neither side of the game.
     NotAPlayer,
-    /// The players of this game do not agree on draws.
+    /// The rules of this game have no draw by agreement.
     NotInThisGame,
     /// The game has ended.
     GameOver,
-    /// The ply is 0 or not yet due, or for a draw not the next one.
+    /// The ply is 0 or greater than the next one, or a draw offer, acceptance or declaration does not name the next
+    /// ply.
     WrongPly,
-    /// Another move was played at the ply, another game, record or challenge stands under the key or the number, the
-    /// challenge is closed, or the other side has offered a draw.
+    /// The command contradicts what is stored: another move at this ply, another game or challenge under this key or
+    /// number, a closed challenge, or a draw offer of the opponent.
     Conflict,
-    /// The other side is to move, or for a claim the caller's own.
+    /// It is the opponent's turn; for a claim of time it is the caller's own.
     NotYourTurn,
-    /// The side to move has used all its seconds.
+    /// The side to move has no time left.
     OutOfTime,
-    /// The side to move has seconds left.
+    /// The side to move still has time left.
     TimeLeft,
-    /// The other side has offered no draw.
+    /// The opponent has not offered a draw at this ply.
     NoOffer,
-    /// The name or the key is in use.
+    /// The name of a new member or event, or the key of a new member, is in use.
     NameTaken,
-    /// A value is outside its limits, a player is unknown or twice the same, or a text has no such record.
+    /// A value is outside its limits, a player is unknown or named twice, or the text has no such record.
     BadValue,
-    /// The club holds no more of these.
+    /// The club has reached its limit of members, events or games.
     Full,
-    /// The event has no declarations, or the king and the pieces of the side to move do not stand so that it may
-    /// declare.
+    /// The event has no declarations, or the position does not allow the side to move to declare a win.
     NotDeclarable,
-    /// The text or the move of that ply is refused by the rules of the game.
+    /// The rules of the game refuse the move's text or the move at this ply.
     Play { ply: u32, refusal: MoveRefusal },
     /// The record of an import is refused.
     Record(RecordRefusal),
 }
 
 impl Refusal {
-    /// The number of the refusal: 50 to 67, or that of the move's or the record's refusal.
+    /// The refusal's number: 50 to 67, or the number of the move's or the record's refusal.
     pub fn number(self) -> u8
         ensures { result ≡ refusal_number self }
     {
@@ -83,7 +85,7 @@ impl Refusal {
         }
     }
 
-    /// The name of the refusal, without its numbers.
+    /// The refusal's name, without its parameters.
     pub fn name(self) -> &'static str
         ensures { result.now ≡ refusal_name self }
     {
@@ -112,8 +114,8 @@ impl Refusal {
     }
 }
 
-/// Writes the number, the name and then the refusal's numbers, parted by blanks: `58 Conflict`, `20 BadText 2`,
-/// and `21 Ambiguous 5` for a text of ply 5 that two or more captures fit.
+/// Writes the number, the name and the parameters, separated by spaces: `58 Conflict`, `20 BadText 2` (a byte offset),
+/// or `21 Ambiguous 5` (the ply of a text that fits several captures).
 impl fmt::Display for Refusal {
     ghost use Rattle.std.specs.Prelude.{Some};
 

@@ -1,30 +1,30 @@
-//! Requests: who asks, for what, and when.
+//! Requests: a command, its caller and its timestamp.
 
 use clocks::Moment;
 use club_rules::{GameKind, RecordFormat};
 
-/// Who gives a command: the officer, or one who shows a member's key.
+/// The caller of a command as the client names it: the officer, or a member by key.
 #[derive(Debug, Drop)]
 pub enum Who {
     Officer,
     Key(String),
 }
 
-/// Who gives a command, once the key was looked up. A member is named by id.
+/// The caller of a command after the key is looked up: the officer, or a member by id.
 #[derive(Clone, Copy, Debug, PartialEq, Eq)]
 pub enum Caller {
     Officer,
     Member(u32),
 }
 
-/// Adds a member under a name, with the key that the member will show.
+/// Adds a member with a name and a secret key.
 #[derive(Debug, Drop)]
 pub struct AddMember {
     pub name: String,
     pub key: String,
 }
 
-/// Adds an event of a game. Each player starts with the budget and gains the increment at each move, both in seconds.
+/// Adds an event of one game. The budget (initial time per player) and the increment (per move) are in seconds.
 #[derive(Debug, Drop)]
 pub struct AddEvent {
     pub name: String,
@@ -33,7 +33,7 @@ pub struct AddEvent {
     pub increment: u64,
 }
 
-/// Starts a game of an event between two members, under a key of its own. The event and the members go by their names.
+/// Starts a game between two members under a unique key. The event and the players are given by name.
 #[derive(Debug, Drop)]
 pub struct Seat {
     pub key: String,
@@ -42,8 +42,8 @@ pub struct Seat {
     pub second: String,
 }
 
-/// Adds a game that was played elsewhere, from a part of a text of records, to an event, between two members, under a
-/// key of its own. Parts count from 1.
+/// Adds a game that was played elsewhere, read from one part of a text of records, under a unique key. The event and
+/// the players are given by name; parts count from 1.
 #[derive(Debug, Drop)]
 pub struct Import {
     pub key: String,
@@ -60,28 +60,27 @@ pub struct Import {
 pub enum GameCommand {
     /// Plays a move, given as text, at a ply.
     Move { ply: u64, text: String },
-    /// Offers a draw at the next ply. The offer stands until the next move.
+    /// Offers a draw at the next ply. The offer is valid until the next move.
     OfferDraw { ply: u64 },
-    /// Accepts the other side's offer of the next ply.
+    /// Accepts the opponent's draw offer at the next ply.
     AcceptDraw { ply: u64 },
-    /// Gives the game up, by the side to move.
+    /// Resigns; only the side to move may.
     Resign,
-    /// Claims that the side to move has used more seconds than it had, by the other side.
+    /// Claims that the opponent, who is to move, has exceeded the time limit.
     ClaimTime,
-    /// Declares at this ply, which is the plies so far plus 1, that the side to move has won: its king has entered the
-    /// enemy's camp with pieces enough.
+    /// Declares a win by entering king for the side to move. `ply` is the number of plies played plus 1.
     Declare { ply: u64 },
 }
 
-/// A command on the game of that id.
+/// A command on the game with this id.
 #[derive(Debug, Drop)]
 pub struct OnGame {
     pub game: u64,
     pub command: GameCommand,
 }
 
-/// Challenges a member to a game of an event, both given by their names, under a number of the challenger's own.
-/// `first` says whether the challenger plays First.
+/// Challenges a member to a game of an event, under a number that the challenger chooses. `first` is true if the
+/// challenger moves first.
 #[derive(Debug, Drop)]
 pub struct OpenChallenge {
     pub number: u64,
@@ -90,13 +89,13 @@ pub struct OpenChallenge {
     pub first: bool,
 }
 
-/// Takes the caller's own challenge of that number back.
+/// Withdraws the caller's own challenge with this number.
 #[derive(Debug, Drop)]
 pub struct Withdraw {
     pub number: u64,
 }
 
-/// Accepts or refuses the challenge to the caller that the member of that name opened under that number.
+/// Accepts or refuses a challenge to the caller. The challenge is identified by the challenger's name and number.
 #[derive(Debug, Drop)]
 pub struct AnswerChallenge {
     pub challenger: String,
@@ -112,14 +111,14 @@ pub enum Command {
     Seat(Seat),
     Import(Import),
     OnGame(OnGame),
-    /// Ends by time every running game whose side to move has used more seconds than it had left.
+    /// Ends every running game whose side to move has exceeded the time limit.
     Sweep,
     Challenge(OpenChallenge),
     Withdraw(Withdraw),
     Answer(AnswerChallenge),
 }
 
-/// A command, with the one who gives it and the moment at which it came.
+/// A command with its caller and the timestamp at which it arrived.
 #[derive(Debug, Drop)]
 pub struct Request {
     pub who: Who,

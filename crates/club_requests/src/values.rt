@@ -1,4 +1,4 @@
-//! The values that the club takes.
+//! Limits of the club's values, and the checks for them.
 
 ghost use Rattle.std.specs.Prelude.{◌≡◌};
 ghost use Rattle.std.specs.Char.{is_ascii_alphanumeric};
@@ -6,35 +6,35 @@ ghost use Rattle.std.specs.List.{list_all};
 ghost use Rattle.club_requests.specs.Limits.{is_name, is_name_byte, is_member_key, is_challenge_number, is_budget};
 ghost use Rattle.club_requests.specs.Limits.{is_increment};
 
-/// The most members of a club.
+/// The maximum number of members of a club.
 pub const MOST_MEMBERS: usize = 200;
 
-/// The most events of a club.
+/// The maximum number of events of a club.
 pub const MOST_EVENTS: usize = 50;
 
-/// The most games of a club.
+/// The maximum number of games of a club.
 pub const MOST_GAMES: u32 = 5000;
 
-/// The most plies of a game.
+/// The maximum number of plies of a game.
 pub const MOST_PLIES: u32 = 600;
 
-/// The most bytes of a move's text.
+/// The maximum length of a move's text, in bytes.
 pub const MOST_TEXT_BYTES: usize = 200;
 
-/// The most bytes of a text of records.
+/// The maximum length of a text of records, in bytes.
 pub const MOST_RECORD_BYTES: usize = 65_536;
 
 /// The greatest number of a challenge.
 pub const GREATEST_CHALLENGE: u64 = 9_999;
 
-/// The longest budget, in seconds: 365 days.
+/// The maximum budget, in seconds: 365 days.
 pub const LONGEST_BUDGET: u64 = 31_536_000;
 
-/// The greatest increment, in seconds: 30 days.
+/// The maximum increment, in seconds: 30 days.
 pub const GREATEST_INCREMENT: u64 = 2_592_000;
 
-/// Whether a text may be the name of a member or an event, or the key of a game: 1 to 24 ASCII letters, digits, `.`,
-/// `_` and `-`.
+/// Whether a text is a valid name of a member or event, or key of a game: 1 to 24 ASCII letters, digits, `.`, `_` and
+/// `-`.
 pub fn is_name(text: &str) -> bool
     ensures { result ≡ is_name text.now }
 {
@@ -59,28 +59,28 @@ fn has_key_bytes(bytes: &[u8]) -> bool
     bytes.iter().all(|c| c.is_ascii_alphanumeric())
 }
 
-/// Whether a text may be a member's key: 8 to 64 ASCII letters and digits.
+/// Whether a text is a valid key of a member: 8 to 64 ASCII letters and digits.
 pub fn is_member_key(text: &str) -> bool
     ensures { result ≡ is_member_key text.now }
 {
     8 <= text.len() && text.len() <= 64 && has_key_bytes(text.as_bytes())
 }
 
-/// Whether a number is one that a challenge may have: 1 to the greatest.
+/// Whether a challenge may have this number: 1 to `GREATEST_CHALLENGE`.
 pub fn is_challenge_number(number: u64) -> bool
     ensures { result ≡ is_challenge_number number }
 {
     1 <= number && number <= GREATEST_CHALLENGE
 }
 
-/// Whether a budget is from 1 second to the longest.
+/// Whether a budget is valid: 1 to `LONGEST_BUDGET` seconds.
 pub fn is_budget(seconds: u64) -> bool
     ensures { result ≡ is_budget seconds }
 {
     1 <= seconds && seconds <= LONGEST_BUDGET
 }
 
-/// Whether an increment is at most the greatest.
+/// Whether an increment is valid: 0 to `GREATEST_INCREMENT` seconds.
 pub fn is_increment(seconds: u64) -> bool
     ensures { result ≡ is_increment seconds }
 {

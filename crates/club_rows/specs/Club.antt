@@ -1,4 +1,4 @@
--- The club of both games, its legal states and their tables.
+-- The club with both games, its legal states and their tables.
 use Rattle.squares.specs.declared.draughts.moves.DMove.{DMove}
 use Rattle.squares.specs.declared.shogi.moves.SMove.{SMove}
 use Rattle.squares.specs.DraughtsBoard.{Position}
@@ -17,21 +17,21 @@ use Rattle.club_core.specs.State.{AnyGame, State}
 use Rattle.store_tables.specs.Contents.{Content}
 use Rattle.club_rows.specs.Tables.{tables_of}
 
--- the rules of the club's games, and their records
+-- the rules and record formats of the club's games
 abbrev pub both_games : ClubRules Position DMove DEnd draughts_track.Tail ShogiPosition SMove SEnd shogi_track.Tail
 both_games = both draughts shogi draughts_records shogi_records
 
--- a game of either kind
+-- a draughts or shogi game
 abbrev pub ClubGame : Type 0
 ClubGame = AnyGame DMove SMove
 
 abbrev pub ClubState : Type 0
 ClubState = State DMove SMove
 
--- a legal state of it
+-- a legal state
 abbrev pub IsClub : ClubState → Type 0
 IsClub s = IsLegalState both_games s
 
--- the rows of its tables
+-- the content of its tables
 abbrev pub tables : ClubState → Content
 tables s = tables_of both_games s

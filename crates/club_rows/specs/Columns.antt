@@ -1,4 +1,4 @@
--- The row of a game by the values that its columns stand for: which row has them, and which of them a game's row has.
+-- The typed columns of a game's row: their row, and their legal values.
 use Rattle.std.specs.Prelude.{◌≡◌, ◌≤◌, ◌<◌, ◌^◌, ℕ, pos, List, [], ◌∷◌, length, Option, Some, None, IfSome, IsSome}
 use Rattle.std.specs.Prelude.{string_bytes}
 use Rattle.std.specs.Option.{option_map}
@@ -23,7 +23,7 @@ use Rattle.store_tables.specs.declared.rows.GameRecord.{GameRecord}
 use Rattle.club_rows.specs.Tables.{number, side_number, end_name_text}
 use Rattle.club_rows.specs.declared.columns.StoredGame.{StoredGame}
 
--- what the columns of a game's row stand for
+-- the typed columns of a game's row
 pub record Columns : Type 0 where
   pub id : ℕ
   pub key : Option (List ℕ)
@@ -41,7 +41,7 @@ pub record Columns : Type 0 where
   pub position : List ℕ
   pub track : ℕ × ℕ
 
--- the row that has them
+-- the row with these columns
 abbrev pub stored_cells : Columns → Row
 stored_cells c =
     number c.id
@@ -63,7 +63,7 @@ stored_cells c =
     ∷ number c.track.1
     ∷ []
 
--- those that a game's row may have
+-- columns within their ranges
 pub record AreColumns (c : Columns) : Type 0 where
   pub id : c.id < 2 ^ 32
   pub event : c.event < 2 ^ 32
@@ -77,7 +77,7 @@ pub record AreColumns (c : Columns) : Type 0 where
   pub offer : IfSome c.offer (λ o. o.ply < 2 ^ 32)
   pub track : CanGrow c.track
 
--- those of a stored game
+-- the columns of a converted row
 abbrev pub columns_in : StoredGame → Columns
 columns_in told =
     record {
@@ -98,18 +98,18 @@ columns_in told =
       track = told.track;
     }
 
--- What is read of a row is what it has. Nothing is read of one whose values no game's row has.
+-- A row is converted to its columns; None only if some value is out of range.
 abbrev pub IsReadAs : Row → Option StoredGame → Type 0
 IsReadAs row (Some told) = (row ≡ stored_cells (columns_in told)) × AreColumns (columns_in told)
 IsReadAs row None = (c : Columns) → AreColumns c → ¬ (row ≡ stored_cells c)
 
--- the record has an offer or none
+-- the row has this offer, or none
 abbrev pub HasOffer : GameRecord → Option Offer → Type 0
 HasOffer stored offer =
     (stored.offer_side ≡ option_map (λ o. pos (side_number o.side)) offer)
     × (stored.offer_ply ≡ option_map (λ o. pos o.ply) offer)
 
--- the columns of the row of a game
+-- the columns of a game's row
 abbrev pub columns_of : {P M E T : Type 0} → GameRules P M E T → Terms → ℕ → Game M → Columns
 columns_of rules terms id game =
     record {
@@ -130,7 +130,7 @@ columns_of rules terms id game =
       track = line_numbers rules (moves_of game);
     }
 
--- those in which the machine's row of a game is stored
+-- the columns of a row of the game logic
 abbrev pub columns_for : {P M E T : Type 0} → GameRules P M E T → ℕ → GameRow E → Columns
 columns_for rules id row =
     record {
@@ -151,7 +151,7 @@ columns_for rules id row =
       track = row.track;
     }
 
--- the columns have what follows from the moves, as the row has it
+-- the columns have the values that follow from the moves
 pub record HasReplayed {P M E T : Type 0} (rules : GameRules P M E T) (row : GameRow E) (c : Columns) : Type 0 where
   pub since : c.since ≡ row.since
   pub plies : c.plies ≡ row.plies
@@ -163,22 +163,22 @@ pub record HasReplayed {P M E T : Type 0} (rules : GameRules P M E T) (row : Gam
   pub result : c.result ≡ row.result
   pub position : c.position ≡ string_bytes row.position
 
--- it is the end from outside that the columns name
+-- the end that the columns name, if the rules do not decide it
 abbrev pub IsNamedIn : Columns → Option OutsideEnd → Type 0
 IsNamedIn c outside =
     (end : Option OutsideEnd) → c.end ≡ option_map outside_text end
     → ((s : Score) → end ≡ Some (Recorded s) → c.result ≡ Some s) → outside ≡ end
 
--- the same where the rules have not ended the game, and none where they have
+-- the same if the rules have not ended the game, else None
 pub record IsOutsideIn {E : Type 0} (c : Columns) (ruled : Option E) (outside : Option OutsideEnd) : Type 0 where
   pub alone : IsSome outside → ruled ≡ None
   pub named : ruled ≡ None → IsNamedIn c outside
 
--- the end is the rules', if they gave one, else the one that the columns name
+-- the end is that of the rules if they give one, else that of the columns
 abbrev pub IsEndIn : {E : Type 0} → Columns → Option E → Option (GameEnd E) → Type 0
 IsEndIn c ruled end = (outside : Option OutsideEnd) × (end ≡ end_with ruled outside) × IsOutsideIn c ruled outside
 
--- the game of these entries that the columns tell of
+-- the game with these entries and the values of the columns
 abbrev pub game_in : {M : Type 0} → Columns → Option OutsideEnd → List (Entry M) → Game M
 game_in c outside entries =
     record {

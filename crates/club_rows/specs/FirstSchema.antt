@@ -1,4 +1,4 @@
--- The club of schema 1, none of whose events has declarations, and its tables beside those of schema 2.
+-- The club of schema 1, whose events have no declarations, and its tables.
 use Rattle.std.specs.Prelude.{◌≡◌, ◌==◌, false, [], ◌∷◌, if◌then◌else◌}
 use Rattle.club_core.specs.LegalState.{Each}
 use Rattle.store_tables.specs.Contents.{Content}
@@ -12,7 +12,7 @@ pub record IsFirstClub (s : ClubState) : Type 0 where
   pub club : IsClub s
   pub undeclared : Each (λ e. e.terms.declares ≡ false) s.events
 
--- the rows of its tables: those of schema 2, but for the number of the schema and the rules of events
+-- its tables are those of schema 2 except for the schema number and the event rules
 abbrev pub first_tables : ClubState → Content
 first_tables s t = if t == 0 then meta_row 1 s.last ∷ [] else (if t == 16 then [] else tables s t)
 

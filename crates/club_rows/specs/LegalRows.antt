@@ -1,4 +1,4 @@
--- When rows are those of a legal game, and what they show of it.
+-- When rows are those of a legal game, and the view that they give.
 use Rattle.std.specs.Prelude.{◌≡◌, ◌≢◌, ◌<◌, ◌≤◌, ◌^◌, ◌⊎◌, ℕ, pos, List, [], map, IsTrue, IfSome, true}
 use Rattle.club_rules.specs.GameRules.{GameRules}
 use Rattle.club_requests.specs.Limits.{is_name, is_budget, is_increment, last_moment}
@@ -19,7 +19,7 @@ use Rattle.club_rows.specs.declared.view.Played.{Played}
 use Rattle.club_rows.specs.declared.view.CheckedRows.{CheckedRows}
 use Rattle.club_rows.specs.declared.view.CheckedRows.TheVariants as shown
 
--- the game's values fit their columns: a key that is a name, ids of 32 bits, and no moment past the last one
+-- the game's values fit their columns: a legal key, ids of 32 bits, timestamps up to `last_moment`
 pub record FitsTables {M : Type 0} (number : ℕ) (game : Game M) : Type 0 where
   pub id : number < 2 ^ 32
   pub event : game.event < 2 ^ 32
@@ -38,7 +38,7 @@ pub record IsRecordOf {P M E T : Type 0} (rules : GameRules P M E T) (terms : Te
   pub fits : FitsTables id game
   pub row : game_cells stored ≡ game_row rules terms id game
 
--- the rows are those of this legal game, which has this id and is played by these terms
+-- the rows are those of this legal game with this id and these terms
 pub record AreRowsOf {P M E T : Type 0} (rules : GameRules P M E T) (terms : Terms) (id : ℕ) (stored : GameRecord)
     (stored_moves : List MoveRow) (game : Game M) : Type 0 where
   pub budget : IsTrue (is_budget terms.budget)
@@ -48,7 +48,7 @@ pub record AreRowsOf {P M E T : Type 0} (rules : GameRules P M E T) (terms : Ter
   pub row : game_cells stored ≡ game_row rules terms id game
   pub moves : map move_cells stored_moves ≡ move_rows rules terms id game
 
--- the rows are those of the moves of some legal game that has the id and the start of this row
+-- the rows are those of the moves of some legal game with the id and start of this row
 pub record HaveGameFrom {P M E T : Type 0} (rules : GameRules P M E T) (terms : Terms) (stored : GameRecord)
     (stored_moves : List MoveRow) : Type 0 where
   pub id : ℕ
@@ -60,24 +60,24 @@ pub record HaveGameFrom {P M E T : Type 0} (rules : GameRules P M E T) (terms : 
   pub game : Game M
   pub played : IsPlayedAs rules terms id start stored_moves game
 
--- no move was played, or the rows are those of the moves of such a game
+-- there are no moves, or they are those of such a game
 abbrev pub AreMovesOf : {P M E T : Type 0} → GameRules P M E T → Terms → GameRecord → List MoveRow → Type 0
 AreMovesOf rules terms stored stored_moves = (stored_moves ≡ []) ⊎ HaveGameFrom rules terms stored stored_moves
 
--- the moves are the game's, and the tally is that of its line
+-- the moves are the game's, and the repetition counts are those of its line
 pub record IsHistoryOf {R P M E T : Type 0} (rules : GameRules P M E T) (game : Game M)
     (played : Played R P M E T) : Type 0 where
   pub line : played.line.items ≡ moves_of game
   pub tally : IsTallyOf rules (moves_of game) played.tally
 
--- a view is shown, by these terms, and it shows the game
+-- the outcome is a view of this game with these terms
 abbrev pub ShowsGame : {R P M E T : Type 0} → GameRules P M E T → Terms → Game M → CheckedRows R P M E T → Type 0
 ShowsGame rules terms game (shown.Game played) =
     (terms_of played.view ≡ terms) × Shows rules game played.view × IsHistoryOf rules game played
 ShowsGame rules terms game shown.WrongMoves = ⊥
 ShowsGame rules terms game shown.WrongGame = ⊥
 
--- where a view is shown, the rows are those of a legal game that it shows
+-- if the outcome is a view, the rows are those of a legal game, and the view is that game's
 abbrev pub IsSoundIfShown : {R P M E T : Type 0} → GameRules P M E T → Terms → GameRecord → List MoveRow
     → CheckedRows R P M E T → Type 0
 IsSoundIfShown {R} {P} {M} {E} {T} rules terms row moves (shown.Game played) =
@@ -86,7 +86,7 @@ IsSoundIfShown {R} {P} {M} {E} {T} rules terms row moves (shown.Game played) =
 IsSoundIfShown rules terms row moves shown.WrongMoves = Unit {0}
 IsSoundIfShown rules terms row moves shown.WrongGame = Unit {0}
 
--- moves that are called wrong are wrong; those of a row that is called wrong are not, and the row is
+-- `WrongMoves` only if the moves are wrong; `WrongGame` only if the moves are right and the row is wrong
 abbrev pub IsWrongAsTold : {R P M E T : Type 0} → GameRules P M E T → Terms → GameRecord → List MoveRow
     → CheckedRows R P M E T → Type 0
 IsWrongAsTold rules terms row moves (shown.Game played) = Unit {0}
@@ -99,20 +99,20 @@ IsNoGame (shown.Game played) = ⊥
 IsNoGame shown.WrongMoves = Unit {0}
 IsNoGame shown.WrongGame = Unit {0}
 
--- the moves are called wrong where they are, and else the row is
+-- `WrongMoves` if the moves are wrong, else `WrongGame`
 abbrev pub AreMovesTold : {R P M E T : Type 0} → GameRules P M E T → Terms → GameRecord → List MoveRow
     → CheckedRows R P M E T → Type 0
 AreMovesTold rules terms row moves (shown.Game played) = ⊥
 AreMovesTold rules terms row moves shown.WrongMoves = ¬ AreMovesOf rules terms row moves
 AreMovesTold rules terms row moves shown.WrongGame = AreMovesOf rules terms row moves
 
--- with a row that has no id or no start the moves are called wrong, where there are some, and else the row
+-- with an invalid id or start: `WrongMoves` if there are moves, else `WrongGame`
 abbrev pub IsUnstarted : {R P M E T : Type 0} → List MoveRow → CheckedRows R P M E T → Type 0
 IsUnstarted moves (shown.Game played) = ⊥
 IsUnstarted moves shown.WrongMoves = moves ≢ []
 IsUnstarted moves shown.WrongGame = moves ≡ []
 
--- a game is shown where its row may stand and has the columns that are stored
+-- the outcome is a game if its row is possible and has the stored columns
 abbrev pub StandsAs : {R P M E T : Type 0} → GameRules P M E T → Columns → Played R P M E T → CheckedRows R P M E T
     → Type 0
 StandsAs rules c played (shown.Game p) =

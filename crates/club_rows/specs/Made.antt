@@ -10,12 +10,12 @@ use Rattle.club_requests.specs.Outcome.{MoveReply, moved}
 use Rattle.club_core.specs.Step.{played, reply_of_move}
 use Rattle.club_rows.specs.Tables.{number, move_rows}
 
--- the row of the move that was answered so, at that moment
+-- the row of a move with this reply and timestamp
 abbrev pub made_row : ℕ → MoveReply → ℕ → Row
 made_row id reply moment = number id ∷ number reply.ply ∷ Text reply.text ∷ number moment ∷ number reply.left
     ∷ Text reply.position ∷ []
 
--- a move that is played adds the row of its answer to the rows of the game
+-- a move that is played appends the row of its reply to the game's rows
 abbrev pub MadeRowIsLast : {P M E T : Type 0} → GameRules P M E T → Type 0
 MadeRowIsLast {P} {M} {E} {T} rules =
     (terms : Terms) (id : ℕ) (game : Game M) (m : M) (moment : ℕ) (reply : MoveReply)

@@ -1,4 +1,4 @@
--- Whether the row of a game may stand.
+-- Whether the row of a game is possible.
 use Rattle.std.specs.Prelude.{◌+◌, ◌==◌, ◌&&◌, ℕ, List, Option, Some, None, Bool, true, not}
 use Rattle.std.specs.Prelude.{is_some, string_bytes}
 use Rattle.std.specs.Option.{option_map}
@@ -16,13 +16,13 @@ abbrev pub may_have_key : Option (List ℕ) → Bool
 may_have_key None = true
 may_have_key (Some key) = is_name key
 
--- an offer may stand at the next ply, where the rules allow one and have not ended the game
+-- an offer is for the next ply, if the rules have draw offers and have not ended the game
 abbrev pub may_have_offer : Bool → ℕ → Bool → Option Offer → Bool
 may_have_offer allowed plies ended None = true
 may_have_offer allowed plies ended (Some offer) = allowed && not ended && offer.ply == plies + 1
 
--- An agreed end needs an offer, a declared one a position in which the side to move may declare, and a recorded one a
--- key, no offer and every move at the start.
+-- Agreement needs an offer; a declaration needs a position where the side to move may declare; a record needs a key, no
+-- offer, and all moves at the start.
 abbrev pub may_have_end : {E : Type 0} → Bool → Bool → Bool → ℕ → ℕ → Option (GameEnd E) → Bool
 may_have_end key offer declares start since None = true
 may_have_end key offer declares start since (Some (Rule e)) = true
@@ -32,7 +32,7 @@ may_have_end key offer declares start since (Some (Outside Agreed)) = offer
 may_have_end key offer declares start since (Some (Outside Declared)) = declares
 may_have_end key offer declares start since (Some (Outside (Recorded score))) = key && not offer && since == start
 
--- the event of the game has declarations, and the side to move may make one
+-- the event allows declarations, and the side to move may declare a win
 abbrev pub may_declare : {R P M E T : Type 0} → GameRules P M E T → GameView R P M E T → Bool
 may_declare rules view = view.declares && rules.can_declare view.position
 

@@ -1,4 +1,4 @@
--- The rows of two players once one more game has ended, from those that were found.
+-- The rows of scores of two players after one more game.
 use Rattle.std.specs.Prelude.{◌≡◌, ◌+ℤ◌, ℕ, pos, true, List, [], ◌∷◌, ◌++◌, Option, Some, None}
 use Rattle.std.specs.Int.RustNames.{FitsSigned}
 use Rattle.std.specs.Int.{w64}
@@ -16,7 +16,7 @@ use Rattle.club_rows.specs.declared.scores.OwnScore.TheVariants.{Won, Drew, Lost
 use Rattle.club_rows.specs.declared.scores.ScorePair.{ScorePair}
 use Rattle.club_rows.specs.declared.scores.Sums.{Sums}
 
--- ---- what a look for a pair's row finds, and the two rows of a game
+-- ---- the lookup of a pair's row, and the two rows of a game
 
 abbrev pub pair_of : (event member opponent : ℕ) → Pair
 pair_of event member opponent = record { event = pos event; member = pos member; opponent = pos opponent }
@@ -24,33 +24,33 @@ pair_of event member opponent = record { event = pos event; member = pos member;
 abbrev pub pair_cells : Pair → Row
 pair_cells pair = Int pair.event ∷ Int pair.member ∷ Int pair.opponent ∷ []
 
--- the one of the rows that is of this pair, if there is one
+-- the row of this pair, if there is one
 abbrev pub IsFound : List Row → Pair → Option ScoreRow → Type 0
 IsFound rows pair None = (row : Row) → Has rows row → same_key (0 ∷ 1 ∷ 2 ∷ []) row (pair_cells pair) ≡ true → ⊥
 IsFound rows pair (Some found) = Has rows (score_cells found)
     × (same_key (0 ∷ 1 ∷ 2 ∷ []) (score_cells found) (pair_cells pair) ≡ true)
 
--- the rows of First and of Second are those that stand for these ended games
+-- the rows of First and Second sum up these ended games
 pub record AreScoresOf (ms : List Meeting) (event first second : ℕ) (rows : ScorePair) : Type 0 where
   pub of_first : score_cells rows.first ≡ score_row (pair_of event first second)
       (scores_of (pair_of event first second) ms)
   pub of_second : score_cells rows.second ≡ score_row (pair_of event second first)
       (scores_of (pair_of event second first) ms)
 
--- the rows found are those that First and Second have in the rows of these ended games
+-- the rows found are those of First and Second after these ended games
 pub record AreFound (event first second : ℕ) (firsts seconds : Option ScoreRow) (ms : List Meeting) : Type 0 where
   pub of_first : IsFound (score_rows ms) (pair_of event first second) firsts
   pub of_second : IsFound (score_rows ms) (pair_of event second first) seconds
 
--- whatever ended games the rows were found in, the new rows are those of these games and of the one that ended so
+-- if the rows found sum up any ended games, the new rows sum up these and one more
 abbrev pub AreNext : (event first second : ℕ) → Score → (firsts seconds : Option ScoreRow) → ScorePair → Type 0
 AreNext event first second score firsts seconds rows =
     (before after : List Meeting) → AreFound event first second firsts seconds (before ++ after)
     → AreScoresOf (before ++ (meetings (pos event) (pos first) (pos second) score ++ after)) event first second rows
 
--- ---- sums as the tables keep them
+-- ---- sums in the tables
 
--- those of scores
+-- the sums of results
 abbrev pub sums_over : List OwnScore → Sums
 sums_over scores =
     record {
@@ -60,7 +60,7 @@ sums_over scores =
       losses = pos (losses scores);
     }
 
--- what one score adds
+-- the sums of one result
 abbrev pub gains_of : OwnScore → Sums
 gains_of Won = record { points = pos 2; wins = pos 1; draws = pos 0; losses = pos 0 }
 gains_of Drew = record { points = pos 1; wins = pos 0; draws = pos 1; losses = pos 0 }
@@ -84,7 +84,7 @@ pub record Fit (sums : Sums) : Type 0 where
 abbrev pub no_sums : Sums
 no_sums = record { points = pos 0; wins = pos 0; draws = pos 0; losses = pos 0 }
 
--- those of a row, or none yet
+-- the sums of a row; zeros if there is none
 abbrev pub sums_found : Option ScoreRow → Sums
 sums_found None = no_sums
 sums_found (Some row) = record { points = row.points; wins = row.wins; draws = row.draws; losses = row.losses }

@@ -1,4 +1,4 @@
--- The pairs of players that rows are of, and what sums a map has for them.
+-- The keys of rows of scores, and a map from them to sums.
 use Rattle.std.specs.Prelude.{Option}
 use Rattle.std.specs.HashMap.{HashMap, get}
 use Rattle.store_tables.specs.declared.rows.GameRecord.{GameRecord}
@@ -7,17 +7,17 @@ use Rattle.club_rows.specs.Scores.{same_pair}
 use Rattle.club_rows.specs.declared.scores.Pair.{Pair}
 use Rattle.club_rows.specs.declared.scores.Sums.{Sums}
 
--- whom a row of scores is of
+-- the key of a row of scores
 abbrev pub pair_in : ScoreRow → Pair
 pair_in row = record { event = row.event; member = row.member; opponent = row.opponent }
 
--- First's pair in a game, and Second's
+-- the keys of First's and of Second's score in a game
 abbrev pub firsts_pair : GameRecord → Pair
 firsts_pair game = record { event = game.event; member = game.first; opponent = game.second }
 
 abbrev pub seconds_pair : GameRecord → Pair
 seconds_pair game = record { event = game.event; member = game.second; opponent = game.first }
 
--- the sums of a pair, if it has some
+-- the sums of a pair, if it has any
 abbrev pub sums_at : {S : Type 0} → HashMap Pair Sums S → Pair → Option Sums
 sums_at standings pair = get same_pair standings pair

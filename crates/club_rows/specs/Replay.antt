@@ -1,4 +1,4 @@
--- What holds of a game that was replayed from its rows.
+-- Properties of a game that is replayed from its rows.
 use Rattle.std.specs.Prelude.{◌≡◌, ◌≤◌, ◌+◌, ◌-◌, ◌*◌, ℕ, pos, Bool, List, map, take, length, string_bytes, None, Ok}
 use Rattle.squares.specs.declared.sides.Side.{Side}
 use Rattle.squares.specs.declared.sides.Side.TheVariants.{First, Second}
@@ -17,18 +17,18 @@ use Rattle.club_rows.specs.Tally.{IsTallyOf, HasStood}
 use Rattle.club_rows.specs.declared.replay.Terms as given
 use Rattle.club_rows.specs.declared.replay.Replayed.{Replayed}
 
--- the seconds that a side has left
+-- the remaining seconds of a side
 abbrev pub left_in : {R P M E T : Type 0} → Replayed R P M E T → Side → ℕ
 left_in game First = game.left_first
 left_in game Second = game.left_second
 
--- the track, the tally and what stood are those of the line
+-- the track and the repetition counts are those of the line
 pub record IsCounted {R P M E T : Type 0} (rules : GameRules P M E T) (game : Replayed R P M E T) : Type 0 where
   pub track : game.track ≡ line_track rules rules.start game.line.items
   pub tally : IsTallyOf rules game.line.items game.tally
   pub stood : HasStood rules game.line.items (position_after rules rules.start game.line.items) game.stood
 
--- The line is played by the rules, its last position stands, and so many plies were played by clocks of these terms.
+-- The line is legal, has this position and number of plies, and was played with these clocks.
 pub record IsReplayed {R P M E T : Type 0} (rules : GameRules P M E T) (increment plies : ℕ)
     (game : Replayed R P M E T) : Type 0 where
   pub line : IsPlayedLine rules rules.start game.line.items
@@ -47,14 +47,14 @@ terms_with budget increment declares = record { budget = budget; increment = inc
 abbrev pub clocks_replayed : {R P M E T : Type 0} → Replayed R P M E T → Clocks
 clocks_replayed r = record { left_first = r.left_first; left_second = r.left_second; since = r.since }
 
--- what was replayed is this game, as far as its moves go
+-- the replayed state is that of this game, as far as its moves determine it
 pub record Replays {R P M E T : Type 0} (rules : GameRules P M E T) (terms : Terms) (game : Game M)
     (replayed : Replayed R P M E T) : Type 0 where
   pub line : replayed.line.items ≡ moves_of game
   pub position : replayed.position ≡ last_position rules game
   pub clocks : clocks_replayed replayed ≡ clocks_of game terms
 
--- a move at that moment is in time, and the row has the moment and the seconds that are left after it
+-- the move is in time, and the row has its timestamp and the remaining seconds
 pub record TakesTime {R P M E T : Type 0} (game : Replayed R P M E T) (turn : Side) (increment : ℕ) (row : MoveRow)
     (moment after : ℕ) : Type 0 where
   pub last : moment ≤ last_moment
@@ -64,7 +64,7 @@ pub record TakesTime {R P M E T : Type 0} (game : Replayed R P M E T) (turn : Si
   pub moment_is : row.moment ≡ pos moment
   pub left_is : row.left ≡ pos after
 
--- The move may be played next, at that moment and with so many seconds left after it, and the row shows it.
+-- The move is a legal next move with this timestamp and remaining time, and the row has its values.
 pub record IsNext {R P M E T : Type 0} (rules : GameRules P M E T) (increment id : ℕ) (game : Replayed R P M E T)
     (stored : MoveRow) (made : M) (moment left : ℕ) : Type 0 where
   pub running : rules.judge rules.start game.line.items ≡ None
@@ -75,7 +75,7 @@ pub record IsNext {R P M E T : Type 0} (rules : GameRules P M E T) (increment id
   pub text_is : string_bytes stored.text ≡ rules.write_move game.position made
   pub position_is : string_bytes stored.position ≡ rules.write_position (rules.play game.position made)
 
--- the row is that of an entry that may be played next, at a moment that there is
+-- the row is that of a legal next entry with a timestamp in range
 pub record Follows {P M E T : Type 0} (rules : GameRules P M E T) (terms : Terms) (id : ℕ) (game : Game M)
     (stored : MoveRow) (e : Entry M) : Type 0 where
   pub running : rule_end rules game ≡ None
@@ -85,7 +85,7 @@ pub record Follows {P M E T : Type 0} (rules : GameRules P M E T) (terms : Terms
   pub moment : e.moment ≤ last_moment
   pub row : move_cells stored ≡ entry_row rules terms id game e
 
--- a game of these entries, from that moment on
+-- a game with these entries and this start
 abbrev pub game_from : {M : Type 0} → ℕ → List (Entry M) → Game M
 game_from start entries =
     record {
@@ -99,7 +99,7 @@ game_from start entries =
       outside = None;
     }
 
--- the rows are those of the moves of this legal game, which starts at that moment
+-- the rows are those of the moves of this legal game, which starts at `from`
 pub record IsPlayedAs {P M E T : Type 0} (rules : GameRules P M E T) (terms : Terms) (id from : ℕ) (rows : List MoveRow)
     (game : Game M) : Type 0 where
   pub legal : IsLegalGame rules terms game
@@ -107,7 +107,7 @@ pub record IsPlayedAs {P M E T : Type 0} (rules : GameRules P M E T) (terms : Te
   pub moments : Each (λ e. e.moment ≤ last_moment) game.entries
   pub moves : map move_cells rows ≡ move_rows rules terms id game
 
--- So many of the rows were replayed: they are those of a legal game, and of no other entries.
+-- The first rows were replayed: they are those of a legal game, and its entries are unique.
 pub record WasReplayed {R P M E T : Type 0} (rules : GameRules P M E T) (terms : Terms) (id from : ℕ)
     (rows : List MoveRow) (plies : ℕ) (replayed : Replayed R P M E T) : Type 0 where
   pub entries : List (Entry M)

@@ -1,4 +1,4 @@
--- What the row of a game and the rows of one ply show of it, without its other moves.
+-- The view of a game from its row and the rows of one ply, without its other moves.
 use Rattle.std.specs.Prelude.{◌≡◌, ◌-◌, ℕ, zero, suc, Option, None, slice_get}
 use Rattle.std.specs.Option.{option_map}
 use Rattle.sqlite.specs.Order.{Row}
@@ -12,11 +12,11 @@ use Rattle.club_rows.specs.Tally.{HasStood}
 use Rattle.club_rows.specs.declared.row_view.PlyRows.{PlyRows}
 use Rattle.club_rows.specs.declared.tally.Stood.{Stood}
 
--- the last position of the game stood so often, and after that ply first
+-- the repetition count and first ply of the game's last position
 abbrev pub HasLastStood : {P M E T : Type 0} → GameRules P M E T → Game M → Stood → Type 0
 HasLastStood rules game stood = HasStood rules (moves_of game) (last_position rules game) stood
 
--- this move was played at the ply, with so many seconds left after it, in that position
+-- this move was played at the ply in that position, with this remaining time
 pub record IsPlayed {R P M E T : Type 0} (asked : Asked R P M E T) (ply : ℕ) (made : M) (left : ℕ) (before : P) : Type 0
   where
     pub ply_is : asked.ply ≡ ply
@@ -30,7 +30,7 @@ module _ {P M E T : Type 0} (rules : GameRules P M E T) (terms : Terms) (id : �
   row_at zero = None
   row_at (suc n) = slice_get (move_rows rules terms id game) n
 
-  -- the rows are those of the ply and of the one before it, none where there is no such ply
+  -- the rows are those of the ply and of the ply before it; None if there is no such ply
   pub record AreRowsAt (ply : ℕ) (rows : PlyRows) : Type 0 where
     pub at : option_map move_cells rows.at ≡ row_at ply
     pub before : option_map move_cells rows.before ≡ row_at (ply - 1)

@@ -1,4 +1,4 @@
--- What each member scored against each opponent in the ended games of an event: 2 points for a win, 1 for a draw.
+-- The scores of members against opponents in the ended games of an event: 2 points for a win, 1 for a draw.
 use Rattle.std.specs.Prelude.{◌+◌, ◌*◌, ◌&&◌, ℕ, ℤ, pos, Bool, true, false, not, List, [], ◌∷◌, map, filter, count_by}
 use Rattle.std.specs.Prelude.{Option, Some, None}
 use Rattle.std.specs.Ordering.{int_eq}
@@ -16,9 +16,9 @@ use Rattle.club_rows.specs.declared.scores.Pair.{Pair}
 use Rattle.club_rows.specs.declared.scores.OwnScore.{OwnScore}
 use Rattle.club_rows.specs.declared.scores.OwnScore.TheVariants.{Won, Drew, Lost}
 
--- ---- an ended game, as each of its players has it
+-- ---- an ended game from each player's side
 
--- an ended game as one of its players has it
+-- an ended game from one player's side
 pub record Meeting : Type 0 where
   pub pair : Pair
   pub score : OwnScore
@@ -33,19 +33,19 @@ own_second score.FirstWins = Lost
 own_second score.Draw = Drew
 own_second score.SecondWins = Won
 
--- a game that ended so, as First has it and as Second has it
+-- an ended game from First's side and from Second's
 abbrev pub meetings : (event first second : ℤ) → Score → List Meeting
 meetings event first second score =
     record { pair = record { event = event; member = first; opponent = second }; score = own_first score }
     ∷ record { pair = record { event = event; member = second; opponent = first }; score = own_second score }
     ∷ []
 
--- a game that has not ended is none
+-- none for a running game
 abbrev pub meetings_if : (event first second : ℤ) → Option Score → List Meeting
 meetings_if event first second None = []
 meetings_if event first second (Some score) = meetings event first second score
 
--- ---- the sums of a member's scores
+-- ---- the sums of a member's results
 
 abbrev pub is_win : OwnScore → Bool
 is_win Won = true
@@ -80,11 +80,11 @@ abbrev pub same_pair : Pair → Pair → Bool
 same_pair one other = int_eq one.event other.event &&
     (int_eq one.member other.member && int_eq one.opponent other.opponent)
 
--- the member's scores against the opponent in the event
+-- the member's results against the opponent in the event
 abbrev pub scores_of : Pair → List Meeting → List OwnScore
 scores_of pair ms = map (λ m. m.score) (filter (λ m. same_pair m.pair pair) ms)
 
--- each pair once, where it first comes
+-- each pair once, in the order of first occurrence
 abbrev pub once_each : List Pair → List Pair
 once_each [] = []
 once_each (pair ∷ pairs) = pair ∷ filter (λ other. not (same_pair other pair)) (once_each pairs)
@@ -103,7 +103,7 @@ score_row pair scores =
     ∷ amount (losses scores)
     ∷ []
 
--- a row for each pair that met, with its sums
+-- one row for each pair that has met, with its sums
 abbrev pub score_rows : List Meeting → List Row
 score_rows ms = map (λ pair. score_row pair (scores_of pair ms)) (once_each (map (λ m. m.pair) ms))
 
@@ -117,6 +117,6 @@ module _ {DP DM DE DT SP SM SE ST : Type 0} (rules : ClubRules DP DM DE DT SP SM
   meetings_in (draughts g) = meetings_of rules.draughts g
   meetings_in (shogi g) = meetings_of rules.shogi g
 
-  -- the rows of all games of a club
+  -- the rows of scores of all games of a club
   abbrev pub scores_in : List (AnyGame DM SM) → List Row
   scores_in games = score_rows (flat_map meetings_in games)

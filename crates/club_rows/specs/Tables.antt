@@ -1,4 +1,4 @@
--- The tables of a club: the rows that stand for a state, each column by what follows from the games.
+-- The tables of a club: the rows of each state.
 use Rattle.std.specs.Prelude.{ℕ, suc, pos, ◌+◌, ◌==◌, Bool, true, false, List, [], ◌∷◌, ◌++◌, length, map, Option, Some}
 use Rattle.std.specs.Prelude.{None, if◌then◌else◌}
 use Rattle.sqlite_value.specs.declared.value.Value.{Value}
@@ -42,14 +42,14 @@ abbrev pub kind_number : GameKind → ℕ
 kind_number Draughts = 0
 kind_number Shogi = 1
 
--- how a challenge stands
+-- the number of a challenge's state
 abbrev pub standing_number : ChallengeState → ℕ
 standing_number Open = 0
 standing_number Withdrawn = 1
 standing_number Refused = 2
 standing_number (Accepted game) = 3
 
--- 1 where the challenger plays First
+-- 1 if the challenger plays First
 abbrev pub first_number : Bool → ℕ
 first_number true = 1
 first_number false = 0
@@ -61,7 +61,7 @@ end_name_text rules (Outside o) = outside_text o
 
 -- ---- one game
 
--- the game with one entry more
+-- the game with one more entry
 abbrev pub with_entry : {M : Type 0} → Game M → Entry M → Game M
 with_entry game e = record game { entries = game.entries ++ e ∷ [] }
 
@@ -70,7 +70,7 @@ abbrev pub at_start : {M : Type 0} → Game M → Game M
 at_start game = record game { entries = [] }
 
 module _ {P M E T : Type 0} (rules : GameRules P M E T) (terms : Terms) (id : ℕ) where
-  -- the row of the game that has this id
+  -- the row of the game with this id
   abbrev pub game_row : Game M → Row
   game_row game =
       number id
@@ -92,8 +92,8 @@ module _ {P M E T : Type 0} (rules : GameRules P M E T) (terms : Terms) (id : �
       ∷ number (line_numbers rules (moves_of game)).1
       ∷ []
 
-  -- the row of an entry that is played in the game: the move as it is written where it is played, and the mover's
-  -- seconds and the position after it
+  -- the row of an entry that is played next: the move in notation, the mover's remaining seconds and the position after
+  -- it
   abbrev pub entry_row : Game M → Entry M → Row
   entry_row game e =
       number id
@@ -104,12 +104,12 @@ module _ {P M E T : Type 0} (rules : GameRules P M E T) (terms : Terms) (id : �
       ∷ Text (rules.write_position (last_position rules (with_entry game e)))
       ∷ []
 
-  -- the rows of entries that are played in the game, one after another
+  -- the rows of entries that are played in order
   abbrev pub entry_rows : Game M → List (Entry M) → List Row
   entry_rows game [] = []
   entry_rows game (e ∷ es) = entry_row game e ∷ entry_rows (with_entry game e) es
 
-  -- the rows of the game's plies
+  -- the rows of the game's moves
   abbrev pub move_rows : Game M → List Row
   move_rows game = entry_rows (at_start game) game.entries
 
@@ -122,7 +122,7 @@ abbrev pub event_row : ℕ → Event → Row
 event_row id e = number id ∷ Text e.name ∷ number (kind_number e.game) ∷ number e.terms.budget
     ∷ number e.terms.increment ∷ []
 
--- 1 where the event's players may declare that they have won
+-- 1 if the event's players may declare a win
 abbrev pub declares_number : Bool → ℕ
 declares_number true = 1
 declares_number false = 0
@@ -130,11 +130,11 @@ declares_number false = 0
 abbrev pub rule_row : ℕ → Event → Row
 rule_row id e = number id ∷ number (declares_number e.terms.declares) ∷ []
 
--- the one row of `meta`: the number of the schema, and the moment of the last accepted request
+-- the only row of `meta`: schema number and timestamp of the last accepted command
 abbrev pub meta_row : ℕ → ℕ → Row
 meta_row schema last = number 1 ∷ number schema ∷ number last ∷ []
 
--- the game that a challenge has started, if it was accepted
+-- the game that an accepted challenge started
 abbrev pub game_started : ChallengeState → Option ℕ
 game_started Open = None
 game_started Withdrawn = None
@@ -152,12 +152,12 @@ challenge_row c =
     ∷ or_null number (game_started c.standing)
     ∷ []
 
--- the row of each element, the ids counting up from this one
+-- one row for each element, with consecutive ids
 abbrev pub numbered_from : {A : Type 0} → (ℕ → A → Row) → ℕ → List A → List Row
 numbered_from row id [] = []
 numbered_from row id (x ∷ xs) = row id x ∷ numbered_from row (suc id) xs
 
--- the rows that each element has, the ids counting up from this one
+-- the rows of each element, with consecutive ids
 abbrev pub gathered_from : {A : Type 0} → (ℕ → A → List Row) → ℕ → List A → List Row
 gathered_from rows id [] = []
 gathered_from rows id (x ∷ xs) = rows id x ++ gathered_from rows (suc id) xs

@@ -1,4 +1,4 @@
--- How often the positions of a line stood and after which ply first, told by their texts.
+-- Repetition counts and first plies of the positions of a line, by their notation.
 use Rattle.std.specs.Prelude.{◌≡◌, ◌≤◌, ◌<◌, ◌+◌, ◌^◌, ℕ, Bool, List, length, take, count_by, Option, Some, None}
 use Rattle.std.specs.Prelude.{IfSome, string_bytes}
 use Rattle.std.specs.declared.alloc.Global.{Global}
@@ -10,7 +10,7 @@ use Rattle.club_rules.specs.Line.{position_after, positions, IsLegalLine}
 use Rattle.club_rows.specs.declared.tally.Stood.{Stood}
 use Rattle.club_rows.specs.declared.tally.Tally.{Tally}
 
--- the text of a position
+-- the notation of a position
 abbrev pub PositionText : Type 0
 PositionText = String Global
 
@@ -18,28 +18,28 @@ PositionText = String Global
 abbrev pub same_text : PositionText → PositionText → Bool
 same_text one other = bytes_eq (string_bytes one) (string_bytes other)
 
--- what a tally has of a text
+-- the entry for a text
 abbrev pub seen_at : Tally → PositionText → Option Stood
 seen_at tally text = get same_text tally.seen text
 
--- what stood so far, once it stands after that ply too
+-- the entry after one more occurrence, after that ply
 abbrev pub stood_then : Option Stood → ℕ → Stood
 stood_then None ply = record { times = 1; first_ply = ply }
 stood_then (Some stood) ply = record { times = stood.times + 1; first_ply = stood.first_ply }
 
--- what stood stood fewer times than there are numbers
+-- the count is far below overflow
 abbrev pub stood_seldom : Option Stood → Type 0
 stood_seldom seen = IfSome seen (λ stood. stood.times < 2 ^ 32)
 
 module _ {P M E T : Type 0} (rules : GameRules P M E T) (line : List M) (position : P) where
-  -- the position stood so often on the line, and after that ply first
+  -- the repetition count of the position and its first ply on the line
   pub record HasStood (stood : Stood) : Type 0 where
     pub times : stood.times ≡ count_by (λ p. rules.same_position p position) (positions rules rules.start line)
     pub within : stood.first_ply ≤ length line
     pub stands : position_after rules rules.start (take stood.first_ply line) ≡ position
     pub earliest : (k : ℕ) → k < stood.first_ply → position_after rules rules.start (take k line) ≡ position → ⊥
 
-  -- the position did not stand on the line
+  -- the position does not occur on the line
   pub record HasNotStood : Type 0 where
     pub times : count_by (λ p. rules.same_position p position) (positions rules rules.start line) ≡ 0
     pub never : (k : ℕ) → k ≤ length line → position_after rules rules.start (take k line) ≡ position → ⊥
@@ -48,7 +48,7 @@ module _ {P M E T : Type 0} (rules : GameRules P M E T) (line : List M) (positio
   IsStood None = HasNotStood
   IsStood (Some stood) = HasStood stood
 
--- the tally tells of each position on a line from the start, by its text, how often it stood on this line
+-- the entries are the repetition counts and first plies of all positions on this line
 pub record IsTallyOf {P M E T : Type 0} (rules : GameRules P M E T) (line : List M) (tally : Tally) : Type 0 where
   pub stood : (ms : List M) (text : PositionText) → IsLegalLine rules rules.start ms
       → string_bytes text ≡ rules.write_position (position_after rules rules.start ms)

@@ -1,4 +1,4 @@
-//! Challenges as the rows of their table, and back.
+//! Converts challenges to the rows of their table and back.
 
 ghost use Rattle.std.specs.Prelude.{◌≡◌, ◌≢◌, Bool, pos, None, Some, IfSome, Option};
 ghost use Rattle.std.specs.Option.{option_map};
@@ -12,7 +12,7 @@ use crate::numbers::id;
 use club_core::{Challenge, ChallengeState};
 use store_tables::ChallengeRow;
 
-// The number of how a challenge stands.
+// The number in column `state`.
 fn standing_number(standing: ChallengeState) -> i64
     ensures { result ≡ pos (standing_number standing) }
 {
@@ -24,7 +24,7 @@ fn standing_number(standing: ChallengeState) -> i64
     }
 }
 
-// The id of the game that a challenge has started.
+// The id of the game that an accepted challenge started.
 fn game_started(standing: ChallengeState) -> Option<i64>
     ensures { result ≡ option_map pos (game_started standing) }
 {
@@ -34,7 +34,7 @@ fn game_started(standing: ChallengeState) -> Option<i64>
     }
 }
 
-/// The row of a challenge.
+/// Converts a challenge to its row.
 pub fn challenge_row(challenge: &Challenge) -> ChallengeRow
     ensures { challenge_cells result ≡ challenge_row challenge.now }
 {
@@ -49,7 +49,7 @@ pub fn challenge_row(challenge: &Challenge) -> ChallengeRow
     }
 }
 
-// Whether the challenger plays First, by the number of a row.
+// Parses column `first`: whether the challenger plays First.
 fn first_of(number: i64) -> Option<bool>
     ensures some { IfSome result (λ first. number ≡ pos (first_number first)) }
     ensures none { result ≡ None → (first : Bool) → number ≢ pos (first_number first) }
@@ -61,7 +61,7 @@ fn first_of(number: i64) -> Option<bool>
     }
 }
 
-// How a challenge that has started no game stands, by the number of its row.
+// Parses column `state` of a challenge that started no game.
 fn standing_alone(state: i64) -> Option<ChallengeState>
     ensures some { IfSome result (λ s. state ≡ pos (standing_number s)) }
     ensures alone { IfSome result (λ s. game_started s ≡ None) }
@@ -76,7 +76,7 @@ fn standing_alone(state: i64) -> Option<ChallengeState>
     }
 }
 
-// How a challenge stands, by the number and the game of its row.
+// Parses columns `state` and `game` together.
 fn standing_of(state: i64, game: Option<i64>) -> Option<ChallengeState>
     ensures some { IfSome result (λ s. StandsAs state game s) }
     ensures range { IfSome result (λ s. HasShortGame s) }
@@ -98,7 +98,7 @@ fn standing_of(state: i64, game: Option<i64>) -> Option<ChallengeState>
     }
 }
 
-/// The challenge whose row this is, if it is one's.
+/// Converts a row to its challenge. None if a value is out of range.
 pub fn challenge_of(row: &ChallengeRow) -> Option<Challenge>
     ensures some { IfSome result (λ c. challenge_cells row.now ≡ challenge_row c) }
     ensures range { IfSome result HasShortNumbers }

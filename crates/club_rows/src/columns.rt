@@ -1,4 +1,4 @@
-//! The row of a stored game with its columns as values.
+//! Converts the row of a game to typed columns.
 
 ghost use Rattle.std.specs.Prelude.{◌≡◌, ◌≢◌, ◌≤◌, ◌<◌, ◌^◌, ℕ, pos, Option, None, IfSome, string_bytes};
 ghost use Rattle.std.specs.Option.{option_map};
@@ -16,10 +16,11 @@ use club_requests::values::MOST_PLIES;
 use squares::Score;
 use store_tables::GameRecord;
 
-/// The greatest number of a track that still grows.
+/// The greatest track number. One below the type's limit, so that it can be incremented.
 const MOST_TRACK: u32 = u32::MAX - 1;
 
-/// The row of a stored game.
+/// The row of a game with its columns converted; texts are borrowed from the row.
+/// Timestamps and remaining times are in seconds.
 #[derive(Clone, Copy)]
 pub struct StoredGame<'a> {
     pub id: u32,
@@ -28,21 +29,20 @@ pub struct StoredGame<'a> {
     pub first: u32,
     pub second: u32,
     pub start: Moment,
-    /// The moment of the last ply, or the start.
+    /// The timestamp of the last ply, or the start if there is none.
     pub since: Moment,
     pub plies: u32,
     pub left_first: u64,
     pub left_second: u64,
     pub offer: Option<Offer>,
-    /// The name of the end.
+    /// The name of the end, None while the game runs.
     pub end: Option<&'a str>,
     pub result: Option<Score>,
     pub position: &'a str,
-    /// The numbers of the line's track.
+    /// The two numbers of the rules' track (state that the rules keep beside the position).
     pub track: (u32, u32),
 }
 
-// A text that may be none, lent.
 fn lent(text: &Option<String>) -> Option<&str>
     ensures { option_map (λ s. s.now) result ≡ option_map (λ s. string_bytes s) text.now }
 {
@@ -52,7 +52,8 @@ fn lent(text: &Option<String>) -> Option<&str>
     }
 }
 
-// The offer that a row has or has not, unless no game's row has one of its two columns.
+// Parses the columns of the draw offer; Some(None) if there is no offer. None if only one column is NULL, or a value is
+// out of range.
 fn offer_in(row: &GameRecord) -> Option<Option<Offer>>
     ensures some { IfSome result (HasOffer row.now) }
     ensures range { IfSome result (λ offer. IfSome offer (λ o. o.ply < 2 ^ 32)) }
@@ -75,7 +76,7 @@ fn offer_in(row: &GameRecord) -> Option<Option<Offer>>
     }
 }
 
-// The score that a row has or has not, unless its text is no score's.
+// Parses column `result`; Some(None) if it is NULL. None if the text is not a score.
 fn result_in(row: &GameRecord) -> Option<Option<Score>>
     ensures some { IfSome result (λ score. option_map (λ s. string_bytes s) row.now.result
         ≡ option_map score_text score) }
@@ -91,7 +92,7 @@ fn result_in(row: &GameRecord) -> Option<Option<Score>>
     }
 }
 
-/// The row of a stored game, unless some column has a value that no game's row has.
+/// Converts the row of a game. None if a value is out of range.
 pub fn stored_game(row: &GameRecord) -> Option<StoredGame<'_>>
     ensures { IsReadAs (game_cells row.now) result }
 {

@@ -1,4 +1,4 @@
-//! How ends, sides and scores stand in the table of games.
+//! Ends, sides and scores as values of the table of games.
 
 ghost use Rattle.std.specs.Prelude.{◌≡◌, Option, Some, IfSome, pos};
 ghost use Rattle.squares.specs.declared.sides.Side.{Side};
@@ -14,7 +14,7 @@ use club_requests::OutsideEnd;
 use club_rules::Rules;
 use squares::{Score, Side};
 
-/// A side's number: 0 First, 1 Second.
+/// The number of a side: 0 First, 1 Second.
 pub fn side_number(side: Side) -> i64
     ensures { result ≡ pos (side_number side) }
 {
@@ -24,7 +24,7 @@ pub fn side_number(side: Side) -> i64
     }
 }
 
-/// The side of a number.
+/// The side with this number. None if there is none.
 pub fn side_of(number: i64) -> Option<Side>
     ensures found { (side : Side) → number ≡ pos (side_number side) → result ≡ Some side }
     ensures only { IfSome result (λ side. number ≡ pos (side_number side)) }
@@ -36,7 +36,7 @@ pub fn side_of(number: i64) -> Option<Side>
     }
 }
 
-/// The name of an end.
+/// The name of an end in the table.
 pub fn end_name<R: Rules>(end: &GameEnd<R::End>) -> &'static str
     ensures { result.now ≡ end_name_text R.rules end.now }
 {
@@ -46,7 +46,7 @@ pub fn end_name<R: Rules>(end: &GameEnd<R::End>) -> &'static str
     }
 }
 
-/// The score of a text.
+/// Parses a score, as in `2-0`. None if the text is not a score.
 pub fn score_of(text: &str) -> Option<Score>
     ensures found { (score : Score) → text.now ≡ score_text score → result ≡ Some score }
     ensures only { IfSome result (λ score. text.now ≡ score_text score) }
@@ -59,7 +59,8 @@ pub fn score_of(text: &str) -> Option<Score>
     }
 }
 
-/// The end other than by the rules that a row names, with the score beside it.
+/// Parses an end that the rules do not decide (resignation, agreement, time, declaration, record). None if it is no
+/// such name, or a recorded end has no score.
 pub fn outside_of(name: &str, score: Option<Score>) -> Option<OutsideEnd>
     ensures found { (end : OutsideEnd) → name.now ≡ outside_text end → ((s : Score) → end ≡ Recorded s →
         score ≡ Some s) → result ≡ Some end }

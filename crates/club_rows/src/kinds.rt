@@ -1,4 +1,4 @@
-//! The kinds of games as the numbers that stand for them in the tables.
+//! Kinds of games as numbers in the tables.
 
 ghost use Rattle.std.specs.Prelude.{◌≡◌, ◌≢◌, pos, None, IfSome};
 ghost use Rattle.club_rules.specs.declared.names.GameKind as games;
@@ -6,7 +6,7 @@ ghost use Rattle.club_rows.specs.Tables.{kind_number};
 
 use club_rules::GameKind;
 
-/// The number of a kind of games.
+/// The number of a kind of game: 0 draughts, 1 shogi.
 pub fn kind_number(game: GameKind) -> i64
     ensures { result ≡ pos (kind_number game) }
 {
@@ -16,7 +16,7 @@ pub fn kind_number(game: GameKind) -> i64
     }
 }
 
-/// The kind of games of a number of a table, unless it is that of none.
+/// The kind of game with this number. None if there is none.
 pub fn kind_of(number: i64) -> Option<GameKind>
     ensures some { IfSome result (λ game. number ≡ pos (kind_number game)) }
     ensures none { result ≡ None → (game : games.GameKind) → number ≢ pos (kind_number game) }

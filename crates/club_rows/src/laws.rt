@@ -1,4 +1,4 @@
-//! Laws of the tables: each is what a function with an empty body ensures.
+//! Properties of the tables. Each is stated by the contract of a function with an empty body.
 
 ghost use Rattle.std.specs.Prelude.{◌≡◌, ℕ};
 ghost use Rattle.club_core.specs.ClubRules.{both};
@@ -9,12 +9,12 @@ ghost use Rattle.club_rows.specs.Tables.{tables_of};
 
 use club_rules::{Records, Rules};
 
-/// A move that is played in a legal game adds the row of its answer to the rows of the game's moves, as the last one.
+/// Law: a move that is played in a legal game appends one row, that of its reply, to the rows of the game's moves.
 pub fn made_row_is_last<R: Rules>()
     ensures { MadeRowIsLast R.rules }
 {}
 
-/// The tables tell the club: two legal states with the same tables are one.
+/// Law: the tables determine the state. Two legal states with the same tables are equal.
 pub fn tables_tell_the_club<D: Records, S: Records>()
     ensures { (s t : State D.Move S.Move) → IsLegalState (both D.rules S.rules D.records S.records) s →
         IsLegalState (both D.rules S.rules D.records S.records) t →

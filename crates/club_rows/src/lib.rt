@@ -1,4 +1,4 @@
-//! Between the machine and its tables: a game's rows as the game that they show, and what is made of a game as rows.
+//! Converts a club's state to the rows of its tables and back, and checks a game's rows by replaying its moves.
 #![tactic(auto)]
 
 pub mod challenges;

@@ -1,4 +1,4 @@
-//! The legal moves of a game, as they are written.
+//! The legal moves of a game in notation.
 
 ghost use Rattle.std.specs.Prelude.{◌≡◌, Ok, IfOk, Contains, map, string_bytes};
 ghost use Rattle.club_core.specs.Game.{Game};
@@ -9,7 +9,7 @@ use club_core::GameView;
 use club_rules::{Memory, Rules};
 use std::alloc::Global;
 
-// Each of the moves as it is written in the position.
+// The notation of each move in the position.
 fn written<R: Rules>(
     alloc: Global,
     position: &R::Position,
@@ -26,8 +26,11 @@ fn written<R: Rules>(
     Ok(texts)
 }
 
-/// The legal moves of the game that the view shows, as they are written and in the order in which they are listed; none
-/// where the game has ended.
+/// Returns the legal moves of the game in notation, in the order of the rules; empty if the game has ended.
+///
+/// # Errors
+///
+/// `Memory` if out of memory.
 pub fn legal_texts<R: Rules>(alloc: Global, view: &GameView<R>) -> Result<Vec<String>, Memory>
     ensures { IfOk result (λ texts. (game : Game R.Move) → Shows R.rules game view.now →
         AreLegalTexts R.rules game (map (λ t. string_bytes t) texts.items)) }

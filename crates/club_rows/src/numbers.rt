@@ -1,11 +1,11 @@
-//! Numbers of the machine as numbers of the tables, and back.
+//! Converts numbers to table columns and back.
 
 ghost use Rattle.std.specs.Prelude.{◌≡◌, ◌≢◌, ◌<◌, ◌≤◌, ◌^◌, ℕ, Bool, None, pos, IfSome};
 ghost use Rattle.club_rows.specs.Tables.{declares_number};
 
 use clocks::Moment;
 
-/// A number as a table keeps it; the greatest that it keeps, where the number is above that.
+/// Converts a number to a column; `i64::MAX` if it is too large.
 pub fn stored(number: u64) -> i64
     ensures { number < 2 ^ 63 → result ≡ pos number }
 {
@@ -15,7 +15,7 @@ pub fn stored(number: u64) -> i64
     }
 }
 
-/// A number of a table, unless it is below 0.
+/// Converts a column to a number. None if it is negative.
 pub fn counted(number: i64) -> Option<u64>
     ensures some { IfSome result (λ n. pos n ≡ number) }
     ensures range { IfSome result (λ n. n < 2 ^ 63) }
@@ -27,7 +27,7 @@ pub fn counted(number: i64) -> Option<u64>
     }
 }
 
-/// An id of a table, unless it is no id.
+/// Converts a column to an id. None if it does not fit in 32 bits.
 pub fn id(number: i64) -> Option<u32>
     ensures some { IfSome result (λ n. pos n ≡ number) }
     ensures range { IfSome result (λ n. n < 2 ^ 32) }
@@ -39,7 +39,7 @@ pub fn id(number: i64) -> Option<u32>
     }
 }
 
-/// A number of a table that is at most so great.
+/// Converts a column to a number of at most `most`. None if it is out of range.
 pub fn at_most(number: i64, most: u32) -> Option<u32>
     ensures some { IfSome result (λ n. pos n ≡ number) }
     ensures range { IfSome result (λ n. n ≤ most) }
@@ -51,7 +51,7 @@ pub fn at_most(number: i64, most: u32) -> Option<u32>
     }
 }
 
-/// A moment of a table, unless it is none.
+/// Converts a column to a timestamp in Unix seconds. None if it is outside 0..=253402300799.
 pub fn moment(seconds: i64) -> Option<Moment>
     ensures some { IfSome result (λ m. pos m ≡ seconds) }
     ensures range { IfSome result (λ m. m ≤ 253_402_300_799) }
@@ -63,14 +63,14 @@ pub fn moment(seconds: i64) -> Option<Moment>
     }
 }
 
-/// The number that says whether an event's players may declare that they have won.
+/// The column `declares` of an event's rules: 1 if its players may declare a win, else 0.
 pub fn declares_number(declares: bool) -> i64
     ensures { result ≡ pos (declares_number declares) }
 {
     if declares { 1 } else { 0 }
 }
 
-/// What a number of a table says of that, unless it says nothing.
+/// Parses the column `declares` of an event's rules. None if it is neither 0 nor 1.
 pub fn declares_of(number: i64) -> Option<bool>
     ensures some { IfSome result (λ declares. number ≡ pos (declares_number declares)) }
     ensures none { result ≡ None → (declares : Bool) → number ≢ pos (declares_number declares) }

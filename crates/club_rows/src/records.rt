@@ -1,4 +1,4 @@
-//! What is stored of a game and of a move.
+//! Converts games and moves to rows.
 
 ghost use Rattle.std.specs.Prelude.{◌≡◌, ◌<◌, ◌^◌, pos, IfOk, string_bytes};
 ghost use Rattle.std.specs.Option.{option_map};
@@ -22,7 +22,11 @@ use squares::Score;
 use std::alloc::Global;
 use store_tables::{GameRecord, MoveRow};
 
-/// A text that may be none, of one's own.
+/// Copies an optional text.
+///
+/// # Errors
+///
+/// `Memory` if out of memory.
 pub fn owned(alloc: Global, text: Option<&str>) -> Result<Option<String>, Memory>
     ensures { IfOk result (λ copy. option_map (λ s. string_bytes s) copy ≡ option_map (λ s. s.now) text.entry) }
 {
@@ -32,7 +36,7 @@ pub fn owned(alloc: Global, text: Option<&str>) -> Result<Option<String>, Memory
     }
 }
 
-// The text of a score that may be none.
+// The text of an optional score.
 fn score_text(alloc: Global, score: Option<Score>) -> Result<Option<String>, Memory>
     ensures { IfOk result (λ text. option_map (λ s. string_bytes s) text ≡ option_map score_text score) }
 {
@@ -52,7 +56,6 @@ fn end_text<R: Rules>(alloc: Global, row: &GameRow<R::End>) -> Result<Option<Str
     }
 }
 
-// The number of the side that made an offer.
 fn offer_side(offer: Option<Offer>) -> Option<i64>
     ensures { result ≡ option_map (λ o. pos (side_number o.side)) offer }
 {
@@ -62,7 +65,6 @@ fn offer_side(offer: Option<Offer>) -> Option<i64>
     }
 }
 
-// The ply of an offer.
 fn offer_ply(offer: Option<Offer>) -> Option<i64>
     ensures { result ≡ option_map (λ o. pos o.ply) offer }
 {
@@ -72,13 +74,17 @@ fn offer_ply(offer: Option<Offer>) -> Option<i64>
     }
 }
 
-/// The row of the table of games for a game of that id.
+/// Converts a game to its row in `games`.
+///
+/// # Errors
+///
+/// `Memory` if out of memory.
 pub fn record_of<R: Rules>(
     alloc: Global,
     id: u32,
     row: &GameRow<R::End>,
 ) -> Result<GameRecord, Memory>
-    // Seconds that 63 bits hold are stored as they are.
+    // Seconds below 2^63 are stored exactly.
     ensures { IfOk result (λ r. row.now.left_first < 2 ^ 63 → row.now.left_second < 2 ^ 63 →
         (terms : Terms) (game : Game R.Move) → IsRowOf R.rules terms game row.now →
         game_cells r ≡ game_row R.rules terms id game) }
@@ -108,9 +114,13 @@ pub fn record_of<R: Rules>(
     })
 }
 
-/// The row of the table of moves for a move of a game.
+/// Converts a move to its row in `moves`.
+///
+/// # Errors
+///
+/// `Memory` if out of memory.
 pub fn move_row(game: u32, moved: &Moved, moment: Moment) -> Result<MoveRow, Memory>
-    // Seconds that 63 bits hold are stored as they are.
+    // Seconds below 2^63 are stored exactly.
     ensures { IfOk result (λ r. moved.now.left < 2 ^ 63 →
         move_cells r ≡ made_row game (move_reply_of moved.now) moment) }
 {

@@ -1,4 +1,5 @@
-//! A game as its rows show it: replayed from its start, each row compared with what the rules and the clocks give.
+//! Replays a game from the rows of its moves.
+//! Each row is compared with the values that the rules and the clocks give.
 
 ghost use Rattle.std.specs.Prelude.{◌≡◌, ◌≢◌, ◌≤◌, ◌<◌, ◌+◌, ◌++◌, ◌∷◌, [], ◌^◌, ℕ, IfOk, IfSome, IsTrue, None};
 ghost use Rattle.std.specs.Prelude.{Some, Ok, Bool, cond, length, is_some, string_bytes};
@@ -20,7 +21,8 @@ use squares::Side;
 use std::alloc::Global;
 use store_tables::MoveRow;
 
-/// The seconds that an event gives each player and each move, and whether its players may declare that they have won.
+/// The terms of an event: time budget of each player and increment per move, in seconds, and whether a player may
+/// declare a win.
 #[derive(Clone, Copy, Debug, PartialEq, Eq)]
 pub struct Terms {
     pub budget: u64,
@@ -28,7 +30,7 @@ pub struct Terms {
     pub declares: bool,
 }
 
-/// A game as far as its rows were replayed.
+/// A game after the rows replayed so far.
 #[derive(Drop)]
 pub struct Replayed<R: Rules> {
     pub position: R::Position,
@@ -36,26 +38,26 @@ pub struct Replayed<R: Rules> {
     pub left_first: u64,
     pub left_second: u64,
     pub since: Moment,
-    /// What the moves left behind.
+    /// The state that the rules keep beside the position.
     pub track: R::Track,
     pub tally: Tally,
-    /// How often the last position stood.
+    /// The repetition count of the last position.
     pub stood: Stood,
 }
 
-/// A move that may be played next, and what stands after it.
+/// A legal next move and the state after it.
 #[derive(Drop)]
 pub struct Next<R: Rules> {
     pub made: R::Move,
     pub position: R::Position,
-    /// The text of that position.
+    /// The notation of that position.
     pub text: String,
     pub turn: Side,
     pub moment: Moment,
     pub left: u64,
 }
 
-// The legal move that a row's text names in the position, if it is that move's text.
+// Parses the text of a row as a legal move. None if it is illegal, or not written exactly as the rules write it.
 pub(crate) fn move_of<R: Rules>(
     alloc: Global,
     position: &R::Position,
@@ -81,7 +83,6 @@ pub(crate) fn move_of<R: Rules>(
     Ok(Some(made))
 }
 
-// The clock of a side.
 fn clock<R: Rules>(game: &Replayed<R>, side: Side, increment: u64) -> Clock
     ensures increment { result.increment ≡ increment }
     ensures left { result.left ≡ left_in game.now side }
@@ -98,7 +99,7 @@ fn clock<R: Rules>(game: &Replayed<R>, side: Side, increment: u64) -> Clock
     }
 }
 
-// A game at its start.
+// The game before its first move.
 fn start<R: Rules>(alloc: Global, budget: u64, start: Moment) -> Result<Replayed<R>, Memory>
     requires { budget ≤ 31536000 }
     ensures safe { IfOk result (λ game. (increment : ℕ) → IsReplayed R.rules increment 0 game) }
@@ -122,7 +123,7 @@ fn start<R: Rules>(alloc: Global, budget: u64, start: Moment) -> Result<Replayed
     })
 }
 
-// The mover's clock after the row's move, if the row's moment and seconds are those of a move in time.
+// The row's timestamp and the mover's remaining seconds, if both are those of a move in time.
 fn clock_after<R: Rules>(
     game: &Replayed<R>,
     turn: Side,
@@ -152,7 +153,7 @@ fn clock_after<R: Rules>(
     Some((moment, after.left))
 }
 
-// The end that the rules give to what was replayed.
+// The end that the rules give to the replayed line.
 pub(crate) fn end_of<R: Rules>(game: &Replayed<R>) -> Option<R::End>
     requires line { IsPlayedLine R.rules R.rules.start game.now.line.items }
     requires position { game.now.position ≡ position_after R.rules R.rules.start game.now.line.items }
@@ -170,7 +171,7 @@ pub(crate) fn end_of<R: Rules>(game: &Replayed<R>) -> Option<R::End>
     end
 }
 
-// The move that a row shows, if it may be played next.
+// The move of a row, if it is the legal next move and the row has exactly its values.
 fn next_of<R: Rules>(
     alloc: Global,
     game: &Replayed<R>,
@@ -227,7 +228,7 @@ fn next_of<R: Rules>(
     }))
 }
 
-// The game with that move more.
+// Plays the move.
 fn advanced<R: Rules>(game: Replayed<R>, next: Next<R>) -> Result<Replayed<R>, Memory>
     requires plies { length game.line.items < 600 }
     requires track { game.track ≡ line_track R.rules R.rules.start game.line.items }
@@ -264,7 +265,7 @@ fn advanced<R: Rules>(game: Replayed<R>, next: Next<R>) -> Result<Replayed<R>, M
     })
 }
 
-// The game with one row more, if the row is that of a move that was played there.
+// Replays one more row. None if it is not the row of the next move.
 fn with_row<R: Rules>(
     alloc: Global,
     game: Replayed<R>,
@@ -294,7 +295,12 @@ fn with_row<R: Rules>(
     }
 }
 
-/// The game that the rows of its moves show, if they are those of a legal game of these terms from that moment on.
+/// Replays the rows of a game's moves, in the order of plies. None if no legal game with these terms and this start has
+/// exactly these rows, or a term is outside its limits.
+///
+/// # Errors
+///
+/// `Memory` if out of memory.
 pub fn replay<R: Rules>(
     alloc: Global,
     terms: Terms,

@@ -1,4 +1,5 @@
-//! The view of a game by its own row, and by the rows of the ply that a command asks of.
+//! Builds the view of a game from its own row, and from the rows of one ply.
+//! This avoids a replay when a command is executed.
 
 ghost use Rattle.std.specs.Prelude.{◌≡◌, ◌≢◌, ◌≤◌, ◌-◌, ℕ, pos, IfOk, IfSome, IsSome, None, Some, Ok};
 ghost use Rattle.std.specs.Prelude.{string_bytes};
@@ -24,7 +25,7 @@ use club_rules::{Memory, Rules};
 use std::alloc::Global;
 use store_tables::{GameRecord, MoveRow};
 
-// The machine's row of a game, by its stored row and how often its last position stood.
+// Converts the stored row to the row of the game logic; `stood` is the repetition count of the last position.
 fn row_in<R: Rules>(
     alloc: Global,
     stored: &StoredGame<'_>,
@@ -68,8 +69,16 @@ fn row_in<R: Rules>(
     })
 }
 
-/// The view of the game whose row this is, with no ply asked of. `stood` is how often its last position stood, and
-/// after which ply first. None where no game that is played by these terms has this row.
+/// Builds the view of a game from its row, without a ply; `stood` is the repetition count of its last position. None if
+/// no game with these terms has this row.
+///
+/// # Errors
+///
+/// `Memory` if out of memory.
+///
+/// # Guarantees
+///
+/// `shows`: if this is the row of a legal game, the view is that game's; `found`: then there is a view.
 pub fn view_of_row<R: Rules>(
     alloc: Global,
     row: &GameRecord,
@@ -78,7 +87,6 @@ pub fn view_of_row<R: Rules>(
 ) -> Result<Option<GameView<R>>, Memory>
     ensures sound { IfOk result (λ found. IfSome found (IsSound R.rules)) }
     ensures terms { IfOk result (λ found. IfSome found (λ view. terms_of view ≡ terms_given terms)) }
-    // The row of a legal game shows that game.
     ensures shows { IfOk result (λ found. IfSome found (λ view. (id : ℕ) (game : Game R.Move) →
         IsRecordOf R.rules (terms_given terms) id row.now game → HasLastStood R.rules game stood →
         Shows R.rules game view)) }
@@ -109,7 +117,7 @@ pub fn view_of_row<R: Rules>(
     }))
 }
 
-/// The row of the ply that a command asks of, and that of the ply before it; none where there is no such ply.
+/// The rows of a ply and of the ply before it; None if there is no such ply.
 #[derive(Drop)]
 pub struct PlyRows {
     pub at: Option<MoveRow>,
@@ -123,7 +131,7 @@ fn position_before<R: Rules>(
     rows: &PlyRows,
 ) -> Result<Option<R::Position>, Memory>
     requires { 1 ≤ ply }
-    // The ply is one that was played.
+    // Only if the ply was played.
     ensures { IfOk result (λ found. (terms : core.Terms) (id : ℕ) (game : Game R.Move) →
         IsLegalGame R.rules terms game →
         AreRowsAt R.rules terms id game ply rows.now → IsSome (move_at game ply) →
@@ -141,7 +149,7 @@ fn position_before<R: Rules>(
     }
 }
 
-// The seconds that a row of a move has, unless they are below 0.
+// The remaining seconds in a move's row. None if they are negative.
 fn seconds_in(row: &MoveRow) -> Option<u64>
     ensures some { IfSome result (λ n. row.now.left ≡ pos n) }
     ensures none { result ≡ None → (n : ℕ) → row.now.left ≢ pos n }
@@ -152,7 +160,7 @@ fn seconds_in(row: &MoveRow) -> Option<u64>
     }
 }
 
-// What was played in a position, by the row of its ply.
+// The move of a ply, from its row and the position before it.
 fn asked_in<R: Rules>(
     alloc: Global,
     ply: u64,
@@ -181,7 +189,7 @@ fn asked_in<R: Rules>(
     }))
 }
 
-// What was played at a ply, by its rows.
+// The move of a ply, from its rows.
 fn asked_by<R: Rules>(alloc: Global, ply: u64, rows: &PlyRows) -> Result<Option<Asked<R>>, Memory>
     ensures legal { IfOk result (λ found. IfSome found (λ a. R.rules.check a.before a.made ≡ Ok tt)) }
     ensures shows { IfOk result (λ found. (terms : core.Terms) (id : ℕ) (game : Game R.Move) →
@@ -203,7 +211,15 @@ fn asked_by<R: Rules>(alloc: Global, ply: u64, rows: &PlyRows) -> Result<Option<
     Ok(asked)
 }
 
-/// The view of a game, asked of a ply whose rows these are.
+/// Adds the move of a ply (from 1) to the view, from the rows of that ply.
+///
+/// # Errors
+///
+/// `Memory` if out of memory.
+///
+/// # Guarantees
+///
+/// `ply`: if these are the game's rows, the view has the move of the ply, or None if it was not played.
 pub fn ask_rows<R: Rules>(
     alloc: Global,
     view: GameView<R>,
@@ -214,7 +230,6 @@ pub fn ask_rows<R: Rules>(
     ensures sound { IfOk result (IsSound R.rules) }
     ensures row { IfOk result (λ new. new.row ≡ view.row) }
     ensures terms { IfOk result (λ new. terms_of new ≡ terms_of view) }
-    // Of each legal game that the view shows, and whose rows these are, the result shows the ply too.
     ensures shows { IfOk result (λ new. (game : Game R.Move) → Shows R.rules game view → Shows R.rules game new) }
     ensures ply { IfOk result (λ new. (id : ℕ) (game : Game R.Move) → IsLegalGame R.rules (terms_of view) game →
         AreRowsAt R.rules (terms_of view) id game ply rows.now → ShowsPly R.rules game ply new) }

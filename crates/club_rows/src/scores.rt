@@ -1,4 +1,4 @@
-//! What a member scored against an opponent in the ended games of an event.
+//! Scores of members against opponents in the ended games of an event (a cross table's cells).
 
 ghost use Rattle.std.specs.Prelude.{◌≡◌, ◌≢◌, ◌≤◌, ◌^◌, List, None, length, IfSome};
 ghost use Rattle.std.specs.Option.{option_map};
@@ -10,7 +10,7 @@ ghost use Rattle.club_rows.specs.Scores.{Meeting, own_first, own_second};
 use squares::Score;
 use store_tables::{GameRecord, ScoreRow};
 
-/// A member and an opponent in an event, by their ids.
+/// The key of a row of `scores`: a member and an opponent in an event.
 #[derive(Clone, Copy, Debug, PartialEq, Eq, Hash)]
 pub struct Pair {
     pub event: i64,
@@ -18,7 +18,7 @@ pub struct Pair {
     pub opponent: i64,
 }
 
-/// Whom a row of scores is of.
+/// The key of a row.
 pub fn pair_in(row: &ScoreRow) -> Pair
     ensures { result ≡ pair_in row.now }
 {
@@ -29,7 +29,7 @@ pub fn pair_in(row: &ScoreRow) -> Pair
     }
 }
 
-/// The pair of a game of which First is the member.
+/// The key of the row of First's score in a game.
 pub fn firsts_pair(game: &GameRecord) -> Pair
     ensures { result ≡ firsts_pair game.now }
 {
@@ -40,7 +40,7 @@ pub fn firsts_pair(game: &GameRecord) -> Pair
     }
 }
 
-/// The pair of a game of which Second is the member.
+/// The key of the row of Second's score in a game.
 pub fn seconds_pair(game: &GameRecord) -> Pair
     ensures { result ≡ seconds_pair game.now }
 {
@@ -51,7 +51,7 @@ pub fn seconds_pair(game: &GameRecord) -> Pair
     }
 }
 
-/// The score of an ended game as one of its players has it.
+/// The result of an ended game for one of its players.
 #[derive(Clone, Copy, Debug, PartialEq, Eq)]
 pub enum OwnScore {
     Won,
@@ -60,7 +60,7 @@ pub enum OwnScore {
 }
 
 impl OwnScore {
-    /// First's.
+    /// First's result.
     pub fn of_first(score: Score) -> OwnScore
         ensures { result ≡ own_first score }
     {
@@ -71,7 +71,7 @@ impl OwnScore {
         }
     }
 
-    /// Second's.
+    /// Second's result.
     pub fn of_second(score: Score) -> OwnScore
         ensures { result ≡ own_second score }
     {
@@ -83,14 +83,14 @@ impl OwnScore {
     }
 }
 
-/// The rows of the two players of a game: what First scored against Second, and Second against First.
+/// The rows of a game's two players: First against Second, and Second against First.
 #[derive(Debug, PartialEq, Drop)]
 pub struct ScorePair {
     pub first: ScoreRow,
     pub second: ScoreRow,
 }
 
-/// Points, wins, draws and losses.
+/// Sums of points (2 for a win, 1 for a draw), wins, draws and losses.
 #[derive(Clone, Copy)]
 pub struct Sums {
     pub points: i64,
@@ -99,7 +99,7 @@ pub struct Sums {
     pub losses: i64,
 }
 
-/// What one score adds.
+/// The sums of one result.
 pub fn gains(score: OwnScore) -> Sums
     ensures { result ≡ gains_of score }
 {
@@ -116,7 +116,7 @@ pub fn gains(score: OwnScore) -> Sums
     }
 }
 
-/// The sums of a row, or of none.
+/// The sums of a row; zeros if there is none.
 pub fn sums_of(row: Option<&ScoreRow>) -> Sums
     ensures { result ≡ sums_found (option_map (λ r. r.now) row.entry) }
 {
@@ -136,7 +136,7 @@ pub fn sums_of(row: Option<&ScoreRow>) -> Sums
     }
 }
 
-/// The sums together, unless one does not fit.
+/// Adds sums. None on overflow.
 pub fn plus(sums: Sums, more: Sums) -> Option<Sums>
     ensures some { IfSome result (λ s. s ≡ plus_sums sums more) }
     ensures none { result ≡ None → ¬ Fit (plus_sums sums more) }
@@ -153,7 +153,7 @@ pub fn plus(sums: Sums, more: Sums) -> Option<Sums>
     })
 }
 
-// The pair's row, once a score is added to the one that was found.
+// The row of a pair after one more result.
 fn row_after(pair: Pair, found: Option<&ScoreRow>, score: OwnScore) -> Option<ScoreRow>
     ensures some { IfSome result (λ row.
         row ≡ row_with pair (plus_sums (sums_found (option_map (λ r. r.now) found.entry)) (gains_of score))) }
@@ -172,7 +172,7 @@ fn row_after(pair: Pair, found: Option<&ScoreRow>, score: OwnScore) -> Option<Sc
     })
 }
 
-/// The pair of two members in an event.
+/// The key of a member and an opponent in an event.
 pub fn pair_of(event: u32, member: u32, opponent: u32) -> Pair
     ensures { result ≡ pair_of event member opponent }
 {
@@ -183,8 +183,11 @@ pub fn pair_of(event: u32, member: u32, opponent: u32) -> Pair
     }
 }
 
-/// The rows of the two players of a game of that event once it has ended so, from those that stand for the games that
-/// ended before it, where there are any; none where a sum does not fit.
+/// The rows of both players after one more game, from their present rows. None if a sum overflows.
+///
+/// # Guarantees
+///
+/// `none`: a sum overflows only after at least 2^61 results.
 pub fn score_after(
     event: u32,
     first: u32,
@@ -196,7 +199,6 @@ pub fn score_after(
     ensures some { IfSome result (λ rows. first ≢ second →
         AreNext event first second score (option_map (λ r. r.now) firsts.entry)
         (option_map (λ r. r.now) seconds.entry) rows) }
-    // Only the sums of very many games do not fit.
     ensures none { result ≡ None → (ms : List Meeting) →
         AreFound event first second (option_map (λ r. r.now) firsts.entry) (option_map (λ r. r.now) seconds.entry) ms →
         2 ^ 61 ≤ length ms }

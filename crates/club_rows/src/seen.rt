@@ -1,4 +1,4 @@
-//! The rows of the positions of a game: how often each stood, and after which ply first.
+//! Rows of the positions of a game: repetition count and first ply.
 
 ghost use Rattle.std.specs.Prelude.{◌≡◌, ◌≤◌, ◌<◌, ◌+◌, ◌^◌, ℕ, [], ◌∷◌, pos, length, IfOk, Option, Some, None};
 ghost use Rattle.std.specs.Prelude.{string_bytes};
@@ -14,7 +14,7 @@ use club_rules::{Memory, Rules};
 use std::alloc::Global;
 use store_tables::SeenRow;
 
-// The row of a position that stands for the first time, after that ply.
+// The row of a position that occurs for the first time.
 fn seen_once(game: u32, position: String, ply: u32) -> SeenRow
     ensures { seen_cells result ≡ seen_row game (string_bytes position) 1 ply }
 {
@@ -26,14 +26,13 @@ fn seen_once(game: u32, position: String, ply: u32) -> SeenRow
     }
 }
 
-// One more than a count.
 fn one_more(count: i64) -> i64
     ensures { (n : ℕ) → count ≡ pos n → n + 1 < 2 ^ 63 → result ≡ pos (n + 1) }
 {
     count.saturating_add(1)
 }
 
-// The row of a position that stood before, with its count one higher.
+// The row of a position that occurred before, with its count incremented.
 fn seen_again(game: u32, position: String, found: &SeenRow) -> SeenRow
     ensures { (count first : ℕ) → found.now.count ≡ pos count → count + 1 < 2 ^ 63 → found.now.first_ply ≡ pos first →
         seen_cells result ≡ seen_row game (string_bytes position) (count + 1) first }
@@ -46,7 +45,11 @@ fn seen_again(game: u32, position: String, found: &SeenRow) -> SeenRow
     }
 }
 
-/// The row of the opening of a game: after no ply it has stood once.
+/// The row of a new game's initial position: count 1, first ply 0.
+///
+/// # Errors
+///
+/// `Memory` if out of memory.
 pub fn first_seen<R: Rules>(alloc: Global, game: u32) -> Result<SeenRow, Memory>
     ensures { IfOk result (λ row. (seated : Game R.Move) → seated.entries ≡ [] →
         seen_rows R.rules game seated ≡ seen_cells row ∷ []) }
@@ -56,8 +59,11 @@ pub fn first_seen<R: Rules>(alloc: Global, game: u32) -> Result<SeenRow, Memory>
     Ok(row)
 }
 
-/// The row of a position that stands once more, after that ply of the game: that which was found for it with its count
-/// one higher, or a new one where none was found.
+/// The row of the position after a ply: `found` with its count incremented, or a new row if the position is new.
+///
+/// # Errors
+///
+/// `Memory` if out of memory.
 pub fn seen_after<R: Rules>(
     alloc: Global,
     game: u32,
@@ -78,7 +84,7 @@ pub fn seen_after<R: Rules>(
     }
 }
 
-// How often the position of a row stood.
+// The repetition count; 0 if it is out of range.
 fn times_in(row: &SeenRow) -> usize
     ensures { (n : ℕ) → row.now.count ≡ pos n → result ≡ n }
 {
@@ -88,7 +94,7 @@ fn times_in(row: &SeenRow) -> usize
     }
 }
 
-// The ply after which the position of a row first stood.
+// The first ply; 0 if it is out of range.
 fn first_ply_in(row: &SeenRow) -> usize
     ensures { (n : ℕ) → row.now.first_ply ≡ pos n → result ≡ n }
 {
@@ -98,8 +104,11 @@ fn first_ply_in(row: &SeenRow) -> usize
     }
 }
 
-/// How often the position of a row stood, and after which ply first. Of the row of a game's last position these are the
-/// numbers by which the rules end the game.
+/// The repetition count and first ply in a row.
+///
+/// # Guarantees
+///
+/// For the row of a game's last position these are the numbers by which the rules judge repetition.
 pub fn stood_in<R: Rules>(row: &SeenRow) -> Stood
     ensures { (id : ℕ) (game : Game R.Move) → IsLegalLine R.rules R.rules.start (moves_of game) →
         IsSeenRow R.rules id game (R.rules.write_position (last_position R.rules game)) (seen_cells row.now) →

@@ -1,4 +1,4 @@
-//! How often the positions of a line stood, told by their texts.
+//! Repetition counts of the positions of a line, by their notation.
 
 ghost use Rattle.std.specs.Prelude.{◌≡◌, ◌≤◌, ◌<◌, ◌+◌, ◌++◌, ◌∷◌, [], List, Some, None, IfOk, cond, length};
 ghost use Rattle.std.specs.Prelude.{string_bytes};
@@ -9,21 +9,21 @@ use club_rules::{Memory, Rules};
 use std::alloc::Global;
 use std::collections::HashMap;
 
-/// How often a position stood on a line, and after which ply first.
+/// The repetition count of a position and the ply after which it first occurred.
 #[derive(Clone, Copy, Debug, PartialEq, Eq)]
 pub struct Stood {
     pub times: usize,
     pub first_ply: usize,
 }
 
-/// How often each position of a line stood: one look at a text, however long the line is.
+/// The repetition count of each position of a line, in a hash map: one lookup for each position.
 #[derive(Drop)]
 pub struct Tally {
     seen: HashMap<String, Stood>,
 }
 
 impl Tally {
-    /// No position yet.
+    /// An empty count.
     pub fn new(alloc: Global) -> Tally
         ensures { (text : PositionText) → seen_at result text ≡ None }
     {
@@ -32,7 +32,7 @@ impl Tally {
         }
     }
 
-    // How often a position stands, once it stands after that ply too.
+    // The count of a position if it occurs once more, after that ply.
     fn with(&self, text: &String, ply: usize) -> Stood
         ensures { stood_seldom (seen_at self.now text.now) → result ≡ stood_then (seen_at self.now text.now) ply }
     {
@@ -48,7 +48,11 @@ impl Tally {
         }
     }
 
-    /// Counts the position that stands after that ply, and answers how often it has stood by then.
+    /// Counts a position that occurs after a ply, and returns its new count.
+    ///
+    /// # Errors
+    ///
+    /// `Memory` if out of memory.
     pub fn add(&mut self, text: String, ply: usize) -> Result<Stood, Memory>
         ensures stood { IfOk result (λ stood. stood_seldom (seen_at self.old text) →
             stood ≡ stood_then (seen_at self.old text) ply) }
@@ -60,7 +64,11 @@ impl Tally {
         Ok(stood)
     }
 
-    /// How often the position of that text stands, and after which ply first, once a move leads to it as that ply.
+    /// The repetition count and first ply of a position if the next move (as ply `ply`) leads to it.
+    ///
+    /// # Guarantees
+    ///
+    /// Equal to the rules' `times_stood` for a legal line of at most 600 plies.
     pub fn stood_after<R: Rules>(&self, position: &String, ply: usize) -> Stood
         ensures { (line : List R.Move) (made : R.Move) → IsTallyOf R.rules line self.now → length line ≤ 600 →
             IsLegalLine R.rules R.rules.start (line ++ made ∷ []) → ply ≡ length line + 1 →

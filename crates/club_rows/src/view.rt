@@ -1,4 +1,4 @@
-//! The view of a game that its rows give, if they are those of a legal game.
+//! Checks all rows of a game by replay, and builds its view.
 
 ghost use Rattle.std.specs.Prelude.{◌≡◌, ◌≤◌, ◌^◌, ℕ, List, Option, None, Some, true, IfOk, IsTrue, length};
 ghost use Rattle.std.specs.Prelude.{string_bytes, is_some};
@@ -29,7 +29,7 @@ use squares::{Score, Side};
 use std::alloc::Global;
 use store_tables::{GameRecord, MoveRow};
 
-// The end other than by the rules that a row names.
+// The end in the row that the rules do not decide.
 fn outside_in(stored: &StoredGame<'_>) -> Option<OutsideEnd>
     ensures { IsNamedIn (columns_in stored.now) result }
 {
@@ -39,7 +39,7 @@ fn outside_in(stored: &StoredGame<'_>) -> Option<OutsideEnd>
     }
 }
 
-// The end of a game: the rules' if they gave one, else the other that its row names.
+// The end of a game: that of the rules if they give one, else that of the row.
 pub(crate) fn end_in<E: Copy + Drop>(
     stored: &StoredGame<'_>,
     ruled: Option<E>,
@@ -55,7 +55,7 @@ pub(crate) fn end_in<E: Copy + Drop>(
     }
 }
 
-// The score of an end, by the side to move.
+// The score of an end, given the side to move.
 pub(crate) fn score_of_end<R: Rules>(end: &Option<GameEnd<R::End>>, turn: Side) -> Option<Score>
     ensures { result ≡ score_with R.rules end.now turn }
 {
@@ -70,7 +70,7 @@ pub(crate) fn score_of_end<R: Rules>(end: &Option<GameEnd<R::End>>, turn: Side) 
     }
 }
 
-/// A game that its rows show, with its moves and how often its positions stood.
+/// A replayed game: its view, its moves and its repetition counts.
 #[derive(Drop)]
 pub struct Played<R: Rules> {
     pub view: GameView<R>,
@@ -78,18 +78,18 @@ pub struct Played<R: Rules> {
     pub tally: Tally,
 }
 
-/// What the rows of a game show.
+/// The outcome of the check of a game's rows.
 #[derive(Drop)]
 pub enum CheckedRows<R: Rules> {
-    /// A legal game.
+    /// The rows are those of this legal game.
     Game(Played<R>),
-    /// Moves that no legal game has.
+    /// The rows of the moves are wrong.
     WrongMoves,
-    /// Moves of a legal game, and a row that it has not.
+    /// The moves are legal, but the row in `games` is wrong.
     WrongGame,
 }
 
-// The machine's row of a game that was replayed, with what its stored row tells beside the moves.
+// The row of the game logic for a replayed game, with key, players, offer and end from the stored row.
 fn row_replayed<R: Rules>(
     alloc: Global,
     stored: &StoredGame<'_>,
@@ -128,7 +128,7 @@ fn row_replayed<R: Rules>(
     })
 }
 
-// The view of a game that was replayed and has that row.
+// The view of a replayed game.
 fn viewed<R: Rules>(
     alloc: Global,
     stored: &StoredGame<'_>,
@@ -165,7 +165,7 @@ fn viewed<R: Rules>(
     })
 }
 
-// Whether the key of a game may stand.
+// Whether the key is absent or a legal name.
 fn may_have_key(key: &Option<String>) -> bool
     ensures { result ≡ may_have_key (option_map (λ s. string_bytes s) key.now) }
 {
@@ -175,7 +175,7 @@ fn may_have_key(key: &Option<String>) -> bool
     }
 }
 
-// Whether the rules gave the end.
+// Whether the rules decided the end.
 fn is_ruled<E: Copy + Drop>(end: &Option<GameEnd<E>>) -> bool
     ensures { result ≡ is_some (rule_in end.now) }
 {
@@ -186,7 +186,7 @@ fn is_ruled<E: Copy + Drop>(end: &Option<GameEnd<E>>) -> bool
     }
 }
 
-// Whether an offer may stand in the row: at the next ply of a running game whose players may agree on a draw.
+// Whether the offer is absent, or is for the next ply of a game that the rules have not ended and that has draw offers.
 fn may_have_offer<R: Rules>(row: &GameRow<R::End>) -> bool
     requires { row.now.plies ≤ 600 }
     ensures { result ≡ may_have_offer R.rules.has_draw_offers row.now.plies
@@ -198,7 +198,8 @@ fn may_have_offer<R: Rules>(row: &GameRow<R::End>) -> bool
     }
 }
 
-// Whether the row's end other than by the rules may stand, in a position where the side to move may declare or not.
+// Whether an end that the rules do not decide is possible. Agreement needs an offer, a declaration the right to
+// declare. A record needs a key, no offer, and all moves at the start.
 fn may_have_end<E: Copy + Drop>(row: &GameRow<E>, declares: bool) -> bool
     ensures { result ≡ may_have_end (is_some row.now.key) (is_some row.now.offer) declares row.now.start
         row.now.since row.now.end }
@@ -216,14 +217,14 @@ fn may_have_end<E: Copy + Drop>(row: &GameRow<E>, declares: bool) -> bool
     }
 }
 
-// Whether the side to move of the game may declare that it has won.
+// Whether the side to move may declare a win.
 fn may_declare<R: Rules>(view: &GameView<R>) -> bool
     ensures { result ≡ may_declare R.rules view.now }
 {
     view.declares && R::can_declare(&view.position)
 }
 
-// Whether the game's key, players, offer and end may stand.
+// Whether the row's key, players, offer and end are possible.
 fn may_stand<R: Rules>(row: &GameRow<R::End>, declares: bool) -> bool
     requires { row.now.plies ≤ 600 }
     ensures { result ≡ may_stand R.rules.has_draw_offers declares row.now }
@@ -234,7 +235,7 @@ fn may_stand<R: Rules>(row: &GameRow<R::End>, declares: bool) -> bool
         && may_have_end(row, declares)
 }
 
-// Whether two scores that may be none are the same.
+// Whether the two optional scores are equal.
 fn is_score(one: Option<Score>, other: Option<Score>) -> bool
     ensures sound { result ≡ true → one ≡ other }
     ensures complete { one ≡ other → result ≡ true }
@@ -248,7 +249,7 @@ fn is_score(one: Option<Score>, other: Option<Score>) -> bool
     }
 }
 
-// Whether a name is that of the end.
+// Whether the stored name is that of the end.
 fn is_end<R: Rules>(end: &Option<GameEnd<R::End>>, stored: Option<&str>) -> bool
     ensures sound { result ≡ true → option_map (λ s. s.now) stored.entry ≡ option_map (end_name_text R.rules) end.now }
     ensures complete { option_map (λ s. s.now) stored.entry ≡ option_map (end_name_text R.rules) end.now →
@@ -263,7 +264,7 @@ fn is_end<R: Rules>(end: &Option<GameEnd<R::End>>, stored: Option<&str>) -> bool
     }
 }
 
-// Whether the stored row has what follows from the moves that were replayed.
+// Whether the stored row has the values that follow from the replayed moves.
 fn has_replayed<R: Rules>(row: &GameRow<R::End>, stored: &StoredGame<'_>) -> bool
     ensures sound { result ≡ true → HasReplayed R.rules row.now (columns_in stored.now) }
     ensures complete { HasReplayed R.rules row.now (columns_in stored.now) → result ≡ true }
@@ -279,7 +280,7 @@ fn has_replayed<R: Rules>(row: &GameRow<R::End>, stored: &StoredGame<'_>) -> boo
         && stored.position == row.position.as_str()
 }
 
-// The game, where its row may stand and is the one that is stored.
+// Checks the stored row against the replayed game.
 fn stands<R: Rules>(stored: &StoredGame<'_>, played: Played<R>) -> CheckedRows<R>
     requires { played.view.row.plies ≤ 600 }
     ensures { StandsAs R.rules (columns_in stored.now) played result }
@@ -294,7 +295,7 @@ fn stands<R: Rules>(stored: &StoredGame<'_>, played: Played<R>) -> CheckedRows<R
     CheckedRows::Game(played)
 }
 
-// What is shown where the id or the start of a row is none: with these moves, no game.
+// The outcome if the id or the start is invalid: the moves are wrong if there are any, else the row.
 fn shown_without_start<R: Rules>(moves: &[MoveRow]) -> CheckedRows<R>
     ensures { IsUnstarted moves.now result }
 {
@@ -305,7 +306,7 @@ fn shown_without_start<R: Rules>(moves: &[MoveRow]) -> CheckedRows<R>
     }
 }
 
-// What is told of moves beside a row that is no game's: whether they are a game's that has its id and its start.
+// The outcome if the row is invalid: whether the moves are legal for its id and start.
 fn without_row<R: Rules>(
     alloc: Global,
     row: &GameRecord,
@@ -330,9 +331,16 @@ fn without_row<R: Rules>(
     Ok(CheckedRows::WrongGame)
 }
 
-/// The view of the game whose row and moves these are, with no ply asked of, if they are those of a legal game that is
-/// played by these terms. Moves that are those of no legal game with the id and the start of the row are wrong
-/// whatever else the row has.
+/// Checks the row and the moves of a game by replay, and builds its view without a ply.
+///
+/// # Errors
+///
+/// `Memory` if out of memory.
+///
+/// # Guarantees
+///
+/// - `sound`, `complete`: `Game` is returned exactly for the rows of a legal game with these terms.
+/// - `wrong`: `WrongMoves` takes precedence, whatever else is wrong with the row.
 pub fn view_of<R: Rules>(
     alloc: Global,
     row: &GameRecord,

@@ -1,4 +1,4 @@
--- The names of the ends that the rules of both games give, as they are printed and stored.
+-- The names of the ends of both games, as they are printed and stored.
 use Rattle.std.specs.Prelude.{List, ℕ, codes}
 use Rattle.club_rules.specs.declared.names.EndName.{EndName}
 use Rattle.club_rules.specs.declared.names.EndName.TheVariants.{NoMove, Repetition, KingMoves, ThreeToOne, TwoToOne}

@@ -1,4 +1,4 @@
--- What holds of the rules of each game.
+-- The laws that the rules of each game satisfy.
 use Rattle.std.specs.Prelude.{◌≡◌, ◌≤◌, ◌+◌, ◌↔◌, ℕ, List, [], length, Option, Some, None, IsSome, Ok, true}
 use Rattle.squares.specs.declared.sides.Side.TheVariants.{First}
 use Rattle.squares.specs.Sides.{other}
@@ -6,19 +6,19 @@ use Rattle.club_rules.specs.GameRules.{GameRules, ply_limit}
 use Rattle.club_rules.specs.Line.{position_after, IsLegalLine, IsPlayedLine, line_track, line_numbers, times_stood}
 use Rattle.club_rules.specs.Line.{FirstStands}
 
--- texts that stand for positions
+-- StandsFor: the text denotes the position
 module _ {P : Type 0} (StandsFor : List ℕ → P → Type 0) where
-  -- what a reader answers to a text: the position that the text stands for, or none where it stands for none
+  -- the result of reading a text as a position: the position that it denotes, or None if it denotes none
   abbrev pub IsPositionRead : List ℕ → Option P → Type 0
   IsPositionRead text (Some p) = StandsFor text p
   IsPositionRead text None = (p : P) → StandsFor text p → ⊥
 
-  -- a text stands for one position at most
+  -- a text denotes at most one position
   abbrev pub StandsForOne : Type 0
   StandsForOne = (text : List ℕ) (p q : P) → StandsFor text p → StandsFor text q → p ≡ q
 
 module _ {P M E T : Type 0} (rules : GameRules P M E T) where
-  -- First moves first
+  -- First makes the first move
   abbrev pub FirstStarts : Type 0
   FirstStarts = rules.turn rules.start ≡ First
 
@@ -26,34 +26,34 @@ module _ {P M E T : Type 0} (rules : GameRules P M E T) where
   abbrev pub StartsRunning : Type 0
   StartsRunning = rules.judge rules.start [] ≡ None
 
-  -- a legal move gives the turn to the other side
+  -- a legal move passes the turn to the other side
   abbrev pub TurnPasses : Type 0
   TurnPasses = (p : P) (m : M) → rules.check p m ≡ Ok tt → rules.turn (rules.play p m) ≡ other (rules.turn p)
 
-  -- what is written of a legal move is read as that move
+  -- the text written for a legal move is read as that move
   abbrev pub ReadsBack : Type 0
   ReadsBack = (p : P) (m : M) → rules.check p m ≡ Ok tt → rules.read_move p (rules.write_move p m) ≡ Ok m
 
-  -- two moves are the same exactly if they are equal
+  -- `same` is equality of moves
   abbrev pub SameIs : Type 0
   SameIs = (a b : M) → (rules.same a b ≡ true) ↔ (a ≡ b)
 
-  -- and so are two positions
+  -- `same_position` is equality of positions
   abbrev pub SamePositionIs : Type 0
   SamePositionIs = (p q : P) → (rules.same_position p q ≡ true) ↔ (p ≡ q)
 
-  -- no game goes on after the last ply
+  -- every legal line has ended at the ply limit
   abbrev pub EndsAtLimit : Type 0
   EndsAtLimit =
       (ms : List M) → IsLegalLine rules rules.start ms → length ms ≡ ply_limit → IsSome (rules.judge rules.start ms)
 
-  -- what is written of a position on a line from the start stands for it
+  -- the text written for a position that is reachable from the start denotes it
   abbrev pub WritesPositions : (List ℕ → P → Type 0) → Type 0
   WritesPositions StandsFor =
       (ms : List M) → IsLegalLine rules rules.start ms →
       StandsFor (rules.write_position (position_after rules rules.start ms)) (position_after rules rules.start ms)
 
-  -- two positions on lines from the start are one where their texts are
+  -- positions that are reachable from the start are equal if their texts are
   abbrev pub TextsTellPositions : Type 0
   TextsTellPositions =
       (ms ns : List M) → IsLegalLine rules rules.start ms → IsLegalLine rules rules.start ns →
@@ -61,8 +61,8 @@ module _ {P M E T : Type 0} (rules : GameRules P M E T) where
       ≡ rules.write_position (position_after rules rules.start ns) →
       position_after rules rules.start ms ≡ position_after rules rules.start ns
 
-  -- Of a line from the start that is played by the rules, the track, made ply by ply, tells the end: by the last
-  -- position, the number of plies, how often that position stood, and after which ply first.
+  -- The track of a line played from the start, with its last position, number of plies, repetition count and first
+  -- occurrence, determines the same end as the whole line.
   abbrev pub TracksTellEnds : Type 0
   TracksTellEnds =
       (ms : List M) (first : ℕ) → IsPlayedLine rules rules.start ms → FirstStands rules rules.start ms first →
@@ -70,15 +70,15 @@ module _ {P M E T : Type 0} (rules : GameRules P M E T) where
       (times_stood rules rules.start ms) first
       ≡ rules.judge rules.start ms
 
-  -- a track is its two numbers
+  -- `track_of` inverts `track_numbers`
   abbrev pub NumbersGiveTracks : Type 0
   NumbersGiveTracks = (track : T) → rules.track_of (rules.track_numbers track).0 (rules.track_numbers track).1 ≡ track
 
-  -- and any two numbers are a track's
+  -- any two numbers are the numbers of a track
   abbrev pub TracksGiveNumbers : Type 0
   TracksGiveNumbers = (a b : ℕ) → rules.track_numbers (rules.track_of a b) ≡ (a, b)
 
-  -- the numbers of a line grow by one a ply at most
+  -- neither number of a track exceeds the number of plies by more than one
   abbrev pub NumbersAreFew : Type 0
   NumbersAreFew =
       (ms : List M) → ((line_numbers rules ms).0 ≤ length ms + 1) × ((line_numbers rules ms).1 ≤ length ms + 1)

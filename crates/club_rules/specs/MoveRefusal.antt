@@ -1,4 +1,4 @@
--- The refusals of a text or a move of either game: their numbers, their names and how they are written.
+-- The refusals of moves in both games: their numbers, their names and their texts.
 use Rattle.std.specs.Prelude.{List, [], ℕ, ◌++◌, codes, decimal, Result, Ok, Err}
 use Rattle.club_rules.specs.declared.names.GameKind.{GameKind}
 use Rattle.club_rules.specs.declared.names.GameKind.TheVariants.{Draughts, Shogi}
@@ -7,7 +7,7 @@ use Rattle.club_rules.specs.declared.refusals.MoveRefusal.TheVariants.{NoSuchMov
 use Rattle.club_rules.specs.declared.refusals.MoveRefusal.TheVariants.{MustPromote, DeadDrop, TwoPawns, KingAttacked}
 use Rattle.club_rules.specs.declared.refusals.MoveRefusal.TheVariants.{DropMate, BadText, Ambiguous}
 
--- the club's answer where the rules of a game answer so to a move
+-- the result of a game's legality check, with its refusals translated to the club's
 abbrev pub refused_by : {Cause : Type 0} →
     (Cause → MoveRefusal) → Result (Unit {0}) Cause → Result (Unit {0}) MoveRefusal
 refused_by refusal_of (Ok u) = Ok u
@@ -47,11 +47,11 @@ move_refusal_name DropMate = codes "DropMate"
 move_refusal_name (BadText game offset) = codes "BadText"
 move_refusal_name Ambiguous = codes "Ambiguous"
 
--- the offset of a text that is no move's, after a blank
+-- for a syntax error, a space and the offset
 abbrev pub move_refusal_tail : MoveRefusal → List ℕ
 move_refusal_tail (BadText game offset) = codes " " ++ decimal offset
 move_refusal_tail _ = []
 
--- the number, the name and then the offset, parted by blanks
+-- the number, the name and the offset if any, separated by spaces
 abbrev pub move_refusal_text : MoveRefusal → List ℕ
 move_refusal_text r = decimal (move_refusal_number r) ++ codes " " ++ move_refusal_name r ++ move_refusal_tail r

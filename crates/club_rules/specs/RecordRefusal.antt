@@ -1,4 +1,4 @@
--- The refusals of records: their numbers, their names and how they are written.
+-- The refusals of records: their numbers, their names and their texts.
 use Rattle.std.specs.Prelude.{List, [], ℕ, ◌++◌, codes, decimal}
 use Rattle.club_rules.specs.declared.records.RecordFormat.{RecordFormat}
 use Rattle.club_rules.specs.declared.records.RecordFormat.TheVariants.{Pdn, Csa}
@@ -8,7 +8,7 @@ use Rattle.club_rules.specs.declared.record_refusals.RecordRefusal.TheVariants.{
 use Rattle.club_rules.specs.declared.record_refusals.RecordRefusal.TheVariants.{AfterEnd, Unfinished, ResultDiffers}
 use Rattle.club_rules.specs.MoveRefusal.{move_refusal_number}
 
--- each format has a number of its own
+-- the number of the refusal in each format
 abbrev pub by_format : RecordFormat → ℕ → ℕ → ℕ
 by_format Pdn pdn csa = pdn
 by_format Csa pdn csa = csa
@@ -35,7 +35,7 @@ record_refusal_name (AfterEnd format ply) = codes "AfterEnd"
 record_refusal_name (Unfinished format) = codes "Unfinished"
 record_refusal_name (ResultDiffers format) = codes "ResultDiffers"
 
--- the numbers that follow the name, each after a blank; a cause is its own number
+-- the parameters after the name, each after a space; the reason for an illegal move is given by its number
 abbrev pub record_refusal_tail : RecordRefusal → List ℕ
 record_refusal_tail (BadText format place) = codes " " ++ decimal place
 record_refusal_tail (Ambiguous ply) = codes " " ++ decimal ply
@@ -48,6 +48,6 @@ record_refusal_tail (OtherOpening format) = []
 record_refusal_tail (Unfinished format) = []
 record_refusal_tail (ResultDiffers format) = []
 
--- the number, the name and then the refusal's numbers, parted by blanks
+-- the number, the name and the parameters, separated by spaces
 abbrev pub record_refusal_text : RecordRefusal → List ℕ
 record_refusal_text r = decimal (record_refusal_number r) ++ codes " " ++ record_refusal_name r ++ record_refusal_tail r

@@ -1,4 +1,4 @@
--- The games that texts of records keep.
+-- The games in texts of records.
 use Rattle.std.specs.Prelude.{◌≡◌, Bool, true, List, ℕ, Some}
 use Rattle.squares.specs.declared.sides.Score.{Score}
 use Rattle.club_rules.specs.declared.records.RecordFormat.{RecordFormat}
@@ -9,13 +9,13 @@ use Rattle.club_rules.specs.declared.record_refusals.RecordRefusal.{RecordRefusa
 use Rattle.club_rules.specs.GameRules.{GameRules}
 use Rattle.club_rules.specs.Line.{position_after, IsPlayedLine}
 
--- a game from the opening: its moves, its score, and whether the side to move after them declared that it had won
+-- a game from the initial position: its moves, its score, and whether the side to move after them declared a win
 pub record Recorded (M : Type 0) : Type 0 where
   pub moves : List M
   pub score : Score
   pub declared : Bool
 
--- what a part of a text is read as: its game, or none where the text has no such part, or why the text is refused
+-- the result of reading one part of a text: its game, no such part, or the refusal of the text
 pub data Reading (M : Type 0) : Type 0 where
   game : Recorded M → Reading M
   no_part : Reading M
@@ -24,10 +24,10 @@ pub data Reading (M : Type 0) : Type 0 where
 -- the records of a game
 pub record GameRecords (M : Type 0) : Type 0 where
   pub format : RecordFormat
-  -- a part of a text, read; parts count from 1
+  -- reads one part of a text; parts count from 1
   pub read : List ℕ → ℕ → Reading M
 
--- what the program's values stand for
+-- the mathematical values of the program's results
 module _ {M : Type 0} where
   abbrev pub recorded_of : given_game.RecordedGame M → Recorded M
   recorded_of g = record { moves = g.moves.items; score = g.score; declared = g.declared }
@@ -37,15 +37,15 @@ module _ {M : Type 0} where
   reading_of given.NoPart = no_part
   reading_of (given.Refused refusal) = refused refusal
 
--- The rules allow the moves, none of them after an end, and where they ended the game the score is theirs. A
--- declaration stands only where the side to move may make one.
+-- The moves are a line played by the rules. If the rules ended the game, the score is theirs. A declared win is one
+-- that the side to move may declare.
 pub record IsGameByRules {P M E T : Type 0} (rules : GameRules P M E T) (r : Recorded M) : Type 0 where
   pub line : IsPlayedLine rules rules.start r.moves
   pub score : (end : E) → rules.judge rules.start r.moves ≡ Some end
       → r.score ≡ rules.outcome end (rules.turn (position_after rules rules.start r.moves))
   pub declared : r.declared ≡ true → rules.can_declare (position_after rules rules.start r.moves) ≡ true
 
--- what is read is such a game
+-- every game that is read is such a game
 module _ {P M E T : Type 0} (rules : GameRules P M E T) (records : GameRecords M) where
   abbrev pub ReadsGames : Type 0
   ReadsGames = (text : List ℕ) (part : ℕ) (r : Recorded M) → records.read text part ≡ game r → IsGameByRules rules r

@@ -1,4 +1,4 @@
-//! The trait of a game's rules.
+//! The trait of a game's rules, with the laws that the club's proofs need of them.
 
 ghost use Rattle.std.specs.Prelude.{◌≡◌, ◌<◌, ℕ, List, IfOk, Ok, string_bytes};
 ghost use Rattle.club_rules.specs.GameRules.{GameRules};
@@ -15,9 +15,11 @@ use memory::Memory;
 use squares::{Score, Side};
 use std::alloc::Global;
 
-/// The rules of a game: where it starts, which moves are legal and what they do, how moves and
-/// positions are written, and when a line of moves has ended. Each call that takes an allocator
-/// answers `Memory` where it was refused memory, and only there.
+/// The rules of a two-player game: initial position, legal moves, notation, and the ends of games.
+///
+/// # Errors
+///
+/// A method that takes an allocator returns `Memory` if out of memory, and fails for no other reason.
 pub trait Rules {
     type Position: Drop;
 
@@ -25,15 +27,15 @@ pub trait Rules {
 
     type End: Copy + Drop;
 
-    /// What a line leaves behind, by which its last ply is judged without the plies before it.
+    /// The summary of a line by which its last ply is judged without the plies before it.
     type Track: Copy + Drop;
 
     ghost rules: { GameRules Self.Position Self.Move Self.End Self.Track };
 
-    /// A text stands for a position.
+    /// The text denotes the position.
     ghost StandsFor: { List ℕ → Self.Position → Type 0 };
 
-    /// The position in which each game of the club starts.
+    /// The initial position of every game of the club.
     fn start() -> Self::Position
         ensures { result ≡ rules.start };
 
@@ -41,15 +43,19 @@ pub trait Rules {
     fn turn(position: &Self::Position) -> Side
         ensures { result ≡ rules.turn position.now };
 
-    /// Ok where the move is legal, else the first refusal that holds.
+    /// Checks that a move is legal.
+    ///
+    /// # Errors
+    ///
+    /// The first `MoveRefusal` that holds, in the order of the game's checks.
     fn check(position: &Self::Position, made: &Self::Move) -> Result<(), MoveRefusal>
         ensures { result ≡ rules.check position.now made.now };
 
-    /// The legal moves, each once, in the order of the game.
+    /// The legal moves, each once, in the game's move order.
     fn legal(alloc: Global, position: &Self::Position) -> Result<Vec<Self::Move>, Memory>
         ensures { IfOk result (λ moves. IsLegalList rules position.now moves.items) };
 
-    /// Whether two moves are one.
+    /// Whether two moves are equal.
     fn same(a: &Self::Move, b: &Self::Move) -> bool
         ensures { result ≡ rules.same a.now b.now };
 
@@ -58,7 +64,7 @@ pub trait Rules {
         requires { rules.check position.now made.now ≡ Ok tt }
         ensures { result ≡ rules.play position.now made.now };
 
-    /// The move that a text stands for in a position, or why it is refused. The move need not be legal.
+    /// The move that a text denotes in a position, or the reason why there is none. The move may be illegal.
     fn read_move(
         alloc: Global,
         position: &Self::Position,
@@ -79,11 +85,11 @@ pub trait Rules {
     fn write_position(alloc: Global, position: &Self::Position) -> Result<String, Memory>
         ensures { IfOk result (λ text. string_bytes text ≡ rules.write_position position.now) };
 
-    /// The position that a text stands for, or none where it stands for none.
+    /// The position that a text denotes, or `None` if it denotes none.
     fn read_position(alloc: Global, text: &str) -> Result<Option<Self::Position>, Memory>
         ensures { IfOk result (IsPositionRead StandsFor text.now) };
 
-    /// The end that the rules give after the last of these moves, if there is one.
+    /// The end that the rules give after the last of these moves, if any. No earlier ply may have ended the game.
     fn judge(
         alloc: Global,
         start: &Self::Position,
@@ -92,11 +98,11 @@ pub trait Rules {
         requires { IsPlayedLine rules start.now moves.now }
         ensures { IfOk result (λ end. end ≡ rules.judge start.now moves.now) };
 
-    /// The track of a line without a move.
+    /// The track of a line without moves.
     fn track_start(position: &Self::Position) -> Self::Track
         ensures { result ≡ rules.track_start position.now };
 
-    /// The track of the line with one move more, made in its last position and leading to the one after it.
+    /// The track after one more move, made in the position `before` and leading to `after`.
     fn track_next(
         track: Self::Track,
         before: &Self::Position,
@@ -107,8 +113,8 @@ pub trait Rules {
         requires second { (rules.track_numbers track).1 < 4294967295 }
         ensures { result ≡ rules.track_next track before.now made.now after.now };
 
-    /// The end of a line with this track, whose last position stood so often after so many plies, and first after the
-    /// ply `first`.
+    /// The end of a line with this track. `plies` counts its moves, `times` is the repetition count of its last
+    /// position, and `first` is the ply after which that position first occurred.
     fn track_end(
         track: Self::Track,
         position: &Self::Position,
@@ -122,11 +128,11 @@ pub trait Rules {
     fn track_numbers(track: &Self::Track) -> (u32, u32)
         ensures { result ≡ rules.track_numbers track.now };
 
-    /// The track of two numbers.
+    /// The track that is stored as these two numbers.
     fn track_of(first: u32, second: u32) -> Self::Track
         ensures { result ≡ rules.track_of first second };
 
-    /// The score of an end, by the side to move after it.
+    /// The score of an end; `turn` is the side to move after it.
     fn outcome(end: &Self::End, turn: Side) -> Score
         ensures { result ≡ rules.outcome end.now turn };
 
@@ -138,50 +144,49 @@ pub trait Rules {
     fn has_draw_offers() -> bool
         ensures { result ≡ rules.has_draw_offers };
 
-    /// Whether the side to move may declare that it has won, by where its king and its pieces stand. It takes no
-    /// memory.
+    /// Whether the side to move may declare a win (the entering-king rule of shogi). Allocates nothing.
     fn can_declare(position: &Self::Position) -> bool
         ensures { result ≡ rules.can_declare position.now };
 
-    /// First moves first.
+    /// `Side::First` makes the first move.
     ghost first_starts: { FirstStarts rules };
 
     /// No game has ended before its first move.
     ghost starts_running: { StartsRunning rules };
 
-    /// A legal move gives the turn to the other side.
+    /// A legal move passes the turn to the other side.
     ghost turn_passes: { TurnPasses rules };
 
-    /// What is written is read as that move.
+    /// The text written for a legal move is read as that move.
     ghost reads_back: { ReadsBack rules };
 
-    /// Two moves are the same exactly if they are equal.
+    /// `same` is equality of moves.
     ghost same_is: { SameIs rules };
 
-    /// Two positions are the same exactly if they are equal.
+    /// `same_position` of the specification is equality of positions.
     ghost same_position_is: { SamePositionIs rules };
 
-    /// No game goes on after the last ply.
+    /// Every game has ended at the ply limit.
     ghost ends_at_limit: { EndsAtLimit rules };
 
-    /// What is written of a position on a line from the start stands for it.
+    /// The text written for a position that is reachable from the start denotes it.
     ghost writes_positions: { WritesPositions rules StandsFor };
 
-    /// A text stands for one position at most.
+    /// A text denotes at most one position.
     ghost stands_for_one: { StandsForOne StandsFor };
 
-    /// Positions on lines from the start are one where their texts are.
+    /// Positions that are reachable from the start are equal if their texts are.
     ghost texts_tell_positions: { TextsTellPositions rules };
 
-    /// A line's track tells its end.
+    /// A line's track determines its end.
     ghost tracks_tell_ends: { TracksTellEnds rules };
 
-    /// A track is its two numbers.
+    /// `track_of` inverts `track_numbers`.
     ghost numbers_give_tracks: { NumbersGiveTracks rules };
 
-    /// Any two numbers are a track's.
+    /// Any two numbers are the numbers of a track.
     ghost tracks_give_numbers: { TracksGiveNumbers rules };
 
-    /// The two numbers of a line grow by one a ply at most.
+    /// Neither number of a track exceeds the number of plies by more than one.
     ghost numbers_are_few: { NumbersAreFew rules };
 }

@@ -1,4 +1,4 @@
-//! What a game of two sides is to the club: its positions, moves, ends, texts and records.
+//! The interface between the club and a game: the traits `Rules` and `Records`, and the refusals of moves and records.
 #![tactic(auto)]
 
 pub mod game;

@@ -15,18 +15,27 @@ pub enum GameKind {
 /// The name of an end by the rules, as it is printed and stored.
 #[derive(Clone, Copy, Debug, PartialEq, Eq)]
 pub enum EndName {
+    /// The side to move has no legal move and loses.
     NoMove,
+    /// Draughts: the position occurs for the third time; a draw.
     Repetition,
+    /// Draughts: the last 50 plies were all king moves without a capture; a draw.
     KingMoves,
+    /// Draughts: 33 successive positions with three pieces, at least one of them a king, against a lone king; a draw.
     ThreeToOne,
+    /// Draughts: 11 successive positions with a king, or two pieces with at least one king, against a lone king; a
+    /// draw.
     TwoToOne,
+    /// 600 plies have been played; a draw.
     PlyLimit,
+    /// Shogi: the position occurs for the fourth time by one side's perpetual check, and that side loses.
     PerpetualCheck,
+    /// Shogi: the position occurs for the fourth time; a draw.
     Fourfold,
 }
 
 impl EndName {
-    /// The name as it is written, as `NoMove`.
+    /// The name as it is written, such as `NoMove`.
     pub fn name(self) -> &'static str
         ensures { result.now ≡ end_text self }
     {
@@ -43,7 +52,6 @@ impl EndName {
     }
 }
 
-/// Writes the name.
 impl fmt::Display for EndName {
     ghost use Rattle.std.specs.Prelude.{Some};
 

@@ -1,4 +1,4 @@
-//! Why a record is refused.
+//! The reasons why a record is refused.
 
 ghost use Rattle.std.specs.Prelude.{◌≡◌};
 ghost use Rattle.club_rules.specs.RecordRefusal.{by_format, record_refusal_number, record_refusal_name};
@@ -8,36 +8,35 @@ use crate::records::RecordFormat;
 use crate::refusals::MoveRefusal;
 use std::fmt;
 
-/// Why a record is refused. Plies count from 1. Each format has numbers of its own.
+/// The reason why a record is refused. Plies count from 1; each format has its own refusal numbers.
 #[derive(Clone, Copy, Debug, PartialEq, Eq)]
 pub enum RecordRefusal {
-    /// The text has not the form of a record: at this byte, counted from 0, of a PDN text, or on this line, counted
-    /// from 1, of a CSA text.
+    /// Syntax error: at this byte of a PDN text, counted from 0, or on this line of a CSA text, counted from 1.
     BadText(RecordFormat, usize),
-    /// CSA: the text begins with no known version.
+    /// CSA: the text does not begin with a supported version.
     Version,
-    /// PDN: the game is of another kind of draughts.
+    /// PDN: the `GameType` tag names another kind of draughts.
     OtherType,
-    /// The game begins otherwise than a game of the club.
+    /// The game does not begin from the club's initial position.
     OtherOpening(RecordFormat),
-    /// PDN: two or more legal captures fit the text of this ply.
+    /// PDN: two or more legal captures match the text of this ply.
     Ambiguous {
         ply: usize,
     },
-    /// The move of this ply is not legal, and why.
+    /// The move of this ply is illegal, with the reason.
     Illegal {
         format: RecordFormat,
         ply: usize,
         cause: MoveRefusal,
     },
-    /// The game had ended before this ply.
+    /// The rules had ended the game before this ply.
     AfterEnd {
         format: RecordFormat,
         ply: usize,
     },
-    /// The record does not say how the game ended.
+    /// The record does not state how the game ended.
     Unfinished(RecordFormat),
-    /// The record ends otherwise than the rules, or its own tag, say.
+    /// The result differs from the rules' result or from the text's own `Result` tag.
     ResultDiffers(RecordFormat),
 }
 
@@ -51,7 +50,7 @@ fn by_format(format: RecordFormat, pdn: u8, csa: u8) -> u8
 }
 
 impl RecordRefusal {
-    /// The number of the refusal: 20 to 27 of a PDN text, 40 to 46 of a CSA text.
+    /// The number of the refusal: 20 to 27 for a PDN text, 40 to 46 for a CSA text.
     pub fn number(self) -> u8
         ensures { result ≡ record_refusal_number self }
     {
@@ -72,7 +71,7 @@ impl RecordRefusal {
         }
     }
 
-    /// The name of the refusal, without its numbers.
+    /// The name of the refusal, without its parameters.
     pub fn name(self) -> &'static str
         ensures { result.now ≡ record_refusal_name self }
     {
@@ -94,8 +93,8 @@ impl RecordRefusal {
     }
 }
 
-/// Writes the number, the name and then the refusal's numbers, parted by blanks: `20 BadText 0`, `41 Version`, and
-/// `22 Illegal 3 11` for a move of ply 3 that is refused by number 11.
+/// Writes the number, the name and the parameters, separated by spaces: `20 BadText 0` or `41 Version`. The text is `22
+/// Illegal 3 11` if the move of ply 3 is refused with number 11.
 impl fmt::Display for RecordRefusal {
     ghost use Rattle.std.specs.Prelude.{Some};
 

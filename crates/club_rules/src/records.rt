@@ -1,4 +1,4 @@
-//! Records of games: texts that other programs write and read.
+//! Game records: texts that other programs write and read.
 
 ghost use Rattle.std.specs.Prelude.{◌≡◌, IfOk};
 ghost use Rattle.club_rules.specs.Records.{GameRecords, reading_of, ReadsGames};
@@ -12,22 +12,22 @@ use std::alloc::Global;
 /// A format of records.
 #[derive(Clone, Copy, Debug, PartialEq, Eq)]
 pub enum RecordFormat {
-    /// Portable Draughts Notation.
+    /// Portable Draughts Notation (PDN).
     Pdn,
-    /// The standard record file of the Computer Shogi Association.
+    /// The standard record format of the Computer Shogi Association (CSA).
     Csa,
 }
 
-/// A game from the opening as a record keeps it: its moves, its score, and whether it ended with a declaration.
+/// A recorded game from the initial position: its moves, its score, and whether it ended by a declared win.
 #[derive(Drop)]
 pub struct RecordedGame<M> {
     pub moves: Vec<M>,
     pub score: Score,
-    /// Whether the side to move after these moves declared that it had won.
+    /// Whether the side to move after these moves declared a win.
     pub declared: bool,
 }
 
-/// What a part of a text of records is read as.
+/// The result of reading one part (one game) of a text of records.
 #[derive(Drop)]
 pub enum RecordReading<M> {
     Game(RecordedGame<M>),
@@ -36,7 +36,7 @@ pub enum RecordReading<M> {
     Refused(RecordRefusal),
 }
 
-/// The records of a game: their format, and how they are read.
+/// The records of a game: their format and their reader.
 pub trait Records: Rules {
     ghost records: { GameRecords Self.Move };
 
@@ -44,8 +44,12 @@ pub trait Records: Rules {
     fn format() -> RecordFormat
         ensures { result ≡ records.format };
 
-    /// The game of a part of a text, where parts count from 1. A text that is refused is refused whatever the part, but
-    /// for part 0, which no text has.
+    /// Reads one part of a text; parts count from 1. A PDN text has one part. A refused CSA text is refused for every
+    /// part from 1 on. Any other part is `NoPart`.
+    ///
+    /// # Errors
+    ///
+    /// `Memory` if out of memory.
     fn read_record(
         alloc: Global,
         text: &[u8],
@@ -53,7 +57,7 @@ pub trait Records: Rules {
     ) -> Result<RecordReading<Self::Move>, Memory>
         ensures { IfOk result (λ read. reading_of read ≡ records.read text.now part) };
 
-    /// What is read is a game that the rules allow, with their score where they ended it, and no declaration but where
-    /// the side to move may make one.
+    /// A game that is read is legal. If the rules ended it, its score is theirs; a declared win is one that the side to
+    /// move may declare.
     ghost reads_games: { ReadsGames Self.rules records };
 }

@@ -1,4 +1,4 @@
-//! Why a text or a move is refused.
+//! The reasons why the text of a move, or a move, is refused.
 
 ghost use Rattle.std.specs.Prelude.{◌≡◌};
 ghost use Rattle.club_rules.specs.MoveRefusal.{no_such_move_number, bad_text_number, move_refusal_number};
@@ -7,30 +7,30 @@ ghost use Rattle.club_rules.specs.MoveRefusal.{move_refusal_name, move_refusal_t
 use crate::names::GameKind;
 use std::fmt;
 
-/// Why a text or a move is refused, in draughts or in shogi.
+/// The reason why the text of a move, or a move, is refused, in draughts or in shogi.
 #[derive(Clone, Copy, Debug, PartialEq, Eq)]
 pub enum MoveRefusal {
-    /// The move is none that the game knows there. Each game has a number of its own for it.
+    /// No piece of the side to move can make this move. Each game has its own number for it.
     NoSuchMove(GameKind),
-    /// Draughts: the move takes nothing, and a capture exists.
+    /// Draughts: the move captures nothing although a capture exists.
     MustCapture,
-    /// Draughts: the move is a capture that takes fewer pieces than another would.
+    /// Draughts: the capture takes fewer pieces than another would.
     NotLongest,
-    /// Shogi: the hand has no such piece.
+    /// Shogi: the piece is not in hand.
     NotInHand,
-    /// Shogi: the piece could never move again, and does not promote.
+    /// Shogi: the piece could never move again unless it promotes.
     MustPromote,
     /// Shogi: the dropped piece could never move.
     DeadDrop,
-    /// Shogi: a pawn is dropped on a file with an own unpromoted pawn.
+    /// Shogi: a pawn is dropped on a file that has an unpromoted pawn of the same side.
     TwoPawns,
-    /// Shogi: the own king would be attacked.
+    /// Shogi: the side's own king would be in check.
     KingAttacked,
-    /// Shogi: a dropped pawn would mate.
+    /// Shogi: a dropped pawn gives mate.
     DropMate,
-    /// The text is no move's in the game. Its longest beginning that also begins a move's text has this many bytes.
+    /// Syntax error. The longest prefix that can begin a move's text has this many bytes.
     BadText(GameKind, usize),
-    /// Draughts: two or more legal captures fit the text.
+    /// Draughts: two or more legal captures match the text.
     Ambiguous,
 }
 
@@ -92,7 +92,7 @@ impl MoveRefusal {
     }
 }
 
-/// Writes the number, the name and then the offset, parted by blanks: `20 BadText 2`.
+/// Writes the number, the name and the offset if any, separated by spaces: `20 BadText 2`.
 impl fmt::Display for MoveRefusal {
     ghost use Rattle.std.specs.Prelude.{Some};
 

@@ -1,4 +1,4 @@
-//! Trials of public calls at values that no script and no file brings about, written out by hand. It has tests alone.
+//! Unit tests of public functions with values that no script and no file can produce.
 #![tactic(auto)]
 
 #[cfg(test)]

@@ -15,7 +15,7 @@ fn civil_time(date: (i16, u8, u8), time: (u8, u8, u8)) -> Option<CivilTime> {
     })
 }
 
-// Each date is what `date -u -d @SECONDS` prints.
+// The expected dates are those of `date -u -d @SECONDS`.
 #[test]
 fn moments_have_dates_in_utc(rt: HostRuntime) {
     assert!(rt; shown(0) == civil_time((1970, 1, 1), (0, 0, 0)));
@@ -27,8 +27,7 @@ fn moments_have_dates_in_utc(rt: HostRuntime) {
     assert!(rt; shown(253_402_300_800) == None);
 }
 
-// A budget of 60 seconds and an increment of 5: a move after 60 seconds is in time and leaves 5, one after 61 is not.
-// A deadline is the last second in time, and of two moments the later counts.
+// With a budget of 60 s and an increment of 5 s, a move after 60 s is in time and leaves 5 s; one after 61 s is late.
 #[test]
 fn a_move_takes_seconds_and_adds_the_increment(rt: HostRuntime) {
     let clock = Clock {
@@ -48,7 +47,7 @@ fn a_move_takes_seconds_and_adds_the_increment(rt: HostRuntime) {
     assert!(rt; later(5000, 900) == Some(5000));
 }
 
-// The seconds of the later moment.
+// The later of two timestamps, in seconds.
 fn later(one: u64, other: u64) -> Option<u64> {
     Some(Moment::new(one)?.later(Moment::new(other)?).seconds())
 }

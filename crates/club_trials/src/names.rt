@@ -1,4 +1,4 @@
-//! Names that no line of words has.
+//! Names that no command line can have.
 
 use club_requests::is_name;
 

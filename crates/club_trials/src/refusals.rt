@@ -1,4 +1,4 @@
-//! Refusals of moves and of records, in the words of the club.
+//! Refusals of moves and of records.
 
 use crate::words::told;
 use club_rules::{EndName, GameKind, MoveRefusal, RecordFormat, RecordRefusal};

@@ -1,4 +1,4 @@
-//! Rows that no file has: of other types, with ids that do not rise, and two of one key.
+//! Rows that no valid file has: with wrong types, with ids out of order, and with duplicate keys.
 
 use club_audit::{are_seen, scores_are, wrong_register};
 use club_games::Shogi;
@@ -25,7 +25,7 @@ const SEEN: &str = "game INTEGER, position TEXT, count INTEGER, first_ply INTEGE
 const SCORES: &str =
     "event INTEGER, member INTEGER, opponent INTEGER, points INTEGER, wins INTEGER, draws INTEGER, losses INTEGER";
 
-/// Rows of a table with these columns and no rule.
+/// Rows of a table with these columns and no constraints.
 fn shown(alloc: Global, columns: &str, values: &str) -> Result<Vec<Row>, Fail> {
     let mut conn = Connection::open_in_memory(alloc)?;
     let sql = format!(in alloc; "CREATE TABLE t ({columns}); INSERT INTO t VALUES {values}")?;
@@ -33,7 +33,7 @@ fn shown(alloc: Global, columns: &str, values: &str) -> Result<Vec<Row>, Fail> {
     Ok(conn.query_all("SELECT * FROM t ORDER BY rowid", &[])?)
 }
 
-/// The same, read.
+/// The same rows, parsed.
 fn rows<T: TableRow>(alloc: Global, columns: &str, values: &str) -> Result<Vec<T>, Fail> {
     match parse_all(alloc, &shown(alloc, columns, values)?) {
         Ok(rows) => Ok(rows),
@@ -59,7 +59,7 @@ fn rows_are_parsed(rt: HostRuntime) -> Result<(), Fail> {
     Ok(())
 }
 
-/// Whether the ids of these rows rise.
+/// Whether the ids of these rows are ascending.
 fn do_rise(alloc: Global, columns: &str, values: &str) -> Result<bool, Fail> {
     Ok(check_ids(alloc, &shown(alloc, columns, values)?) == Ok(()))
 }
@@ -73,7 +73,7 @@ fn ids_rise(rt: HostRuntime) -> Result<(), Fail> {
     Ok(())
 }
 
-// A game of draughts after its first move, and one at its opening, but for its key.
+// A draughts game after its first move, and one before it, without their keys.
 const MOVED: &str = "1, 1, 2, 1000, 1060, 1, 5, 60, NULL, NULL, NULL, NULL,
     'B:W28,31,33,34,35,36,37,38,39,40,41,42,43,44,45,46,47,48,49,50:B1,2,3,4,5,6,7,8,9,10,11,12,13,14,15,16,17,18,19,20',
     0, 0";
@@ -82,8 +82,7 @@ const OPENING: &str = "1, 1, 2, 1000, 1000, 0, 60, 60, NULL, NULL, NULL, NULL,
     'W:W31,32,33,34,35,36,37,38,39,40,41,42,43,44,45,46,47,48,49,50:B1,2,3,4,5,6,7,8,9,10,11,12,13,14,15,16,17,18,19,20',
     0, 0";
 
-/// The wrong table of a club whose second member has that name, whose event has these rules, and whose second game has
-/// that key.
+/// The wrong table of a club with this name of the second member, these event rules, and this key of the second game.
 fn wrong(alloc: Global, name: &str, rules: &str, key: &str) -> Result<Option<Table>, Fail> {
     let members = format!(in alloc; "(1, 'anna', 'keyanna1'), (2, '{name}', 'keybert2')")?;
     let games = format!(in alloc; "(1, 'g1', {MOVED}), (2, {key}, {OPENING})")?;
@@ -121,15 +120,14 @@ fn rules_of_events_are_one_for_each(rt: HostRuntime) -> Result<(), Fail> {
     Ok(())
 }
 
-// What is shown of a game of shogi of which no move was played: its opening stood once.
+// The row of the opening of a shogi game without moves: its repetition count is 1.
 const STOOD: &str = "(1, 'lnsgkgsnl/1r5b1/ppppppppp/9/9/9/PPPPPPPPP/1B5R1/LNSGKGSNL b -', 1, 0)";
 
-// Games of anna and bert: bert wins the first, the next runs, and the third is drawn.
+// Games of anna and bert: bert wins the first, the second is running, and the third is drawn.
 const GAMES: &str = "(1, NULL, 1, 1, 2, 1000, 1000, 0, 60, 60, NULL, NULL, NULL, '0-2', '', 0, 0),
     (2, NULL, 1, 1, 2, 1000, 1000, 0, 60, 60, NULL, NULL, NULL, NULL, '', 0, 0),
     (3, NULL, 1, 1, 2, 1000, 1000, 0, 60, 60, NULL, NULL, NULL, '1-1', '', 0, 0)";
 
-// Rows of one key stand twice.
 #[test]
 fn rows_that_stand_twice_are_seen(rt: HostRuntime) -> Result<(), Fail> {
     let alloc = rt.alloc();

@@ -1,4 +1,4 @@
-//! Sums of scores at their bounds.
+//! Sums of scores at the limits of their range.
 
 use crate::words::told;
 use club_rows::score_after;

@@ -1,4 +1,4 @@
-//! What is displayed, as a text.
+//! Formats values as text.
 
 use std::alloc::Global;
 use std::fmt::Display;

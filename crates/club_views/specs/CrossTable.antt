@@ -1,4 +1,4 @@
--- The cross table of an event, by the ended games of a state of the club.
+-- The cross table of an event, from the ended games in a state of the club.
 use Rattle.std.specs.Prelude.{◌≡◌, pos, ◌<◌, ◌⊎◌, ℕ, suc, List, [], ◌∷◌, map, Option, Some, None}
 use Rattle.sqlite.specs.Order.{Row}
 use Rattle.sqlite_rules.specs.Lists.{Has}
@@ -18,9 +18,9 @@ use Rattle.club_rows.specs.Scores.{scores_in}
 use Rattle.club_rows.specs.Tables.{number}
 use Rattle.store_tables.specs.declared.rows.ScoreRow.{ScoreRow}
 
--- ---- what was scored in an event
+-- ---- the scores in an event
 
--- the row of scores of what a member scored against another one in the event of this id
+-- the row of scores of a member against an opponent in the event with this id
 abbrev pub scored_row : ℕ → Scored → Row
 scored_row event scored =
     number event
@@ -32,18 +32,18 @@ scored_row event scored =
     ∷ number scored.sums.losses
     ∷ []
 
--- the sums of such a row
+-- the sums in a row of scores
 pub record AreSumsOf (row : ScoreRow) (sums : Sums) : Type 0 where
   pub points : row.points ≡ pos sums.points
   pub wins : row.wins ≡ pos sums.wins
   pub draws : row.draws ≡ pos sums.draws
   pub losses : row.losses ≡ pos sums.losses
 
--- by member, then by opponent
+-- order by member, then by opponent
 abbrev pub ComesBefore : Scored → Scored → Type 0
 ComesBefore one other = (one.member < other.member) ⊎ ((one.member ≡ other.member) × (one.opponent < other.opponent))
 
--- These are what each member scored against each other one in the ended games of the event of this id, in that order.
+-- the scores between members in the ended games of the event, in that order, each pair once
 pub record AreScoresIn (s : ClubState) (event : ℕ) (scores : List Scored) : Type 0 where
   pub there : (scored : Scored) → Has scores scored → Has (scores_in both_games s.games) (scored_row event scored)
   pub back : (scored : Scored) → Has (scores_in both_games s.games) (scored_row event scored) → Has scores scored
@@ -62,13 +62,13 @@ module _ (members : List Member) (scores : List Scored) (standings : List Standi
       line_text at (name_in (place members standing.member)) standing.sums
       (map (λ other. cell_of scores standing.member other.member) standings)
 
-  -- those of some standings, the places counting up from this one
+  -- the lines of these standings, from this place on
   abbrev pub lines_from : ℕ → List Standing → List (List ℕ)
   lines_from at [] = []
   lines_from at (standing ∷ rest) = standing_line at standing ∷ lines_from (suc at) rest
 
--- The lines of the cross table of the event of this id and name: the first one, then one for each member who has an
--- ended game in the event, in the order of the places.
+-- The lines of the cross table of the event with this id and name: the header, then one line for each member with an
+-- ended game in the event, in the order of places.
 pub record IsCrossTable (s : ClubState) (event : ℕ) (name : List ℕ) (lines : List (List ℕ)) : Type 0 where
   pub scores : List Scored
   pub scores_are : AreScoresIn s event scores
@@ -77,7 +77,7 @@ pub record IsCrossTable (s : ClubState) (event : ℕ) (name : List ℕ) (lines :
   pub ranked : AreRanked standings
   pub lines_are : lines ≡ header_text name ∷ lines_from s.members scores standings 1 standings
 
--- those of the event of this name, where the club has one
+-- the cross table of the event with this name, if the club has such an event
 abbrev pub AreTableRows : ClubState → List ℕ → Option (List (List ℕ)) → Type 0
 AreTableRows s name None = find_id (has_event_name name) s.events ≡ None
 AreTableRows s name (Some lines) =

@@ -1,4 +1,4 @@
--- A game of the club as it is viewed: by whom and in which event it is played, and what was played.
+-- A game as members see it: players, event, and the state of play.
 use Rattle.std.specs.Prelude.{◌≡◌, ℕ, List, [], ◌∷◌, length, map, Option, Some, None, string_bytes}
 use Rattle.std.specs.Option.{option_map}
 use Rattle.club_rules.specs.GameRules.{GameRules}
@@ -12,18 +12,18 @@ use Rattle.club_rows.specs.Club.{ClubGame, ClubState, both_games}
 use Rattle.club_views.specs.declared.viewed.Played.{Played}
 use Rattle.club_views.specs.declared.viewed.ViewedGame.{ViewedGame}
 
--- the name of an end by the rules, and any other end as it is
+-- the name of an end that the rules define; any other end is unchanged
 abbrev pub named : {P M E T : Type 0} → GameRules P M E T → GameEnd E → GameEnd EndName
 named rules (Rule e) = Rule (rules.end_name e)
 named rules (Outside o) = Outside o
 
 module _ {P M E T : Type 0} (rules : GameRules P M E T) where
-  -- the moves that are played from a position, each as it is written where it is played
+  -- the moves from a position, each in the notation for the position in which it is made
   abbrev pub written_from : P → List M → List (List ℕ)
   written_from p [] = []
   written_from p (m ∷ ms) = rules.write_move p m ∷ written_from (rules.play p m) ms
 
-  -- what was played is the game's
+  -- the state of play is that of the game
   pub record IsPlayed (terms : Terms) (game : Game M) (played : Played) : Type 0 where
     pub ply : played.ply ≡ length game.entries
     pub left_first : played.left_first ≡ (clocks_of game terms).left_first
@@ -34,19 +34,19 @@ module _ {P M E T : Type 0} (rules : GameRules P M E T) where
     pub end : played.end ≡ option_map (named rules) (end_of rules game)
     pub result : played.result ≡ result_of rules game
 
--- what was played in a game of the club
+-- the state of play of a game of the club
 abbrev pub IsPlayedIn : ClubState → ClubGame → Played → Type 0
 IsPlayedIn s (draughts game) played = IsPlayed both_games.draughts (terms_at (place s.events game.event)) game played
 IsPlayedIn s (shogi game) played = IsPlayed both_games.shogi (terms_at (place s.events game.event)) game played
 
--- the game of the club: the names of its event and of its players, and what was played
+-- the state of play of a game, with the names of its event and of its players
 pub record IsViewOf (s : ClubState) (game : ClubGame) (viewed : ViewedGame) : Type 0 where
   pub event : Some (string_bytes viewed.event) ≡ option_map (λ e. e.name) (place s.events (pairing_of game).event)
   pub first : Some (string_bytes viewed.first) ≡ option_map (λ m. m.name) (place s.members (pairing_of game).first)
   pub second : Some (string_bytes viewed.second) ≡ option_map (λ m. m.name) (place s.members (pairing_of game).second)
   pub played : IsPlayedIn s game viewed.played
 
--- that of the game of this number, where the club has one
+-- the view of the game with this number, if there is one
 abbrev pub IsViewed : ClubState → ℕ → Option ViewedGame → Type 0
 IsViewed s id None = place s.games id ≡ None
 IsViewed s id (Some viewed) = (game : ClubGame) × (place s.games id ≡ Some game) × IsViewOf s game viewed

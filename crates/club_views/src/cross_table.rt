@@ -1,4 +1,4 @@
-//! The cross table of an event, by the rows of its scores and of the members.
+//! The cross table of an event, from its rows of scores and the members.
 
 ghost use Rattle.std.specs.Prelude.{◌≡◌, ◌==◌, ◌∷◌, ℕ, map, filter, IfOk, is_ok, string_bytes};
 ghost use Rattle.std.specs.Option.{option_map};
@@ -28,7 +28,7 @@ use std::alloc::Global;
 use store_sql::{EventName, find, find_by_first};
 use store_tables::{EventRow, ScoreRow};
 
-// The id in the row of an event.
+// The id of the event in this row.
 fn event_in(row: &EventRow) -> Result<u32, CallFault>
     ensures { IfOk result (λ n. (id : ℕ) (event : core.Event) → event_cells row.now ≡ event_row id event → n ≡ id) }
 {
@@ -38,7 +38,7 @@ fn event_in(row: &EventRow) -> Result<u32, CallFault>
     }
 }
 
-// The id of the event of a name, if there is one.
+// The id of the event with this name, if any.
 fn event_named<S: Alter>(
     alloc: Global,
     conn: &mut Connection<S>,
@@ -54,7 +54,7 @@ fn event_named<S: Alter>(
     }
 }
 
-// What the members scored against each other in the event of this id.
+// The scores between the members of this event.
 fn scores_in<S: Alter>(
     alloc: Global,
     conn: &mut Connection<S>,
@@ -69,7 +69,7 @@ fn scores_in<S: Alter>(
     scored_rows(alloc, &rows, event)
 }
 
-// The name of the member of this id.
+/// The name of the member with this id.
 pub(crate) fn name_of(members: &[Member], id: u32) -> Result<&str, CallFault>
     ensures { IfOk result (λ name. name.now ≡ name_in (place (members_of members.now) id)) }
 {
@@ -82,7 +82,7 @@ pub(crate) fn name_of(members: &[Member], id: u32) -> Result<&str, CallFault>
     }
 }
 
-// What one member scored.
+// The scores of one member.
 fn own_scores(alloc: Global, member: u32, scores: &[Scored]) -> Result<Vec<Scored>, CallFault>
     ensures { IfOk result (λ own. own.items ≡ filter (λ row. row.member == member) scores.now) }
 {
@@ -95,7 +95,7 @@ fn own_scores(alloc: Global, member: u32, scores: &[Scored]) -> Result<Vec<Score
     )
 }
 
-// The line of a standing at a place, from 1.
+// The line of a standing at this place, from 1.
 fn line_at(
     alloc: Global,
     members: &[Member],
@@ -114,7 +114,7 @@ fn line_at(
     Ok(text)
 }
 
-// The lines of the table of an event of this name.
+// The lines of the cross table of the event with this name: the header and one for each standing.
 fn lines_of(
     alloc: Global,
     name: &str,
@@ -134,7 +134,7 @@ fn lines_of(
     Ok(lines)
 }
 
-// The lines of the table of the event of this id and name.
+// The lines of the cross table of the event with this id and name.
 fn event_table<S: Alter>(
     alloc: Global,
     conn: &mut Connection<S>,
@@ -152,7 +152,12 @@ fn event_table<S: Alter>(
     lines_of(alloc, name, &members, &scores, &standings)
 }
 
-/// The lines of the cross table of an event, if there is one of this name.
+/// The lines of the cross table of the event with this name; `None` if there is no such event.
+///
+/// # Errors
+///
+/// - `CallFault::Store`: a call of the database failed, or its rows are not a club's.
+/// - `CallFault::Memory`: out of memory.
 pub fn table_of<S: Alter>(
     alloc: Global,
     conn: &mut Connection<S>,

@@ -1,4 +1,4 @@
-//! Games of the club as records, written a row at a time.
+//! Writes game records one move at a time, so that a record is never whole in memory.
 
 ghost use Rattle.std.specs.Prelude.{◌≡◌, ◌⊎◌, ◌<◌, ℕ, suc, [], List, Option, Some, take, length, pos, IfOk};
 ghost use Rattle.std.specs.Prelude.{IfSome, OnOk, is_ok};
@@ -36,12 +36,12 @@ use std::alloc::Global;
 use std::io::Write;
 use store_tables::MoveRow;
 
-/// Why the writing of a record stopped: a call of the club's failed, or the writer did.
+/// Why a record or an answer was not written completely.
 #[derive(Debug, Clone, Copy, PartialEq, Eq, Drop)]
 pub enum Stopped {
-    /// Reading the tables failed so.
+    /// Reading the tables failed.
     Call(CallFault),
-    /// The writer to which the record goes failed.
+    /// The writer failed.
     Output,
 }
 
@@ -70,25 +70,23 @@ impl From<WriteFault> for Stopped {
     }
 }
 
-/// The names that a record has of a game's event and of its players.
+/// The names of a game's event and of its players, for its record.
 #[derive(Drop)]
 pub struct Names {
-    /// The name of the event.
     pub event: String,
-    /// The name of the player who has the first move.
+    /// The player with the first move.
     pub first: String,
-    /// The name of the other.
+    /// The other player.
     pub second: String,
 }
 
-// The moment that a row has.
 fn moment_in(row: &MoveRow) -> Option<Moment>
     ensures { IfSome result (λ at. pos at ≡ row.now.moment) }
 {
     moment(row.moment)
 }
 
-// Writes the entry of a row. Without a row of a legal move the database is not a club's.
+// Writes the entry of one move. Without a row of a legal move the database is not a club's.
 fn write_row<R: Exports, W: Write>(
     alloc: Global,
     row: Option<MoveRow>,
@@ -124,7 +122,7 @@ fn write_row<R: Exports, W: Write>(
     }
 }
 
-// Writes the plies of a stored game, a row at a time.
+// Writes the moves of a stored game, one row at a time.
 fn write_plies<R: Exports, S: Alter, W: Write>(
     alloc: Global,
     conn: &mut Connection<S>,
@@ -158,7 +156,7 @@ fn write_plies<R: Exports, S: Alter, W: Write>(
     Ok(())
 }
 
-// What a record says of a game beside its moves.
+// The header of a game's record.
 fn heading_of<'a, E: Copy + Drop>(names: &'a Names, row: &GameRow<E>) -> Heading<'a, E>
     ensures { IsTitleBy names.now row.now (title_of result) }
 {
@@ -172,7 +170,7 @@ fn heading_of<'a, E: Copy + Drop>(names: &'a Names, row: &GameRow<E>) -> Heading
     }
 }
 
-// Writes the record of a stored game: its row is read first, then those of its moves, one at a time.
+/// Writes the record of a stored game: first its header, then its moves one row at a time.
 pub(crate) fn write_record<R: Exports, S: Alter, W: Write>(
     alloc: Global,
     conn: &mut Connection<S>,
@@ -207,7 +205,7 @@ pub(crate) fn write_record<R: Exports, S: Alter, W: Write>(
     }
 }
 
-// The names of a stored game's event and of its players.
+/// The names of a stored game's event and of its players.
 pub(crate) fn names_of<S: Alter>(
     alloc: Global,
     conn: &mut Connection<S>,

@@ -1,4 +1,4 @@
-//! A game of the club as a record.
+//! Writes the record of one game.
 
 ghost use Rattle.std.specs.Prelude.{◌≡◌, ℕ, Some, true, false, Err, IfOk, OnOk};
 ghost use Rattle.sqlite.specs.State.{HasCleanDisk};
@@ -18,7 +18,6 @@ use sqlite::{Alter, Connection};
 use std::alloc::Global;
 use std::io::Write;
 
-// Writes the record of a game of the club that was found.
 fn export_stored<S: Alter, W: Write>(
     alloc: Global,
     conn: &mut Connection<S>,
@@ -39,7 +38,16 @@ fn export_stored<S: Alter, W: Write>(
     export_in(alloc, conn, stored, &names, writer)
 }
 
-/// Writes the record of the game of this number, if there is one.
+/// Writes the record of the game with this number; `false`, and nothing is written, if there is no such game.
+///
+/// # Errors
+///
+/// - `Stopped::Call`: reading the tables failed.
+/// - `Stopped::Output`: the writer failed.
+///
+/// # Guarantees
+///
+/// `begun`: after an error the writer has a prefix of the record.
 pub fn export_of<S: Alter, W: Write>(
     alloc: Global,
     conn: &mut Connection<S>,

@@ -1,4 +1,4 @@
-//! The kinds of games: what a game tells by the rules of its event's kind.
+//! Dispatch by the kind of a game (draughts or shogi) to its rules.
 
 ghost use Rattle.std.specs.Prelude.{◌≡◌, ◌⊎◌, ℕ, map, IfOk, OnOk, is_ok, Some, string_bytes};
 ghost use Rattle.club_core.specs.State.{place};
@@ -21,7 +21,7 @@ use sqlite::{Alter, Connection};
 use std::alloc::Global;
 use std::io::Write;
 
-// The legal moves of a game of the club, as they are written.
+/// The legal moves of a stored game, in the notation of its kind.
 pub(crate) fn legal_in<S: Alter>(
     alloc: Global,
     conn: &mut Connection<S>,
@@ -35,7 +35,7 @@ pub(crate) fn legal_in<S: Alter>(
     by_kind!(stored.kind, legal::<_, S>(alloc, conn, stored))
 }
 
-// What was played in a game of the club.
+/// The moves, clocks and result of a stored game so far.
 pub(crate) fn played_in<S: Alter>(
     alloc: Global,
     conn: &mut Connection<S>,
@@ -49,7 +49,7 @@ pub(crate) fn played_in<S: Alter>(
     by_kind!(stored.kind, make_played::<_, S>(alloc, conn, stored))
 }
 
-// Writes the record of a game of the club, by the format of its kind.
+/// Writes the record of a stored game in the format of its kind.
 pub(crate) fn export_in<S: Alter, W: Write>(
     alloc: Global,
     conn: &mut Connection<S>,

@@ -1,6 +1,7 @@
-//! What a reader is shown of a club, over a connection: a game and its legal moves, the record of a game, the cross
-//! table of an event. Reading changes nothing. A call fails with `Memory` where memory was refused, and with `Store`
-//! where a call of the database failed or where no club has the rows that it holds.
+//! Reads games, records and cross tables from a club's tables.
+//!
+//! Reads only. A call fails with `CallFault::Memory` if out of memory, and with `CallFault::Store` if a call of the
+//! database fails or its rows are not those of a club.
 #![tactic(auto)]
 
 mod cross_table;

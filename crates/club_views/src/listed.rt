@@ -20,7 +20,7 @@ use club_rules::Rules;
 use sqlite::{Alter, Connection};
 use std::alloc::Global;
 
-// The legal moves of a stored game, as they are written.
+/// The legal moves of a stored game, in the notation of its rules.
 pub(crate) fn legal<R: Rules, S: Alter>(
     alloc: Global,
     conn: &mut Connection<S>,

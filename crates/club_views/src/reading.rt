@@ -1,4 +1,4 @@
-//! What a reader is shown of a game.
+//! Reads one game: its legal moves, or all that is shown of it.
 
 ghost use Rattle.std.specs.Prelude.{◌≡◌, ℕ, Some, IfOk, is_ok, map};
 ghost use Rattle.std.specs.Prelude.{string_bytes};
@@ -20,7 +20,12 @@ use club_reads::{CallFault, stored_game};
 use sqlite::{Alter, Connection};
 use std::alloc::Global;
 
-/// The legal moves of a game, as they are written, if there is such a game.
+/// The legal moves of a game in the notation of its kind; `None` if there is no game with this number.
+///
+/// # Errors
+///
+/// - `CallFault::Store`: a call of the database failed, or its rows are not a club's.
+/// - `CallFault::Memory`: out of memory.
 pub fn legal_of<S: Alter>(
     alloc: Global,
     conn: &mut Connection<S>,
@@ -61,7 +66,12 @@ fn viewed<S: Alter>(
     })
 }
 
-/// A game of the club, if there is one of this number.
+/// The game with this number; `None` if there is none.
+///
+/// # Errors
+///
+/// - `CallFault::Store`: a call of the database failed, or its rows are not a club's.
+/// - `CallFault::Memory`: out of memory.
 pub fn view_of<S: Alter>(
     alloc: Global,
     conn: &mut Connection<S>,

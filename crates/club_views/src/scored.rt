@@ -1,4 +1,4 @@
-//! The rows of scores of one event as what its members scored against each other.
+//! Parses the rows of scores of one event.
 
 ghost use Rattle.std.specs.Prelude.{◌≡◌, true, map, IfOk, IfSome};
 ghost use Rattle.std.specs.List.{AllByRecursion};
@@ -12,7 +12,7 @@ use cross_tables::{Scored, Sums};
 use std::alloc::Global;
 use store_tables::ScoreRow;
 
-// The sums of a row, if each is within 32 bits.
+// The sums of a row; `None` if one is out of the range of 32 bits.
 fn sums_of(row: &ScoreRow) -> Option<Sums>
     ensures { IfSome result (λ sums. AreSumsOf row.now sums) }
 {
@@ -24,7 +24,7 @@ fn sums_of(row: &ScoreRow) -> Option<Sums>
     })
 }
 
-// What the row tells of a member in this event, if it is of this event and each of its numbers is within 32 bits.
+// The score of a row; `None` if it is of another event or a number is out of the range of 32 bits.
 fn scored_of(row: &ScoreRow, event: u32) -> Option<Scored>
     ensures { IfSome result (λ scored. score_cells row.now ≡ scored_row event scored) }
 {
@@ -38,7 +38,7 @@ fn scored_of(row: &ScoreRow, event: u32) -> Option<Scored>
     })
 }
 
-// Whether one comes before another one: by member, then by opponent.
+// Order by member, then by opponent.
 fn comes_before(one: &Scored, other: &Scored) -> bool
     ensures { result ≡ true → ComesBefore one.now other.now }
 {
@@ -48,7 +48,7 @@ fn comes_before(one: &Scored, other: &Scored) -> bool
     one.member < other.member
 }
 
-// Whether this one comes after all of those, which are in their order.
+// Whether `next` comes after all of `scores`, which are sorted.
 fn comes_last(scores: &[Scored], next: &Scored) -> bool
     ensures { result ≡ true → IsAscending ComesBefore scores.now →
         AllByRecursion (λ scored. ComesBefore scored next.now) scores.now }
@@ -59,8 +59,12 @@ fn comes_last(scores: &[Scored], next: &Scored) -> bool
     }
 }
 
-/// What these rows tell of an event, where all are of this event, each comes after the one before it, and each number
-/// is within 32 bits; all else is a fault.
+/// The scores of these rows of one event, sorted by member, then by opponent.
+///
+/// # Errors
+///
+/// - `CallFault::Store`: a row is of another event or out of order, or a number exceeds 32 bits.
+/// - `CallFault::Memory`: out of memory.
 pub(crate) fn scored_rows(
     alloc: Global,
     rows: &[ScoreRow],

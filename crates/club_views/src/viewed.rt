@@ -1,4 +1,4 @@
-//! A game as its players and those who watch see it.
+//! A game as its players and spectators see it.
 
 ghost use Rattle.std.specs.Prelude.{◌≡◌, ◌+◌, ◌<◌, ◌^◌, ℕ, pos, true, map, IfOk, is_ok, Some, slice_get, string_bytes};
 ghost use Rattle.std.specs.Option.{option_map};
@@ -30,37 +30,35 @@ use std::alloc::Global;
 use store_sql::find_by_first;
 use store_tables::MoveRow;
 
-/// What was played in a game so far.
+/// The state of a game: moves, clocks, position, draw offer and result.
 #[derive(Drop)]
 pub struct Played {
-    /// How many plies were played.
+    /// The number of plies.
     pub ply: u32,
-    /// The seconds that First has left, as First's last move left them.
+    /// The remaining time of the first player in seconds, as of that player's last move.
     pub left_first: u64,
-    /// The same of Second.
+    /// The remaining time of the second player in seconds, as of that player's last move.
     pub left_second: u64,
-    /// The last position, as it is written.
+    /// The current position in the notation of the rules.
     pub position: String,
-    /// The moves, each as it is written where it was played.
+    /// The moves, each in the notation for the position in which it was made.
     pub moves: Vec<String>,
-    /// The player who offers a draw.
+    /// The player whose draw offer is open.
     pub offer: Option<Side>,
-    /// How the game ended. None while it is running.
+    /// How the game ended; `None` while it is running.
     pub end: Option<GameEnd<EndName>>,
-    /// None while the game is running.
+    /// The score; `None` while the game is running.
     pub result: Option<Score>,
 }
 
-/// A game of the club.
+/// A game with the names of its event and of its players.
 #[derive(Drop)]
 pub struct ViewedGame {
-    /// The name of its event.
     pub event: String,
-    /// The name of the player who has the first move.
+    /// The player with the first move.
     pub first: String,
-    /// The name of the other.
+    /// The other player.
     pub second: String,
-    /// What was played.
     pub played: Played,
 }
 
@@ -80,7 +78,7 @@ fn line<R: Rules, S: Alter>(
     Ok(rows)
 }
 
-// Whether the row is of the ply after so many.
+// Whether the row is of the next ply after `plies`.
 fn is_next(row: &MoveRow, plies: usize) -> bool
     requires { plies + 1 < 2 ^ 63 }
     ensures { result ≡ true → row.now.ply ≡ pos (1 + plies) }
@@ -88,7 +86,7 @@ fn is_next(row: &MoveRow, plies: usize) -> bool
     row.ply == stored(plies as u64 + 1)
 }
 
-// The texts of moves whose rows stand in the order of their plies.
+// The texts of the moves, whose rows must be in the order of plies.
 fn texts(alloc: Global, rows: &[MoveRow]) -> Result<Vec<String>, CallFault>
     ensures order { IfOk result (λ texts. (n : ℕ) (row : row_of.MoveRow) → slice_get rows.now n ≡ Some row →
         row.ply ≡ pos (1 + n)) }
@@ -108,7 +106,6 @@ fn texts(alloc: Global, rows: &[MoveRow]) -> Result<Vec<String>, CallFault>
     Ok(texts)
 }
 
-// The side that offers a draw.
 fn offering(offer: Option<Offer>) -> Option<Side>
     ensures { result ≡ option_map (λ o. o.side) offer }
 {
@@ -118,7 +115,7 @@ fn offering(offer: Option<Offer>) -> Option<Side>
     }
 }
 
-// An end with the name that the rules give it.
+// An end, with the name that the rules have for it.
 fn named<R: Rules>(end: Option<GameEnd<R::End>>) -> Option<GameEnd<EndName>>
     ensures { result ≡ option_map (named R.rules) end }
 {
@@ -129,7 +126,7 @@ fn named<R: Rules>(end: Option<GameEnd<R::End>>) -> Option<GameEnd<EndName>>
     }
 }
 
-// What the view of a game and the rows of its moves show.
+// The state of a game, from its view and the rows of its moves.
 fn played_by<R: Rules>(
     alloc: Global,
     view: GameView<R>,
@@ -153,7 +150,7 @@ fn played_by<R: Rules>(
     })
 }
 
-// What was played in a stored game.
+/// The state of a stored game.
 pub(crate) fn make_played<R: Rules, S: Alter>(
     alloc: Global,
     conn: &mut Connection<S>,

@@ -1,4 +1,4 @@
--- The words that the program takes, as its parser has them.
+-- The grammar of the command line, as the parser's data.
 use Rattle.std.specs.Prelude.{◌≡◌, ℕ, List, [], ◌∷◌, map, Some, true, codes}
 use Rattle.std.specs.Borrow.{Bor}
 use Rattle.clap.specs.Words.{App, Rule, Text, new_app, new_rule, with_rule, with_subcommand}
@@ -6,54 +6,54 @@ use Rattle.clap.specs.declared.builder.action.ArgAction.TheVariants.{Set, SetTru
 use Rattle.clap.specs.declared.builder.value_parser.ValueParser.{ValueParser}
 use Rattle.clap.specs.declared.builder.value_parser.ValueParser.TheVariants as parser
 
--- ---- single words
+-- ---- single arguments
 
--- a word that has to be there
+-- required argument
 abbrev pub required : Text → Rule
 required id = record (new_rule id) { action = Some Set; required = true }
 
--- the same, of one of these kinds
+-- required argument with this value parser
 abbrev pub required_as : ValueParser → Text → Rule
 required_as kind id = record (required id) { parser = Some kind }
 
--- an option with a value
+-- option with a value
 abbrev pub given_by : (id long : Text) → Rule
 given_by id long = record (new_rule id) { long = Some long; action = Some Set }
 
 abbrev pub given_as : ValueParser → (id long : Text) → Rule
 given_as kind id long = record (given_by id long) { parser = Some kind }
 
--- an option whose value help calls by another name
+-- option whose value has its own name in help
 abbrev pub named_by : (id long : Text) → Rule
 named_by id long = record (given_by id long) { value_names = 1 }
 
 abbrev pub flag : (id long : Text) → Rule
 flag id long = record (new_rule id) { long = Some long; action = Some SetTrue }
 
--- a word that stands so many times
+-- required argument that is repeated this many times
 abbrev pub required_times : (least most : ℕ) → Text → Rule
 required_times least most id =
     record (required id) { range = Some (record { start_inclusive = least; end_inclusive = most }) }
 
--- a whole number
+-- integer of 64 bits
 abbrev pub a_number : ValueParser
 a_number = parser.Unsigned 0 18446744073709551615
 
 abbrev pub a_port : ValueParser
 a_port = parser.Unsigned 1 65535
 
--- a moment up to the last one
+-- timestamp up to the last one
 abbrev pub a_moment : ValueParser
 a_moment = parser.Unsigned 0 253402300799
 
--- the texts of a list of names
+-- texts of a list of names
 abbrev pub Names : Type 0
 Names = Bor (List (Bor Text))
 
 abbrev pub are_games : Names → Type 0
 are_games names = map (λ (name : Bor Text). name.now) names.now ≡ codes "draughts" ∷ codes "shogi" ∷ []
 
--- ---- the words of each subcommand
+-- ---- arguments of each subcommand
 
 abbrev pub member_app : App
 member_app = with_rule (with_rule (new_app (codes "member")) (required (codes "NAME"))) (required (codes "KEY"))
@@ -68,7 +68,7 @@ event_app games =
     (required_as a_number (codes "BUDGET")))
     (required_as a_number (codes "INCREMENT"))
 
--- the words that name a new game
+-- arguments of a new game
 abbrev pub game_app : Text → App
 game_app name =
     with_rule
@@ -93,11 +93,11 @@ move_app =
     (required_as a_number (codes "PLY")))
     (required (codes "TEXT"))
 
--- a subcommand of one game
+-- subcommand with a GAME argument only
 abbrev pub of_game_app : Text → App
 of_game_app name = with_rule (new_app name) (required_as a_number (codes "GAME"))
 
--- a subcommand of one event
+-- subcommand with an EVENT argument only
 abbrev pub of_event_app : Text → App
 of_event_app name = with_rule (new_app name) (required (codes "EVENT"))
 
@@ -110,7 +110,7 @@ show_app =
 abbrev pub batch_app : App
 batch_app = with_rule (new_app (codes "batch")) (required (codes "ORDERS"))
 
--- the flags of a round robin
+-- flags of `round-robin`
 abbrev pub with_round_robin_flags_app : App → App
 with_round_robin_flags_app app =
     with_rule
@@ -148,7 +148,7 @@ serve_app =
 
 -- ---- the program
 
--- what stands before the name of a subcommand
+-- the program without arguments
 abbrev pub named_app : App
 named_app = record (new_app (codes "club")) {
   top = record (new_app (codes "club")).top { has_version = true; subcommand_required = true };
@@ -165,7 +165,7 @@ program_app =
 abbrev pub with_sub : App → App → App
 with_sub app sub = with_subcommand app sub.top
 
--- what makes a club, and what brings in what it is to have
+-- adds the subcommands that create a club and fill it
 abbrev pub with_entries_app : Names → App → App
 with_entries_app games app =
     with_sub
@@ -180,7 +180,7 @@ with_entries_app games app =
     (import_app (codes "import-pdn")))
     import_csa_app
 
--- what is played, and what ends by time, one by one and many in turn
+-- adds the subcommands that play moves and end games by time
 abbrev pub with_orders_app : App → App
 with_orders_app app =
     with_sub
@@ -191,7 +191,7 @@ with_orders_app app =
     batch_app)
     round_robin_app
 
--- what shows games that are played
+-- adds the subcommands that show games
 abbrev pub with_games_app : App → App
 with_games_app app =
     with_sub
@@ -202,7 +202,7 @@ with_games_app app =
     (of_game_app (codes "export")))
     (of_event_app (codes "export-event"))
 
--- what shows the club
+-- adds the subcommands that show the club
 abbrev pub with_lists_app : App → App
 with_lists_app app =
     with_sub
@@ -213,7 +213,7 @@ with_lists_app app =
     (new_app (codes "events")))
     games_app
 
--- what is done with the file as a whole, and what serves it
+-- adds the subcommands on the whole file and the server
 abbrev pub with_files_app : App → App
 with_files_app app =
     with_sub
@@ -227,7 +227,7 @@ with_files_app app =
 abbrev pub club_app : Names → App
 club_app games = with_files_app (with_lists_app (with_games_app (with_orders_app (with_entries_app games program_app))))
 
--- ---- a line of a batch
+-- ---- line of a batch
 
 abbrev pub named_line_app : App
 named_line_app =

@@ -1,4 +1,4 @@
--- What the program's words ask for, by the texts that the parser found of them.
+-- The meaning of the command line, in terms of the texts that the parser found.
 use Rattle.std.specs.Prelude.{◌≡◌, ◌≢◌, ◌⊎◌, ⊤, ◌<◌, ◌≤◌, ◌^◌, ℕ, Bool, List, [], ◌∷◌, Option, Some, None}
 use Rattle.std.specs.Prelude.{option_map, unwrap_or}
 use Rattle.std.specs.Prelude.{codes, string_bytes, if◌then◌else◌, ◌||◌, true, false, map}
@@ -35,28 +35,28 @@ use Rattle.club_words.specs.declared.words.BadWords.TheVariants as bad
 use Rattle.club_words.specs.declared.words.Words.{Words}
 use Rattle.club_words.specs.declared.words.Words.TheVariants as words
 
--- the text of a word: empty where there is none
+-- text of an argument; empty if absent
 abbrev pub text_in : Found → List ℕ → List ℕ
 text_in found name = unwrap_or (first_value found name) []
 
--- the texts of a word that may stand several times
+-- texts of an argument that may be repeated
 abbrev pub texts_in : Found → List ℕ → List (List ℕ)
 texts_in found name = unwrap_or (option_map raw_values (matched_of found name)) []
 
--- digits, perhaps behind a plus, of a number that fits 64 bits
+-- decimal digits, optionally after a plus sign, of a number that fits 64 bits
 abbrev pub IsWhole : List ℕ → Type 0
 IsWhole text = IsNumeral 10 (without_leading_plus text) × (digits_value 10 (without_leading_plus text) < 2 ^ 64)
 
--- the number that such a text writes
+-- value of such a text
 abbrev pub number_of : List ℕ → ℕ
 number_of text = digits_value 10 (without_leading_plus text)
 
--- the number of a word: another where it is not given
+-- integer argument, or `other` if absent
 pub record IsNumberIn (found : Found) (name : List ℕ) (other n : ℕ) : Type 0 where
   pub given : (text : List ℕ) → one_text found name ≡ Some text → IsWhole text → n ≡ number_of text
   pub absent : one_text found name ≡ None → n ≡ other
 
--- the moment that `--now` gives
+-- timestamp given by `--now`
 pub record IsMomentIn (found : Found) (now : Option ℕ) : Type 0 where
   pub given : (text : List ℕ) → one_text found (codes "SECONDS") ≡ Some text → IsWhole text
       → number_of text ≤ 253402300799 → now ≡ Some (number_of text)
@@ -72,9 +72,9 @@ abbrev pub game_word : GameKind → List ℕ
 game_word Draughts = codes "draughts"
 game_word Shogi = codes "shogi"
 
--- ---- the words of a subcommand
+-- ---- arguments of a subcommand
 
--- the words of an import, whose text is read later
+-- arguments of an import, whose text is read later
 pub record AsksImport (found : Found) (given : Import) : Type 0 where
   pub key : string_bytes given.key ≡ text_in found (codes "KEY")
   pub event : string_bytes given.event ≡ text_in found (codes "EVENT")
@@ -87,12 +87,13 @@ AsksGiven name found given = AsksImport found given
     × (((name ≡ codes "import-pdn") × (given.format ≡ Pdn) × (given.part ≡ 1))
     ⊎ ((name ≡ codes "import-csa") × (given.format ≡ Csa) × IsNumberIn found (codes "N") 1 given.part))
 
+-- the arguments of `move` state this command
 abbrev pub AsksMove : Found → GameCommand → Type 0
 AsksMove found (Move ply text) = IsNumberIn found (codes "PLY") 0 ply
     × (string_bytes text ≡ text_in found (codes "TEXT"))
 AsksMove found _ = ⊥
 
--- the subcommand of this name asks the club for this
+-- the subcommand with these arguments is this command
 abbrev pub AsksCommand : List ℕ → Found → Command → Type 0
 AsksCommand name found (AddMember c) = (name ≡ codes "member")
     × (string_bytes c.name ≡ text_in found (codes "NAME")) × (string_bytes c.key ≡ text_in found (codes "KEY"))
@@ -110,13 +111,14 @@ AsksCommand name found (OnGame c) = (name ≡ codes "move") × IsNumberIn found 
 AsksCommand name found Sweep = name ≡ codes "sweep"
 AsksCommand name found _ = ⊥
 
--- which games are listed, by whether each flag is given; both flags ask for none
+-- filter for the two flags; none if both are given
 abbrev pub which_of : (is_running is_overdue : Bool) → Option Which
 which_of true true = None
 which_of true false = Some Running
 which_of false true = Some Overdue
 which_of false false = Some All
 
+-- the flags state this filter
 pub record AreShownOf (found : Found) (which : Which) : Type 0 where
   pub is_running : Bool
   pub running : IsFlagIn found (codes "RUNNING") is_running
@@ -124,13 +126,13 @@ pub record AreShownOf (found : Found) (which : Which) : Type 0 where
   pub overdue : IsFlagIn found (codes "OVERDUE") is_overdue
   pub is : which_of is_running is_overdue ≡ Some which
 
--- the games of the event and of the member that are named, where one is
+-- filter by event and by member, each if given
 pub record AreListed (found : Found) (listing : Listing) : Type 0 where
   pub event : option_map string_bytes listing.event ≡ first_value found (codes "EVENT")
   pub member : option_map string_bytes listing.member ≡ first_value found (codes "MEMBER")
   pub which : AreShownOf found listing.which
 
--- the subcommand of this name asks the club this; no other questions are asked by words
+-- the subcommand with these arguments is this query; the command line has no other queries
 abbrev pub AsksQuestion : List ℕ → Found → Question → Type 0
 AsksQuestion name found (LegalMoves game) = (name ≡ codes "legal") × IsNumberIn found (codes "GAME") 0 game
 AsksQuestion name found (CrossTable event) = (name ≡ codes "table")
@@ -145,7 +147,7 @@ AsksQuestion name found (EventRecords event) = (name ≡ codes "export-event")
     × (string_bytes event ≡ text_in found (codes "EVENT"))
 AsksQuestion name found _ = ⊥
 
--- the subcommand of this name asks for this; the orders of a batch are read later
+-- the subcommand with these arguments is this operation; the commands of a batch are read later
 abbrev pub AsksTask : List ℕ → Found → Task → Type 0
 AsksTask name found Init = name ≡ codes "init"
 AsksTask name found (Ask question) = AsksQuestion name found question
@@ -155,19 +157,20 @@ AsksTask name found (Backup path) = (name ≡ codes "backup") × (string_bytes p
 AsksTask name found (Request command) = AsksCommand name found command
 AsksTask name found (Batch batch) = ⊥
 
--- where the record of an import is read from
+-- source of an import's record
 abbrev pub record_word : List ℕ → Found → Option (List ℕ)
 record_word name found =
     if bytes_eq name (codes "import-pdn") || bytes_eq name (codes "import-csa")
     then Some (text_in found (codes "RECORD")) else None
 
--- the order that a line of a batch gives
+-- the command of a batch line
 pub record AsksLine (name : List ℕ) (found : Found) (line : Line) : Type 0 where
   pub command : AsksCommand name found line.command
   pub from : option_map string_bytes line.«record» ≡ record_word name found
 
--- ---- all words: those before the name of a subcommand, and its own
+-- ---- whole command line: global options and subcommand
 
+-- the command line states this order
 pub record AsksOrder (all : Found) (name : List ℕ) (found : Found) (order : Order) : Type 0 where
   pub file : string_bytes order.file ≡ text_in all (codes "FILE")
   pub now : IsMomentIn all order.now
@@ -175,6 +178,7 @@ pub record AsksOrder (all : Found) (name : List ℕ) (found : Found) (order : Or
   pub from : option_map string_bytes order.record ≡ record_word name found
   pub explains : IsFlagIn all (codes "EXPLAIN") order.explains
 
+-- the arguments of `serve` state these options
 pub record AsksService (all found : Found) (service : Service) : Type 0 where
   pub file : string_bytes service.file ≡ text_in all (codes "FILE")
   pub now : IsMomentIn all service.now
@@ -183,12 +187,14 @@ pub record AsksService (all found : Found) (service : Service) : Type 0 where
   pub log : IsFlagIn found (codes "LOG") service.log
   pub explains : IsFlagIn all (codes "EXPLAIN") service.explains
 
+-- the arguments of `batch` state these options
 pub record AsksBatch (all found : Found) (given : BatchWords) : Type 0 where
   pub file : string_bytes given.file ≡ text_in all (codes "FILE")
   pub now : IsMomentIn all given.now
   pub orders : string_bytes given.orders ≡ text_in found (codes "ORDERS")
   pub explains : IsFlagIn all (codes "EXPLAIN") given.explains
 
+-- the arguments of `round-robin` state these options
 pub record AsksRoundRobin (all found : Found) (given : RoundRobin) : Type 0 where
   pub file : string_bytes given.file ≡ text_in all (codes "FILE")
   pub now : IsMomentIn all given.now
@@ -199,15 +205,16 @@ pub record AsksRoundRobin (all found : Found) (given : RoundRobin) : Type 0 wher
   pub names : map string_bytes given.names.items ≡ texts_in found (codes "NAME")
   pub explains : IsFlagIn all (codes "EXPLAIN") given.explains
 
+-- the command line states this, by its subcommand
 abbrev pub Asks : Found → List ℕ → Found → Words → Type 0
 Asks all name found (words.Order order) = AsksOrder all name found order
 Asks all name found (words.Serve service) = (name ≡ codes "serve") × AsksService all found service
 Asks all name found (words.Batch batch) = (name ≡ codes "batch") × AsksBatch all found batch
 Asks all name found (words.RoundRobin games) = (name ≡ codes "round-robin") × AsksRoundRobin all found games
 
--- ---- no order
+-- ---- errors
 
--- the name is none of these
+-- the name is not in the list
 abbrev pub IsOther : List (List ℕ) → List ℕ → Type 0
 IsOther names name = list_any (bytes_eq name) names ≡ false
 
@@ -216,47 +223,49 @@ command_names =
     codes "member" ∷ codes "event" ∷ codes "seat" ∷ codes "sweep" ∷ codes "import-pdn" ∷ codes "import-csa"
     ∷ codes "move" ∷ []
 
--- those of the other tasks
+-- names of the other operations
 abbrev pub task_names : List (List ℕ)
 task_names =
     codes "init" ∷ codes "legal" ∷ codes "export" ∷ codes "show" ∷ codes "export-event" ∷ codes "table"
     ∷ codes "members" ∷ codes "events" ∷ codes "games" ∷ codes "verify" ∷ codes "upgrade" ∷ codes "backup" ∷ []
 
--- those of what is no single task
+-- names of the subcommands that are not a single operation
 abbrev pub other_names : List (List ℕ)
 other_names = codes "serve" ∷ codes "batch" ∷ codes "round-robin" ∷ []
 
--- the game of an event is none that there is
+-- GAME is not the name of a game
 abbrev pub HasNoGame : Found → Type 0
 HasNoGame found = (game : GameKind) → first_value found (codes "GAME") ≢ Some (game_word game)
 
--- the games that run are asked for, and those that are overdue
+-- both `--running` and `--overdue` are given
 abbrev pub AsksForBoth : Found → Type 0
 AsksForBoth found = IsFlagIn found (codes "RUNNING") true × IsFlagIn found (codes "OVERDUE") true
 
--- the port is past the last one
+-- PORT is greater than 65535
 abbrev pub HasNoPort : Found → Type 0
 HasNoPort found = (port : ℕ) × IsNumberIn found (codes "PORT") 0 port × (65535 < port)
 
+-- the subcommand is no valid command to the club
 abbrev pub HasNoCommand : List ℕ → Found → Type 0
 HasNoCommand name found = IsOther command_names name ⊎ ((name ≡ codes "event") × HasNoGame found)
 
+-- the subcommand is no valid single operation
 abbrev pub HasNoTask : List ℕ → Found → Type 0
 HasNoTask name found = (IsOther task_names name × HasNoCommand name found)
     ⊎ ((name ≡ codes "games") × AsksForBoth found)
 
--- what the parser finds is no order; it passes nothing of the kind but two flags, of which one may stand
+-- The arguments that the parser found are not valid. The grammar excludes all cases but the two exclusive flags.
 abbrev pub HasNoOrder : List ℕ → Found → Type 0
 HasNoOrder name found = (IsOther other_names name × HasNoTask name found)
     ⊎ ((name ≡ codes "serve") × HasNoPort found)
 
--- a text that is told for this reason, where memory was there for it
+-- an error message with this cause, or out of memory
 abbrev pub IsToldFor : Type 0 → BadWords → Type 0
 IsToldFor why (bad.Text text) = why
 IsToldFor why bad.Memory = ⊤
 IsToldFor why (bad.Version line) = ⊥
 
--- a text that is told, or that memory ran out
+-- an error message, or out of memory
 abbrev pub IsTold : BadWords → Type 0
 IsTold (bad.Version line) = ⊥
 IsTold _ = ⊤

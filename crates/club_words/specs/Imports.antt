@@ -7,7 +7,7 @@ use Rattle.club_requests.specs.declared.requests.Command.TheVariants as command
 use Rattle.club_words.specs.declared.words.Task.{Task}
 use Rattle.club_words.specs.declared.words.Task.TheVariants as task
 
--- the command with that text, if it is an import
+-- the command with this text, if it is an import
 abbrev pub with_text : Vec ℕ Global → Command → Command
 with_text text (command.AddMember c) = command.AddMember c
 with_text text (command.AddEvent c) = command.AddEvent c

@@ -1,4 +1,4 @@
--- What words say, and why they say nothing.
+-- Correct results of parsing: the order that a command line states, or the cause of the error.
 use Rattle.std.specs.Prelude.{◌≡◌, ◌≢◌, ◌⊎◌, ⊤, List, [], Some, None}
 use Rattle.clap.specs.Words.{App, IsAmong, Kinds, Text, fault_of, found_of, matches_of, rows_of, subcommand_of}
 use Rattle.clap.specs.Words.{subcommand_rows_of}
@@ -13,15 +13,16 @@ use Rattle.club_words.specs.declared.words.Words.{Words}
 use Rattle.club_words.specs.App.{Names, are_games, club_app, line_app}
 use Rattle.club_words.specs.Asked.{Asks, AsksLine, HasNoCommand, HasNoOrder}
 
--- ---- what is said
+-- ---- results
 
--- The parser takes the words: it finds this before the name of a subcommand, this name, and this behind it.
+-- The parser accepts the arguments. It finds `all` before the subcommand, and the subcommand `name` with `found` after
+-- it.
 pub record Finds (app : App) (words : List Text) (all : Found) (name : Text) (found : Found) : Type 0 where
   pub passes : fault_of app words ≡ []
   pub before : rows_of all ≡ matches_of app words
   pub behind : subcommand_of app words ≡ Some (name, rows_of found)
 
--- what is asked for by what the parser finds in the words
+-- the result is what the arguments state, as the parser finds it
 pub record AreSaidBy {S : Type 0} (app : Names → App) (asks : Found → Text → Found → S → Type 0) (words : List Text)
     (said : S) : Type 0 where
   pub games : Names
@@ -32,20 +33,20 @@ pub record AreSaidBy {S : Type 0} (app : Names → App) (asks : Found → Text �
   pub finds : Finds (app games) words all name found
   pub asked : asks all name found said
 
--- what the program's words say
+-- the result is what the command line states
 abbrev pub AreSaid : List Text → Words → Type 0
 AreSaid = AreSaidBy club_app Asks
 
 abbrev pub AsksOneLine : Found → Text → Found → Line → Type 0
 AsksOneLine all name found line = AsksLine name found line
 
--- what the words of a line of a batch say
+-- the result is what a batch line states
 abbrev pub AreSaidInLine : List Text → Line → Type 0
 AreSaidInLine = AreSaidBy line_app AsksOneLine
 
--- ---- what is refused
+-- ---- errors
 
--- the parser takes the words, and what it finds in them is no order
+-- the parser accepts the arguments, but they state no order
 pub record AreNoOrder (app : App) (is_none : Text → Found → Type 0) (words : List Text) : Type 0 where
   pub all : Found
   pub name : Text
@@ -53,11 +54,11 @@ pub record AreNoOrder (app : App) (is_none : Text → Found → Type 0) (words :
   pub finds : Finds app words all name found
   pub is : is_none name found
 
--- an error is among these, of help or of bad words
+-- one of these errors is help or invalid arguments
 abbrev pub HasFault : Kinds → Type 0
 HasFault kinds = (kind : ErrorKind) × IsAmong kind kinds × (kind ≢ DisplayVersion)
 
--- Why the words say nothing. Memory may run out at any words; else there is a reason in the words.
+-- The cause of an error. Out of memory can occur for any arguments; any other error has a cause in them.
 abbrev pub AreRefusedBy : (Names → App) → (Text → Found → Type 0) → List Text → BadWords → Type 0
 AreRefusedBy app is_none words bad.Memory = ⊤
 AreRefusedBy app is_none words (bad.Version line) =
@@ -65,19 +66,21 @@ AreRefusedBy app is_none words (bad.Version line) =
 AreRefusedBy app is_none words (bad.Text text) =
     (games : Names) × are_games games × (HasFault (fault_of (app games) words) ⊎ AreNoOrder (app games) is_none words)
 
+-- the cause of an error of a command line
 abbrev pub AreRefused : List Text → BadWords → Type 0
 AreRefused = AreRefusedBy club_app HasNoOrder
 
+-- the cause of an error of a batch line
 abbrev pub AreRefusedInLine : List Text → BadWords → Type 0
 AreRefusedInLine = AreRefusedBy line_app HasNoCommand
 
--- ---- by the matches of the parser
+-- ---- in terms of the parser's matches
 
--- the matches have that subcommand, with this behind its name
+-- the matches have this subcommand with these arguments
 abbrev pub Enters : ArgMatches → Text → Found → Type 0
 Enters matches name found = subcommand_rows_of matches ≡ Some (name, rows_of found)
 
--- what the matches ask for
+-- the result is what the matches state
 pub record IsFound {S : Type 0} (asks : Found → Text → Found → S → Type 0) (matches : ArgMatches)
     (said : S) : Type 0 where
   pub name : Text
@@ -85,18 +88,18 @@ pub record IsFound {S : Type 0} (asks : Found → Text → Found → S → Type 
   pub enters : Enters matches name found
   pub asked : asks (found_of matches) name found said
 
--- the matches are no order
+-- the matches state no order
 pub record IsNoneFound (is_none : Text → Found → Type 0) (matches : ArgMatches) : Type 0 where
   pub name : Text
   pub found : Found
   pub enters : Enters matches name found
   pub is : is_none name found
 
--- the matches have no subcommand, or what they have of one is no order
+-- the matches have no subcommand, or one that states no order
 abbrev pub FindsNone : (Text → Found → Type 0) → ArgMatches → Type 0
 FindsNone is_none matches = (subcommand_rows_of matches ≡ None) ⊎ IsNoneFound is_none matches
 
--- what is told of an error of the parser
+-- the result for an error of the parser
 abbrev pub IsToldOf : ErrorKind → BadWords → Type 0
 IsToldOf kind bad.Memory = ⊤
 IsToldOf kind (bad.Version line) = kind ≡ DisplayVersion

@@ -1,4 +1,4 @@
-//! Orders that the club is given in turn, and the words that ask for them.
+//! Batches and round robins: their types, and the parsing of their command lines and of a batch's lines.
 
 ghost use Rattle.std.specs.Prelude.{◌≡◌, IfErr, IfOk, map, string_bytes};
 ghost use Rattle.clap.specs.Words.{found_of};
@@ -15,56 +15,61 @@ use club_questions::Question;
 use club_requests::{Command, Request};
 use std::alloc::{AllocError, Global};
 
-/// Orders of the officer's that the club is given in turn, at one moment.
+/// Commands of the officer that are executed in order, all with one timestamp.
 #[derive(Debug, Drop)]
 pub struct Batch {
-    /// What is asked first: where one of these questions is refused, the batch is refused so, and nothing is done.
+    /// Queries that are asked first. If one is refused, the batch is refused for the same reason and no command is
+    /// executed.
     pub questions: Vec<Question>,
-    /// The number of each order, by which its outcome is told.
+    /// The number of each command, under which its outcome is printed.
     pub numbers: Vec<u64>,
-    /// The orders.
+    /// The commands.
     pub requests: Vec<Request>,
 }
 
-/// A file, the moment that is to count if the words give one, and where the orders of a batch are read from.
+/// The options of `batch`: the file, the timestamp given by `--now`, and the source of the commands.
 #[derive(Debug, Drop)]
 pub struct BatchWords {
     pub file: String,
     pub now: Option<Moment>,
-    /// A path, or `-` for the standard input.
+    /// A path, or `-` for standard input.
     pub orders: String,
-    /// Whether a refusal and a fault are explained on a second line.
+    /// Explain a refusal or fault on a second line (`--explain`).
     pub explains: bool,
 }
 
-/// A round robin of an event in a file.
+/// The options of `round-robin`.
 #[derive(Debug, Drop)]
 pub struct RoundRobin {
     pub file: String,
     pub now: Option<Moment>,
-    /// Each pair meets twice, with sides turned.
+    /// Each pair plays twice, with sides swapped.
     pub is_double: bool,
-    /// The seats are printed as the lines of a batch, and nobody is seated.
+    /// Dry run: print the seats as lines of a batch and change nothing.
     pub is_dry: bool,
-    /// What the keys of the games begin with.
+    /// The prefix of the games' keys.
     pub prefix: String,
     pub event: String,
-    /// The members, in the order of the table.
+    /// The members, in the order of the pairing table.
     pub names: Vec<String>,
-    /// Whether a refusal and a fault are explained on a second line.
+    /// Explain a refusal or fault on a second line (`--explain`).
     pub explains: bool,
 }
 
-/// An order that a line of a batch gives.
+/// A command from a line of a batch.
 #[derive(Debug, Drop)]
 pub struct Line {
-    /// The command; an import has no text of its own.
+    /// The command; the text of an import is still empty.
     pub command: Command,
-    /// Where an import's text is read from: a path.
+    /// The path of an import's record.
     pub record: Option<String>,
 }
 
-/// Where the words read the orders of a batch from.
+/// The options of `batch`.
+///
+/// # Errors
+///
+/// `AllocError` if out of memory.
 pub(crate) fn batch_of(
     alloc: Global,
     all: &ArgMatches<'_>,
@@ -80,7 +85,7 @@ pub(crate) fn batch_of(
     })
 }
 
-// Copies of the texts of a word that may stand several times.
+// Copies of the values of an argument that may be repeated.
 fn texts(alloc: Global, words: &ArgMatches<'_>, name: &str) -> Result<Vec<String>, AllocError>
     ensures { IfOk result (λ texts. map string_bytes texts.items ≡ texts_in (found_of words.now) name.now) }
 {
@@ -91,7 +96,6 @@ fn texts(alloc: Global, words: &ArgMatches<'_>, name: &str) -> Result<Vec<String
     copies(alloc, given)
 }
 
-// Copies of texts.
 fn copies(alloc: Global, given: &[&str]) -> Result<Vec<String>, AllocError>
     ensures { IfOk result (λ texts. map string_bytes texts.items ≡ map (λ text. text.now) given.now) }
 {
@@ -102,7 +106,11 @@ fn copies(alloc: Global, given: &[&str]) -> Result<Vec<String>, AllocError>
     Ok(texts)
 }
 
-/// The round robin that the words ask for.
+/// The options of `round-robin`.
+///
+/// # Errors
+///
+/// `AllocError` if out of memory.
 pub(crate) fn round_robin_of(
     alloc: Global,
     all: &ArgMatches<'_>,
@@ -122,7 +130,7 @@ pub(crate) fn round_robin_of(
     })
 }
 
-// The order that the words of a subcommand give.
+// The command of a batch line, from its subcommand and arguments.
 fn line_of(alloc: Global, name: &str, words: &ArgMatches<'_>) -> Result<Line, BadWords>
     ensures ok { IfOk result (AsksLine name.now (found_of words.now)) }
     ensures err { IfErr result (IsToldFor (HasNoCommand name.now (found_of words.now))) }
@@ -135,7 +143,7 @@ fn line_of(alloc: Global, name: &str, words: &ArgMatches<'_>) -> Result<Line, Ba
     Ok(Line { command, record })
 }
 
-// The order of the subcommand that was found.
+// The command of a batch line, from the parser's matches.
 fn parsed(alloc: Global, matches: &ArgMatches<'_>) -> Result<Line, BadWords>
     ensures ok { IfOk result (IsFound AsksOneLine matches.now) }
     ensures err { IfErr result (IsToldFor (FindsNone HasNoCommand matches.now)) }
@@ -146,7 +154,16 @@ fn parsed(alloc: Global, matches: &ArgMatches<'_>) -> Result<Line, BadWords>
     }
 }
 
-/// The order that the words of a line give, before which stands the program's own name.
+/// Parses a line of a batch. `words` starts with the program's name.
+///
+/// # Errors
+///
+/// - `BadWords::Text` with the parser's message or its help.
+/// - `BadWords::Memory` if out of memory.
+///
+/// # Guarantees
+///
+/// `ok`: the command is the one that the arguments state. `err`: the message has a cause in the arguments.
 pub fn read_line(alloc: Global, words: &[&str]) -> Result<Line, BadWords>
     ensures ok { IfOk result (AreSaidInLine (map (λ word. word.now) words.entry.now)) }
     ensures err { IfErr result (AreRefusedInLine (map (λ word. word.now) words.entry.now)) }

@@ -1,4 +1,4 @@
-//! The words of a parser, with what is known of them.
+//! Builders of arguments and subcommands, with contracts that the parser's proofs use.
 
 ghost use Rattle.std.specs.Prelude.{◌≡◌, IfOk, true};
 ghost use Rattle.clap.specs.Words.{App, Rule, new_app, with_rule};
@@ -8,7 +8,7 @@ ghost use Rattle.club_words.specs.Built.{IsApp, IsRule};
 use clap::{Arg, ArgAction, value_parser};
 use std::alloc::{AllocError, Global};
 
-/// A positional word that has to be there.
+/// A required positional argument.
 pub(crate) fn word<'a>(alloc: Global, name: &'a str, help: &'a str) -> Arg<'a>
     ensures { IsRule (required name.entry.now) result }
 {
@@ -18,14 +18,14 @@ pub(crate) fn word<'a>(alloc: Global, name: &'a str, help: &'a str) -> Arg<'a>
         .action(ArgAction::Set)
 }
 
-/// A positional whole number that has to be there.
+/// A required positional integer.
 pub(crate) fn number<'a>(alloc: Global, name: &'a str, help: &'a str) -> Arg<'a>
     ensures { IsRule (required_as a_number name.entry.now) result }
 {
     word(alloc, name, help).value_parser(value_parser!(u64))
 }
 
-/// An option with a whole number.
+/// An option with an integer value.
 pub(crate) fn number_option<'a>(
     alloc: Global,
     name: &'a str,
@@ -41,7 +41,7 @@ pub(crate) fn number_option<'a>(
         .value_parser(value_parser!(u64))
 }
 
-/// An option with a name.
+/// An option whose value is shown as NAME in help.
 pub(crate) fn name_option<'a>(alloc: Global, name: &'a str, long: &'a str, help: &'a str) -> Arg<'a>
     ensures { IsRule (named_by name.entry.now long.entry.now) result }
 {
@@ -62,14 +62,18 @@ pub(crate) fn flag<'a>(alloc: Global, name: &'a str, long: &'a str, help: &'a st
         .action(ArgAction::SetTrue)
 }
 
-/// A subcommand of that name, as yet without words.
+/// A subcommand without arguments.
 pub(crate) fn subcommand<'a>(alloc: Global, name: &'a str, about: &'a str) -> clap::Command<'a>
     ensures { IsApp (new_app name.entry.now) result }
 {
     clap::Command::new(alloc, name).about(about)
 }
 
-/// The command with that word more.
+/// Adds an argument to a command.
+///
+/// # Errors
+///
+/// `AllocError` if out of memory.
 pub(crate) fn with_word<'a>(
     command: clap::Command<'a>,
     word: Arg<'a>,
@@ -80,7 +84,11 @@ pub(crate) fn with_word<'a>(
     command.arg(word)
 }
 
-/// The command with that subcommand more, which may not have been made for want of memory.
+/// Adds a subcommand to a command. An error of the subcommand is passed on.
+///
+/// # Errors
+///
+/// `AllocError` if out of memory.
 pub(crate) fn with<'a>(
     command: clap::Command<'a>,
     word: Result<clap::Command<'a>, AllocError>,

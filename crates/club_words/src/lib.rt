@@ -1,4 +1,4 @@
-//! An officer's words, read as an order.
+//! The parser of the program's command line and of the lines of a batch.
 #![tactic(auto)]
 
 pub mod batches;

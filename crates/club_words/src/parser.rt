@@ -1,4 +1,4 @@
-//! The program's words, as the parser takes them and help shows them.
+//! The grammar of the command line, with its help texts.
 
 ghost use Rattle.std.specs.Prelude.{IfOk, codes};
 ghost use Rattle.clap.specs.Words.{App, new_app};
@@ -17,21 +17,16 @@ use crate::building::{
 use clap::{Arg, ArgAction, value_parser};
 use std::alloc::{AllocError, Global};
 
-// The games that an event may have.
 static GAMES: [&str; 2] = ["draughts", "shogi"];
 
-// The version of the program, as `--version` prints it.
 const VERSION: &str = "0.9.0";
 
-// What a name may be: of a member or of an event.
 const A_NAME: &str = "1 to 24 letters, digits, '.', '_' or '-'";
 
-// What the key of a game is.
 const A_LABEL: &str =
     "A label for the game, which is no secret: 1 to 24 letters, digits, '.', '_' or '-'; \
     the same order again, with the same label, is a repeat and makes no second game";
 
-// What the number of a game is.
 const A_GAME: &str = "The game's number, as 'seat' printed it";
 
 fn member_words<'a>(alloc: Global) -> Result<clap::Command<'a>, AllocError>
@@ -53,7 +48,7 @@ fn member_words<'a>(alloc: Global) -> Result<clap::Command<'a>, AllocError>
     )
 }
 
-// The word for the game of an event.
+// The GAME argument of an event.
 fn game_word<'a>(alloc: Global) -> Arg<'a>
     ensures { (names : Names) × are_games names × IsRule (required_as (kind.Names names) (codes "GAME")) result }
 {
@@ -88,7 +83,7 @@ fn event_words<'a>(alloc: Global) -> Result<clap::Command<'a>, AllocError>
     )
 }
 
-// The words that name a new game: its label, its event and its players.
+// The arguments of a new game: key, event and players.
 fn new_game_words<'a>(
     alloc: Global,
     name: &'a str,
@@ -115,7 +110,7 @@ fn seat_words<'a>(alloc: Global) -> Result<clap::Command<'a>, AllocError>
     )
 }
 
-// The words of an import, but for the part of the record.
+// The arguments of an import, except the part of the record.
 fn import_words<'a>(
     alloc: Global,
     name: &'a str,
@@ -139,7 +134,6 @@ fn import_words<'a>(
     )
 }
 
-// The words of an import of draughts.
 fn import_pdn_words<'a>(alloc: Global) -> Result<clap::Command<'a>, AllocError>
     ensures { IfOk result (IsApp (import_app (codes "import-pdn"))) }
 {
@@ -150,7 +144,6 @@ fn import_pdn_words<'a>(alloc: Global) -> Result<clap::Command<'a>, AllocError>
     )
 }
 
-// The words of an import of shogi.
 fn import_csa_words<'a>(alloc: Global) -> Result<clap::Command<'a>, AllocError>
     ensures { IfOk result (IsApp import_csa_app) }
 {
@@ -203,7 +196,7 @@ fn sweep_words<'a>(alloc: Global) -> clap::Command<'a>
     )
 }
 
-// The words of a subcommand of one game.
+// A subcommand with a GAME argument only.
 fn of_game_words<'a>(
     alloc: Global,
     name: &'a str,
@@ -215,7 +208,7 @@ fn of_game_words<'a>(
     with_word(words, number(alloc, "GAME", A_GAME))
 }
 
-// The words of a subcommand of one event.
+// A subcommand with an EVENT argument only.
 fn of_event_words<'a>(
     alloc: Global,
     name: &'a str,
@@ -266,14 +259,14 @@ fn batch_words<'a>(alloc: Global) -> Result<clap::Command<'a>, AllocError>
     )
 }
 
-// The members of a round robin.
+// The members of a round robin: 2 to 32 names.
 fn names_word<'a>(alloc: Global) -> Arg<'a>
     ensures { IsRule (required_times 2 32 (codes "NAME")) result }
 {
     word(alloc, "NAME", "The members, 2 to 32").num_args(2..=32)
 }
 
-// The flags of a round robin.
+// Adds the flags of `round-robin`.
 fn with_round_robin_flags<'a>(
     alloc: Global,
     words: clap::Command<'a>,
@@ -375,7 +368,7 @@ fn games_words<'a>(alloc: Global) -> Result<clap::Command<'a>, AllocError>
     )
 }
 
-// The word for the port of the desk.
+// The PORT argument of the server.
 fn port_word<'a>(alloc: Global) -> Arg<'a>
     ensures { IsRule (required_as a_port (codes "PORT")) result }
 {
@@ -408,7 +401,7 @@ fn serve_words<'a>(alloc: Global) -> Result<clap::Command<'a>, AllocError>
     with_word(words, port_word(alloc))
 }
 
-// The option that gives the moment.
+// The option `--now`.
 fn now_option<'a>(alloc: Global) -> Arg<'a>
     ensures { IsRule (given_as a_moment (codes "SECONDS") (codes "now")) result }
 {
@@ -422,7 +415,7 @@ fn now_option<'a>(alloc: Global) -> Arg<'a>
         .value_parser(value_parser!(u64).range(0..=253_402_300_799))
 }
 
-// The program by its name, as yet without words.
+// The program without arguments.
 fn named_program<'a>(alloc: Global) -> clap::Command<'a>
     ensures { IsApp named_app result }
 {
@@ -435,7 +428,7 @@ fn named_program<'a>(alloc: Global) -> clap::Command<'a>
         .subcommand_required(true)
 }
 
-// The program with what may come before the name of a subcommand: options, and the file.
+// The program with its global options and the FILE argument.
 fn program<'a>(alloc: Global) -> Result<clap::Command<'a>, AllocError>
     ensures { IfOk result (IsApp program_app) }
 {
@@ -460,7 +453,7 @@ fn program<'a>(alloc: Global) -> Result<clap::Command<'a>, AllocError>
     )
 }
 
-// With the words that make a club and bring in what it is to have.
+// Adds the subcommands that create a club and fill it.
 fn with_entries<'a>(
     alloc: Global,
     program: clap::Command<'a>,
@@ -477,7 +470,7 @@ fn with_entries<'a>(
     with(program, import_csa_words(alloc))
 }
 
-// With the words that play, and those that end games by time, one by one and many in turn.
+// Adds the subcommands that play moves and end games by time, singly or as a batch.
 fn with_orders<'a>(
     alloc: Global,
     program: clap::Command<'a>,
@@ -490,7 +483,7 @@ fn with_orders<'a>(
     with(program, round_robin_words(alloc))
 }
 
-// With the words that show games.
+// Adds the subcommands that show games.
 fn with_games<'a>(
     alloc: Global,
     program: clap::Command<'a>,
@@ -518,7 +511,7 @@ fn with_games<'a>(
     with(program, export_event)
 }
 
-// With the words that show what the club has.
+// Adds the subcommands that show the club.
 fn with_lists<'a>(
     alloc: Global,
     program: clap::Command<'a>,
@@ -546,7 +539,7 @@ fn with_lists<'a>(
     with(program, games_words(alloc))
 }
 
-// With the words for the file as a whole, and those that serve it.
+// Adds the subcommands on the whole file and the server.
 fn with_files<'a>(
     alloc: Global,
     program: clap::Command<'a>,
@@ -569,7 +562,11 @@ fn with_files<'a>(
     with(program, serve_words(alloc))
 }
 
-/// The program's words, as the parser takes them and help shows them.
+/// The grammar of the program's command line.
+///
+/// # Errors
+///
+/// `AllocError` if out of memory.
 pub(crate) fn club_words<'a>(alloc: Global) -> Result<clap::Command<'a>, AllocError>
     ensures { IfOk result (IsAppOf club_app) }
 {
@@ -581,14 +578,18 @@ pub(crate) fn club_words<'a>(alloc: Global) -> Result<clap::Command<'a>, AllocEr
     with_files(alloc, program)
 }
 
-// A line of a batch, as yet without words.
+// The grammar of a batch line, without subcommands.
 fn named_line<'a>(alloc: Global) -> clap::Command<'a>
     ensures { IsApp named_line_app result }
 {
     clap::Command::new(alloc, "club").subcommand_required(true)
 }
 
-/// The words of which a line of a batch has one.
+/// The grammar of a batch line, with its subcommands.
+///
+/// # Errors
+///
+/// `AllocError` if out of memory.
 pub(crate) fn line_words<'a>(alloc: Global) -> Result<clap::Command<'a>, AllocError>
     ensures { IfOk result (IsAppOf line_app) }
 {

@@ -1,4 +1,4 @@
-//! The program's words, read as one order.
+//! Parsing of the program's command line.
 
 ghost use Rattle.std.specs.Prelude.{◌≡◌, IfErr, IfNone, IfOk, IfSome, Some, codes, map, option_map, string_bytes};
 ghost use Rattle.clap.specs.Words.{first_value, found_of, kind_of};
@@ -19,38 +19,38 @@ use club_requests::{AddEvent, AddMember, Command, GameCommand, Import, OnGame, S
 use club_rules::{GameKind, RecordFormat};
 use std::alloc::{AllocError, Global};
 
-/// What the program is asked to do.
+/// The operation that a command line requests.
 #[derive(Debug, Drop)]
 pub enum Task {
-    /// Make the tables of a club in the file.
+    /// Create the tables of a club in the file.
     Init,
-    /// Give the club a command of the officer's.
+    /// Execute a command of the officer.
     Request(Command),
-    /// Ask the club, which changes nothing.
+    /// Answer a query; the club does not change.
     Ask(Question),
-    /// Test that the rows of the file are those of a club.
+    /// Check that the rows of the file are those of a club.
     Verify,
-    /// Carry the file over from schema 1 to schema 2.
+    /// Migrate the file from schema 1 to schema 2.
     Upgrade,
-    /// Copy the club into a file of this path, where none may stand.
+    /// Copy the club into a new file at this path, which must not exist.
     Backup(String),
-    /// Give the club orders of the officer's, one after another.
+    /// Execute commands of the officer one after another.
     Batch(Batch),
 }
 
-/// A file, the moment that is to count if the words give one, and what to do.
+/// A file, the timestamp given by `--now`, and the operation to run.
 #[derive(Debug, Drop)]
 pub struct Order {
     pub file: String,
     pub now: Option<Moment>,
     pub task: Task,
-    /// Where an import's text is read from: a path, or `-` for the standard input. The task has no text of its own.
+    /// The source of an import's text: a path, or `-` for standard input. The text in `task` is still empty.
     pub record: Option<String>,
-    /// Whether a refusal and a fault are explained on a second line.
+    /// Explain a refusal or fault on a second line (`--explain`).
     pub explains: bool,
 }
 
-/// Gives a command the text that was read for it, if it is an import.
+/// Sets the text of the record that was read for a command. Does nothing if the command is no import.
 pub fn give_text(command: &mut Command, text: Vec<u8>)
     ensures { command.new ≡ with_text text command.old }
 {
@@ -60,7 +60,7 @@ pub fn give_text(command: &mut Command, text: Vec<u8>)
 }
 
 impl Order {
-    /// Gives an order the text that was read for its import; any other order stays as it is.
+    /// Sets the text of the record that was read for an order. Does nothing if the order is no import.
     pub fn give_text(&mut self, text: Vec<u8>)
         ensures task { self.new.task ≡ task_with text self.old.task }
         ensures file { self.new.file ≡ self.old.file }
@@ -73,23 +73,23 @@ impl Order {
     }
 }
 
-/// The desk over a file, which answers members over HTTP.
+/// The options of the server, which serves members over HTTP.
 #[derive(Debug, Drop)]
 pub struct Service {
     pub file: String,
-    /// The moment that is to count at each connection, if the words give one.
+    /// The timestamp to use for each connection, given by `--now`.
     pub now: Option<Moment>,
-    /// The port of 127.0.0.1.
+    /// The port on 127.0.0.1.
     pub port: u16,
-    /// How many connections are served before the program ends.
+    /// The number of connections to serve before the program exits.
     pub count: u64,
-    /// Whether each connection is written down.
+    /// Whether to log each connection.
     pub log: bool,
-    /// Whether a fault is explained on a second line.
+    /// Explain a fault on a second line (`--explain`).
     pub explains: bool,
 }
 
-/// What the program's words say.
+/// The parsed command line.
 #[derive(Debug, Drop)]
 pub enum Words {
     Order(Order),
@@ -98,14 +98,14 @@ pub enum Words {
     RoundRobin(RoundRobin),
 }
 
-/// Words that are no order.
+/// The reason why a command line or a batch line gives nothing to execute.
 #[derive(Debug, Drop)]
 pub enum BadWords {
-    /// What the parser says of them; its help, too.
+    /// The parser's error message or help.
     Text(String),
-    /// The line that answers `--version`.
+    /// The output of `--version`.
     Version(String),
-    /// Memory was refused.
+    /// Out of memory.
     Memory,
 }
 
@@ -120,7 +120,7 @@ impl From<AllocError> for BadWords {
     }
 }
 
-// A copy of a word that has to be there.
+// A copy of a required argument.
 pub(crate) fn text(
     alloc: Global,
     matches: &ArgMatches<'_>,
@@ -131,7 +131,7 @@ pub(crate) fn text(
     String::from_str(alloc, matches.get_str(name).unwrap_or(""))
 }
 
-// A copy of a word that may be left out.
+// A copy of an optional argument.
 fn text_given(
     alloc: Global,
     matches: &ArgMatches<'_>,
@@ -145,7 +145,7 @@ fn text_given(
     }
 }
 
-// A number, or another where it is not given.
+// An integer argument, or `other` if it is absent.
 fn number_or(matches: &ArgMatches<'_>, name: &str, other: u64) -> u64
     ensures { IsNumberIn (found_of matches.now) name.now other result }
 {
@@ -155,14 +155,14 @@ fn number_or(matches: &ArgMatches<'_>, name: &str, other: u64) -> u64
     }
 }
 
-// A number that has to be there.
+// A required integer argument.
 fn number_of(matches: &ArgMatches<'_>, name: &str) -> u64
     ensures { IsNumberIn (found_of matches.now) name.now 0 result }
 {
     number_or(matches, name, 0)
 }
 
-// The game of a word that the parser has passed.
+// The GAME argument of an event. The parser accepts only the names of games.
 fn game_of(matches: &ArgMatches<'_>) -> Option<GameKind>
     ensures some { IfSome result (λ game.
         first_value (found_of matches.now) (codes "GAME") ≡ Some (game_word game)) }
@@ -175,7 +175,7 @@ fn game_of(matches: &ArgMatches<'_>) -> Option<GameKind>
     }
 }
 
-// Words that the parser passed and that are no order: it is not to be, and it does nothing.
+// The error for arguments that the parser accepts although they state no order. The grammar prevents this case.
 pub(crate) fn unknown(alloc: Global, name: &str) -> BadWords
     ensures { IsTold result }
 {
@@ -185,7 +185,6 @@ pub(crate) fn unknown(alloc: Global, name: &str) -> BadWords
     }
 }
 
-// The member that the words name.
 fn member_of(alloc: Global, words: &ArgMatches<'_>) -> Result<Command, AllocError>
     ensures { IfOk result (AsksCommand (codes "member") (found_of words.now)) }
 {
@@ -195,7 +194,6 @@ fn member_of(alloc: Global, words: &ArgMatches<'_>) -> Result<Command, AllocErro
     }))
 }
 
-// The event that the words name.
 fn event_of(alloc: Global, words: &ArgMatches<'_>) -> Result<Command, BadWords>
     ensures ok { IfOk result (AsksCommand (codes "event") (found_of words.now)) }
     ensures err { IfErr result (IsToldFor (HasNoGame (found_of words.now))) }
@@ -211,7 +209,6 @@ fn event_of(alloc: Global, words: &ArgMatches<'_>) -> Result<Command, BadWords>
     }))
 }
 
-// The game that the words start.
 fn seat_of(alloc: Global, words: &ArgMatches<'_>) -> Result<Command, AllocError>
     ensures { IfOk result (AsksCommand (codes "seat") (found_of words.now)) }
 {
@@ -223,7 +220,6 @@ fn seat_of(alloc: Global, words: &ArgMatches<'_>) -> Result<Command, AllocError>
     }))
 }
 
-// The move that the words play.
 fn move_of(alloc: Global, words: &ArgMatches<'_>) -> Result<Command, AllocError>
     ensures { IfOk result (AsksCommand (codes "move") (found_of words.now)) }
 {
@@ -236,7 +232,7 @@ fn move_of(alloc: Global, words: &ArgMatches<'_>) -> Result<Command, AllocError>
     }))
 }
 
-// The import that the words ask for, without its text.
+// The import that the arguments state, without its text.
 fn import_of(
     alloc: Global,
     words: &ArgMatches<'_>,
@@ -258,14 +254,12 @@ fn import_of(
     })
 }
 
-// The import of a record of draughts.
 fn import_pdn_of(alloc: Global, words: &ArgMatches<'_>) -> Result<Command, AllocError>
     ensures { IfOk result (AsksCommand (codes "import-pdn") (found_of words.now)) }
 {
     Ok(Command::Import(import_of(alloc, words, RecordFormat::Pdn, 1)?))
 }
 
-// The import of a record of shogi.
 fn import_csa_of(alloc: Global, words: &ArgMatches<'_>) -> Result<Command, AllocError>
     ensures { IfOk result (AsksCommand (codes "import-csa") (found_of words.now)) }
 {
@@ -273,7 +267,7 @@ fn import_csa_of(alloc: Global, words: &ArgMatches<'_>) -> Result<Command, Alloc
     Ok(Command::Import(import_of(alloc, words, RecordFormat::Csa, part)?))
 }
 
-// Where the text of an import is read from.
+// The path of an import's record.
 pub(crate) fn record_of(
     alloc: Global,
     name: &str,
@@ -288,7 +282,7 @@ pub(crate) fn record_of(
     }
 }
 
-// The command that the words of a subcommand give the club.
+// The command of the subcommand `name`.
 pub(crate) fn command_of(
     alloc: Global,
     name: &str,
@@ -309,7 +303,7 @@ pub(crate) fn command_of(
     }
 }
 
-// Which games are listed, by the flags: one of them at most.
+// The filter for the flags `--running` and `--overdue`, which exclude each other.
 fn which_of(is_running: bool, is_overdue: bool) -> Option<Which>
     ensures { result ≡ which_of is_running is_overdue }
 {
@@ -321,7 +315,7 @@ fn which_of(is_running: bool, is_overdue: bool) -> Option<Which>
     }
 }
 
-// Which games the words list.
+// The filter that the arguments state.
 fn which_in(words: &ArgMatches<'_>) -> Option<Which>
     ensures some { IfSome result (AreShownOf (found_of words.now)) }
     ensures none { IfNone result (AsksForBoth (found_of words.now)) }
@@ -331,7 +325,7 @@ fn which_in(words: &ArgMatches<'_>) -> Option<Which>
     which_of(is_running, is_overdue)
 }
 
-// What is said of two flags of which one may stand.
+// The error for two flags that exclude each other.
 fn both_flags(alloc: Global) -> BadWords
     ensures { IsTold result }
 {
@@ -342,7 +336,6 @@ fn both_flags(alloc: Global) -> BadWords
     }
 }
 
-// The games that the words list.
 fn listing_of(alloc: Global, words: &ArgMatches<'_>) -> Result<Listing, BadWords>
     ensures ok { IfOk result (AreListed (found_of words.now)) }
     ensures err { IfErr result (IsToldFor (AsksForBoth (found_of words.now))) }
@@ -357,7 +350,6 @@ fn listing_of(alloc: Global, words: &ArgMatches<'_>) -> Result<Listing, BadWords
     })
 }
 
-// The board that the words ask for.
 fn board_of(words: &ArgMatches<'_>) -> Question
     ensures { AsksQuestion (codes "show") (found_of words.now) result }
 {
@@ -367,7 +359,7 @@ fn board_of(words: &ArgMatches<'_>) -> Question
     }
 }
 
-// The task of a command that the words of a subcommand give the club.
+// The operation of a subcommand that is a command to the club.
 fn request_of(alloc: Global, name: &str, words: &ArgMatches<'_>) -> Result<Task, BadWords>
     ensures ok { IfOk result (AsksTask name.now (found_of words.now)) }
     ensures err { IfErr result (IsToldFor (HasNoCommand name.now (found_of words.now))) }
@@ -378,7 +370,6 @@ fn request_of(alloc: Global, name: &str, words: &ArgMatches<'_>) -> Result<Task,
     }
 }
 
-// The task of a list of games.
 fn games_of(alloc: Global, words: &ArgMatches<'_>) -> Result<Task, BadWords>
     ensures ok { IfOk result (AsksTask (codes "games") (found_of words.now)) }
     ensures err { IfErr result (IsToldFor (AsksForBoth (found_of words.now))) }
@@ -389,7 +380,7 @@ fn games_of(alloc: Global, words: &ArgMatches<'_>) -> Result<Task, BadWords>
     }
 }
 
-// What the words of a subcommand ask for.
+// The operation of the subcommand `name`.
 fn task_of(alloc: Global, name: &str, words: &ArgMatches<'_>) -> Result<Task, BadWords>
     ensures ok { IfOk result (AsksTask name.now (found_of words.now)) }
     ensures err { IfErr result (IsToldFor (HasNoTask name.now (found_of words.now))) }
@@ -411,7 +402,7 @@ fn task_of(alloc: Global, name: &str, words: &ArgMatches<'_>) -> Result<Task, Ba
     }
 }
 
-// What the parser says of words that it refuses.
+// The error or output of the parser.
 pub(crate) fn refused(alloc: Global, error: &clap::Error) -> BadWords
     ensures { IsToldOf (kind_of error.now) result }
 {
@@ -425,7 +416,7 @@ pub(crate) fn refused(alloc: Global, error: &clap::Error) -> BadWords
     }
 }
 
-// The desk that the words ask for. The parser has passed the port.
+// The options of `serve`. The parser has checked the port.
 fn service_of(
     alloc: Global,
     all: &ArgMatches<'_>,
@@ -447,7 +438,7 @@ fn service_of(
     })
 }
 
-// The moment that the words give.
+// The timestamp given by `--now`.
 pub(crate) fn moment_of(all: &ArgMatches<'_>) -> Option<Moment>
     ensures { IsMomentIn (found_of all.now) result }
 {
@@ -457,14 +448,13 @@ pub(crate) fn moment_of(all: &ArgMatches<'_>) -> Option<Moment>
     }
 }
 
-// Whether the words ask for explanations.
+// Whether `--explain` is given.
 pub(crate) fn is_explained(all: &ArgMatches<'_>) -> bool
     ensures { IsFlagIn (found_of all.now) (codes "EXPLAIN") result }
 {
     all.get_flag("EXPLAIN")
 }
 
-// The service that the words ask for.
 fn serve_of(alloc: Global, all: &ArgMatches<'_>, words: &ArgMatches<'_>) -> Result<Words, BadWords>
     ensures ok { IfOk result (Asks (found_of all.now) (codes "serve") (found_of words.now)) }
     ensures err { IfErr result (IsToldFor (HasNoPort (found_of words.now))) }
@@ -475,7 +465,7 @@ fn serve_of(alloc: Global, all: &ArgMatches<'_>, words: &ArgMatches<'_>) -> Resu
     }
 }
 
-// The order that the words of a subcommand give.
+// The order of the subcommand `name`.
 fn order_of(
     alloc: Global,
     all: &ArgMatches<'_>,
@@ -499,7 +489,7 @@ fn order_of(
     })
 }
 
-// What the words of a subcommand ask for.
+// The parsed command line, from its subcommand.
 fn words_of(
     alloc: Global,
     all: &ArgMatches<'_>,
@@ -520,7 +510,7 @@ fn words_of(
     }
 }
 
-// What the words of the subcommand that was found ask for.
+// The parsed command line, from the parser's matches.
 fn parsed(alloc: Global, matches: &ArgMatches<'_>) -> Result<Words, BadWords>
     ensures ok { IfOk result (IsFound Asks matches.now) }
     ensures err { IfErr result (IsToldFor (FindsNone HasNoOrder matches.now)) }
@@ -531,7 +521,17 @@ fn parsed(alloc: Global, matches: &ArgMatches<'_>) -> Result<Words, BadWords>
     }
 }
 
-/// What the words say; the first word is the program's own name.
+/// Parses the program's command line. `words` starts with the program's name.
+///
+/// # Errors
+///
+/// - `BadWords::Text` with the parser's message or its help.
+/// - `BadWords::Version` for `--version`.
+/// - `BadWords::Memory` if out of memory.
+///
+/// # Guarantees
+///
+/// `ok`: the result is what the arguments state. `err`: the message has a cause in the arguments.
 pub fn read_words(alloc: Global, words: &[&str]) -> Result<Words, BadWords>
     ensures ok { IfOk result (AreSaid (map (λ word. word.now) words.entry.now)) }
     ensures err { IfErr result (AreRefused (map (λ word. word.now) words.entry.now)) }

@@ -1,4 +1,4 @@
--- What a member took from each other one.
+-- The cells of a cross table.
 use Rattle.std.specs.Prelude.{◌==◌, ◌&&◌, ℕ, List, Option, Some, None, codes, if◌then◌else◌}
 use Rattle.std.specs.List.{find}
 use Rattle.std.specs.Fmt.{decimal}
@@ -6,12 +6,12 @@ use Rattle.cross_tables.specs.declared.sums.Scored.{Scored}
 use Rattle.cross_tables.specs.declared.cells.Cell.{Cell}
 use Rattle.cross_tables.specs.declared.cells.Cell.TheVariants.{Oneself, Unplayed, Points}
 
--- by the row of two members, where they have one
+-- The cell of a score row, or `Unplayed` if there is none.
 abbrev pub points_cell : Option Scored → Cell
 points_cell None = Unplayed
 points_cell (Some row) = Points row.sums.points
 
--- the row of what a member scored against another one, among the rows of an event
+-- The score row of a member against another one, among the rows of an event.
 abbrev pub row_of : List Scored → ℕ → ℕ → Option Scored
 row_of rows member other = find (λ row. row.member == member && row.opponent == other) rows
 

@@ -1,4 +1,4 @@
--- What a fault is printed as.
+-- The text of a fault.
 use Rattle.std.specs.Prelude.{ℕ, List, codes}
 use Rattle.cross_tables.specs.declared.standings.StandingsFault.{StandingsFault}
 use Rattle.cross_tables.specs.declared.standings.StandingsFault.TheVariants.{Memory, TooMany}

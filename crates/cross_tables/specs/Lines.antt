@@ -1,4 +1,4 @@
--- The lines of the table.
+-- The text lines of a cross table.
 use Rattle.std.specs.Prelude.{◌-◌, ℕ, List, ◌++◌, length, codes}
 use Rattle.std.specs.List.{flat_map, repeat}
 use Rattle.std.specs.Fmt.{decimal}
@@ -7,7 +7,7 @@ use Rattle.cross_tables.specs.declared.cells.Cell.{Cell}
 use Rattle.cross_tables.specs.Totals.{games}
 use Rattle.cross_tables.specs.Cells.{cell_text}
 
--- blanks that fill a text up to a width
+-- Spaces that pad a text to a width.
 unfoldable pub filler : ℕ → List ℕ → List ℕ
 filler width text = repeat (width - length text) (codes " ")
 
@@ -20,7 +20,7 @@ left_in width text = text ++ filler width text
 abbrev pub number_in : ℕ → ℕ → List ℕ
 number_in width number = right_in width (decimal number)
 
--- points, games, wins, draws and losses
+-- Points, games, wins, draws and losses.
 abbrev pub sums_text : Sums → List ℕ
 sums_text sums =
     number_in 6 sums.points
@@ -32,7 +32,7 @@ cells_text cells = flat_map (λ cell. right_in 6 (cell_text cell)) cells
 abbrev pub header_text : List ℕ → List ℕ
 header_text event = codes "Event " ++ event
 
--- the place, the name, the sums, and a cell for each member of the table
+-- Place, name, totals, and a cell for each member of the table.
 abbrev pub line_text : ℕ → List ℕ → Sums → List Cell → List ℕ
 line_text place name sums cells =
     number_in 3 place ++ (codes " " ++ (left_in 24 name ++ (sums_text sums ++ cells_text cells)))

@@ -1,9 +1,9 @@
--- The order of the places.
+-- The order of places.
 use Rattle.std.specs.Prelude.{◌==◌, ◌&&◌, ◌||◌, nat_lt, Bool, List}
 use Rattle.std.specs.List.Sorted.{IsSortedBy}
 use Rattle.cross_tables.specs.declared.standings.Standing.{Standing}
 
--- more points, then more wins, then the lesser id
+-- More points, then more wins, then the lower member number.
 abbrev pub precedes : Standing → Standing → Bool
 precedes a b =
     nat_lt b.sums.points a.sums.points

@@ -1,4 +1,4 @@
--- What the members of an event scored in all.
+-- The totals of the members of an event.
 use Rattle.std.specs.Prelude.{◌≡◌, ◌+◌, ◌<◌, ◌≤◌, ◌^◌, ◌==◌, ℕ, List, sum_by, count_by, if◌then◌else◌}
 use Rattle.cross_tables.specs.declared.sums.Sums.{Sums}
 use Rattle.cross_tables.specs.declared.sums.Scored.{Scored}
@@ -13,7 +13,7 @@ plus_sums a b =
       losses = a.losses + b.losses;
     }
 
--- each of the sums is kept in 32 bits
+-- Each of the four numbers fits in 32 bits.
 pub record Fit (sums : Sums) : Type 0 where
   pub points : sums.points < 2 ^ 32
   pub wins : sums.wins < 2 ^ 32
@@ -23,13 +23,13 @@ pub record Fit (sums : Sums) : Type 0 where
 abbrev pub games : Sums → ℕ
 games sums = sums.wins + sums.draws + sums.losses
 
--- ---- a member's rows
+-- The score rows of a member.
 
--- one of the four sums, over all rows of a member
+-- One of the four numbers, summed over a member's rows.
 abbrev pub total : (Sums → ℕ) → ℕ → List Scored → ℕ
 total part member rows = sum_by (λ row. if row.member == member then part row.sums else 0) rows
 
--- what a member scored in all
+-- The totals of a member.
 abbrev pub totals : ℕ → List Scored → Sums
 totals member rows =
     record {
@@ -39,24 +39,24 @@ totals member rows =
       losses = total (λ s. s.losses) member rows;
     }
 
--- how many rows a member has
+-- The number of a member's rows.
 abbrev pub rows_of : ℕ → List Scored → ℕ
 rows_of member rows = count_by (λ row. row.member == member) rows
 
--- ---- standings
+-- Standings.
 
--- how often a member stands
+-- How often a member is in the standings.
 abbrev pub times : ℕ → List Standing → ℕ
 times member standings = count_by (λ s. s.member == member) standings
 
 abbrev pub IsEachOnce : List Standing → Type 0
 IsEachOnce standings = (member : ℕ) → times member standings ≤ 1
 
--- one of the four sums that stand for a member
+-- One of the four numbers in a member's standings.
 abbrev pub shown : (Sums → ℕ) → ℕ → List Standing → ℕ
 shown part member standings = sum_by (λ s. if s.member == member then part s.sums else 0) standings
 
--- those who have a row stand, each once, with what they scored in all
+-- Each member with a score row is in the standings once, with its totals, and no other member is.
 pub record AreTotals (standings : List Standing) (rows : List Scored) : Type 0 where
   pub once : IsEachOnce standings
   pub listed : (member : ℕ) → 0 < rows_of member rows → 0 < times member standings
@@ -66,6 +66,6 @@ pub record AreTotals (standings : List Standing) (rows : List Scored) : Type 0 w
   pub draws : (member : ℕ) → shown (λ s. s.draws) member standings ≡ total (λ s. s.draws) member rows
   pub losses : (member : ℕ) → shown (λ s. s.losses) member standings ≡ total (λ s. s.losses) member rows
 
--- a standing with more
+-- A standing with more sums added.
 abbrev pub raised : Standing → Sums → Standing
 raised standing more = record { member = standing.member; sums = plus_sums standing.sums more }

@@ -1,4 +1,4 @@
-//! What a member took from each other one.
+//! The cells of a cross table.
 
 ghost use Rattle.std.specs.Prelude.{◌≡◌, ◌==◌, List, IfOk, map};
 ghost use Rattle.std.specs.List.{filter};
@@ -12,14 +12,14 @@ use memory::Memory;
 use std::alloc::Global;
 use std::fmt;
 
-/// A cell of a member's line, below a member of the table.
+/// A cell in a member's line: the result against the member of that column.
 #[derive(Clone, Copy, Debug, PartialEq, Eq)]
 pub enum Cell {
-    /// The member whose line it is.
+    /// The column of the member itself.
     Oneself,
-    /// No game of the two has ended.
+    /// The two members have no finished game.
     Unplayed,
-    /// The points that were taken from that member.
+    /// The points that the member scored against the other one.
     Points(u32),
 }
 
@@ -38,7 +38,7 @@ impl fmt::Display for Cell {
     }
 }
 
-// The points of a row, where there is one.
+// The cell of a score row, or `Unplayed` if there is none.
 fn points_cell(row: Option<&Scored>) -> Cell
     ensures { result ≡ points_cell (option_map (λ r. r.now) row.entry) }
 {
@@ -48,7 +48,7 @@ fn points_cell(row: Option<&Scored>) -> Cell
     }
 }
 
-// The row of what a member scored against another one.
+// The score row of a member against another one.
 fn row_of<'a>(member: u32, other: u32, rows: &'a [Scored]) -> Option<&'a Scored>
     ensures { option_map (λ r. r.now) result ≡ row_of rows.now member other }
 {
@@ -56,7 +56,7 @@ fn row_of<'a>(member: u32, other: u32, rows: &'a [Scored]) -> Option<&'a Scored>
         .find(|row| row.member == member && row.opponent == other)
 }
 
-/// What a member took from another one, by the rows of the event.
+/// The cell of a member against another one, from the score rows of the event.
 pub fn cell_of(member: u32, other: u32, rows: &[Scored]) -> Cell
     ensures { result ≡ cell_of rows.now member other }
 {
@@ -66,7 +66,7 @@ pub fn cell_of(member: u32, other: u32, rows: &[Scored]) -> Cell
     points_cell(row_of(member, other, rows))
 }
 
-// What a member took from each of these.
+// The cells of a member against each of `others`.
 fn cells_against(
     alloc: Global,
     member: u32,
@@ -83,7 +83,15 @@ fn cells_against(
     )
 }
 
-/// What a member took from each member of the table, in the order of the places, by the rows of the event.
+/// The cells of a member against each member of the table, in the order of places.
+///
+/// # Errors
+///
+/// `Memory` if out of memory.
+///
+/// # Guarantees
+///
+/// `own`: rows of other members than this one need not be passed.
 pub fn cells_of(
     alloc: Global,
     member: u32,

@@ -1,4 +1,4 @@
-//! The cross table of an event: what its members scored in all, their places, and the lines of the table.
+//! The cross table of an event: each member's total score, place and line.
 #![tactic(auto)]
 
 pub mod cells;

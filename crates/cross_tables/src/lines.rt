@@ -1,4 +1,4 @@
-//! The lines of the table.
+//! The text lines of a cross table.
 
 ghost use Rattle.std.specs.Prelude.{◌≡◌, ◌++◌, OnOk, IfOk, string_bytes};
 ghost use Rattle.cross_tables.specs.Lines.{filler, right_in, left_in, number_in};
@@ -10,7 +10,7 @@ use crate::sums::Sums;
 use memory::Memory;
 use std::alloc::Global;
 
-// Blanks that fill a text up to a width.
+// Spaces that pad a text to a width.
 #[tactic(auto, unfolding(crate::specs::Lines::filler))]
 fn filler(alloc: Global, width: usize, text: &str) -> Result<String, Memory>
     ensures { IfOk result (λ blanks. string_bytes blanks ≡ filler width text.now) }
@@ -18,7 +18,7 @@ fn filler(alloc: Global, width: usize, text: &str) -> Result<String, Memory>
     Ok(" ".repeat(alloc, width.saturating_sub(text.len()))?)
 }
 
-// Adds a text on the right of its column.
+// Appends a right-aligned text.
 fn push_right(alloc: Global, line: &mut String, width: usize, text: &str) -> Result<(), Memory>
     ensures { OnOk result (string_bytes line.new ≡ string_bytes line.old ++ right_in width text.now) }
 {
@@ -28,7 +28,7 @@ fn push_right(alloc: Global, line: &mut String, width: usize, text: &str) -> Res
     Ok(())
 }
 
-// Adds a text on the left of its column.
+// Appends a left-aligned text.
 fn push_left(alloc: Global, line: &mut String, width: usize, text: &str) -> Result<(), Memory>
     ensures { OnOk result (string_bytes line.new ≡ string_bytes line.old ++ left_in width text.now) }
 {
@@ -38,7 +38,7 @@ fn push_left(alloc: Global, line: &mut String, width: usize, text: &str) -> Resu
     Ok(())
 }
 
-// Adds a number on the right of its column.
+// Appends a right-aligned number.
 fn push_number(alloc: Global, line: &mut String, width: usize, number: u64) -> Result<(), Memory>
     ensures { OnOk result (string_bytes line.new ≡ string_bytes line.old ++ number_in width number) }
 {
@@ -46,7 +46,7 @@ fn push_number(alloc: Global, line: &mut String, width: usize, number: u64) -> R
     push_right(alloc, line, width, digits.as_str())
 }
 
-// Adds points, games, wins, draws and losses.
+// Appends points, games, wins, draws and losses.
 fn push_sums(alloc: Global, line: &mut String, sums: &Sums) -> Result<(), Memory>
     ensures { OnOk result (string_bytes line.new ≡ string_bytes line.old ++ sums_text sums.now) }
 {
@@ -58,7 +58,6 @@ fn push_sums(alloc: Global, line: &mut String, sums: &Sums) -> Result<(), Memory
     Ok(())
 }
 
-// Adds a cell.
 fn push_cell(alloc: Global, line: &mut String, cell: &Cell) -> Result<(), Memory>
     ensures { OnOk result (string_bytes line.new ≡ string_bytes line.old ++ right_in 6 (cell_text cell.now)) }
 {
@@ -66,7 +65,6 @@ fn push_cell(alloc: Global, line: &mut String, cell: &Cell) -> Result<(), Memory
     push_right(alloc, line, 6, text.as_str())
 }
 
-// Adds a cell for each member of the table.
 fn push_cells(alloc: Global, line: &mut String, cells: &[Cell]) -> Result<(), Memory>
     ensures { OnOk result (string_bytes line.new ≡ string_bytes line.old ++ cells_text cells.now) }
 {
@@ -76,14 +74,22 @@ fn push_cells(alloc: Global, line: &mut String, cells: &[Cell]) -> Result<(), Me
     Ok(())
 }
 
-/// The first line of the table of an event.
+/// The first line of an event's cross table.
+///
+/// # Errors
+///
+/// `Memory` if out of memory.
 pub fn header(alloc: Global, event: &str) -> Result<String, Memory>
     ensures { IfOk result (λ text. string_bytes text ≡ header_text event.now) }
 {
     Ok(format!(in alloc; "Event {event}")?)
 }
 
-/// The line of a member at a place, from 1, with a cell for each member of the table.
+/// The line of a member: place (from 1), name, totals, and a cell for each member of the table.
+///
+/// # Errors
+///
+/// `Memory` if out of memory.
 pub fn line(
     alloc: Global,
     place: u64,

@@ -1,4 +1,4 @@
-//! The members of an event with what they scored in all, and their places.
+//! The members of an event with their totals, in the order of places.
 
 ghost use Rattle.std.specs.Prelude.{◌≡◌, ◌≢◌, ◌==◌, ◌<◌, ◌++◌, ◌∷◌, [], ℕ, List};
 ghost use Rattle.std.specs.Prelude.{Err, IfOk, OnOk, OnErr, length, slice_get, slice_index_or, slice_set};
@@ -19,19 +19,19 @@ use std::error::Error;
 use std::fmt;
 use std::marker::Model;
 
-/// A member with what they scored in all.
+/// A member and its totals in the event.
 #[derive(Clone, Copy, Debug, PartialEq, Eq)]
 pub struct Standing {
     pub member: u32,
     pub sums: Sums,
 }
 
-/// Why a row was not added.
+/// Why a score row was not added.
 #[derive(Clone, Copy, Debug, PartialEq, Eq)]
 pub enum StandingsFault {
-    /// Memory was refused.
+    /// An allocation failed.
     Memory,
-    /// A sum of the member does not fit.
+    /// A sum of the member does not fit in a `u32`.
     TooMany,
 }
 
@@ -62,7 +62,7 @@ impl<T: Drop> From<AllocFailed<T>> for StandingsFault {
     }
 }
 
-/// The members that have a row, each with what they scored in all.
+/// The members that have a score row, each with its totals.
 #[derive(Debug, Drop)]
 pub struct Standings {
     standings: Vec<Standing>,
@@ -77,7 +77,7 @@ impl Model for Standings {
     ghost view = { λ s. s.standings.items };
 }
 
-// Whether one standing comes before another, at the same place as it, or after it.
+// The order of places: more points, then more wins, then the lower member number.
 fn order(one: &Standing, other: &Standing) -> Ordering
     ensures { is_lt result ≡ precedes one.now other.now }
 {
@@ -87,7 +87,7 @@ fn order(one: &Standing, other: &Standing) -> Ordering
 }
 
 impl Standings {
-    /// Nobody has a row yet.
+    /// The standings without any member.
     pub fn new(alloc: Global) -> Standings
         ensures empty { result ≡ [] }
         ensures totals { AreTotals result [] }
@@ -97,15 +97,24 @@ impl Standings {
         }
     }
 
-    /// What the members scored in all by these rows, in the order of the places.
+    /// The totals of all members in the score rows, in the order of places.
+    ///
+    /// # Errors
+    ///
+    /// - `Memory`: out of memory.
+    /// - `TooMany`: a sum of some member does not fit in a `u32`.
+    ///
+    /// # Guarantees
+    ///
+    /// `ranked` and `only`: the result is the one list of these totals in the order of places.
     pub fn of_rows(alloc: Global, rows: &[Scored]) -> Result<Standings, StandingsFault>
         ensures totals { IfOk result (λ standings. AreTotals standings rows.now) }
         ensures ranked { IfOk result AreRanked }
-        // Each standing says what its member scored in all.
+        // Each standing has its member's totals.
         ensures each { IfOk result (λ standings. (place : ℕ) (d : Standing) → place < length standings →
             (slice_index_or standings place d).sums
             ≡ totals (slice_index_or standings place d).member rows.now) }
-        // No others are these totals in the order of the places.
+        // No other list has these totals in the order of places.
         ensures only { IfOk result (λ standings. (others : List Standing) → AreTotals others rows.now →
             AreRanked others → others ≡ standings) }
         ensures too_many { result ≡ Err fault.TooMany → (member : ℕ) × ¬ Fit (totals member rows.now) }
@@ -118,28 +127,28 @@ impl Standings {
         Ok(standings)
     }
 
-    /// The standings in their order.
+    /// The standings in their present order.
     pub fn as_slice(&self) -> &[Standing]
         ensures { result.now ≡ self.now }
     {
         self.standings.as_slice()
     }
 
-    /// The standing at a place, from 0.
+    /// The standing at an index, from 0.
     pub fn at(&self, place: usize) -> Option<Standing>
         ensures { result ≡ slice_get self.now place }
     {
         self.standings.get(place).copied()
     }
 
-    /// The place where a member stands, from 0.
+    /// The index of a member's standing, from 0.
     pub fn place_of(&self, member: u32) -> Option<usize>
         ensures { result ≡ position (λ s. s.member == member) self.now }
     {
         self.standings.iter().position(|s| s.member == member)
     }
 
-    // Adds to the sums at a place.
+    // Adds sums to the standing at an index.
     fn raise(&mut self, place: usize, more: Sums) -> Result<(), StandingsFault>
         requires { place < length self.old }
         ensures ok { OnOk result ((d : Standing) →
@@ -159,7 +168,7 @@ impl Standings {
         Ok(())
     }
 
-    // Puts a member at the end.
+    // Appends a member.
     fn enter(&mut self, member: u32, sums: Sums) -> Result<(), StandingsFault>
         ensures ok { OnOk result (self.new ≡ self.old ++ record { member = member; sums = sums } ∷ []) }
         ensures err { OnErr result (self.new ≡ self.old) }
@@ -169,7 +178,16 @@ impl Standings {
         Ok(())
     }
 
-    /// Adds a row to the sums of its member.
+    /// Adds a score row to the totals of its member.
+    ///
+    /// # Errors
+    ///
+    /// - `Memory`: out of memory.
+    /// - `TooMany`: a sum does not fit in a `u32`.
+    ///
+    /// # Guarantees
+    ///
+    /// `kept`: after an error the standings are unchanged.
     pub fn add(&mut self, scored: &Scored) -> Result<(), StandingsFault>
         ensures adds { OnOk result ((rows : List Scored) → AreTotals self.old rows →
             AreTotals self.new (rows ++ scored.now ∷ [])) }
@@ -183,7 +201,7 @@ impl Standings {
         }
     }
 
-    /// Orders the standings by their places.
+    /// Sorts the standings by place.
     pub fn rank(&mut self)
         ensures same { IsPermutation self.old self.new }
         ensures totals { (rows : List Scored) → AreTotals self.old rows → AreTotals self.new rows }

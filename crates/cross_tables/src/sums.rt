@@ -3,7 +3,7 @@
 ghost use Rattle.std.specs.Prelude.{◌≡◌, IfSome, None};
 ghost use Rattle.cross_tables.specs.Totals.{Fit, plus_sums, games};
 
-/// Points, wins, draws and losses of ended games.
+/// The points, wins, draws and losses of finished games.
 #[derive(Clone, Copy, Debug, PartialEq, Eq)]
 pub struct Sums {
     pub points: u32,
@@ -12,7 +12,7 @@ pub struct Sums {
     pub losses: u32,
 }
 
-/// What a member scored against an opponent in an event.
+/// A score row: the totals of a member against one opponent in an event.
 #[derive(Clone, Copy, Debug, PartialEq, Eq)]
 pub struct Scored {
     pub member: u32,
@@ -21,7 +21,7 @@ pub struct Scored {
 }
 
 impl Sums {
-    /// The sums together, unless one does not fit.
+    /// The sum of both, or `None` if one of the numbers overflows.
     pub fn plus(self, more: Sums) -> Option<Sums>
         ensures some { IfSome result (λ sums. sums ≡ plus_sums self more) }
         ensures none { result ≡ None → ¬ Fit (plus_sums self more) }
@@ -38,7 +38,7 @@ impl Sums {
         })
     }
 
-    /// The number of the games.
+    /// The number of games.
     pub fn games(self) -> u64
         ensures { result ≡ games self }
     {

@@ -1,4 +1,4 @@
--- What is written of a game is read as that game.
+-- The text written for a game is read as that game.
 use Rattle.std.specs.Prelude.{◌≡◌, ◌≢◌, ◌⊎◌, ℕ, Bool, true, false, Option, Some, None, List, [], ◌∷◌, map, length}
 use Rattle.squares.specs.declared.sides.Side.{Side}
 use Rattle.squares.specs.declared.sides.Score.{Score}
@@ -16,7 +16,7 @@ use Rattle.csa.specs.declared.head.CsaEnd.TheVariants as csa_end
 use Rattle.csa.specs.Reading.{IsTextOf, IsRefused}
 use Rattle.csa.specs.WrittenGame.{FitsEnd, IsGameText}
 
--- a text of one line: it has no line feed
+-- a text without line feeds
 abbrev pub IsOneLine : List ℕ → Type 0
 IsOneLine [] = Unit {0}
 IsOneLine (c ∷ text) = (c ≢ 10) × IsOneLine text
@@ -24,7 +24,7 @@ IsOneLine (c ∷ text) = (c ≢ 10) × IsOneLine text
 abbrev pub moves_of : List (SMove × ℕ) → List SMove
 moves_of entries = map (λ e. e.0) entries
 
--- A game that a text keeps whole: names of one line each, moves by the rules, and an end that fits them.
+-- A game that its text preserves: names of one line each, a legal line, and an end that agrees with it.
 pub record IsKept (event black white : List ℕ) (end : Option CsaEnd) (entries : List (SMove × ℕ)) : Type 0 where
   pub event_line : IsOneLine event
   pub black_line : IsOneLine black
@@ -44,13 +44,13 @@ abbrev pub is_declared : CsaEnd → Bool
 is_declared csa_end.Declared = true
 is_declared _ = false
 
--- the game has these moves and the score of that end, and ended with a declaration where that is one
+-- the game has these moves, the score of this end, and a declared win if the end is one
 pub record IsOf (game : CsaGame) (end : CsaEnd) (entries : List (SMove × ℕ)) : Type 0 where
   pub moves : game.moves.items ≡ moves_of entries
   pub score : game.score ≡ score_of end (last_position opening (moves_of entries)).turn
   pub declared : game.declared ≡ is_declared end
 
--- the text of such a game that ended is that of one game: its moves, and the score of its end
+-- the text of such a finished game is the text of one game: its moves and the score of its end
 abbrev pub WrittenIsRead : Type 0
 WrittenIsRead =
     (event black white : List ℕ) (start : ℕ) (end : CsaEnd) (entries : List (SMove × ℕ)) (text : List ℕ)
@@ -58,7 +58,7 @@ WrittenIsRead =
     IsKept event black white (Some end) entries → IsGameText event black white start (Some end) entries text →
     IsOf game end entries → IsTextOf text (game ∷ [])
 
--- the text of such a game that goes on is refused as unfinished, and but for want of memory as nothing else
+-- the text of such a running game is refused as unfinished; its only other fault is out of memory
 abbrev pub RunningIsRefused : Type 0
 RunningIsRefused =
     (event black white : List ℕ) (start : ℕ) (entries : List (SMove × ℕ)) (text : List ℕ) →

@@ -1,10 +1,10 @@
--- The codes of pieces, and squares by two digits.
+-- The two-letter codes of pieces, and squares as two digits.
 use Rattle.std.specs.Prelude.{ℕ, ◌-◌, ◌==◌, ◌&&◌, nat_le, Bool, Option, Some, None, List, codes, if◌then◌else◌}
 use Rattle.squares.specs.declared.shogi.piece.Role.{Role}
 use Rattle.squares.specs.declared.shogi.piece.Role.TheVariants as role
 use Rattle.squares.specs.ShogiGeometry.{shogi_number}
 
--- the code of a piece
+-- the code of a piece's role
 abbrev pub code_of : Role → List ℕ
 code_of role.King = codes "OU"
 code_of role.Rook = codes "HI"
@@ -21,7 +21,7 @@ code_of role.PromotedKnight = codes "NK"
 code_of role.PromotedLance = codes "NY"
 code_of role.PromotedPawn = codes "TO"
 
--- what has a code of these two letters
+-- the role with this two-letter code
 abbrev pub role_of : ℕ → ℕ → Option Role
 role_of a b =
     if a == 79 && b == 85 then Some role.King
@@ -43,10 +43,10 @@ role_of a b =
 abbrev pub is_digit : ℕ → Bool
 is_digit c = nat_le 48 c && nat_le c 57
 
--- a digit from 1 on
+-- a digit from 1 to 9
 abbrev pub is_place : ℕ → Bool
 is_place c = nat_le 49 c && nat_le c 57
 
--- the square of a file's and a rank's digit
+-- the square with these digits of file and rank
 abbrev pub square_of : ℕ → ℕ → Option ℕ
 square_of file rank = if is_place file && is_place rank then Some (shogi_number (file - 48) (rank - 48)) else None

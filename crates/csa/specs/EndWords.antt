@@ -1,4 +1,4 @@
--- The statements that end a record.
+-- The `%` statements that end a record.
 use Rattle.std.specs.Prelude.{ℕ, Option, List, [], ◌∷◌, codes, find}
 use Rattle.std.specs.Str.{bytes_eq}
 use Rattle.csa.specs.declared.end_words.EndWord.{EndWord}
@@ -21,6 +21,6 @@ abbrev pub end_words : List EndWord
 end_words = word.Resigned ∷ word.TimeUp ∷ word.IllegalMove ∷ word.Mate ∷ word.Declared ∷ word.Repetition
     ∷ word.Impasse ∷ word.Draw ∷ word.BlackIllegal ∷ word.WhiteIllegal ∷ word.Interrupted ∷ []
 
--- the word that a statement writes
+-- the end that a statement names
 abbrev pub end_word : List ℕ → Option EndWord
 end_word text = find (λ w. bytes_eq text (word_text w)) end_words

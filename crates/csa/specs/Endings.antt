@@ -1,4 +1,4 @@
--- What the end of a record says of the score.
+-- The score of a game by the end of its record and by the rules.
 use Rattle.std.specs.Prelude.{◌&&◌, Bool, true, false, Option, Some, None, Result, Ok, Err, if◌then◌else◌}
 use Rattle.squares.specs.declared.sides.Side.{Side}
 use Rattle.squares.specs.declared.sides.Side.TheVariants.{First, Second}
@@ -15,7 +15,7 @@ use Rattle.csa.specs.declared.end_words.EndWord.TheVariants as word
 use Rattle.csa.specs.declared.faults.CsaFault.{CsaFault}
 use Rattle.csa.specs.declared.faults.CsaFault.TheVariants as fault
 
--- The score that an end claims, by the side to move. An interruption leaves the game unfinished.
+-- The score that an end claims; `turn` is the side to move. An interrupted game has none.
 abbrev pub claimed : EndWord → Side → Option Score
 claimed word.Resigned turn = Some (loses turn)
 claimed word.TimeUp turn = Some (loses turn)
@@ -29,8 +29,8 @@ claimed word.BlackIllegal turn = Some (loses First)
 claimed word.WhiteIllegal turn = Some (loses Second)
 claimed word.Interrupted turn = None
 
--- By the last position and the end that the rules give the moves: a mate stands only where the rules ended the game by
--- no move, a repetition where they ended it as a fourfold one, and a declaration where the side to move may make one.
+-- An end agrees with the rules: a mate or a repetition must be the rules' end of the game, and a declared win must be
+-- allowed in the last position.
 abbrev pub fits_rules : EndWord → ShogiPosition → Option SEnd → Bool
 fits_rules word.Mate p (Some by_rule.NoMove) = true
 fits_rules word.Mate p _ = false
@@ -39,7 +39,7 @@ fits_rules word.Repetition p _ = false
 fits_rules word.Declared p end = can_declare p
 fits_rules _ p end = true
 
--- where the rules ended the game, the score must be theirs
+-- the score is that of the rules, if they ended the game
 abbrev pub agrees : Score → Side → Option SEnd → Bool
 agrees claim turn None = true
 agrees claim turn (Some end) = same_score claim (outcome_of end turn)
@@ -51,12 +51,12 @@ abbrev pub claim_settled : EndWord → Option Score → ShogiPosition → Option
 claim_settled w None p end = Err fault.Unfinished
 claim_settled w (Some claim) p end = settled w claim p end
 
--- the score of a record that ends so, by its last position and by the end that the rules give its moves
+-- the score of a record, by its end, its last position and the end by the rules
 abbrev pub ending : Option EndWord → ShogiPosition → Option SEnd → Result Score CsaFault
 ending None p end = Err fault.Unfinished
 ending (Some w) p end = claim_settled w (claimed w p.turn) p end
 
--- the record ends with a declaration
+-- the record ends with a declared win
 abbrev pub says_declared : Option EndWord → Bool
 says_declared (Some word.Declared) = true
 says_declared _ = false

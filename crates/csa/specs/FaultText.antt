@@ -1,4 +1,4 @@
--- What is said of a text that is refused: the refusal's number, its name, and its numbers.
+-- The text of a fault: its number, its name and its parameters.
 use Rattle.std.specs.Prelude.{ℕ, List, ◌++◌, codes}
 use Rattle.std.specs.Fmt.{decimal}
 use Rattle.csa.specs.declared.faults.CsaFault.{CsaFault}

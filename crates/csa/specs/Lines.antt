@@ -7,18 +7,18 @@ use Rattle.csa.specs.declared.lines.Placed.{Placed}
 use Rattle.csa.specs.declared.statements.Statement.TheVariants as statement
 use Rattle.csa.specs.Statements.{statement_of}
 
--- a line that begins with an apostrophe
+-- a comment begins with an apostrophe
 abbrev pub is_comment : List ℕ → Bool
 is_comment [] = false
 is_comment (c ∷ _) = c == 39
 
--- a line that begins with `$`, `N+` or `N-`
+-- a header begins with `$`, `N+` or `N-`
 abbrev pub is_header : List ℕ → Bool
 is_header [] = false
 is_header (c ∷ []) = c == 36
 is_header (c ∷ d ∷ _) = if c == 36 then true else if c == 78 then d == 43 || d == 45 else false
 
--- the statement of a part of a line: an empty part has none
+-- the statement of a part of a line; an empty part has none
 abbrev pub placed_of : ℕ → List ℕ → List Placed
 placed_of line [] = []
 placed_of line (c ∷ part) = record { line = line; statement = statement_of (c ∷ part) } ∷ []
@@ -27,22 +27,22 @@ abbrev pub placed_all : ℕ → List (List ℕ) → List Placed
 placed_all line [] = []
 placed_all line (part ∷ parts) = placed_of line part ++ placed_all line parts
 
--- The statements of a line. A comment has none, a header is one, and any other line has them between its commas.
+-- The statements of a line: none for a comment, one for a header, else its parts between commas.
 abbrev pub statements_on : ℕ → List ℕ → List Placed
 statements_on line text =
     if is_comment text then []
     else if is_header text then record { line = line; statement = statement.Header } ∷ []
     else placed_all line (slice_split (λ b. b == 44) text)
 
--- the statements of lines, the first of which has that number
+-- the statements of lines, which are numbered from `line`
 abbrev pub statements_from : ℕ → List (List ℕ) → List Placed
 statements_from line [] = []
 statements_from line (text ∷ more) = statements_on line text ++ statements_from (suc line) more
 
--- The statements of a text. Its lines end with a line feed, before which a carriage return may stand.
+-- The statements of a text. A line ends with a line feed and an optional carriage return before it.
 unfoldable pub text_statements : List ℕ → List Placed
 text_statements text = statements_from 1 (lines text)
 
--- the line that a part between line feeds is: the last part has no line feed after it
+-- the line of a part between line feeds; the last part has no line feed, so its carriage return stays
 abbrev pub line_at : List (List ℕ) → ℕ → List ℕ
 line_at parts i = if nat_lt (i + 1) (length parts) then strip_carriage_return (get_or parts i []) else get_or parts i []

@@ -1,4 +1,4 @@
--- The records of a text, and why a text is refused.
+-- The records of a text, and the refusals of texts.
 use Rattle.std.specs.Prelude.{◌≡◌, ◌≢◌, ◌⊎◌, ℕ, not, Bool, true, false, Option, Some, None, List, [], ◌∷◌, ◌++◌}
 use Rattle.std.specs.Prelude.{if◌then◌else◌}
 use Rattle.std.specs.List.{list_any, slice_split}
@@ -21,44 +21,44 @@ abbrev pub is_header_statement : Statement → Bool
 is_header_statement statement.Header = true
 is_header_statement _ = false
 
--- the first statement that is no header
+-- the first statement that is not a header
 abbrev pub first_statement : List Placed → Option Statement
 first_statement [] = None
 first_statement (placed ∷ more) = if is_header_statement placed.statement then first_statement more else Some
     placed.statement
 
--- whether a record has a statement beside headers
+-- whether a record has a statement other than headers
 abbrev pub has_statement : List Placed → Bool
 has_statement placed = list_any (λ each. not (is_header_statement each.statement)) placed
 
--- a last part without a statement is no record
+-- the records without a last part that has no statements
 abbrev pub without_bare_last : List (List Placed) → List (List Placed)
 without_bare_last [] = []
 without_bare_last (part ∷ []) = if has_statement part then part ∷ [] else []
 without_bare_last (part ∷ next ∷ more) = part ∷ without_bare_last (next ∷ more)
 
--- the records that the statements `/` part
+-- the records that `/` separates
 abbrev pub records_of : List Placed → List (List Placed)
 records_of placed = without_bare_last (slice_split (λ each. is_parting each.statement) placed)
 
--- each record is that of a game
+-- the records are those of the games
 abbrev pub AreRecordsOf : List (List Placed) → List CsaGame → Type 0
 AreRecordsOf [] [] = Unit {0}
 AreRecordsOf [] (game ∷ games) = ⊥
 AreRecordsOf (placed ∷ records) [] = ⊥
 AreRecordsOf (placed ∷ records) (game ∷ games) = IsRecordOf placed game × AreRecordsOf records games
 
--- statements that begin with a version and have their forms and their order
+-- the statements begin with a version, are well-formed and are in order
 pub record AreOrdered (placed : List Placed) : Type 0 where
   pub version : first_statement placed ≡ Some statement.Version
   pub order : first_stray place.Start placed ≡ None
 
--- the text is that of records of these games
+-- the text consists of the records of these games
 pub record IsTextOf (text : List ℕ) (games : List CsaGame) : Type 0 where
   pub ordered : AreOrdered (text_statements text)
   pub records : AreRecordsOf (records_of (text_statements text)) games
 
--- the record after those of these games has a fault
+-- the records before this one are those of games, and this one has the fault
 pub record FailsAfter (records : List (List Placed)) (f : CsaFault) : Type 0 where
   pub before : List (List Placed)
   pub failing : List Placed
@@ -68,22 +68,22 @@ pub record FailsAfter (records : List (List Placed)) (f : CsaFault) : Type 0 whe
   pub read : AreRecordsOf before games
   pub fails : RecordFails failing f
 
--- memory was refused, or a record has a fault
+-- out of memory, or a record has the fault
 abbrev pub FailsOrMemory : List (List Placed) → CsaFault → Type 0
 FailsOrMemory records f = (f ≡ fault.Memory) ⊎ FailsAfter records f
 
--- ordered statements, of which the first record that is not that of a game has this fault
+-- the statements are in order, and the first faulty record has the fault
 abbrev pub SomeRecordFails : List Placed → CsaFault → Type 0
 SomeRecordFails placed f = AreOrdered placed × FailsAfter (records_of placed) f
 
--- no statement, or the first that has no form or stands out of order is on this line
+-- no statement, or the first malformed or misplaced one is on this line
 abbrev pub IsBadOn : List Placed → ℕ → Type 0
 IsBadOn placed line =
     ((first_statement placed ≡ None) × (line ≡ 1))
     ⊎ ((first_statement placed ≡ Some statement.Version) × (first_stray place.Start placed ≡ Some line))
 
--- The refusals of statements: a text without any, a first one that is no version, the first that is out of order, and
--- then those of the records, one after another.
+-- The faults of statements: no statement, a first one that is not a version, one that is malformed or misplaced, and
+-- then those of the records in order.
 abbrev pub Refuses : List Placed → CsaFault → Type 0
 Refuses placed fault.Memory = Unit {0}
 Refuses placed (fault.BadText line) = IsBadOn placed line
@@ -94,6 +94,6 @@ Refuses placed fault.Unfinished = SomeRecordFails placed fault.Unfinished
 Refuses placed (fault.AfterEnd ply) = SomeRecordFails placed (fault.AfterEnd ply)
 Refuses placed fault.ResultDiffers = SomeRecordFails placed fault.ResultDiffers
 
--- why a text is refused
+-- the faults of a text
 abbrev pub IsRefused : List ℕ → CsaFault → Type 0
 IsRefused text f = Refuses (text_statements text) f

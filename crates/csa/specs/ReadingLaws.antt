@@ -1,11 +1,11 @@
--- What is proved of reading as a whole.
+-- Properties of the reader.
 use Rattle.std.specs.Prelude.{◌≡◌, ℕ, List, [], ◌∷◌}
 use Rattle.csa.specs.declared.faults.CsaFault.{CsaFault}
 use Rattle.csa.specs.declared.faults.CsaFault.TheVariants as fault
 use Rattle.csa.specs.declared.game.CsaGame.{CsaGame}
 use Rattle.csa.specs.Reading.{IsTextOf, IsRefused}
 
--- two games with the same moves and the same score, both with a declaration or neither
+-- two games with the same moves and score, either both or neither with a declared win
 abbrev pub SameGame : CsaGame → CsaGame → Type 0
 SameGame g h = (g.moves.items ≡ h.moves.items) × (g.score ≡ h.score) × (g.declared ≡ h.declared)
 
@@ -15,11 +15,11 @@ SameGames [] (h ∷ hs) = ⊥
 SameGames (g ∷ gs) [] = ⊥
 SameGames (g ∷ gs) (h ∷ hs) = SameGame g h × SameGames gs hs
 
--- a text is that of one list of games
+-- a text is the text of at most one list of games
 abbrev pub TextsAreOfOne : Type 0
 TextsAreOfOne = (text : List ℕ) (gs hs : List CsaGame) → IsTextOf text gs → IsTextOf text hs → SameGames gs hs
 
--- a text of games is refused for want of memory alone
+-- the only fault of a text of games is out of memory
 abbrev pub TextsOfGamesAreRead : Type 0
 TextsOfGamesAreRead = (text : List ℕ) (gs : List CsaGame) (f : CsaFault) → IsTextOf text gs → IsRefused text f
     → f ≡ fault.Memory

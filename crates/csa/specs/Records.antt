@@ -1,4 +1,4 @@
--- What the record of a game says.
+-- The game of a record.
 use Rattle.std.specs.Prelude.{◌≡◌, Bool, true, false, Option, None, List, [], ◌∷◌, Result, Ok, Err}
 use Rattle.std.specs.List.{list_all}
 use Rattle.squares.specs.declared.sides.Side.TheVariants.{First, Second}
@@ -18,7 +18,7 @@ use Rattle.csa.specs.declared.statements.Statement.TheVariants as statement
 use Rattle.csa.specs.Endings.{ending, says_declared}
 use Rattle.csa.specs.Replays.{written_moves, AreMoves, RefusesMove}
 
--- whether a statement leaves the game its even opening, in which Black begins
+-- whether a statement agrees with the even initial position, in which Black moves first
 abbrev pub is_even : Statement → Bool
 is_even (statement.Opening without_pieces) = without_pieces
 is_even (statement.Row rank even) = even
@@ -30,23 +30,23 @@ is_even _ = true
 abbrev pub begins_even : List Placed → Bool
 begins_even record_is = list_all (λ placed. is_even placed.statement) record_is
 
--- the word of an end, or that of what follows
+-- the end of this statement, or else the end of the statements after it
 abbrev pub end_or : Statement → Option EndWord → Option EndWord
 end_or (statement.End word) after = word
 end_or _ after = after
 
--- how a record says that the game ended: none where it does not, or not in a known word
+-- the end that a record states: None if there is none, or if its keyword is unknown
 abbrev pub end_in : List Placed → Option EndWord
 end_in [] = None
 end_in (placed ∷ more) = end_or placed.statement (end_in more)
 
--- a record of a game from the even opening, of these moves, to which the rules give this end
+-- a record of a game from the even initial position, with these moves and this end by the rules
 pub record Plays (placed : List Placed) (ms : List SMove) (end : Option SEnd) : Type 0 where
   pub even : begins_even placed ≡ true
   pub moves : AreMoves (written_moves placed) ms
   pub ends : EndsSo opening ms end
 
--- the score with which a record of these moves ends
+-- the score of a record with these moves
 abbrev pub score_in : List Placed → List SMove → Option SEnd → Result Score CsaFault
 score_in placed ms end = ending (end_in placed) (last_position opening ms) end
 
@@ -57,14 +57,14 @@ pub record IsRecordOf (placed : List Placed) (game : CsaGame) : Type 0 where
   pub score : score_in placed game.moves.items end ≡ Ok game.score
   pub declared : game.declared ≡ says_declared (end_in placed)
 
--- all moves of the record are played by the rules, and its end has the fault
+-- all moves of the record are legal, and its end has the fault
 pub record EndFails (placed : List Placed) (f : CsaFault) : Type 0 where
   pub moves : List SMove
   pub end : Option SEnd
   pub plays : Plays placed moves end
   pub score : score_in placed moves end ≡ Err f
 
--- The faults of a record: another opening, then a move, then the end.
+-- The faults of a record: another initial position, then a move, then the end.
 abbrev pub RecordFails : List Placed → CsaFault → Type 0
 RecordFails placed fault.Memory = Unit {0}
 RecordFails placed fault.OtherOpening = begins_even placed ≡ false

@@ -1,4 +1,4 @@
--- A replay of written moves.
+-- The state of a replay.
 use Rattle.std.specs.Prelude.{◌≡◌, ◌⊎◌, ◌+◌, List, [], ◌∷◌, ◌++◌, Some, None, length}
 use Rattle.squares.specs.declared.shogi.moves.SMove.{SMove}
 use Rattle.squares.specs.ShogiOpening.{opening}
@@ -18,30 +18,30 @@ use Rattle.csa.specs.declared.replay.Replay.{Replay}
 use Rattle.csa.specs.Moves.{Means, MeanAll}
 use Rattle.csa.specs.Replays.{written_in, RefusesNext}
 
--- The position and the marks of a replay are those of its moves.
+-- The position and the repetition marks of a replay are those of its moves.
 pub record IsConsistent (replay : Replay) : Type 0 where
   pub follows : Follows opening replay.moves.items replay.marks
   pub position : replay.position ≡ last_position opening replay.moves.items
 
--- the moves grew by one that the written move means
+-- the moves are extended by one that the written move denotes
 pub record GrowsBy (w : WrittenMove) (old new : List SMove) : Type 0 where
   pub made : SMove
   pub grown : new ≡ old ++ made ∷ []
   pub means : Means (last_position opening old) w made
 
--- whatever the moves so far were written as, they are now written with this statement more
+-- if written moves denote the old moves, then those with this statement denote the new ones
 abbrev pub GrowsWith : Statement → List SMove → List SMove → Type 0
 GrowsWith s old new = (ws : List WrittenMove) → MeanAll opening ws old → MeanAll opening (ws ++ written_in s) new
 
--- memory was refused, or the written move is
+-- out of memory, or the written move is refused
 abbrev pub RefusesWritten : List SMove → WrittenMove → CsaFault → Type 0
 RefusesWritten ms w f = (f ≡ fault.Memory) ⊎ RefusesNext ms w f
 
--- memory was refused, or the move of the statement is
+-- out of memory, or the move of the statement is refused
 abbrev pub RefusesIn : List SMove → Statement → CsaFault → Type 0
 RefusesIn ms s f = (f ≡ fault.Memory) ⊎ ((w : WrittenMove) × (written_in s ≡ w ∷ []) × RefusesNext ms w f)
 
--- memory was refused, or the move of the position is: the game has ended, or the move breaks a rule
+-- out of memory, or the move is refused: the game has ended, or the move is illegal
 abbrev pub RefusesMade : List SMove → SMove → CsaFault → Type 0
 RefusesMade ms m fault.Memory = Unit {0}
 RefusesMade ms m (fault.AfterEnd ply) = (ply ≡ length ms + 1) × (end : SEnd) × EndsSo opening ms (Some end)

@@ -1,4 +1,4 @@
--- The moves of a record, from the opening of the game.
+-- The moves of a record from the initial position.
 use Rattle.std.specs.Prelude.{◌≡◌, ◌⊎◌, ◌+◌, List, [], ◌∷◌, ◌++◌, Some, None, length}
 use Rattle.squares.specs.declared.shogi.moves.SMove.{SMove}
 use Rattle.squares.specs.ShogiSets.{ShogiPosition}
@@ -22,30 +22,30 @@ abbrev pub written_in : Statement → List WrittenMove
 written_in (statement.Move w) = w ∷ []
 written_in _ = []
 
--- the moves that a record writes
+-- the written moves of a record
 abbrev pub written_moves : List Placed → List WrittenMove
 written_moves [] = []
 written_moves (placed ∷ more) = written_in placed.statement ++ written_moves more
 
--- The written moves mean these moves of a game from the opening: each is legal in its position, and none comes after
--- the end.
+-- The written moves denote these moves of a game from the initial position: each is legal, and none follows the end of
+-- the game.
 pub record AreMoves (ws : List WrittenMove) (ms : List SMove) : Type 0 where
   pub mean : MeanAll opening ws ms
   pub played : IsPlayed opening ms (length ms)
 
--- the written move means a move that breaks this rule first, or it means no move of the position
+-- the written move denotes a move that is illegal for this reason first, or it denotes no move of the position
 abbrev pub BreaksRule : ShogiPosition → WrittenMove → Illegal → Type 0
 BreaksRule p w cause = ((m : SMove) × Means p w m × FirstBroken p m cause)
     ⊎ ((cause ≡ illegal.NoSuchMove) × ((m : SMove) → Means p w m → ⊥))
 
--- After written moves that mean these, the next is refused: the game has ended, whatever it means, or it breaks a rule.
+-- The next written move after these moves is refused: the game has ended, or the move is illegal.
 abbrev pub RefusesNext : List SMove → WrittenMove → CsaFault → Type 0
 RefusesNext ms w (fault.AfterEnd ply) = (ply ≡ length ms + 1) × (end : SEnd) × EndsSo opening ms (Some end)
 RefusesNext ms w (fault.Illegal ply cause) = (ply ≡ length ms + 1) × EndsSo opening ms None
     × BreaksRule (last_position opening ms) w cause
 RefusesNext ms w _ = ⊥
 
--- one of the written moves is refused, and those before it mean moves of a game
+-- one of the written moves is refused, and those before it denote moves of a game
 pub record RefusesMove (ws : List WrittenMove) (fault : CsaFault) : Type 0 where
   pub before : List WrittenMove
   pub refused : WrittenMove
@@ -55,6 +55,6 @@ pub record RefusesMove (ws : List WrittenMove) (fault : CsaFault) : Type 0 where
   pub played : AreMoves before moves
   pub refuses : RefusesNext moves refused fault
 
--- memory was refused, or one of the written moves is
+-- out of memory, or one of the written moves is refused
 abbrev pub RefusesMoves : List WrittenMove → CsaFault → Type 0
 RefusesMoves ws f = (f ≡ fault.Memory) ⊎ RefusesMove ws f

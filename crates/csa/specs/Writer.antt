@@ -15,21 +15,21 @@ use Rattle.csa.specs.declared.game_writer.GameWriter.{GameWriter}
 use Rattle.csa.specs.Writing.{head_text, entries_text}
 use Rattle.csa.specs.WrittenGame.{IsGameText}
 
--- the lines before the moves, with what a clock shows at the start
+-- the lines before the moves; `at` is the civil time of the start
 unfoldable pub lines_text : CsaHead → CivilTime → List ℕ
 lines_text head at = head_text head.event.now head.black.now head.white.now at
 
--- the text of a game up to the last of these moves, with no end
+-- the text of a game up to the last of these moves, without an end
 abbrev pub text_up_to : CsaHead → List (SMove × ℕ) → CivilTime → List ℕ
 text_up_to head entries at = lines_text head at ++ entries_text opening entries
 
--- To the bytes from before a beginning of the text was added, with what a clock in UTC shows at the start.
+-- Since `before` the writer has received a prefix of the text; `at` is the civil time in UTC of the start.
 pub record HasBegun (start : ℕ) (text : CivilTime → List ℕ) (before now : Option (List ℕ)) : Type 0 where
   pub at : CivilTime
   pub shown : IsCivil start at
   pub begun : AppendsSome before now (text at)
 
--- To the bytes from before the head and these moves were added, which a writer has now; and the game stands after them.
+-- Since `before` the writer has received the head and these moves, and the state of the game is the one after them.
 pub record HasWritten (head : CsaHead) (entries : List (SMove × ℕ)) (before now : Option (List ℕ))
     (game : GameWriter) : Type 0 where
   pub at : CivilTime
@@ -38,69 +38,68 @@ pub record HasWritten (head : CsaHead) (entries : List (SMove × ℕ)) (before n
   pub position : game.position ≡ last_position opening (map (λ e. e.0) entries)
   pub end : game.end ≡ head.end
 
--- the move is legal after those that are written
+-- the move is legal after the written ones
 abbrev pub MayFollow : GameWriter → SMove → Type 0
 MayFollow game m = Legal game.position m
 
--- the end of the game fits the position after the moves that are written: a declaration needs one in which the side to
--- move may make it
+-- the end of the game agrees with the position after the written moves: a declared win must be allowed there
 abbrev pub MayEnd : GameWriter → Type 0
 MayEnd game = game.end ≡ Some csa_end.Declared → CanDeclare game.position
 
--- whatever was written, one move more is
+-- whatever was written before, one more move is written now
 abbrev pub AddsEntry : SMove × ℕ → GameWriter → GameWriter → Option (List ℕ) → Option (List ℕ) → Type 0
 AddsEntry entry old new held now =
     (head : CsaHead) (before : Option (List ℕ)) (entries : List (SMove × ℕ)) → HasWritten head entries before held old →
     HasWritten head (entries ++ entry ∷ []) before now new
 
--- whatever was written, now it is a beginning of the text up to one move more
+-- whatever was written before, a prefix of the text with one more move is written now
 abbrev pub BeginsEntry : SMove × ℕ → GameWriter → Option (List ℕ) → Option (List ℕ) → Type 0
 BeginsEntry entry game held now =
     (head : CsaHead) (before : Option (List ℕ)) (entries : List (SMove × ℕ)) →
     HasWritten head entries before held game →
     HasBegun head.start (text_up_to head (entries ++ entry ∷ [])) before now
 
--- whatever was written, the game stands where it stood
+-- whatever was written before, the state of the game is unchanged
 abbrev pub StandsStill : GameWriter → GameWriter → Type 0
 StandsStill old new =
     (head : CsaHead) (before held : Option (List ℕ)) (entries : List (SMove × ℕ))
     → HasWritten head entries before held old →
     HasWritten head entries before held new
 
--- the one text of the game was added
+-- the writer has received the whole text of the game
 abbrev pub AddsGame : CsaHead → List (SMove × ℕ) → Option (List ℕ) → Option (List ℕ) → Type 0
 AddsGame head entries before now =
     (text : List ℕ) × IsGameText head.event.now head.black.now head.white.now head.start head.end entries text ×
     Appends before now text
 
--- a beginning of the one text of the game was added
+-- the writer has received a prefix of the whole text of the game
 abbrev pub BeginsGame : CsaHead → List (SMove × ℕ) → Option (List ℕ) → Option (List ℕ) → Type 0
 BeginsGame head entries before now =
     (text : List ℕ) × IsGameText head.event.now head.black.now head.white.now head.start head.end entries text ×
     AppendsSome before now text
 
--- whatever was written, with the end it is the one text of the game
+-- whatever was written before, the whole text of the game is written now
 abbrev pub Finishes : GameWriter → Option (List ℕ) → Option (List ℕ) → Type 0
 Finishes game held now =
     (head : CsaHead) (before : Option (List ℕ)) (entries : List (SMove × ℕ)) → HasWritten head entries before held game
     →
     AddsGame head entries before now
 
--- whatever was written, now it is a beginning of the one text of the game
+-- whatever was written before, a prefix of the whole text of the game is written now
 abbrev pub BeginsEnd : GameWriter → Option (List ℕ) → Option (List ℕ) → Type 0
 BeginsEnd game held now =
     (head : CsaHead) (before : Option (List ℕ)) (entries : List (SMove × ℕ)) → HasWritten head entries before held game
     →
     BeginsGame head entries before now
 
--- a beginning of the lines before the moves begins each game with them
+-- a prefix of the lines before the moves is a prefix of each game with these lines
 abbrev pub LinesBeginGames : Type 0
 LinesBeginGames =
     (head : CsaHead) (entries : List (SMove × ℕ)) (before now : Option (List ℕ))
     → HasBegun head.start (lines_text head) before now →
     BeginsGame head entries before now
 
--- a beginning of the text up to some moves begins each game that goes on from them
+-- a prefix of the text up to some moves is a prefix of each game that continues them
 abbrev pub MovesBeginGames : Type 0
 MovesBeginGames =
     (head : CsaHead) (entries more : List (SMove × ℕ)) (before now : Option (List ℕ))

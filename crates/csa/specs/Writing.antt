@@ -1,4 +1,4 @@
--- The one text of a game.
+-- The parts of the unique text of a game.
 use Rattle.std.specs.Prelude.{ℕ, ◌+◌, ◌/◌, ◌%◌, Option, Some, None, List, [], ◌∷◌, ◌++◌, codes, unsigned_abs}
 use Rattle.std.specs.Option.{option_map_or}
 use Rattle.std.specs.Fmt.{decimal}
@@ -26,22 +26,23 @@ use Rattle.csa.specs.EndWords.{word_text}
 abbrev pub line_of : List ℕ → List ℕ → List ℕ
 line_of name value = name ++ (value ++ 10 ∷ [])
 
--- the last two digits of a number
+-- the last two decimal digits of a number
 abbrev pub two_digits : ℕ → List ℕ
 two_digits n = (48 + n / 10 % 10) ∷ (48 + n % 10) ∷ []
 
--- a sign and two digits
+-- a separator and two digits
 abbrev pub then_two : ℕ → ℕ → List ℕ
 then_two sign n = sign ∷ two_digits n
 
--- `YYYY/MM/DD HH:MM:SS`
+-- `YYYY/MM/DD hh:mm:ss`
 abbrev pub date_text : CivilTime → List ℕ
 date_text at =
     two_digits (unsigned_abs at.year / 100) ++
     (two_digits (unsigned_abs at.year) ++ (then_two 47 at.month ++ (then_two 47 at.day ++
     (then_two 32 at.hour ++ (then_two 58 at.minute ++ then_two 58 at.second)))))
 
--- the lines before the moves: the version, the players, the event, the start, the even opening, and Black, who begins
+-- the lines before the moves: version, players, event, start, even initial position, and Black as the side to move
+-- first
 abbrev pub head_text : List ℕ → List ℕ → List ℕ → CivilTime → List ℕ
 head_text event black white at =
     line_of (codes "V2.2") []
@@ -55,12 +56,12 @@ side_sign Second = 45
 abbrev pub square_text : ℕ → List ℕ
 square_text n = (48 + file_of n) ∷ (48 + rank_of n) ∷ []
 
--- from where a move goes: two zeros for a hand
+-- the origin of a move, `00` for a drop
 abbrev pub source_text : SMove → List ℕ
 source_text (Step from to promote) = square_text from
 source_text (Drop kind to) = codes "00"
 
--- where a move goes to, and what the piece is then
+-- the destination of a move, and the code of the piece after it
 abbrev pub target_text : ShogiPosition → SMove → List ℕ
 target_text p (Step from to promote) = square_text to ++ option_map_or (λ piece. code_of (arrived piece promote).role)
     (map.get p.board from) []
@@ -69,7 +70,7 @@ target_text p (Drop kind to) = square_text to ++ code_of (dropped_role kind)
 abbrev pub move_text : ShogiPosition → SMove → List ℕ
 move_text p m = side_sign p.turn ∷ [] ++ (source_text m ++ target_text p m)
 
--- a move and its seconds
+-- a move and its time in seconds
 abbrev pub entry_text : ShogiPosition → SMove → ℕ → List ℕ
 entry_text p m seconds = line_of (move_text p m) [] ++ line_of (codes "T") (decimal seconds)
 
@@ -77,7 +78,7 @@ abbrev pub entries_text : ShogiPosition → List (SMove × ℕ) → List ℕ
 entries_text p [] = []
 entries_text p (e ∷ more) = entry_text p e.0 e.1 ++ entries_text (play p e.0) more
 
--- the word of a score that a record says, by the side to move
+-- the end that expresses a recorded score; `turn` is the side to move
 abbrev pub recorded_word : Score → Side → EndWord
 recorded_word score.Draw turn = word.Draw
 recorded_word score.SecondWins First = word.Resigned
@@ -92,7 +93,7 @@ rule_word (by_rule.PerpetualCheck Second) = word.WhiteIllegal
 rule_word by_rule.Fourfold = word.Repetition
 rule_word by_rule.PlyLimit = word.Impasse
 
--- the word of an end, by the side to move: a game that goes on is interrupted
+-- the `%` statement of an end; `turn` is the side to move, and a running game counts as interrupted
 abbrev pub word_of : Option CsaEnd → Side → EndWord
 word_of None turn = word.Interrupted
 word_of (Some (csa_end.Rule end)) turn = rule_word end

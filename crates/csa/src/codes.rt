@@ -1,10 +1,10 @@
-//! The codes of pieces, and squares by two digits.
+//! The two-letter codes of pieces, and squares as two digits.
 ghost use Rattle.std.specs.Prelude.{◌≡◌, ◌<◌};
 ghost use Rattle.csa.specs.Codes.{role_of, code_of, is_digit, is_place, square_of};
 
 use squares::{Role, Ssq};
 
-/// What a piece is by the two letters of its code.
+/// The role of a piece with this two-letter code.
 pub fn role_of(first: u8, second: u8) -> Option<Role>
     ensures { result ≡ role_of first second }
 {
@@ -27,7 +27,7 @@ pub fn role_of(first: u8, second: u8) -> Option<Role>
     }
 }
 
-/// The code of a piece.
+/// The two-letter code of a piece's role.
 pub fn code_of(role: Role) -> &'static str
     ensures { result.now ≡ code_of role }
 {
@@ -49,21 +49,21 @@ pub fn code_of(role: Role) -> &'static str
     }
 }
 
-/// Whether a byte is a digit.
+/// Whether a byte is a decimal digit.
 pub fn is_digit(byte: u8) -> bool
     ensures { result ≡ is_digit byte }
 {
     byte >= b'0' && byte <= b'9'
 }
 
-/// Whether a byte is a digit from 1 on, as files and ranks are.
+/// Whether a byte is a digit from 1 to 9, as files and ranks are.
 pub fn is_place(byte: u8) -> bool
     ensures { result ≡ is_place byte }
 {
     byte >= b'1' && byte <= b'9'
 }
 
-/// The square of a file's and a rank's digit.
+/// The square with these digits of file and rank.
 pub fn square_of(file: u8, rank: u8) -> Option<Ssq>
     ensures { result ≡ square_of file rank }
 {

@@ -1,9 +1,9 @@
-//! The statements that end a record.
+//! The `%` statements that end a record.
 ghost use Rattle.std.specs.Prelude.{◌≡◌, find};
 ghost use Rattle.std.specs.Str.{bytes_eq};
 ghost use Rattle.csa.specs.EndWords.{word_text, end_word};
 
-/// How a record says that its game ended.
+/// The end of a game as its record states it.
 #[derive(Clone, Copy, Debug, PartialEq, Eq)]
 pub enum EndWord {
     /// The side to move resigned.
@@ -14,9 +14,9 @@ pub enum EndWord {
     IllegalMove,
     /// The side to move is mated.
     Mate,
-    /// The side to move declared that its king has entered the enemy's camp, and won.
+    /// The side to move declared a win by entering king.
     Declared,
-    /// The position stands for the fourth time.
+    /// Fourfold repetition.
     Repetition,
     /// A draw by impasse.
     Impasse,
@@ -31,7 +31,7 @@ pub enum EndWord {
 }
 
 impl EndWord {
-    /// All of them.
+    /// All ends.
     pub const ALL: [EndWord; 11] = [
         EndWord::Resigned,
         EndWord::TimeUp,
@@ -46,7 +46,7 @@ impl EndWord {
         EndWord::Interrupted,
     ];
 
-    /// The statement as it is written.
+    /// The text of the statement.
     pub fn text(self) -> &'static str
         ensures { result.now ≡ word_text self }
     {
@@ -66,14 +66,14 @@ impl EndWord {
     }
 }
 
-// Whether a statement is that of the word.
+// Whether a text is exactly the statement of an end.
 fn is_written(word: EndWord, text: &[u8]) -> bool
     ensures { result ≡ bytes_eq text.now (word_text word) }
 {
     text == word.text().as_bytes()
 }
 
-/// The word of a statement, or none where it is none of the words.
+/// The end that a statement names, or `None` if it is none of them.
 pub fn end_word(text: &[u8]) -> Option<EndWord>
     ensures { result ≡ end_word text.now }
 {

@@ -1,4 +1,4 @@
-//! What the end of a record says of the score.
+//! The score of a game by the end of its record and by the rules.
 ghost use Rattle.std.specs.Prelude.{◌≡◌};
 ghost use Rattle.csa.specs.Endings.{claimed, fits_rules, agrees, settled, ending, says_declared};
 
@@ -8,7 +8,7 @@ use shogi_moves::can_declare;
 use shogi_repetition::SEnd;
 use squares::{SPos, Score, Side};
 
-// The score that an end claims, by the side to move, or none where it leaves the game unfinished.
+// The score that an end claims; `turn` is the side to move. An interrupted game has none.
 fn claimed(word: EndWord, turn: Side) -> Option<Score>
     ensures { result ≡ claimed word turn }
 {
@@ -24,8 +24,8 @@ fn claimed(word: EndWord, turn: Side) -> Option<Score>
     }
 }
 
-// Whether the rules ended the game so, where the end says that they did, and whether the side to move may declare,
-// where the end says that it did.
+// Whether an end agrees with the rules: a mate or a repetition must be the rules' end, and a declared win must be
+// allowed in the position.
 fn fits_rules(word: EndWord, position: &SPos, end: Option<SEnd>) -> bool
     ensures { result ≡ fits_rules word position.now end }
 {
@@ -43,7 +43,7 @@ fn fits_rules(word: EndWord, position: &SPos, end: Option<SEnd>) -> bool
     }
 }
 
-// Whether the score is that of the rules, where they ended the game.
+// Whether the score equals that of the rules, if they ended the game.
 fn agrees(score: Score, turn: Side, end: Option<SEnd>) -> bool
     ensures { result ≡ agrees score turn end }
 {
@@ -53,7 +53,7 @@ fn agrees(score: Score, turn: Side, end: Option<SEnd>) -> bool
     }
 }
 
-// The score of a claim, if it differs from nothing that the rules say.
+// The claimed score, if it agrees with the rules.
 fn settle(
     word: EndWord,
     score: Score,
@@ -68,7 +68,7 @@ fn settle(
     Err(CsaFault::ResultDiffers)
 }
 
-/// Whether a record ends with a declaration.
+/// Whether a record ends with a declared win.
 pub fn says_declared(word: Option<EndWord>) -> bool
     ensures { result ≡ says_declared word }
 {
@@ -78,7 +78,11 @@ pub fn says_declared(word: Option<EndWord>) -> bool
     }
 }
 
-/// The score that a record ends with, by its last position and the end that the rules give its moves.
+/// The score of a record, given its last position and the end by the rules.
+///
+/// # Errors
+///
+/// `CsaFault::Unfinished` without a score; `CsaFault::ResultDiffers` if it disagrees with the rules.
 pub fn ending(word: Option<EndWord>, position: &SPos, end: Option<SEnd>) -> Result<Score, CsaFault>
     ensures { result ≡ ending word position.now end }
 {

@@ -1,4 +1,4 @@
-//! Why a text is refused.
+//! The errors of the reader.
 
 ghost use Rattle.std.specs.Prelude.{◌≡◌};
 ghost use Rattle.csa.specs.Causes.{cause_number};
@@ -8,28 +8,28 @@ use std::alloc::{AllocError, AllocFailed};
 use std::error::Error;
 use std::fmt;
 
-/// Why a text is refused. Lines and plies count from 1.
+/// The reason why a text is refused. Lines and plies count from 1.
 #[derive(Clone, Copy, Debug, PartialEq, Eq)]
 pub enum CsaFault {
-    /// Memory was refused.
+    /// Out of memory.
     Memory,
-    /// The text has no statement, or one that has no form or stands out of order: the first such is on this line.
+    /// The text has no statement, or the first malformed or misplaced statement is on this line.
     BadText { line: usize },
-    /// The first statement is none of the versions 2, 2.1 and 2.2.
+    /// The first statement is not one of the versions 2, 2.1 and 2.2.
     Version,
-    /// The game begins otherwise than a game of the club.
+    /// The game does not begin from the even initial position with Black to move.
     OtherOpening,
-    /// The move of this ply is not legal, and why.
+    /// The move of this ply is illegal, with the reason.
     Illegal { ply: usize, cause: Illegal },
-    /// The record does not say how the game ended.
+    /// The record does not state how the game ended.
     Unfinished,
-    /// The game had ended before this ply.
+    /// The rules had ended the game before this ply.
     AfterEnd { ply: usize },
-    /// The record ends otherwise than the rules say.
+    /// The result differs from that of the rules.
     ResultDiffers,
 }
 
-// The number of a cause.
+// The club's number of the reason why a move is illegal.
 fn cause_number(cause: Illegal) -> u8
     ensures { result ≡ cause_number cause }
 {

@@ -1,4 +1,4 @@
-//! Games as texts.
+//! Writer of a whole game.
 ghost use Rattle.std.specs.Prelude.{◌≡◌, ◌++◌, IfOk, OnOk, length, map, string_bytes};
 ghost use Rattle.squares.specs.ShogiOpening.{opening};
 ghost use Rattle.shogi_repetition.specs.Line.{last_position};
@@ -13,7 +13,7 @@ use shogi_moves::{Memory, play};
 use squares::{SMove, SPos, Side};
 use std::alloc::Global;
 
-// Adds moves with their seconds, and says who is to move after them.
+// Appends moves with their times in seconds; returns the side to move after them.
 fn push_entries(text: &mut String, entries: &[(SMove, u64)]) -> Result<Side, Memory>
     requires { IsPlayed opening (map (λ e. e.0) entries.now) (length entries.now) }
     ensures written { OnOk result
@@ -30,9 +30,11 @@ fn push_entries(text: &mut String, entries: &[(SMove, u64)]) -> Result<Side, Mem
     Ok(position.turn())
 }
 
-/// The text of a game, each move with its seconds, in the standard format of the Computer Shogi Association.
+/// Writes a game as CSA text; each entry is a move and the time that it took, in seconds.
 ///
-/// It fails where memory is refused, and then alone.
+/// # Errors
+///
+/// `Memory` if out of memory.
 pub fn write_game(alloc: Global, head: &CsaHead, entries: &[(SMove, u64)]) -> Result<String, Memory>
     requires played { IsPlayed opening (map (λ e. e.0) entries.now) (length entries.now) }
     requires end { FitsEnd head.now.end (map (λ e. e.0) entries.now) }

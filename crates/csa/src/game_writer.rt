@@ -1,4 +1,4 @@
-//! Games written move by move.
+//! Incremental writer of a game, move by move.
 
 ghost use Rattle.std.specs.Prelude.{◌≡◌, ◌↔◌, [], IsTrue, IfOk, OnOk, OnErr};
 
@@ -11,9 +11,10 @@ use squares::{SMove, SPos};
 use std::alloc::Global;
 use std::io::Write;
 
-/// A game on its way to a writer, in the standard format of the Computer Shogi Association: what stands before the
-/// moves and so many of the moves are written. It holds the text of one move at a time. The writer is lent to each
-/// call, so that its owner has it also where a call fails; what was written then is a beginning of the game's text.
+/// A game that is being written as CSA text: its head and some of its moves are written.
+///
+/// It holds the text of one move at a time. Each call borrows the writer, so its owner keeps it if a call fails; the
+/// writer then holds a prefix of the game's text.
 #[derive(Drop)]
 pub struct GameWriter {
     position: SPos,
@@ -26,7 +27,15 @@ impl GameWriter {
     ghost use Rattle.csa.specs.Writer.{StandsStill};
     ghost use Rattle.csa.specs.Writer.{Finishes, BeginsEnd};
 
-    /// Writes what stands before the moves.
+    /// Writes the lines before the moves.
+    ///
+    /// # Errors
+    ///
+    /// `WriteFault::Memory` if out of memory, with nothing written; `WriteFault::Writer` if the writer fails.
+    ///
+    /// # Guarantees
+    ///
+    /// `begun`: after any failure the writer holds a prefix of these lines.
     pub fn start<W: Write>(
         alloc: Global,
         head: &CsaHead,
@@ -47,8 +56,15 @@ impl GameWriter {
         })
     }
 
-    /// Writes the next move, which is legal after those before it, and the seconds that it took. Where it fails, the
-    /// game stands where it stood: on a writer that is put back to what it held, the move can be written again.
+    /// Writes the next move, which is legal after the moves before it, and its time in seconds.
+    ///
+    /// # Errors
+    ///
+    /// `WriteFault::Memory` if out of memory, with nothing written; `WriteFault::Writer` if the writer fails.
+    ///
+    /// # Guarantees
+    ///
+    /// `still`: after a failure the game is unchanged, so the move can be written again once the writer is rewound.
     pub fn push<W: Write>(
         &mut self,
         writer: &mut W,
@@ -69,8 +85,8 @@ impl GameWriter {
         Ok(())
     }
 
-    /// Whether the end of the game fits the moves that are written: a declaration needs a position after them in which
-    /// the side to move may make it.
+    /// Whether the end of the game agrees with the moves that are written: a declared win must be allowed in the last
+    /// position.
     pub fn may_end(&self) -> bool
         ensures { IsTrue result ↔ MayEnd self.now }
     {
@@ -80,8 +96,11 @@ impl GameWriter {
         }
     }
 
-    /// Writes the end: what was written is the one text of the game. A declaration is written only where the side to
-    /// move may make one.
+    /// Writes the end of the game, which completes its text.
+    ///
+    /// # Errors
+    ///
+    /// `WriteFault::Memory` if out of memory, with nothing written; `WriteFault::Writer` if the writer fails.
     pub fn finish<W: Write>(self, writer: &mut W) -> Result<(), WriteFault>
         requires { MayEnd self }
         ensures written { OnOk result (Finishes self (W.contents writer.old) (W.contents writer.new)) }

@@ -1,10 +1,10 @@
-//! What stands round the moves of a written game.
+//! The head and the end of a record that is written.
 
 use clocks::Moment;
 use shogi_repetition::SEnd;
 use squares::Score;
 
-/// How a game ended.
+/// The end of a game.
 #[derive(Clone, Copy, Debug, PartialEq, Eq)]
 pub enum CsaEnd {
     /// By the rules.
@@ -13,14 +13,14 @@ pub enum CsaEnd {
     Resigned,
     /// The side to move ran out of time.
     Time,
-    /// The side to move declared that it had won.
+    /// The side to move declared a win.
     Declared,
-    /// As a record said.
+    /// The score that an imported record states.
     Recorded(Score),
 }
 
-/// What a record says beside the moves: the event, the players, the moment of the start, and the end, or none where the
-/// game goes on.
+/// The content of a record except its moves: event, players, start time (Unix seconds), and end (`None` while the game
+/// is running).
 #[derive(Clone, Copy)]
 pub struct CsaHead<'a> {
     pub event: &'a str,

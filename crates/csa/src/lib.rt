@@ -1,4 +1,6 @@
-//! Records of shogi as texts: the standard record file of the Computer Shogi Association, version 2.2.
+//! Reader and writer of records of shogi games in the standard format of the Computer Shogi Association (CSA).
+//!
+//! Follows CSA V2.2: <http://www2.computer-shogi.org/protocol/record_v22.html>.
 #![tactic(auto)]
 
 pub mod codes;

@@ -1,4 +1,4 @@
-//! The statements of a text, line by line.
+//! Splitting of a text into statements, line by line.
 ghost use Rattle.std.specs.Prelude.{◌≡◌, ◌+◌, ◌++◌, ◌<◌, ◌==◌, IfOk, OnOk, map, length};
 ghost use Rattle.std.specs.List.{slice_split};
 ghost use Rattle.std.specs.Str.Lines.{strip_carriage_return, lines_of_parts};
@@ -9,21 +9,21 @@ use crate::statements::{Statement, statement_of};
 use shogi_moves::Memory;
 use std::alloc::{AllocError, Global};
 
-/// A statement, and the line on which it stands, from 1.
+/// A statement and its line, counted from 1.
 #[derive(Clone, Copy, Debug, PartialEq, Eq)]
 pub struct Placed {
     pub line: usize,
     pub statement: Statement,
 }
 
-// The parts of a text between the bytes that are such.
+// Splits a text at a byte.
 fn parts_of(alloc: Global, text: &[u8], byte: u8) -> Result<Vec<&[u8]>, AllocError>
     ensures { IfOk result (λ parts. map (λ x. x.now) parts.items ≡ slice_split (λ b. b == byte) text.now) }
 {
     text.split(|b| *b == byte).collect(alloc)
 }
 
-// A line without the carriage return at its end, if it has one.
+// The line without the carriage return at its end, if it has one.
 fn without_return(line: &[u8]) -> &[u8]
     ensures { result.now ≡ strip_carriage_return line.now }
 {
@@ -43,7 +43,7 @@ fn is_comment(line: &[u8]) -> bool
     }
 }
 
-// Whether a line is a header.
+// Whether a line is a header: a player's name or a `$` keyword.
 fn is_header(line: &[u8]) -> bool
     ensures { result ≡ is_header line.now }
 {
@@ -54,7 +54,7 @@ fn is_header(line: &[u8]) -> bool
     }
 }
 
-// Adds the statement of a part of a line. An empty part has none.
+// Appends the statement of a part of a line; an empty part has none.
 fn push_part(placed: &mut Vec<Placed>, line: usize, part: &[u8]) -> Result<(), Memory>
     ensures { OnOk result (placed.new.items ≡ placed.old.items ++ placed_of line part.now) }
 {
@@ -68,7 +68,7 @@ fn push_part(placed: &mut Vec<Placed>, line: usize, part: &[u8]) -> Result<(), M
     Ok(())
 }
 
-// Adds the statements of the parts of a line.
+// Appends the statements of the parts of a line.
 fn push_parts(placed: &mut Vec<Placed>, line: usize, parts: &[&[u8]]) -> Result<(), Memory>
     ensures { OnOk result (placed.new.items
         ≡ placed.old.items ++ placed_all line (map (λ x. x.now) parts.now)) }
@@ -79,7 +79,7 @@ fn push_parts(placed: &mut Vec<Placed>, line: usize, parts: &[&[u8]]) -> Result<
     Ok(())
 }
 
-// Adds the statements of a line.
+// Appends the statements of a line.
 fn push_line(
     alloc: Global,
     placed: &mut Vec<Placed>,
@@ -103,7 +103,7 @@ fn push_line(
     Ok(())
 }
 
-// The line of a part between line feeds. The last part has no line feed after it.
+// The line of a part between line feeds. The last part has no line feed, so its carriage return stays.
 fn line_at<'a>(parts: &[&'a [u8]], i: usize) -> &'a [u8]
     requires { i < length parts.now }
     ensures { result.now ≡ line_at (map (λ x. x.now) parts.now) i }
@@ -114,7 +114,7 @@ fn line_at<'a>(parts: &[&'a [u8]], i: usize) -> &'a [u8]
     parts[i]
 }
 
-// Adds the statements of lines.
+// Appends the statements of lines.
 fn push_lines(alloc: Global, placed: &mut Vec<Placed>, parts: &[&[u8]]) -> Result<(), Memory>
     ensures { OnOk result (placed.new.items
         ≡ placed.old.items ++ statements_from 1 (lines_of_parts (map (λ x. x.now) parts.now))) }
@@ -125,7 +125,11 @@ fn push_lines(alloc: Global, placed: &mut Vec<Placed>, parts: &[&[u8]]) -> Resul
     Ok(())
 }
 
-/// The statements of a text, each with its line.
+/// Splits a text into statements with their lines.
+///
+/// # Errors
+///
+/// `Memory` if out of memory.
 pub fn statements_of(alloc: Global, text: &[u8]) -> Result<Vec<Placed>, Memory>
     ensures { IfOk result (λ placed. placed.items ≡ text_statements text.now) }
 {

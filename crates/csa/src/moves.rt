@@ -1,4 +1,4 @@
-//! The moves that written moves mean.
+//! Translation of written moves into moves of a position.
 ghost use Rattle.std.specs.Prelude.{◌≡◌, ◌↔◌, IsTrue, IfSome, IfNone, Bool};
 ghost use Rattle.squares.specs.declared.shogi.moves.SMove.{SMove};
 ghost use Rattle.squares.specs.declared.shogi.piece.HandKind.{HandKind};
@@ -20,7 +20,7 @@ fn is_same_side(one: Side, other: Side) -> bool
     one == other
 }
 
-// Whether a piece that has this code after a step promoted in it, or none where it cannot have it.
+// Whether a piece promotes in a step after which the record names it by this code; `None` if neither fits.
 fn promotion_of(piece: SPiece, code: Role) -> Option<bool>
     ensures some { IfSome result (λ promote. CodedAs piece promote code) }
     ensures none { IfNone result ((promote : Bool) → CodedAs piece promote code → ⊥) }
@@ -39,7 +39,7 @@ fn promotion_of(piece: SPiece, code: Role) -> Option<bool>
     }
 }
 
-// Whether the step from a square that has this code promotes, or none where no piece there has it.
+// Whether the step from a square promotes, by the code after it; `None` if no piece there matches the code.
 fn step_promotes(position: &SPos, from: Ssq, code: Role) -> Option<bool>
     ensures some { IfSome result (λ promote. StepsAs position.now from promote code) }
     ensures none { IfNone result ((promote : Bool) → StepsAs position.now from promote code → ⊥) }
@@ -50,7 +50,7 @@ fn step_promotes(position: &SPos, from: Ssq, code: Role) -> Option<bool>
     }
 }
 
-// The kind in a hand that has this code.
+// The kind of piece in hand with this code.
 fn kind_of(code: Role) -> Option<HandKind>
     ensures some { IfSome result (λ kind. code ≡ dropped_role kind) }
     ensures none { IfNone result ((kind : HandKind) → code ≡ dropped_role kind → ⊥) }
@@ -67,7 +67,7 @@ fn kind_of(code: Role) -> Option<HandKind>
     }
 }
 
-/// The move that a written move means in a position, if it means one.
+/// The move that a written move denotes in a position, if any. The move may be illegal.
 pub fn move_in(position: &SPos, written: &WrittenMove) -> Option<SMove>
     ensures some { IfSome result (λ played. Means position.now written.now played) }
     ensures none { IfNone result ((played : SMove) → Means position.now written.now played → ⊥) }

@@ -1,11 +1,11 @@
-//! Statements that say how a game begins: the even opening, rows of the board, and pieces on squares.
+//! Parsers of the statements of the initial position: `PI`, ranks of the board, and pieces on squares.
 ghost use Rattle.std.specs.Prelude.{◌≡◌, ◌≤◌, length};
 ghost use Rattle.csa.specs.Openings.{is_cell, are_cells, are_blanks, is_piece, are_pieces, even_row, is_long_row};
 ghost use Rattle.csa.specs.Openings.{is_row, is_even_row};
 
 use crate::codes::{is_place, role_of};
 
-// Whether three bytes are a cell of a row: an empty square, or a side's sign and a piece's code.
+// Whether three bytes are a cell of a rank: an empty square, or a side's sign and a piece's code.
 fn is_cell(first: u8, second: u8, third: u8) -> bool
     ensures { result ≡ is_cell first second third }
 {
@@ -16,7 +16,7 @@ fn is_cell(first: u8, second: u8, third: u8) -> bool
     }
 }
 
-// Whether a text is cells one after another. The last blank may be missing.
+// Whether a text is a sequence of cells. The last space may be missing.
 fn are_cells(text: &[u8]) -> bool
     ensures { result ≡ are_cells text.now }
 {
@@ -34,7 +34,7 @@ fn are_cells(text: &[u8]) -> bool
     }
 }
 
-// Whether four bytes are a piece on a square, or in a hand where one may be named.
+// Whether four bytes are a piece on a square, or in hand if `hand` allows it.
 fn is_piece(hand: bool, file: u8, rank: u8, first: u8, second: u8) -> bool
     ensures { result ≡ is_piece hand file rank first second }
 {
@@ -42,7 +42,7 @@ fn is_piece(hand: bool, file: u8, rank: u8, first: u8, second: u8) -> bool
     (held || (is_place(file) && is_place(rank))) && role_of(first, second).is_some()
 }
 
-/// Whether a text is pieces one after another, on squares, or in a hand where one may be named.
+/// Whether a text is a sequence of pieces on squares, or in hand if `hand` allows it.
 pub fn are_pieces(hand: bool, text: &[u8]) -> bool
     ensures { result ≡ are_pieces hand text.now }
 {
@@ -56,7 +56,7 @@ pub fn are_pieces(hand: bool, text: &[u8]) -> bool
     rest.is_empty()
 }
 
-// A rank of the even opening, as its nine cells.
+// A rank of the even initial position, as nine cells.
 fn even_row(rank: u8) -> &'static str
     ensures value { result.now ≡ even_row rank }
     ensures length { length result.now ≡ 27 }
@@ -78,7 +78,7 @@ fn are_blanks(text: &[u8]) -> bool
     text.iter().all(|byte| *byte == b' ')
 }
 
-// Whether a text is nine whole cells and blanks.
+// Whether a text is nine complete cells and trailing spaces.
 fn is_long_row(text: &[u8]) -> bool
     requires { 27 ≤ length text.now }
     ensures { result ≡ is_long_row text.now }
@@ -89,7 +89,7 @@ fn is_long_row(text: &[u8]) -> bool
     are_blanks(&text[27..])
 }
 
-/// Whether a text is nine cells and blanks. The last cell's blank may be missing.
+/// Whether a text is nine cells and trailing spaces. The space of the last cell may be missing.
 pub fn is_row(text: &[u8]) -> bool
     ensures { result ≡ is_row text.now }
 {
@@ -102,7 +102,7 @@ pub fn is_row(text: &[u8]) -> bool
     is_long_row(text)
 }
 
-/// Whether the nine cells are those of a rank of the even opening.
+/// Whether nine cells are those of a rank of the even initial position.
 pub fn is_even_row(rank: u8, text: &[u8]) -> bool
     requires { 26 ≤ length text.now }
     ensures { result ≡ is_even_row rank text.now }

@@ -1,4 +1,4 @@
-//! The order in which the statements of a record stand.
+//! The order of the statements in a record, as a state machine.
 ghost use Rattle.std.specs.Prelude.{◌≡◌};
 ghost use Rattle.csa.specs.declared.order.Place.TheVariants as place;
 ghost use Rattle.csa.specs.Order.{after_header, after_version, after_opening, after_row, after_pieces, after_turn};
@@ -7,26 +7,26 @@ ghost use Rattle.csa.specs.Order.{after_move, after_seconds, after_end, next, fi
 use crate::lines::Placed;
 use crate::statements::Statement;
 
-/// How far a record has come.
+/// The state of the order check within a record.
 #[derive(Clone, Copy, Debug, PartialEq, Eq)]
 pub enum Place {
-    /// No statement stands in it, but for headers.
+    /// At the start of a record; only headers so far.
     Start,
-    /// Past the version, if it has one, and before the opening.
+    /// After the version, if there is one, and before the initial position.
     Versioned,
-    /// Past so many rows of the opening, from 1 to 8.
+    /// After this many ranks of the initial position, 1 to 8.
     Rows(u8),
-    /// Past the opening.
+    /// After the initial position.
     Opened,
-    /// Past the side that begins.
+    /// After the side to move first.
     Sided,
-    /// Past a move.
+    /// After a move.
     Moved,
-    /// Past the end.
+    /// After the end.
     Ended,
 }
 
-// Where a header leaves a record: headers stand before the first move.
+// The state after a header; headers come before the first move.
 fn after_header(place: Place) -> Option<Place>
     ensures { result ≡ after_header place }
 {
@@ -36,7 +36,7 @@ fn after_header(place: Place) -> Option<Place>
     }
 }
 
-// Where a version leaves a record: it stands first.
+// The state after a version, which comes first.
 fn after_version(place: Place) -> Option<Place>
     ensures { result ≡ after_version place }
 {
@@ -46,7 +46,7 @@ fn after_version(place: Place) -> Option<Place>
     }
 }
 
-// Where the even opening leaves a record: no other opening stands before it.
+// The state after `PI`; no other initial position comes before it.
 fn after_opening(place: Place) -> Option<Place>
     ensures { result ≡ after_opening place }
 {
@@ -56,7 +56,7 @@ fn after_opening(place: Place) -> Option<Place>
     }
 }
 
-// Where a row leaves a record: the nine rows stand in their order, with no other opening before them.
+// The state after a rank; the nine ranks come in order, with no other initial position before them.
 fn after_row(place: Place, rank: u8) -> Option<Place>
     ensures { result ≡ after_row place rank }
 {
@@ -68,7 +68,7 @@ fn after_row(place: Place, rank: u8) -> Option<Place>
     }
 }
 
-// Where pieces leave a record: they stand before the side.
+// The state after pieces, which come before the side to move first.
 fn after_pieces(place: Place) -> Option<Place>
     ensures { result ≡ after_pieces place }
 {
@@ -79,7 +79,7 @@ fn after_pieces(place: Place) -> Option<Place>
     }
 }
 
-// Where the side leaves a record: with no opening before it the even one is meant.
+// The state after the side to move first; without an initial position the even one is used.
 fn after_turn(place: Place) -> Option<Place>
     ensures { result ≡ after_turn place }
 {
@@ -89,7 +89,7 @@ fn after_turn(place: Place) -> Option<Place>
     }
 }
 
-// Where a move leaves a record: it stands after the side or a move.
+// The state after a move, which follows the side to move first or another move.
 fn after_move(place: Place) -> Option<Place>
     ensures { result ≡ after_move place }
 {
@@ -99,7 +99,7 @@ fn after_move(place: Place) -> Option<Place>
     }
 }
 
-// Where a time leaves a record: it stands after a move or the end.
+// The state after a time, which follows a move, the end or another time.
 fn after_seconds(place: Place) -> Option<Place>
     ensures { result ≡ after_seconds place }
 {
@@ -109,7 +109,7 @@ fn after_seconds(place: Place) -> Option<Place>
     }
 }
 
-// Where the end leaves a record: it stands after the side or a move.
+// The state after the end, which follows the side to move first or a move.
 fn after_end(place: Place) -> Option<Place>
     ensures { result ≡ after_end place }
 {
@@ -119,7 +119,7 @@ fn after_end(place: Place) -> Option<Place>
     }
 }
 
-// Where a statement leaves a record, or none where it has no form or stands out of order.
+// The state after a statement, or `None` if it is malformed or misplaced.
 fn next(place: Place, statement: Statement) -> Option<Place>
     ensures { result ≡ next place statement }
 {
@@ -138,7 +138,7 @@ fn next(place: Place, statement: Statement) -> Option<Place>
     }
 }
 
-/// The line of the first statement that has no form or stands out of order.
+/// The line of the first malformed or misplaced statement.
 pub fn first_stray(placed: &[Placed]) -> Option<usize>
     ensures { result ≡ first_stray place.Start placed.now }
 {

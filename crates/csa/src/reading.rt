@@ -1,4 +1,4 @@
-//! Texts as games.
+//! Reader of the games of a text.
 ghost use Rattle.std.specs.Prelude.{◌≡◌, ◌≤◌, IfOk, IfErr, OnOk, length, map, take};
 ghost use Rattle.std.specs.List.{slice_split};
 ghost use Rattle.csa.specs.Reading.{is_parting, is_header_statement, first_statement, has_statement, without_bare_last};
@@ -30,7 +30,7 @@ fn is_header(statement: Statement) -> bool
     }
 }
 
-// The first statement that is no header.
+// The first statement that is not a header.
 fn first_statement(placed: &[Placed]) -> Option<Statement>
     ensures { result ≡ first_statement placed.now }
 {
@@ -42,14 +42,14 @@ fn first_statement(placed: &[Placed]) -> Option<Statement>
     None
 }
 
-// Whether a record has a statement beside headers.
+// Whether a record has a statement other than headers.
 fn has_statement(placed: &[Placed]) -> bool
     ensures { result ≡ has_statement placed.now }
 {
     placed.iter().any(|each| !is_header(each.statement))
 }
 
-// Whether the statements begin with a version and have their forms and their order.
+// Checks that the statements begin with a version, are well-formed and are in order.
 fn check_order(placed: &[Placed]) -> Result<(), CsaFault>
     ensures ordered { OnOk result (AreOrdered placed.now) }
     ensures fault { IfErr result (Refuses placed.now) }
@@ -66,7 +66,7 @@ fn check_order(placed: &[Placed]) -> Result<(), CsaFault>
     }
 }
 
-// The parts of statements between those that part records.
+// Splits the statements at the separators of records.
 fn parts_of(alloc: Global, placed: &[Placed]) -> Result<Vec<&[Placed]>, AllocError>
     ensures { IfOk result (λ parts. map (λ x. x.now) parts.items
         ≡ slice_split (λ each. is_parting each.statement) placed.now) }
@@ -76,7 +76,7 @@ fn parts_of(alloc: Global, placed: &[Placed]) -> Result<Vec<&[Placed]>, AllocErr
         .collect(alloc)
 }
 
-// How many of the parts are records: a last part without a statement is none.
+// The number of parts that are records; a last part without statements is not one.
 fn record_count(parts: &[&[Placed]]) -> usize
     ensures within { result ≤ length parts.now }
     ensures records { take result (map (λ x. x.now) parts.now) ≡ without_bare_last (map (λ x. x.now) parts.now) }
@@ -91,7 +91,7 @@ fn record_count(parts: &[&[Placed]]) -> usize
     count - 1
 }
 
-// The games of records, one after another.
+// Reads records one after another.
 fn read_records(alloc: Global, records: &[&[Placed]]) -> Result<Vec<CsaGame>, CsaFault>
     ensures games { IfOk result (λ games. AreRecordsOf (map (λ x. x.now) records.now) games.items) }
     ensures fault { IfErr result (FailsOrMemory (map (λ x. x.now) records.now)) }
@@ -104,7 +104,7 @@ fn read_records(alloc: Global, records: &[&[Placed]]) -> Result<Vec<CsaGame>, Cs
     Ok(games)
 }
 
-// The games of ordered statements.
+// Reads the games of statements that are in order.
 fn read_parts(alloc: Global, placed: &[Placed]) -> Result<Vec<CsaGame>, CsaFault>
     ensures games { IfOk result (λ games. AreRecordsOf (records_of placed.now) games.items) }
     ensures fault { IfErr result (FailsOrMemory (records_of placed.now)) }
@@ -114,12 +114,18 @@ fn read_parts(alloc: Global, placed: &[Placed]) -> Result<Vec<CsaGame>, CsaFault
     read_records(alloc, &parts[..records])
 }
 
-/// The games of a text: records in the standard format of the Computer Shogi Association, parted by `/`.
+/// Reads the games of a CSA text; `/` separates its records.
 ///
-/// It refuses, in this order: a text that does not begin with a version; the first line with a statement that has no
-/// form or stands out of order; and record by record another opening, a move after the end of the game or against the
-/// rules, a record that does not say how the game ended, and an end that is not that of the rules. It also fails where
-/// memory is refused, and then alone.
+/// # Errors
+///
+/// The first that applies of:
+///
+/// - `CsaFault::BadText` on line 1 for a text without statements, `CsaFault::Version` without a known version first.
+/// - `CsaFault::BadText` for a malformed or misplaced statement.
+/// - record by record, `CsaFault::OtherOpening`; `CsaFault::AfterEnd` or `CsaFault::Illegal` for a move;
+///   `CsaFault::Unfinished` without a score; `CsaFault::ResultDiffers` if the end disagrees with the rules.
+///
+/// `CsaFault::Memory` if out of memory.
 pub fn read_games(alloc: Global, text: &[u8]) -> Result<Vec<CsaGame>, CsaFault>
     ensures games { IfOk result (λ games. IsTextOf text.now games.items) }
     ensures fault { IfErr result (IsRefused text.now) }

@@ -1,4 +1,4 @@
-//! The records of a text.
+//! Reader of one record.
 ghost use Rattle.std.specs.Prelude.{◌≡◌, true, IfOk, IfErr};
 ghost use Rattle.squares.specs.ShogiOpening.{opening};
 ghost use Rattle.csa.specs.Moves.{MeanAll};
@@ -16,7 +16,7 @@ use crate::statements::Statement;
 use squares::Side;
 use std::alloc::Global;
 
-// Whether a statement leaves the game its even opening, in which Black begins.
+// Whether a statement agrees with the even initial position, in which Black moves first.
 fn is_even(statement: Statement) -> bool
     ensures { result ≡ is_even statement }
 {
@@ -32,14 +32,14 @@ fn is_even(statement: Statement) -> bool
     }
 }
 
-// Whether the game of a record has the even opening.
+// Whether a record begins from the even initial position.
 fn begins_even(placed: &[Placed]) -> bool
     ensures { result ≡ begins_even placed.now }
 {
     placed.iter().all(|each| is_even(each.statement))
 }
 
-// How a record says that the game ended.
+// The end that a record states.
 fn end_in(placed: &[Placed]) -> Option<EndWord>
     ensures { result ≡ end_in placed.now }
 {
@@ -52,7 +52,7 @@ fn end_in(placed: &[Placed]) -> Option<EndWord>
     None
 }
 
-// The game of a record whose moves are played by the rules.
+// The game of a record whose moves are replayed, if its end agrees.
 fn game_of(placed: &[Placed], replay: Replay) -> Result<CsaGame, CsaFault>
     requires stands { IsConsistent replay }
     requires even { begins_even placed.now ≡ true }
@@ -72,7 +72,12 @@ fn game_of(placed: &[Placed], replay: Replay) -> Result<CsaGame, CsaFault>
     }
 }
 
-/// The game of a record.
+/// Reads the game of a record.
+///
+/// # Errors
+///
+/// `CsaFault::OtherOpening`; the fault of its first refused move; `CsaFault::Unfinished`; `CsaFault::ResultDiffers`; or
+/// `CsaFault::Memory` if out of memory.
 pub fn read_record(alloc: Global, placed: &[Placed]) -> Result<CsaGame, CsaFault>
     ensures game { IfOk result (IsRecordOf placed.now) }
     ensures fault { IfErr result (RecordFails placed.now) }

@@ -1,4 +1,4 @@
-//! The moves of a record, ply by ply.
+//! Replay of the moves of a record, ply by ply.
 ghost use Rattle.std.specs.Prelude.{[], ◌∷◌, ◌++◌, ◌≡◌, IfOk, IfErr, OnOk};
 ghost use Rattle.squares.specs.ShogiOpening.{opening};
 ghost use Rattle.csa.specs.Moves.{Means, MeanAll};
@@ -18,7 +18,7 @@ use shogi_repetition::{Marks, SLineFault};
 use squares::{SMove, SPos};
 use std::alloc::Global;
 
-/// The moves of a record so far, in a game from the opening.
+/// The moves of a record so far, played from the initial position.
 #[derive(Drop)]
 pub struct Replay {
     pub position: SPos,
@@ -26,7 +26,7 @@ pub struct Replay {
     pub moves: Vec<SMove>,
 }
 
-// The replay of no move.
+// A replay without moves.
 fn beginning(alloc: Global) -> Result<Replay, CsaFault>
     ensures stands { IfOk result IsConsistent }
     ensures bare { IfOk result (λ replay. replay.moves.items ≡ []) }
@@ -43,7 +43,7 @@ fn beginning(alloc: Global) -> Result<Replay, CsaFault>
     }
 }
 
-// The fault of a written move that means no move of the position.
+// The error for a written move that denotes no move of the position.
 fn no_move(replay: &Replay, written: &WrittenMove) -> CsaFault
     requires stands { IsConsistent replay.now }
     requires none { (m : SMove) → Means replay.now.position written.now m → ⊥ }
@@ -59,7 +59,7 @@ fn no_move(replay: &Replay, written: &WrittenMove) -> CsaFault
     }
 }
 
-// The fault of a record, where the marks refuse its next move.
+// The error for a move that the legality check or the repetition count refuses.
 fn fault_of(fault: SLineFault) -> CsaFault
     ensures { result ≡ fault_of fault }
 {
@@ -70,7 +70,7 @@ fn fault_of(fault: SLineFault) -> CsaFault
     }
 }
 
-// One move more, which a written move means.
+// Plays a move.
 fn push_move(replay: &mut Replay, played: SMove) -> Result<(), CsaFault>
     requires { IsConsistent replay.old }
     ensures stands { OnOk result (IsConsistent replay.new) }
@@ -89,7 +89,7 @@ fn push_move(replay: &mut Replay, played: SMove) -> Result<(), CsaFault>
     Ok(())
 }
 
-// One written move more. It is refused where the game has ended, or where it means no legal move.
+// Plays a written move. It fails if the game has ended, or if the text denotes no legal move.
 fn push(replay: &mut Replay, written: &WrittenMove) -> Result<(), CsaFault>
     requires { IsConsistent replay.old }
     ensures stands { OnOk result (IsConsistent replay.new) }
@@ -102,7 +102,7 @@ fn push(replay: &mut Replay, written: &WrittenMove) -> Result<(), CsaFault>
     }
 }
 
-// One statement more, which may be a move.
+// Plays the move of a statement, if it is one.
 fn push_statement(replay: &mut Replay, statement: Statement) -> Result<(), CsaFault>
     requires { IsConsistent replay.old }
     ensures stands { OnOk result (IsConsistent replay.new) }
@@ -115,7 +115,11 @@ fn push_statement(replay: &mut Replay, statement: Statement) -> Result<(), CsaFa
     }
 }
 
-/// The moves of a record. It fails at the first written move that means no move that the rules allow.
+/// Replays the moves of a record.
+///
+/// # Errors
+///
+/// The fault of the first move that is refused; `CsaFault::Memory` if out of memory.
 pub fn replay_of(alloc: Global, placed: &[Placed]) -> Result<Replay, CsaFault>
     ensures stands { IfOk result IsConsistent }
     ensures mean { IfOk result (λ replay. MeanAll opening (written_moves placed.now) replay.moves.items) }

@@ -1,4 +1,4 @@
-//! The statements of a record, by their forms.
+//! Parser of a statement.
 ghost use Rattle.std.specs.Prelude.{◌≡◌};
 ghost use Rattle.std.specs.List.{list_all};
 ghost use Rattle.csa.specs.Codes.{is_digit};
@@ -10,7 +10,7 @@ use crate::end_words::{EndWord, end_word};
 use crate::openings::{are_pieces, is_even_row, is_row};
 use squares::{Role, Side, Ssq};
 
-/// A move as it is written: whose it is, from where, a square or the hand, to where, and what the piece is after it.
+/// A move as written: its side, its origin (`None` for a drop), its destination, and the role of the piece after it.
 #[derive(Clone, Copy, Debug, PartialEq, Eq)]
 pub struct WrittenMove {
     pub side: Side,
@@ -19,33 +19,33 @@ pub struct WrittenMove {
     pub role: Role,
 }
 
-/// A statement.
+/// A statement of a CSA text.
 #[derive(Clone, Copy, Debug, PartialEq, Eq)]
 pub enum Statement {
-    /// `/`, which parts records.
+    /// `/`, the separator of records.
     Parting,
     /// `V2`, `V2.1` or `V2.2`.
     Version,
-    /// A line that says who played, or when and where.
+    /// A player's name, or a `$` keyword line.
     Header,
-    /// `PI`, the even opening, but for the pieces that it names.
+    /// `PI`, the even initial position, without the pieces that it lists.
     Opening { without_pieces: bool },
-    /// `P1` to `P9`: a rank of the board, and whether it is that of the even opening.
+    /// `P1` to `P9`: a rank of the board, and whether it is that of the even initial position.
     Row { rank: u8, even: bool },
-    /// `P+` or `P-`: a side's pieces.
+    /// `P+` or `P-`: pieces of a side, or none.
     Pieces { none: bool },
-    /// `+` or `-`: the side that begins.
+    /// `+` or `-`: the side to move first.
     Turn(Side),
     Move(WrittenMove),
-    /// `T`: how long the move or the end before it took.
+    /// `T`: the time of the preceding move or end.
     Seconds,
-    /// `%`: how the game ended, or none where it is not said in a known word.
+    /// `%`: the end of the game, or `None` if the keyword is unknown.
     End(Option<EndWord>),
-    /// It has none of these forms.
+    /// A syntax error.
     Formless,
 }
 
-// From where a move goes: a square, or a hand for two zeros.
+// The origin of a move: a square, or the hand for `00`.
 fn source_of(file: u8, rank: u8) -> Option<Option<Ssq>>
     ensures { result ≡ source_of file rank }
 {
@@ -58,7 +58,7 @@ fn source_of(file: u8, rank: u8) -> Option<Option<Ssq>>
     }
 }
 
-// The move of a side, if its squares and its code are such.
+// The move of a side, if all its parts are valid.
 fn move_of(side: Side, from: Option<Option<Ssq>>, to: Option<Ssq>, role: Option<Role>) -> Statement
     ensures { result ≡ move_of side from to role }
 {
@@ -73,7 +73,7 @@ fn move_of(side: Side, from: Option<Option<Ssq>>, to: Option<Ssq>, role: Option<
     }
 }
 
-// What begins with `/`.
+// A statement that begins with `/`.
 fn parting(more: &[u8]) -> Statement
     ensures { result ≡ parting more.now }
 {
@@ -83,7 +83,7 @@ fn parting(more: &[u8]) -> Statement
     }
 }
 
-// What begins with `V`.
+// A statement that begins with `V`.
 fn version(more: &[u8]) -> Statement
     ensures { result ≡ version more.now }
 {
@@ -94,7 +94,7 @@ fn version(more: &[u8]) -> Statement
     }
 }
 
-// What begins with `P+` or `P-`.
+// A statement that begins with `P+` or `P-`.
 fn pieces(text: &[u8]) -> Statement
     ensures { result ≡ pieces text.now }
 {
@@ -106,7 +106,7 @@ fn pieces(text: &[u8]) -> Statement
     Statement::Formless
 }
 
-// What begins with `P` and a digit.
+// A statement that begins with `P` and a digit.
 fn row(rank: u8, text: &[u8]) -> Statement
     ensures { result ≡ row rank text.now }
 {
@@ -119,7 +119,7 @@ fn row(rank: u8, text: &[u8]) -> Statement
     Statement::Formless
 }
 
-// What begins with `P`.
+// A statement that begins with `P`.
 fn opening(more: &[u8]) -> Statement
     ensures { result ≡ opening more.now }
 {
@@ -133,7 +133,7 @@ fn opening(more: &[u8]) -> Statement
     }
 }
 
-// What begins with a side's sign.
+// A statement that begins with a side's sign.
 fn signed(side: Side, more: &[u8]) -> Statement
     ensures { result ≡ signed side more.now }
 {
@@ -155,7 +155,7 @@ fn are_digits(text: &[u8]) -> bool
     text.iter().all(|byte| is_digit(*byte))
 }
 
-// What begins with `T`.
+// A statement that begins with `T`.
 fn seconds(more: &[u8]) -> Statement
     ensures { result ≡ seconds more.now }
 {
@@ -168,7 +168,7 @@ fn seconds(more: &[u8]) -> Statement
     Statement::Formless
 }
 
-/// The statement of a text that stands between commas.
+/// Parses a statement, the text between two commas.
 pub fn statement_of(text: &[u8]) -> Statement
     ensures { result ≡ statement_of text.now }
 {

@@ -1,4 +1,4 @@
-//! The parts of a written game.
+//! Writers of the parts of a game's text.
 ghost use Rattle.std.specs.Prelude.{◌≡◌, ◌<◌, ◌++◌, ◌∷◌, [], OnOk, string_bytes};
 ghost use Rattle.shogi_moves.specs.Rules.{arrived, dropped_role};
 ghost use Rattle.csa.specs.Writing.{line_of, two_digits, then_two, date_text, side_sign, square_text, source_text};
@@ -13,7 +13,7 @@ use shogi_moves::Memory;
 use shogi_repetition::SEnd;
 use squares::{HandKind, Role, SMove, SPiece, SPos, Score, Side, Ssq};
 
-// Adds a line of two parts.
+// Appends a line of two parts.
 fn push_line(text: &mut String, name: &str, value: &str) -> Result<(), Memory>
     ensures { OnOk result (string_bytes text.new ≡ string_bytes text.old ++ line_of name.now value.now) }
 {
@@ -23,7 +23,7 @@ fn push_line(text: &mut String, name: &str, value: &str) -> Result<(), Memory>
     Ok(())
 }
 
-// Adds the last two digits of a number.
+// Appends the last two decimal digits of a number.
 fn push_two(text: &mut String, number: u16) -> Result<(), Memory>
     ensures { OnOk result (string_bytes text.new ≡ string_bytes text.old ++ two_digits number) }
 {
@@ -32,7 +32,7 @@ fn push_two(text: &mut String, number: u16) -> Result<(), Memory>
     Ok(())
 }
 
-// Adds a square by the digits of its file and its rank.
+// Appends a square as the digits of its file and its rank.
 fn push_square(text: &mut String, square: Ssq) -> Result<(), Memory>
     ensures { OnOk result (string_bytes text.new ≡ string_bytes text.old ++ square_text square) }
 {
@@ -41,7 +41,7 @@ fn push_square(text: &mut String, square: Ssq) -> Result<(), Memory>
     Ok(())
 }
 
-// What a piece is after a step.
+// The role of a piece after a step.
 fn role_after(piece: SPiece, promote: bool) -> Role
     ensures { result ≡ (arrived piece promote).role }
 {
@@ -54,14 +54,14 @@ fn role_after(piece: SPiece, promote: bool) -> Role
     }
 }
 
-// The role of a piece that is dropped.
+// The role of a dropped piece.
 fn dropped_role(kind: HandKind) -> Role
     ensures { result ≡ dropped_role kind }
 {
     kind.kind().role()
 }
 
-// Adds from where a move goes.
+// Appends the origin of a move, `00` for a drop.
 fn push_source(text: &mut String, played: &SMove) -> Result<(), Memory>
     ensures { OnOk result (string_bytes text.new ≡ string_bytes text.old ++ source_text played.now) }
 {
@@ -76,7 +76,7 @@ fn push_source(text: &mut String, played: &SMove) -> Result<(), Memory>
     Ok(())
 }
 
-// Adds where a move goes to, and what the piece is then.
+// Appends the destination of a move, and the code of the piece after it.
 fn push_target(text: &mut String, position: &SPos, played: &SMove) -> Result<(), Memory>
     ensures { OnOk result (string_bytes text.new ≡ string_bytes text.old ++ target_text position.now played.now) }
 {
@@ -106,7 +106,11 @@ fn side_text(side: Side) -> &'static str
     }
 }
 
-/// Adds a move and its seconds.
+/// Appends a move and its time in seconds.
+///
+/// # Errors
+///
+/// `Memory` if out of memory.
 pub fn push_entry(
     text: &mut String,
     position: &SPos,
@@ -125,7 +129,7 @@ pub fn push_entry(
     Ok(())
 }
 
-// The word of a score that a record says, by the side to move.
+// The end that expresses a recorded score; `turn` is the side to move.
 fn recorded_word(score: Score, turn: Side) -> EndWord
     ensures { result ≡ recorded_word score turn }
 {
@@ -151,7 +155,7 @@ fn rule_word(end: SEnd) -> EndWord
     }
 }
 
-// The word of an end, by the side to move.
+// The `%` statement of an end; `turn` is the side to move.
 fn word_of(end: Option<CsaEnd>, turn: Side) -> EndWord
     ensures { result ≡ word_of end turn }
 {
@@ -167,14 +171,18 @@ fn word_of(end: Option<CsaEnd>, turn: Side) -> EndWord
     }
 }
 
-/// Adds the end of a game.
+/// Appends the end of a game.
+///
+/// # Errors
+///
+/// `Memory` if out of memory.
 pub fn push_end(text: &mut String, end: Option<CsaEnd>, turn: Side) -> Result<(), Memory>
     ensures { OnOk result (string_bytes text.new ≡ string_bytes text.old ++ end_text end turn) }
 {
     push_line(text, word_of(end, turn).text(), "")
 }
 
-// Adds a sign and the last two digits of a number.
+// Appends a separator and the last two decimal digits of a number.
 fn push_then_two(text: &mut String, sign: u8, number: u16) -> Result<(), Memory>
     requires { sign < 128 }
     ensures { OnOk result (string_bytes text.new ≡ string_bytes text.old ++ then_two sign number) }
@@ -183,7 +191,7 @@ fn push_then_two(text: &mut String, sign: u8, number: u16) -> Result<(), Memory>
     push_two(text, number)
 }
 
-// Adds a date and a time of day.
+// Appends a date and a time of day: `YYYY/MM/DD hh:mm:ss`.
 fn push_date(text: &mut String, at: &CivilTime) -> Result<(), Memory>
     ensures { OnOk result (string_bytes text.new ≡ string_bytes text.old ++ date_text at.now) }
 {
@@ -198,7 +206,11 @@ fn push_date(text: &mut String, at: &CivilTime) -> Result<(), Memory>
     Ok(())
 }
 
-/// Adds the lines before the moves, with what a clock shows at the start.
+/// Appends the lines before the moves; `start` is the civil time of the start.
+///
+/// # Errors
+///
+/// `Memory` if out of memory.
 pub fn push_head(text: &mut String, head: &CsaHead, start: &CivilTime) -> Result<(), Memory>
     ensures { OnOk result (string_bytes text.new ≡ string_bytes text.old ++ lines_text head.now start.now) }
 {

@@ -1,4 +1,4 @@
-//! Trials of the desk: requests as bytes and the replies that are due. It has tests alone.
+//! Integration tests of the HTTP server: requests as bytes, and the expected replies.
 #![tactic(auto)]
 
 #[cfg(test)]

@@ -20,10 +20,10 @@ const AFTER_7G7F: &str = "lnsgkgsnl/1r5b1/ppppppppp/9/9/2P6/PP1PPPPPP/1B5R1/LNSG
 const AFTER_TWO: &str = "W:W28,31,33,34,35,36,37,38,39,40,41,42,43,44,45,46,47,48,49,50\
     :B1,2,3,4,5,6,7,8,9,10,11,12,13,14,15,16,17,18,20,23";
 
-/// A club whose answers are given, as its papers give them: nothing is claimed of it.
+/// A club with fixed answers; nothing is proved of it.
 #[derive(Drop)]
 struct Toy {
-    /// The move of game 8 was played.
+    /// Whether the move of game 8 was played.
     played: bool,
     fault: Option<ClubFault>,
 }
@@ -53,7 +53,6 @@ fn list(alloc: Global, rows: &[&str]) -> Result<Vec<String>, ClubFault> {
     Ok(list)
 }
 
-// The bytes of a text that is shown.
 fn bytes_of(shown: Result<String, AllocError>) -> Result<Result<Vec<u8>, Refusal>, ClubFault> {
     match shown {
         Ok(text) => Ok(Ok(text.into_bytes())),
@@ -61,7 +60,7 @@ fn bytes_of(shown: Result<String, AllocError>) -> Result<Result<Vec<u8>, Refusal
     }
 }
 
-// The first game of the club after its script.
+// A game that ended by time.
 fn ended_game(alloc: Global) -> Result<GameShown, ClubFault> {
     Ok(GameShown {
         event: text(alloc, "autumn")?,
@@ -91,7 +90,7 @@ fn ends(end: OutsideEnd, score: Score) -> Answer {
     Answer::Ended { end, result: score }
 }
 
-// Anna's third challenge is to bert, to a game of the autumn as First.
+// The outcome of opening a challenge: accepted for number 3, to bert in event `autumn` as First.
 fn opened(challenge: &OpenChallenge) -> Outcome {
     let is_known = challenge.event.as_bytes() == b"autumn".as_slice()
         && challenge.other.as_bytes() == b"bert".as_slice();
@@ -110,7 +109,7 @@ fn withdrawn(number: u64) -> Outcome {
     }
 }
 
-// The third of bert's challenges, as the member challenged answers it.
+// The outcome of answering a challenge: accepted for bert's challenge 3.
 fn answered(answer: &AnswerChallenge) -> Outcome {
     if answer.number != 3 || answer.challenger.as_bytes() != b"bert".as_slice() {
         return Outcome::Refused(Refusal::UnknownChallenge);
@@ -214,7 +213,7 @@ impl ServedClub for Toy {
     ghost wider = { λ b s t h. tt };
 }
 
-// A request of anna's, or of nobody where there is no key.
+// A request with anna's key.
 fn request(alloc: Global, line: &str, body: &str) -> Result<Vec<u8>, Fail> {
     let length = body.len();
     let mut bytes = Vec::new(alloc);
@@ -226,14 +225,14 @@ fn request(alloc: Global, line: &str, body: &str) -> Result<Vec<u8>, Fail> {
     Ok(bytes)
 }
 
-// What is replied at a moment.
+// The reply at timestamp 1000.
 fn replied<C: ServedClub>(alloc: Global, club: &mut C, bytes: &[u8]) -> Option<Replied> {
     let moment = Moment::new(1000)?;
     let routes = Routes::new(alloc).ok()?;
     answer(alloc, &routes, club, bytes, moment).ok()
 }
 
-// The reply begins and ends so; its length, or 0 where there is none.
+// Asserts that the reply starts with `front` and ends with `end`; returns its length.
 fn begins_and_ends<R: Abort + AllocGlobal, C: ServedClub>(
     rt: &R,
     club: &mut C,
@@ -250,7 +249,7 @@ fn begins_and_ends<R: Abort + AllocGlobal, C: ServedClub>(
     reply.len()
 }
 
-// The reply has this head and this body.
+// Asserts that the reply is this head and this body.
 fn is_answered<R: Abort + AllocGlobal, C: ServedClub>(
     rt: &R,
     club: &mut C,
@@ -300,7 +299,7 @@ fn a_club_that_fails_is_told(rt: HostRuntime) {
     );
 }
 
-// Whether anna is said to have asked by these bytes.
+// Whether the reply names anna as the sender of the request.
 fn asks_as_anna<C: ServedClub>(alloc: Global, club: &mut C, bytes: &[u8]) -> bool {
     let Some(Replied { reply: _, caller }) = replied(alloc, club, bytes) else {
         return false;
@@ -311,7 +310,7 @@ fn asks_as_anna<C: ServedClub>(alloc: Global, club: &mut C, bytes: &[u8]) -> boo
     }
 }
 
-// Whether nobody is said to have asked by these bytes.
+// Whether the reply names no member.
 fn asks_as_nobody<C: ServedClub>(alloc: Global, club: &mut C, bytes: &[u8]) -> bool {
     match replied(alloc, club, bytes) {
         Some(replied) => replied.caller.is_none(),
@@ -364,7 +363,7 @@ fn the_page_comes_all_the_same(rt: HostRuntime) {
     );
 }
 
-/// A reader that gives one byte at a time.
+/// A reader that returns one byte a call.
 #[derive(Drop)]
 struct Dripping<'b> {
     bytes: &'b [u8],
@@ -390,7 +389,7 @@ impl Read for Dripping<'_> {
     }
 }
 
-/// A countdown of calls.
+/// A countdown that permits a number of calls.
 #[derive(Drop)]
 struct Calls {
     left: u32,

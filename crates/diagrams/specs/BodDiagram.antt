@@ -1,4 +1,4 @@
--- The diagram of a position of shogi that Japanese programs read and write (BOD).
+-- The BOD diagram of a shogi position.
 use Rattle.std.specs.Prelude.{ℕ, zero, suc, List, [], ◌++◌, codes}
 use Rattle.std.proofs.Math.Utf8.{encodes}
 use Rattle.squares.specs.declared.sides.Side.{Side}
@@ -12,40 +12,40 @@ use Rattle.diagrams.specs.BodNames.{role_name, digit_name, count_name, cell_text
 use Rattle.diagrams.specs.ShogiLines as lines
 use Rattle.diagrams.specs.ShogiLines.{hand_kinds}
 
--- the squares of a rank from that file down to file 1
+-- The squares of a rank from a file down to file 1.
 abbrev pub squares_text : ShogiBoard → ℕ → ℕ → List ℕ
 squares_text = lines.squares_text cell_text
 
--- a rank between bars, and its name
+-- A rank between bars, and its numeral.
 unfoldable pub rank_text : ShogiBoard → ℕ → List ℕ
 rank_text board rank =
     codes "|" ++ (squares_text board rank 9 ++ (codes "|" ++ (digit_name rank ++ codes "\n")))
 
--- so many ranks from a rank on
+-- Consecutive ranks from a rank on.
 abbrev pub ranks_text : ShogiBoard → ℕ → ℕ → List ℕ
 ranks_text board = lines.ranks_text (rank_text board)
 
--- the numbers of the files
+-- The line with the numbers of the files.
 unfoldable pub heading : List ℕ
 heading = encodes (codes "  ９ ８ ７ ６ ５ ４ ３ ２ １\n")
 
--- the edge of the board
+-- The edge of the board.
 unfoldable pub border : List ℕ
 border = codes "+---------------------------+\n"
 
 unfoldable pub board_text : ShogiBoard → List ℕ
 board_text board = heading ++ (border ++ (ranks_text board 1 9 ++ border))
 
--- so many pieces of a kind: the kind, the count where it is above 1, and a wide blank
+-- The pieces of a kind: the kind, the count if above 1, and a wide space.
 abbrev pub held_text : HandKind → ℕ → List ℕ
 held_text kind zero = []
 held_text kind (suc n) = role_name (demoted (on_board kind)) ++ (count_name (suc n) ++ wide_blank)
 
--- the pieces of these kinds in a hand
+-- The pieces of these kinds in a hand.
 abbrev pub kinds_text : Hand → List HandKind → List ℕ
 kinds_text = lines.kinds_text held_text
 
--- a word for nothing
+-- The text of an empty hand.
 abbrev pub or_none : List ℕ → List ℕ
 or_none = lines.or_else nothing
 
@@ -56,11 +56,11 @@ abbrev pub hand_name : Side → List ℕ
 hand_name First = encodes (codes "先手の持駒：")
 hand_name Second = encodes (codes "後手の持駒：")
 
--- the line of a side's hand
+-- The line of a side's hand.
 abbrev pub hand_line : Side → Hand → List ℕ
 hand_line side hand = hand_name side ++ (hand_text hand ++ codes "\n")
 
--- the line that says that White is to move; there is none where Black is
+-- The line that says that White is to move; empty if Black is.
 abbrev pub turn_line : Side → List ℕ
 turn_line First = []
 turn_line Second = encodes (codes "後手番\n")

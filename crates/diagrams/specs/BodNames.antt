@@ -1,4 +1,4 @@
--- The words of the diagram that Japanese programs read and write, in UTF-8.
+-- The words of a BOD diagram, in UTF-8.
 use Rattle.std.specs.Prelude.{ℕ, ◌%◌, ◌==◌, List, [], ◌∷◌, ◌++◌, Option, Some, None, nat_lt, codes, if◌then◌else◌}
 use Rattle.std.proofs.Math.Utf8.{encodes}
 use Rattle.squares.specs.declared.sides.Side.{Side}
@@ -7,7 +7,7 @@ use Rattle.squares.specs.declared.shogi.piece.Role.{Role}
 use Rattle.squares.specs.declared.shogi.piece.Role.TheVariants as role
 use Rattle.squares.specs.declared.shogi.piece.SPiece.{SPiece}
 
--- an empty square, the number ten, the blank that is as wide as a name (U+3000), and what is written for no pieces
+-- An empty square, the numeral ten, the wide space (U+3000), and the text of an empty hand.
 unfoldable pub empty_square : List ℕ
 empty_square = encodes (codes " ・")
 
@@ -40,7 +40,7 @@ role_name role.PromotedKnight = encodes (codes "圭")
 role_name role.PromotedLance = encodes (codes "杏")
 role_name role.PromotedPawn = encodes (codes "と")
 
--- the numbers from 1 to 9, and nothing for 0
+-- The numerals 1 to 9; empty for 0.
 abbrev pub digit_name : ℕ → List ℕ
 digit_name n =
     if n == 0 then [] else
@@ -54,12 +54,12 @@ digit_name n =
     if n == 8 then encodes (codes "八") else
     encodes (codes "九")
 
--- a count below 20, and nothing for 1
+-- A count below 20; empty for 1.
 abbrev pub count_name : ℕ → List ℕ
 count_name n =
     if n == 1 then [] else if nat_lt n 10 then digit_name (n % 10) else (ten ++ digit_name (n % 10))
 
--- what stands on a square
+-- The content of a square.
 abbrev pub cell_text : Option SPiece → List ℕ
 cell_text None = empty_square
 cell_text (Some piece) = side_mark piece.side ++ role_name piece.role

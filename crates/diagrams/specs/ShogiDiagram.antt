@@ -1,4 +1,4 @@
--- The diagram of a position of shogi: White's hand, the numbers of the files, the nine ranks, Black's hand.
+-- The diagram of a shogi position: White's hand, the numbers of the files, nine ranks, Black's hand.
 use Rattle.std.specs.Prelude.{ℕ, zero, suc, ◌+◌, List, [], ◌∷◌, ◌++◌, codes, Option}
 use Rattle.std.specs.Fmt.{decimal}
 use Rattle.squares.specs.declared.shogi.piece.HandKind.{HandKind}
@@ -11,47 +11,47 @@ use Rattle.diagrams.specs.ShogiLines as lines
 use Rattle.diagrams.specs.ShogiLines.{hand_kinds}
 use Rattle.diagrams.specs.ShogiLetters.{capital, cell_mark, cell_letter}
 
--- a square, right in three columns
+-- A square, right-aligned in three columns.
 abbrev pub cell_text : Option SPiece → List ℕ
 cell_text cell = 32 ∷ cell_mark cell ∷ cell_letter cell ∷ []
 
--- the squares of a rank from that file down to file 1
+-- The squares of a rank from a file down to file 1.
 abbrev pub squares_text : ShogiBoard → ℕ → ℕ → List ℕ
 squares_text = lines.squares_text cell_text
 
--- a rank, its letter, a for rank 1, and the line's end
+-- A rank, its letter (`a` for rank 1), and the line end.
 unfoldable pub rank_text : ShogiBoard → ℕ → List ℕ
 rank_text board rank = squares_text board rank 9 ++ (32 ∷ (96 + rank) ∷ 10 ∷ [])
 
--- so many ranks from a rank on
+-- Consecutive ranks from a rank on.
 abbrev pub ranks_text : ShogiBoard → ℕ → ℕ → List ℕ
 ranks_text board = lines.ranks_text (rank_text board)
 
--- the numbers of the files
+-- The line with the numbers of the files.
 unfoldable pub heading : List ℕ
 heading = codes "  9  8  7  6  5  4  3  2  1\n"
 
 unfoldable pub board_text : ShogiBoard → List ℕ
 board_text board = heading ++ ranks_text board 1 9
 
--- so many pieces of a letter: the letter, and the count where it is above 1
+-- The pieces of a letter: the letter, and the count if above 1.
 abbrev pub held_text : ℕ → ℕ → List ℕ
 held_text letter zero = []
 held_text letter (suc zero) = 32 ∷ letter ∷ []
 held_text letter (suc (suc n)) = 32 ∷ letter ∷ decimal (suc (suc n))
 
--- the pieces of these kinds in a hand
+-- The pieces of these kinds in a hand.
 abbrev pub kinds_text : Hand → List HandKind → List ℕ
 kinds_text = lines.kinds_text (λ kind n. held_text (capital (on_board kind)) n)
 
--- a hyphen for nothing
+-- A hyphen for an empty hand.
 abbrev pub or_hyphen : List ℕ → List ℕ
 or_hyphen = lines.or_else (32 ∷ 45 ∷ [])
 
 unfoldable pub hand_text : Hand → List ℕ
 hand_text hand = or_hyphen (kinds_text hand hand_kinds)
 
--- the line of a hand
+-- The line of a hand.
 abbrev pub hand_line : List ℕ → Hand → List ℕ
 hand_line name hand = name ++ (hand_text hand ++ (10 ∷ []))
 

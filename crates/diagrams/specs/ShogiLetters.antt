@@ -1,5 +1,4 @@
--- The letters of shogi's pieces in a diagram: those of SFEN, capitals for First, who is Black, and small letters for
--- Second.
+-- The SFEN letters of shogi pieces: upper case for First (Black), lower case for Second.
 use Rattle.std.specs.Prelude.{ℕ, ◌+◌, Option, Some, None, if◌then◌else◌}
 use Rattle.squares.specs.declared.sides.Side.{Side}
 use Rattle.squares.specs.declared.sides.Side.TheVariants.{First, Second}
@@ -23,12 +22,12 @@ abbrev pub piece_letter : Side → Kind → ℕ
 piece_letter First kind = capital kind
 piece_letter Second kind = capital kind + 32
 
--- a + before a promoted piece, and else a blank
+-- A `+` before a promoted piece, otherwise a space.
 abbrev pub cell_mark : Option SPiece → ℕ
 cell_mark None = 32
 cell_mark (Some piece) = if is_promoted piece.role then 43 else 32
 
--- the letter of the kind, and a full stop for an empty square
+-- The letter of the kind, or a full stop for an empty square.
 abbrev pub cell_letter : Option SPiece → ℕ
 cell_letter None = 46
 cell_letter (Some piece) = piece_letter piece.side (kind_of piece.role)

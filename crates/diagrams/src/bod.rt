@@ -1,4 +1,4 @@
-//! Positions of shogi as the diagram that Japanese programs read and write (BOD).
+//! Shogi diagrams in the BOD format of Japanese programs.
 ghost use Rattle.std.specs.Prelude.{◌≡◌, ◌++◌, ◌<◌, ◌≤◌, OnOk, IfOk, string_bytes};
 ghost use Rattle.diagrams.specs.BodNames.{side_mark, role_name, digit_name, count_name, cell_text};
 ghost use Rattle.diagrams.specs.BodNames.{empty_square, ten, wide_blank, nothing};
@@ -22,7 +22,7 @@ fn side_mark(side: Side) -> &'static str
     }
 }
 
-// The name of a piece, of one character.
+// The one-character name of a piece.
 fn role_name(role: Role) -> &'static str
     ensures { result.now ≡ role_name role }
 {
@@ -44,7 +44,7 @@ fn role_name(role: Role) -> &'static str
     }
 }
 
-// The name of a number from 1 to 9, and nothing for 0.
+// The Japanese numeral of a number from 1 to 9; empty for 0.
 fn digit_name(number: u8) -> &'static str
     requires { number < 10 }
     ensures { result.now ≡ digit_name number }
@@ -63,35 +63,34 @@ fn digit_name(number: u8) -> &'static str
     }
 }
 
-// An empty square.
 fn empty_square() -> &'static str
     ensures { result.now ≡ empty_square }
 {
     " ・"
 }
 
-// The name of ten.
+// The Japanese numeral of ten.
 fn ten() -> &'static str
     ensures { result.now ≡ ten }
 {
     "十"
 }
 
-// A blank that is as wide as a name.
+// A space as wide as a Japanese character.
 fn wide_blank() -> &'static str
     ensures { result.now ≡ wide_blank }
 {
     "\u{3000}"
 }
 
-// What is written for no pieces.
+// The text for an empty hand.
 fn nothing() -> &'static str
     ensures { result.now ≡ nothing }
 {
     "なし"
 }
 
-// Adds what stands on a square.
+// Appends the content of a square.
 fn push_cell(text: &mut String, cell: Option<SPiece>) -> Result<(), Memory>
     ensures { OnOk result (string_bytes text.new ≡ string_bytes text.old ++ cell_text cell) }
 {
@@ -108,7 +107,7 @@ fn push_cell(text: &mut String, cell: Option<SPiece>) -> Result<(), Memory>
     }
 }
 
-// Adds the squares of a rank, from file 9 to file 1.
+// Appends the squares of a rank, from file 9 to file 1.
 fn push_squares(text: &mut String, board: &SBoard, rank: u8) -> Result<(), Memory>
     requires low { 1 ≤ rank }
     requires high { rank ≤ 9 }
@@ -121,7 +120,7 @@ fn push_squares(text: &mut String, board: &SBoard, rank: u8) -> Result<(), Memor
     Ok(())
 }
 
-// Adds a rank: its squares between bars, and its name.
+// Appends a rank: its squares between bars, and its numeral.
 fn push_rank(text: &mut String, board: &SBoard, rank: u8) -> Result<(), Memory>
     requires low { 1 ≤ rank }
     requires high { rank ≤ 9 }
@@ -136,7 +135,7 @@ fn push_rank(text: &mut String, board: &SBoard, rank: u8) -> Result<(), Memory>
     Ok(())
 }
 
-// The numbers of the files.
+// The line with the numbers of the files.
 fn heading() -> &'static str
     ensures { result.now ≡ heading }
 {
@@ -151,7 +150,6 @@ fn border() -> &'static str
     "+---------------------------+\n"
 }
 
-// Adds the nine ranks.
 fn push_ranks(text: &mut String, board: &SBoard) -> Result<(), Memory>
     ensures { OnOk result
         (string_bytes text.new ≡ string_bytes text.old ++ ranks_text board.now 1 9) }
@@ -162,7 +160,7 @@ fn push_ranks(text: &mut String, board: &SBoard) -> Result<(), Memory>
     Ok(())
 }
 
-// Adds the numbers of the files, and the nine ranks between edges.
+// Appends the numbers of the files and the nine ranks between the edges.
 fn push_board(text: &mut String, board: &SBoard) -> Result<(), Memory>
     ensures { OnOk result (string_bytes text.new ≡ string_bytes text.old ++ board_text board.now) }
 {
@@ -173,7 +171,7 @@ fn push_board(text: &mut String, board: &SBoard) -> Result<(), Memory>
     Ok(())
 }
 
-// Adds a count below 20, and nothing for 1.
+// Appends a count below 20; nothing for 1.
 fn push_count(text: &mut String, count: u8) -> Result<(), Memory>
     ensures { OnOk result (string_bytes text.new ≡ string_bytes text.old ++ count_name count) }
 {
@@ -189,7 +187,7 @@ fn push_count(text: &mut String, count: u8) -> Result<(), Memory>
     Ok(())
 }
 
-// Adds so many pieces of a kind: nothing for none, else the kind, the count and a blank.
+// Appends the kind, the count and a space; nothing if the count is 0.
 fn push_held(text: &mut String, kind: HandKind, count: u8) -> Result<(), Memory>
     ensures { OnOk result
         (string_bytes text.new ≡ string_bytes text.old ++ held_text kind count) }
@@ -203,7 +201,6 @@ fn push_held(text: &mut String, kind: HandKind, count: u8) -> Result<(), Memory>
     Ok(())
 }
 
-// Adds the pieces of a hand.
 fn push_kinds(text: &mut String, hand: Hand) -> Result<(), Memory>
     ensures { OnOk result
         (string_bytes text.new ≡ string_bytes text.old ++ kinds_text hand hand_kinds) }
@@ -214,7 +211,7 @@ fn push_kinds(text: &mut String, hand: Hand) -> Result<(), Memory>
     Ok(())
 }
 
-// Adds the pieces of a hand, or that there are none.
+// Appends the pieces of a hand, or that it is empty.
 fn push_hand(text: &mut String, hand: Hand) -> Result<(), Memory>
     ensures { OnOk result (string_bytes text.new ≡ string_bytes text.old ++ hand_text hand) }
 {
@@ -226,7 +223,7 @@ fn push_hand(text: &mut String, hand: Hand) -> Result<(), Memory>
     Ok(())
 }
 
-// What stands before the pieces of a side's hand.
+// The label of a side's hand.
 fn hand_name(side: Side) -> &'static str
     ensures { result.now ≡ hand_name side }
 {
@@ -236,7 +233,7 @@ fn hand_name(side: Side) -> &'static str
     }
 }
 
-// Adds the line of a side's hand.
+// Appends the line of a side's hand.
 fn push_line(text: &mut String, side: Side, hand: Hand) -> Result<(), Memory>
     ensures { OnOk result (string_bytes text.new ≡ string_bytes text.old ++ hand_line side hand) }
 {
@@ -246,7 +243,7 @@ fn push_line(text: &mut String, side: Side, hand: Hand) -> Result<(), Memory>
     Ok(())
 }
 
-// What stands behind the hands where White is to move.
+// The last line: White is to move; empty if Black is.
 fn turn_line(side: Side) -> &'static str
     ensures { result.now ≡ turn_line side }
 {
@@ -256,12 +253,15 @@ fn turn_line(side: Side) -> &'static str
     }
 }
 
-/// The diagram of a position of shogi that Japanese programs read and write (BOD), in UTF-8: White's hand, the numbers
-/// of the files, the nine ranks from file 9 to file 1, and Black's hand. A piece is its name of one character, after a
-/// `v` where it is White's; a count above 1 stands behind the kind's name. A last line says that White is to move;
-/// there is none where Black is.
+/// The BOD diagram of a shogi position, in UTF-8.
 ///
-/// It fails where memory is refused, and then alone.
+/// The lines are White's hand, the numbers of the files, the nine ranks from file 9 to file 1, and Black's hand. A
+/// piece is one character, after a `v` if it is White's. A count above 1 follows the kind. A last line says that White
+/// is to move; it is missing if Black is.
+///
+/// # Errors
+///
+/// `Memory` if out of memory.
 pub fn write_bod(alloc: Global, position: &SPos) -> Result<String, Memory>
     ensures { IfOk result (λ text. string_bytes text ≡ bod_text position.now) }
 {

@@ -1,4 +1,4 @@
-//! Positions of draughts as ten lines.
+//! Draughts diagrams of ten lines.
 ghost use Rattle.std.specs.Prelude.{◌≡◌, ◌++◌, ◌∷◌, [], ◌<◌, OnOk, IfOk, string_bytes};
 ghost use Rattle.diagrams.specs.Numbers.{number_text, tens_sign};
 ghost use Rattle.diagrams.specs.DraughtsDiagram.{piece_letter, cell_sign, sign_at, cells_text, row_text, diagram_text};
@@ -7,7 +7,7 @@ use memory::Memory;
 use squares::{DPiece, DPos, Dsq, Side};
 use std::alloc::Global;
 
-// The letter of a piece: a small one for a man, a capital for a king.
+// The letter of a piece: lower case for a man, upper case for a king.
 fn piece_letter(side: Side, king: bool) -> u8
     ensures value { result ≡ piece_letter side king }
     ensures range { result < 128 }
@@ -20,7 +20,7 @@ fn piece_letter(side: Side, king: bool) -> u8
     }
 }
 
-// The sign of what stands on a dark square.
+// The character for the content of a dark square.
 fn cell_sign(cell: Option<DPiece>) -> u8
     ensures value { result ≡ cell_sign cell }
     ensures range { result < 128 }
@@ -31,7 +31,7 @@ fn cell_sign(cell: Option<DPiece>) -> u8
     }
 }
 
-// The sign of the square at a row and a column: a blank where it is light.
+// The character for the square at a row and a column; a space for a light square.
 fn sign_at(position: &DPos, row: u8, column: u8) -> u8
     requires row_in { row < 10 }
     requires column_in { column < 10 }
@@ -47,7 +47,7 @@ fn sign_at(position: &DPos, row: u8, column: u8) -> u8
     }
 }
 
-// The sign of a number's tens: a blank for none.
+// The tens digit of a number; a space if it is 0.
 fn tens_sign(number: u8) -> u8
     requires { number < 100 }
     ensures value { result ≡ tens_sign number }
@@ -60,7 +60,7 @@ fn tens_sign(number: u8) -> u8
     }
 }
 
-// Adds a number right in two columns.
+// Appends a number, right-aligned in two columns.
 fn push_number(text: &mut String, number: u8) -> Result<(), Memory>
     requires { number < 100 }
     ensures { OnOk result (string_bytes text.new ≡ string_bytes text.old ++ number_text number) }
@@ -70,7 +70,7 @@ fn push_number(text: &mut String, number: u8) -> Result<(), Memory>
     Ok(())
 }
 
-// Adds a square's sign right in three columns.
+// Appends a square's character, right-aligned in three columns.
 fn push_cell(text: &mut String, sign: u8) -> Result<(), Memory>
     requires { sign < 128 }
     ensures { OnOk result
@@ -81,7 +81,6 @@ fn push_cell(text: &mut String, sign: u8) -> Result<(), Memory>
     Ok(())
 }
 
-// Adds the ten squares of a row.
 fn push_cells(text: &mut String, position: &DPos, row: u8) -> Result<(), Memory>
     requires { row < 10 }
     ensures { OnOk result
@@ -93,7 +92,7 @@ fn push_cells(text: &mut String, position: &DPos, row: u8) -> Result<(), Memory>
     Ok(())
 }
 
-// Adds a row: its squares between the numbers of the first dark one and of the last.
+// Appends a row: its squares between the numbers of its first and its last dark square.
 fn push_row(text: &mut String, position: &DPos, row: u8) -> Result<(), Memory>
     requires { row < 10 }
     ensures { OnOk result
@@ -108,11 +107,15 @@ fn push_row(text: &mut String, position: &DPos, row: u8) -> Result<(), Memory>
     Ok(())
 }
 
-/// The diagram of a position of draughts: ten lines from the top of the board on, each with the ten squares of a row
-/// between the numbers of its first and its last dark square. Of White a man is `w` and a king `W`, of Black `b` and
-/// `B`; an empty dark square is `.`, and a light one is blank. The turn is not shown.
+/// The diagram of a draughts position.
 ///
-/// It fails where memory is refused, and then alone.
+/// It has ten lines from the top of the board, each with ten squares between the numbers of its first and its last dark
+/// square. White's men are `w` and kings `W`; Black's are `b` and `B`. An empty dark square is `.`, a light one is
+/// blank. The side to move is not shown.
+///
+/// # Errors
+///
+/// `Memory` if out of memory.
 pub fn write_draughts(alloc: Global, position: &DPos) -> Result<String, Memory>
     ensures { IfOk result (λ text. string_bytes text ≡ diagram_text position.now.board) }
 {

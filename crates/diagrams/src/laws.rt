@@ -1,17 +1,17 @@
-//! What a diagram tells of a position.
+//! Lemmas: a diagram determines its position.
 ghost use Rattle.diagrams.specs.Laws.{TellsDraughts, TellsShogi, TellsBod};
 
-/// Two positions of draughts with one diagram and one turn are the same.
+/// Lemma: draughts positions with the same diagram and the same side to move are equal.
 pub fn tells_draughts()
     ensures { TellsDraughts }
 {}
 
-/// Two positions of shogi with one diagram and one turn are the same.
+/// Lemma: shogi positions with the same diagram and the same side to move are equal.
 pub fn tells_shogi()
     ensures { TellsShogi }
 {}
 
-/// Two positions of shogi with one diagram of Japanese programs are the same.
+/// Lemma: shogi positions with the same BOD diagram are equal.
 pub fn tells_bod()
     ensures { TellsBod }
 {}

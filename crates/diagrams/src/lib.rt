@@ -1,4 +1,4 @@
-//! Positions as lines of text for a person to look at.
+//! Text diagrams of draughts and shogi positions, for people to read.
 #![tactic(auto)]
 
 pub mod bod;

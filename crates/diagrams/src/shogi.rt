@@ -1,4 +1,4 @@
-//! Positions of shogi as lines, with the letters of SFEN.
+//! Shogi diagrams with the letters of SFEN (http://hgm.nubati.net/usi.html).
 ghost use Rattle.std.specs.Prelude.{◌≡◌, ◌++◌, ◌∷◌, [], ◌<◌, ◌≤◌, OnOk, IfOk, string_bytes};
 ghost use Rattle.std.specs.FinMap as map;
 ghost use Rattle.squares.specs.ShogiGeometry.{OnShogiBoard, shogi_number};
@@ -11,7 +11,7 @@ use memory::Memory;
 use squares::{Hand, HandKind, Kind, SBoard, SPiece, SPos, Side, Ssq};
 use std::alloc::Global;
 
-// The capital letter of a kind.
+// The upper-case letter of a kind.
 fn capital(kind: Kind) -> u8
     ensures value { result ≡ capital kind }
     ensures range { result < 91 }
@@ -28,7 +28,7 @@ fn capital(kind: Kind) -> u8
     }
 }
 
-// The letter of a side's piece of a kind.
+// The letter of a side's piece of a kind: upper case for Black, lower case for White.
 fn piece_letter(side: Side, kind: Kind) -> u8
     ensures value { result ≡ piece_letter side kind }
     ensures range { result < 128 }
@@ -39,7 +39,7 @@ fn piece_letter(side: Side, kind: Kind) -> u8
     }
 }
 
-// The mark before the letter of what stands on a square.
+// The mark before the letter of a square: `+` for a promoted piece.
 fn cell_mark(cell: Option<SPiece>) -> u8
     ensures value { result ≡ cell_mark cell }
     ensures range { result < 128 }
@@ -50,7 +50,7 @@ fn cell_mark(cell: Option<SPiece>) -> u8
     }
 }
 
-// The letter of what stands on a square.
+// The letter of the content of a square.
 fn cell_letter(cell: Option<SPiece>) -> u8
     ensures value { result ≡ cell_letter cell }
     ensures range { result < 128 }
@@ -61,7 +61,7 @@ fn cell_letter(cell: Option<SPiece>) -> u8
     }
 }
 
-// Adds a blank, a mark and a letter.
+// Appends a space, a mark and a letter.
 fn push_three(text: &mut String, mark: u8, letter: u8) -> Result<(), Memory>
     requires mark { mark < 128 }
     requires letter { letter < 128 }
@@ -74,7 +74,7 @@ fn push_three(text: &mut String, mark: u8, letter: u8) -> Result<(), Memory>
     Ok(())
 }
 
-// Adds what stands on a square right in three columns.
+// Appends the content of a square in three columns.
 fn push_cell(text: &mut String, cell: Option<SPiece>) -> Result<(), Memory>
     ensures { OnOk result
         (string_bytes text.new ≡ string_bytes text.old ++ (32 ∷ cell_mark cell ∷ cell_letter cell ∷ [])) }
@@ -83,7 +83,7 @@ fn push_cell(text: &mut String, cell: Option<SPiece>) -> Result<(), Memory>
     Ok(())
 }
 
-// What stands on a square.
+// The piece at a file and a rank.
 pub(crate) fn piece_at(board: &SBoard, file: u8, rank: u8) -> Option<SPiece>
     requires { OnShogiBoard file rank }
     ensures { result ≡ map.get board.now (shogi_number file rank) }
@@ -94,7 +94,7 @@ pub(crate) fn piece_at(board: &SBoard, file: u8, rank: u8) -> Option<SPiece>
     }
 }
 
-// Adds the squares of a rank, from file 9 to file 1.
+// Appends the squares of a rank, from file 9 to file 1.
 fn push_squares(text: &mut String, board: &SBoard, rank: u8) -> Result<(), Memory>
     requires low { 1 ≤ rank }
     requires high { rank ≤ 9 }
@@ -107,7 +107,7 @@ fn push_squares(text: &mut String, board: &SBoard, rank: u8) -> Result<(), Memor
     Ok(())
 }
 
-// Adds a rank: its squares, and its letter behind them.
+// Appends a rank: its squares, then its letter.
 fn push_rank(text: &mut String, board: &SBoard, rank: u8) -> Result<(), Memory>
     requires low { 1 ≤ rank }
     requires high { rank ≤ 9 }
@@ -121,7 +121,7 @@ fn push_rank(text: &mut String, board: &SBoard, rank: u8) -> Result<(), Memory>
     Ok(())
 }
 
-// Adds the numbers of the files.
+// Appends the line with the numbers of the files.
 #[tactic(auto, unfolding(crate::specs::ShogiDiagram::heading))]
 fn push_heading(text: &mut String) -> Result<(), Memory>
     ensures { OnOk result (string_bytes text.new ≡ string_bytes text.old ++ heading) }
@@ -130,7 +130,7 @@ fn push_heading(text: &mut String) -> Result<(), Memory>
     Ok(())
 }
 
-// Adds the numbers of the files and the nine ranks.
+// Appends the numbers of the files and the nine ranks.
 fn push_board(text: &mut String, board: &SBoard) -> Result<(), Memory>
     ensures { OnOk result (string_bytes text.new ≡ string_bytes text.old ++ board_text board.now) }
 {
@@ -141,7 +141,7 @@ fn push_board(text: &mut String, board: &SBoard) -> Result<(), Memory>
     Ok(())
 }
 
-// Adds so many pieces of a letter: nothing for none, and their count where it is above 1.
+// Appends a letter and its count, if that is above 1; nothing if the count is 0.
 fn push_held(text: &mut String, letter: u8, count: u8) -> Result<(), Memory>
     requires { letter < 128 }
     ensures { OnOk result
@@ -159,7 +159,6 @@ fn push_held(text: &mut String, letter: u8, count: u8) -> Result<(), Memory>
     Ok(())
 }
 
-// Adds the pieces of a hand.
 fn push_kinds(text: &mut String, hand: Hand) -> Result<(), Memory>
     ensures { OnOk result
         (string_bytes text.new ≡ string_bytes text.old ++ kinds_text hand hand_kinds) }
@@ -170,7 +169,7 @@ fn push_kinds(text: &mut String, hand: Hand) -> Result<(), Memory>
     Ok(())
 }
 
-// Adds the pieces of a hand, or a hyphen where there are none.
+// Appends the pieces of a hand, or a hyphen if it is empty.
 fn push_hand(text: &mut String, hand: Hand) -> Result<(), Memory>
     ensures { OnOk result (string_bytes text.new ≡ string_bytes text.old ++ hand_text hand) }
 {
@@ -182,7 +181,6 @@ fn push_hand(text: &mut String, hand: Hand) -> Result<(), Memory>
     Ok(())
 }
 
-// Adds the line of a hand.
 fn push_line(text: &mut String, name: &str, hand: Hand) -> Result<(), Memory>
     ensures { OnOk result
         (string_bytes text.new ≡ string_bytes text.old ++ hand_line name.now hand) }
@@ -193,12 +191,16 @@ fn push_line(text: &mut String, name: &str, hand: Hand) -> Result<(), Memory>
     Ok(())
 }
 
-/// The diagram of a position of shogi: a line with White's hand, one with the numbers of the files, nine with the
-/// squares of a rank from file 9 to file 1 and the rank's letter, and one with Black's hand. A piece is its letter of
-/// SFEN, a capital for Black's and a small one for White's, after a `+` where it is promoted; an empty square is `.`.
-/// Hands are as `White: B P2`, or `Black: -` where they are empty. The turn is not shown.
+/// The diagram of a shogi position.
 ///
-/// It fails where memory is refused, and then alone.
+/// The lines are White's hand, the numbers of the files, the nine ranks from file 9 to file 1 with the rank's letter,
+/// and Black's hand. A piece is its SFEN letter, upper case for Black and lower case for White, after a `+` if it is
+/// promoted. An empty square is `.`. Hands look like `White: B P2`, or `Black: -` if empty. The side to move is not
+/// shown.
+///
+/// # Errors
+///
+/// `Memory` if out of memory.
 pub fn write_shogi(alloc: Global, position: &SPos) -> Result<String, Memory>
     ensures { IfOk result (λ text. string_bytes text ≡ shogi_text position.now) }
 {

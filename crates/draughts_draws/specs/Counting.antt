@@ -1,4 +1,4 @@
--- When counts are those of a line.
+-- When a `DrawCounts` represents a game history.
 use Rattle.std.specs.Prelude.{◌≡◌, List, Option, length, unwrap_or}
 use Rattle.std.specs.HashMap.{get}
 use Rattle.game_lines.specs.Line as line
@@ -13,8 +13,7 @@ use Rattle.draughts_draws.specs.declared.ends.DEnd.{DEnd}
 use Rattle.draughts_draws.specs.Ends.{end_of}
 use Rattle.draughts_draws.specs.Faults.{IsPlayed}
 
--- The line is played by the rules, and the counts have its last position, its plies, its tail, and how often each
--- position stood in it.
+-- The history follows the rules, and the value has its last position, plies, tail and repetition counts.
 pub record Follows (start : Position) (ms : List DMove) (counts : DrawCounts) : Type 0 where
   pub played : IsPlayed start ms (length ms)
   pub last : counts.last ≡ last_position start ms
@@ -24,6 +23,6 @@ pub record Follows (start : Position) (ms : List DMove) (counts : DrawCounts) : 
   pub stood : (p : Position) → unwrap_or (get same_position counts.seen p) 0
       ≡ line.times_at play same_position start ms p
 
--- Where the counts are those of a line, this is its end.
+-- The end of the represented history.
 abbrev pub TellsEnd : DrawCounts → Option DEnd → Type 0
 TellsEnd counts end = (start : Position) (ms : List DMove) → Follows start ms counts → end ≡ end_of start ms

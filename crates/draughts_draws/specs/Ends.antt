@@ -1,5 +1,4 @@
--- The ends of a game of international draughts, by the numbers of the World Draughts Federation (FMJD), all of them
--- automatic.
+-- The ends of a game of international draughts, with the FMJD's numbers; all of them are automatic.
 use Rattle.std.specs.Prelude.{ℕ, ◌-◌, ◌==◌, ◌&&◌, ◌||◌, nat_le, not, if◌then◌else◌, Bool, false, Option, Some, None}
 use Rattle.std.specs.Prelude.{List, length, count_by, drop}
 use Rattle.std.specs.List.{list_all, range_with_len, zip}
@@ -20,7 +19,7 @@ use Rattle.draughts_draws.specs.declared.ends.DEnd.TheVariants.{NoMove, Repetiti
 use Rattle.draughts_draws.specs.declared.ends.DEnd.TheVariants.{PlyLimit}
 use Rattle.draughts_draws.specs.Line.{last_position, positions}
 
--- whether the last position, with its turn, stands for the third time
+-- Whether the last position, with its side to move, occurs for the third time.
 unfoldable pub stands_thrice : Position → List Position → Bool
 stands_thrice last ps = nat_le 3 (count_by (λ p. same_position p last) ps)
 
@@ -28,12 +27,11 @@ abbrev pub is_king : Option DPiece → Bool
 is_king None = false
 is_king (Some piece) = piece.king
 
--- a move by a king that takes nothing
+-- A king move without a capture.
 abbrev pub is_king_move : Position → DMove → Bool
 is_king_move p m = (set.len m.taken == 0) && is_king (map.get p.board m.from)
 
--- whether the last 50 moves were made by kings and took nothing; each move stands beside the position in which it was
--- made
+-- Whether the last 50 plies were king moves without a capture; each move is paired with its position.
 unfoldable pub are_king_moves : List Position → List DMove → Bool
 are_king_moves ps ms = nat_le 50 (length ms) && list_all (λ e. is_king_move e.0 e.1)
     (zip (drop (length ms - 50) ps) (drop (length ms - 50) ms))
@@ -46,42 +44,41 @@ abbrev pub is_king_of : Side → Option DPiece → Bool
 is_king_of side None = false
 is_king_of side (Some piece) = same_side piece.side side && piece.king
 
--- how many pieces a side has
+-- The number of a side's pieces.
 unfoldable pub count_of_pieces : Side → Position → ℕ
 count_of_pieces side p = count_by (λ n. is_piece_of side (map.get p.board n)) (range_with_len 1 50)
 
--- how many of them are kings
+-- The number of a side's kings.
 unfoldable pub count_of_kings : Side → Position → ℕ
 count_of_kings side p = count_by (λ n. is_king_of side (map.get p.board n)) (range_with_len 1 50)
 
--- a king and no other piece
+-- One king and no other piece.
 abbrev pub has_lone_king : Side → Position → Bool
 has_lone_king side p = (count_of_pieces side p == 1) && (count_of_kings side p == 1)
 
--- three pieces, at least one of them a king
+-- Three pieces, at least one of them a king.
 abbrev pub has_three : Side → Position → Bool
 has_three side p = (count_of_pieces side p == 3) && nat_le 1 (count_of_kings side p)
 
--- two pieces, at least one of them a king
+-- Two pieces, at least one of them a king.
 abbrev pub has_two : Side → Position → Bool
 has_two side p = (count_of_pieces side p == 2) && nat_le 1 (count_of_kings side p)
 
--- three pieces of either side, at least one a king, against a lone king
+-- Three pieces, at least one of them a king, against a lone king.
 abbrev pub is_three_to_one : Position → Bool
 is_three_to_one p = (has_three First p && has_lone_king Second p) || (has_three Second p && has_lone_king First p)
 
--- one king of either side, or two pieces with at least one king, against a lone king
+-- A king, or two pieces with at least one king, against a lone king.
 abbrev pub is_two_to_one : Position → Bool
 is_two_to_one p =
     ((has_lone_king First p || has_two First p) && has_lone_king Second p) ||
     ((has_lone_king Second p || has_two Second p) && has_lone_king First p)
 
--- whether there are so many positions, and the last that many are all in a class
+-- Whether there are at least `count` positions and the last `count` are all in a class.
 unfoldable pub ends_with : ℕ → (Position → Bool) → List Position → Bool
 ends_with count class ps = nat_le count (length ps) && list_all class (drop (length ps - count) ps)
 
--- The first of the ends that holds, by the last position, all positions and all moves of a line. Nothing but these
--- counts.
+-- The first end that holds, from the last position, all positions and all moves of a history, and nothing else.
 unfoldable pub first_end : Position → List Position → List DMove → Option DEnd
 first_end last ps ms =
     if not (has_move last)
@@ -94,11 +91,11 @@ first_end last ps ms =
     then Some ThreeToOne
     else if ends_with 11 is_two_to_one ps then Some TwoToOne else if length ms == 600 then Some PlyLimit else None
 
--- the end of a line, if its last ply ends it
+-- The end of a history, if its last ply ends it.
 unfoldable pub end_of : Position → List DMove → Option DEnd
 end_of start ms = first_end (last_position start ms) (positions start ms) ms
 
--- the score of an end, by the side to move after it: a side without a move loses, and the rest are draws
+-- The score of an end, by the side to move after it: a side without a move loses, the rest are draws.
 abbrev pub outcome_of : DEnd → Side → Score
 outcome_of NoMove turn = loses turn
 outcome_of Repetition turn = Draw

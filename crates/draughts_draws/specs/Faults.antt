@@ -1,4 +1,4 @@
--- Which lines of draughts are played by the rules, and what is wrong with the others.
+-- Legal draughts histories, and the faults of the others.
 use Rattle.std.specs.Prelude.{◌≡◌, ℕ, List, Err}
 use Rattle.game_lines.specs.Faults as lines
 use Rattle.squares.specs.declared.draughts.moves.DMove.{DMove}

@@ -1,4 +1,4 @@
--- Two numbers of a line, by which its last ply is judged without the plies before it.
+-- Counters that give the end of a history without its earlier plies.
 use Rattle.std.specs.Prelude.{◌≡◌, ℕ, ◌+◌, ◌==◌, ◌&&◌, ◌++◌, nat_le, not, if◌then◌else◌, Bool, Option, Some, None, List}
 use Rattle.std.specs.Prelude.{[], ◌∷◌, length}
 use Rattle.std.specs.List.{suffix_len, zip}
@@ -24,13 +24,13 @@ in_class class.TwoToOne p = is_two_to_one p
 abbrev pub class_of : Position → Option Class
 class_of p = if is_three_to_one p then Some class.ThreeToOne else if is_two_to_one p then Some class.TwoToOne else None
 
--- how many of the last positions, in a row, are in the class
+-- The number of consecutive last positions that are in the class.
 abbrev pub run_in : Option Class → List Position → ℕ
 run_in None ps = 0
 run_in (Some c) ps = suffix_len (in_class c) ps
 
--- The plies in a row, up to the last, that kings made without taking (each move stands beside the position in which it
--- was made), and the positions in a row, up to the last and with it, in the last one's class.
+-- The number of consecutive king moves without a capture up to the last ply, each move paired with its position. Also
+-- the number of consecutive last positions in the class of the last one.
 unfoldable pub tail_of : Position → List DMove → Tail
 tail_of start ms =
     record {
@@ -38,7 +38,7 @@ tail_of start ms =
       class_positions = run_in (class_of (last_position start ms)) (positions start ms);
     }
 
--- ---- what the tail of a line is, one ply after another
+-- The tail, ply by ply.
 
 abbrev pub first_count : Option Class → ℕ
 first_count None = 0
@@ -61,19 +61,19 @@ next_tail tail before m after =
       class_positions = class_count before after tail.class_positions;
     }
 
--- the end by a class of positions
+-- The end by an ending with few pieces.
 abbrev pub class_end : Tail → Position → Option DEnd
 class_end tail last =
     if is_three_to_one last && nat_le 33 tail.class_positions
     then Some ThreeToOne
     else if is_two_to_one last && nat_le 11 tail.class_positions then Some TwoToOne else None
 
--- the first of two ends, if there is one
+-- The first of two ends, if there is one.
 abbrev pub end_or : Option DEnd → Option DEnd → Option DEnd
 end_or (Some end) later = Some end
 end_or None later = later
 
--- the end of a line with this tail and this last position, which stood so often, after so many plies
+-- The end of a history with this tail and last position, from the number of plies and the repetition count.
 unfoldable pub end_by : Tail → Position → ℕ → ℕ → Option DEnd
 end_by tail last plies times =
     if not (has_move last)
@@ -83,9 +83,9 @@ end_by tail last plies times =
     else if nat_le 50 tail.king_plies then Some KingMoves else end_or (class_end tail last)
     (if plies == 600 then Some PlyLimit else None)
 
--- ---- laws
+-- Properties of tails.
 
--- the tail of a line without a move, and with one more
+-- The tail before the first move, and after one more move.
 abbrev pub TailsBegin : Type 0
 TailsBegin = (start : Position) → tail_of start [] ≡ first_tail start
 
@@ -95,11 +95,11 @@ TailsGoOn =
     tail_of start (ms ++ m ∷ []) ≡ next_tail (tail_of start ms) (last_position start ms) m
     (play (last_position start ms) m)
 
--- how often the last position of a line stood in it
+-- The repetition count of the last position.
 abbrev pub times_stood : Position → List DMove → ℕ
 times_stood = line.times_stood play same_position
 
--- by its tail a line ends as by all its positions and moves
+-- The end by the tail is the end by all positions and moves.
 abbrev pub TailsTellEnds : Type 0
 TailsTellEnds =
     (start : Position) (ms : List DMove) →

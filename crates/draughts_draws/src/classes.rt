@@ -1,4 +1,4 @@
-//! Positions in which a lone king stands against few pieces.
+//! Endings with a lone king against few pieces.
 ghost use Rattle.std.specs.Prelude.{◌≡◌};
 ghost use Rattle.draughts_draws.specs.Ends.{count_of_pieces, count_of_kings, has_lone_king};
 ghost use Rattle.draughts_draws.specs.Ends.{has_three, has_two, is_three_to_one, is_two_to_one};
@@ -38,7 +38,7 @@ fn has_two(side: Side, position: &DPos) -> bool
     count_of_pieces(side, position) == 2 && count_of_kings(side, position) >= 1
 }
 
-// Three pieces of either side, at least one of them a king, against a lone king.
+// Three pieces, at least one of them a king, against a lone king.
 pub(crate) fn is_three_to_one(position: &DPos) -> bool
     ensures { result ≡ is_three_to_one position.now }
 {
@@ -47,7 +47,7 @@ pub(crate) fn is_three_to_one(position: &DPos) -> bool
             || (has_three(Side::Second, position) && has_lone_king(Side::First, position)))
 }
 
-// A king of either side, or two pieces with at least one king, against a lone king.
+// A king, or two pieces with at least one king, against a lone king.
 pub(crate) fn is_two_to_one(position: &DPos) -> bool
     ensures { result ≡ is_two_to_one position.now }
 {

@@ -1,4 +1,4 @@
-//! A line that is judged ply by ply.
+//! The state of a game that is judged ply by ply.
 ghost use Rattle.std.specs.Prelude.{◌≡◌, ◌≤◌, ◌+◌, [], IfOk, IfErr, OnOk, OnErr, unwrap_or};
 ghost use Rattle.std.specs.HashMap.{get};
 ghost use Rattle.squares.specs.DraughtsSamePosition.{same_position};
@@ -11,15 +11,17 @@ use squares::{DMove, DPos};
 use std::alloc::Global;
 use std::collections::HashMap;
 
-/// What a line of moves comes to, ply by ply: each push costs as much however long the line is.
+/// The state of a game after a sequence of moves.
+///
+/// The cost of a push does not grow with the number of plies.
 #[derive(Drop)]
 pub struct DrawCounts {
     last: DPos,
     plies: usize,
-    /// How often the last position stood.
+    /// The repetition count of the last position.
     times: u32,
     tail: Tail,
-    /// How often each position stood.
+    /// The repetition count of each position.
     seen: HashMap<DPos, u32>,
     ghost within: { plies ≤ 600 },
     ghost few_king_plies: { tail.king_plies ≤ plies },
@@ -33,7 +35,11 @@ impl DrawCounts {
     ghost use Rattle.draughts_draws.specs.Faults.{draughts_lines};
     ghost use Rattle.draughts_draws.specs.Tails.{end_by};
 
-    /// The line without a move from a position.
+    /// The state before the first move, from a starting position.
+    ///
+    /// # Errors
+    ///
+    /// `Memory` if out of memory.
     pub fn start(alloc: Global, position: &DPos) -> Result<DrawCounts, DLineFault>
         ensures follows { IfOk result (Follows position.now []) }
         ensures fault { IfErr result (λ fault. fault ≡ Memory) }
@@ -49,8 +55,18 @@ impl DrawCounts {
         })
     }
 
-    /// The line with one move more. It fails where the game has ended, or where the move is not legal, with the fault
-    /// that `judge` has of that ply, or where memory is refused; then the line stays as it was.
+    /// Appends a move.
+    ///
+    /// # Errors
+    ///
+    /// - `AfterEnd`: the game has already ended.
+    /// - `Illegal`: the move is illegal.
+    /// - `Memory`: out of memory.
+    ///
+    /// # Guarantees
+    ///
+    /// `fault`: apart from `Memory`, the fault is the one that `judge` returns for this ply. `kept`: after an error the
+    /// state is unchanged.
     pub fn push(&mut self, played: &DMove) -> Result<(), DLineFault>
         ensures follows { OnOk result (GrowsBy Follows played.now self.old self.new) }
         ensures fault { IfErr result (RefusesNext Follows draughts_lines played.now self.old) }
@@ -79,21 +95,21 @@ impl DrawCounts {
         Ok(())
     }
 
-    // How often a position stood.
+    // The repetition count of a position so far.
     fn times_of(&self, position: &DPos) -> u32
         ensures { result ≡ unwrap_or (get same_position self.now.seen position.now) 0 }
     {
         self.seen.get(position).copied().unwrap_or(0)
     }
 
-    // The end by the tail.
+    // The end of the game according to the tail, if it has ended.
     fn end_by_tail(&self) -> Option<DEnd>
         ensures { result ≡ end_by self.now.tail self.now.last self.now.plies self.now.times }
     {
         self.tail.end(&self.last, self.plies, self.times as usize)
     }
 
-    /// The end that the rules give the line, if its last ply ends it.
+    /// The end of the game, if the last ply ends it.
     pub fn end(&self) -> Option<DEnd>
         ensures { TellsEnd self.now result }
     {

@@ -1,7 +1,7 @@
-//! What is wrong with a line of moves.
+//! Faults of a sequence of moves.
 
 use draughts_moves::Illegal;
 use game_lines::LineFault;
 
-/// Why a line of moves of draughts is not judged.
+/// Why a sequence of draughts moves is rejected.
 pub type DLineFault = LineFault<Illegal>;

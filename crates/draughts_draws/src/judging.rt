@@ -1,4 +1,4 @@
-//! The judgement of a whole line of moves.
+//! Judging a whole game.
 ghost use Rattle.std.specs.Prelude.{◌≡◌, IfOk, IfErr, length};
 ghost use Rattle.draughts_draws.specs.Ends.{end_of};
 ghost use Rattle.draughts_draws.specs.Faults.{IsPlayed, HasFault};
@@ -9,12 +9,17 @@ use crate::faults::DLineFault;
 use squares::{DMove, DPos};
 use std::alloc::Global;
 
-/// The end of a line of moves from a position, if its last ply ends it. An end of the position
-/// itself counts, where there are no moves.
+/// The end of the game after a sequence of moves, if the last ply ends it.
 ///
-/// It fails at the first ply that is not played by the rules: there the game has ended before, or
-/// the move is not legal. Where both hold, the game has ended. It also fails where memory is
-/// refused, and then alone.
+/// Without moves the result is the end of the starting position itself, if it is one.
+///
+/// # Errors
+///
+/// The fault of the first ply that breaks the rules:
+///
+/// - `AfterEnd`: the game had already ended. It takes precedence over `Illegal`.
+/// - `Illegal`: the move is illegal.
+/// - `Memory`: out of memory.
 pub fn judge(alloc: Global, start: &DPos, moves: &[DMove]) -> Result<Option<DEnd>, DLineFault>
     ensures played { IfOk result (λ _. IsPlayed start.now moves.now (length moves.now)) }
     ensures end { IfOk result (λ end. end ≡ end_of start.now moves.now) }

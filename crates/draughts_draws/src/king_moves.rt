@@ -1,4 +1,4 @@
-//! Moves by kings that take nothing.
+//! King moves without a capture.
 ghost use Rattle.std.specs.Prelude.{◌≡◌};
 ghost use Rattle.draughts_draws.specs.Ends.{is_king, is_king_move};
 
@@ -13,7 +13,7 @@ fn is_king(piece: Option<DPiece>) -> bool
     }
 }
 
-/// Whether a king makes the move, and takes nothing.
+/// Whether the move is a king move without a capture.
 pub(crate) fn is_king_move(position: &DPos, played: &DMove) -> bool
     ensures { result ≡ is_king_move position.now played.now }
 {

@@ -1,7 +1,7 @@
-//! What is proved of the ends of lines themselves.
+//! Properties of the ends of games.
 ghost use Rattle.draughts_draws.specs.Tails.{TailsBegin, TailsGoOn, TailsTellEnds};
 
-/// The tail of a line is made ply by ply, and the line ends by it as by all its positions and moves.
+/// Lemma: the tail can be computed ply by ply, and gives the same end as the whole game.
 pub fn tails_tell_ends()
     ensures begin { TailsBegin }
     ensures go_on { TailsGoOn }

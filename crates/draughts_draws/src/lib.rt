@@ -1,4 +1,7 @@
-//! When a game of international draughts ends by the rules.
+//! The ends of a game of international draughts: no legal move, and draws by repetition and by counting moves.
+//!
+//! The draws by repetition, king moves and few pieces follow the FMJD rules (https://www.fmjd.org/). The limit of 600
+//! plies is our own.
 #![tactic(auto)]
 
 mod classes;

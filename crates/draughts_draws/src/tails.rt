@@ -1,4 +1,4 @@
-//! Two numbers of a line by which its last ply is judged, without the plies before it.
+//! Counters that give the end of a game without looking at earlier plies.
 ghost use Rattle.std.specs.Prelude.{◌≡◌, ◌<◌};
 ghost use Rattle.draughts_draws.specs.Ends.{is_king_move, is_three_to_one, is_two_to_one};
 ghost use Rattle.draughts_draws.specs.Tails.{in_class, class_of, class_count, first_tail, next_tail, class_end, end_by};
@@ -9,7 +9,7 @@ use crate::king_moves::is_king_move;
 use draughts_moves::has_move;
 use squares::{DMove, DPos};
 
-/// The classes of positions in which a lone king stands against few pieces. No position is in both.
+/// The endings with a lone king against few pieces. No position belongs to both.
 #[derive(Clone, Copy, Debug, PartialEq, Eq)]
 pub enum Class {
     /// Three pieces, at least one of them a king, against a lone king.
@@ -18,32 +18,31 @@ pub enum Class {
     TwoToOne,
 }
 
-/// What tells the end of a line's last ply, beside the last position, the number of plies and how often the position
-/// stood.
+/// The counters that, with the last position, its repetition count and the number of plies, give the end of a game.
 #[derive(Clone, Copy, Debug, PartialEq, Eq)]
 pub struct Tail {
-    /// The plies in a row, up to the last, that kings made without taking.
+    /// The number of consecutive king moves without a capture, in plies, up to the last ply.
     pub king_plies: u32,
-    /// The positions in a row, up to the last and with it, that are in the last one's class; 0 where it is in none.
+    /// The number of consecutive positions, up to and with the last, in the last one's class; 0 if it has none.
     pub class_positions: u32,
 }
 
-/// So often may a position stand before it ends the game.
+/// The repetition count at which a game ends.
 const STANDS: usize = 3;
 
-/// The plies after which every game ends.
+/// The number of plies after which every game ends.
 const PLY_LIMIT: usize = 600;
 
-/// The plies of kings without a capture that end the game.
+/// The number of consecutive king moves without a capture, in plies, at which a game ends.
 const KING_PLIES: u32 = 50;
 
-/// The positions of three pieces against a lone king that end the game.
+/// The number of consecutive three-to-one positions at which a game ends.
 const THREE_TO_ONE: u32 = 33;
 
-/// The positions of one or two pieces against a lone king that end the game.
+/// The number of consecutive two-to-one positions at which a game ends.
 const TWO_TO_ONE: u32 = 11;
 
-// Whether the position is in the class.
+// Whether the position belongs to the class.
 fn in_class(class: Class, position: &DPos) -> bool
     ensures { result ≡ in_class class position.now }
 {
@@ -53,7 +52,7 @@ fn in_class(class: Class, position: &DPos) -> bool
     }
 }
 
-// The class that the position is in, if there is one.
+// The class of the position, if it has one.
 fn class_of(position: &DPos) -> Option<Class>
     ensures { result ≡ class_of position.now }
 {
@@ -66,7 +65,7 @@ fn class_of(position: &DPos) -> Option<Class>
     None
 }
 
-// The positions in a row in the class of the second of two positions, where there were so many up to the first.
+// The number of consecutive positions in the class of `after`, if `count` is that number up to `before`.
 fn class_count(before: &DPos, after: &DPos, count: u32) -> u32
     requires { count < 4294967295 }
     ensures { result ≡ class_count before.now after.now count }
@@ -84,7 +83,7 @@ fn class_count(before: &DPos, after: &DPos, count: u32) -> u32
 }
 
 impl Tail {
-    /// The tail of a line without a move.
+    /// The tail before the first move.
     pub fn start(position: &DPos) -> Tail
         ensures { result ≡ first_tail position.now }
     {
@@ -98,7 +97,7 @@ impl Tail {
         }
     }
 
-    /// The tail of the line with one move more, made in the line's last position and leading to the one after it.
+    /// The tail after one more move, which leads from `before` to `after`.
     pub fn next(self, before: &DPos, played: &DMove, after: &DPos) -> Tail
         requires king_plies { self.king_plies < 4294967295 }
         requires class_positions { self.class_positions < 4294967295 }
@@ -115,7 +114,9 @@ impl Tail {
         }
     }
 
-    /// The end that the rules give the line with this tail, whose last position stood so often after so many plies.
+    /// The end of a game with this tail, if it has ended.
+    ///
+    /// `position` is the last position, `plies` the number of plies, and `times` the repetition count of the position.
     #[tactic(auto, unfolding(crate::specs::Tails::end_by))]
     pub fn end(self, position: &DPos, plies: usize, times: usize) -> Option<DEnd>
         ensures { result ≡ end_by self position.now plies times }
@@ -139,7 +140,7 @@ impl Tail {
         None
     }
 
-    // The end by a class of positions, if there is one.
+    // The end by an ending with few pieces, if there is one.
     fn class_end(self, position: &DPos) -> Option<DEnd>
         ensures { result ≡ class_end self position.now }
     {

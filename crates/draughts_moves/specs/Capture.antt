@@ -1,5 +1,4 @@
--- Captures of international draughts, as the World Draughts Federation (FMJD) plays it: jumps, routes, and the captures
--- that are legal.
+-- Captures under the FMJD rules of international draughts: jumps, capture routes and legal captures.
 use Rattle.std.specs.Prelude.{◌≡◌, ◌≤◌, ◌<◌, ℕ, Bool, true, false, not, ◌==◌, if◌then◌else◌, Option, Some, None, List}
 use Rattle.std.specs.Prelude.{[], ◌∷◌, ◌++◌, length}
 use Rattle.std.specs.FinSet as set
@@ -11,11 +10,11 @@ use Rattle.squares.specs.DraughtsBoard.{Board, Position}
 use Rattle.squares.specs.DraughtsSets.{Squares}
 use Rattle.squares.specs.DraughtsGeometry.{ray}
 
--- what stands on each square
+-- The content of each square.
 abbrev pub Cells : Type 0
 Cells = ℕ → Option DPiece
 
--- the board without the piece on x
+-- The board without the piece on x.
 abbrev pub without : Board → ℕ → Cells
 without board x n = if n == x then None else map.get board n
 
@@ -23,14 +22,14 @@ abbrev pub is_enemy : DPiece → Option DPiece → Bool
 is_enemy p None = false
 is_enemy p (Some q) = not (same_side p.side q.side)
 
--- no piece stands on any of the squares
+-- All these squares are empty.
 abbrev pub AllClear : Cells → List ℕ → Type 0
 AllClear b [] = Unit {0}
 AllClear b (n ∷ ns) = (b n ≡ None) × AllClear b ns
 
--- Along a line of squares the piece jumps over an enemy that it has not taken, to an empty square behind it.
--- The squares before the enemy and between it and the landing are empty. A man's enemy and landing are the first two
--- squares.
+-- Along a line of squares the piece jumps over an enemy that it has not captured, to an empty square behind it. The
+-- squares before the enemy and between enemy and landing are empty. For a man the enemy and the landing are the first
+-- two squares.
 pub record JumpAlong (b : Cells) (p : DPiece) (taken : Squares) (line : List ℕ) (over to : ℕ) : Type 0 where
   pub before : List ℕ
   pub between : List ℕ
@@ -43,48 +42,47 @@ pub record JumpAlong (b : Cells) (p : DPiece) (taken : Squares) (line : List ℕ
   pub lands : b to ≡ None
   pub man : p.king ≡ false → (before ≡ []) × (between ≡ [])
 
--- a jump from a square, in one of the four directions
+-- A jump from a square, in one of the four directions.
 abbrev pub Jump : Cells → DPiece → Squares → ℕ → ℕ → ℕ → Type 0
 Jump b p taken from over to = (d : Direction) × JumpAlong b p taken (ray d from) over to
 
--- From a square, with what is taken, jumps that land on the squares of the list lead to the square `to`, with `all`
--- taken. All jumps are over one board: what is taken still stands, and the square that the piece left at first is
--- empty.
+-- A capture route: jumps from a square, with `taken` captured so far, land on the listed squares, end on `to` and
+-- capture `all`. Captured pieces stay on the board until the end; the starting square of the piece counts as empty.
 abbrev pub Route : Cells → DPiece → Squares → ℕ → List ℕ → Squares → ℕ → Type 0
 Route b p taken from [] all to = (taken ≡ all) × (from ≡ to)
 Route b p taken from (l ∷ landings) all to = (over : ℕ) × Jump b p taken from over l
     × Route b p (set.insert taken over) l landings all to
 
--- a route of a piece of the side to move
+-- A capture route of a piece of the side to move.
 pub record Capture (p : Position) (from : ℕ) (landings : List ℕ) (all : Squares) (to : ℕ) : Type 0 where
   pub piece : DPiece
   pub stands : map.get p.board from ≡ Some piece
   pub own : piece.side ≡ p.turn
   pub route : Route (without p.board from) piece set.empty from landings all to
 
--- a capture that takes something, and no capture takes more
+-- A capture that takes at least one piece, while no capture takes more.
 pub record LegalCapture (p : Position) (from to : ℕ) (all : Squares) : Type 0 where
   pub landings : List ℕ
   pub capture : Capture p from landings all to
   pub takes : 0 < set.len all
   pub most : (x y : ℕ) (ls : List ℕ) (t : Squares) → Capture p x ls t y → set.len t ≤ set.len all
 
--- no capture takes more than n, and one takes n if n is not 0
+-- No capture takes more than n pieces, and one takes n unless n is 0.
 pub record IsMost (p : Position) (n : ℕ) : Type 0 where
   pub bounds : (x y : ℕ) (ls : List ℕ) (t : Squares) → Capture p x ls t y → set.len t ≤ n
   pub reached : 0 < n → (x : ℕ) × (y : ℕ) × (ls : List ℕ) × (t : Squares) × Capture p x ls t y × (set.len t ≡ n)
 
--- from a square, with what is taken, n jumps lead to `to` with `all` taken
+-- With `taken` captured so far, n jumps from a square end on `to` and capture `all`.
 abbrev pub Reaches : Cells → DPiece → ℕ → Squares → ℕ → Squares → ℕ → Type 0
 Reaches b p n taken from all to = (landings : List ℕ) × (length landings ≡ n) × Route b p taken from landings all to
 
--- a jump of a piece of the side to move, from where it stands
+-- A first jump of a piece of the side to move.
 pub record FirstJump (p : Position) (from over to : ℕ) : Type 0 where
   pub piece : DPiece
   pub stands : map.get p.board from ≡ Some piece
   pub own : piece.side ≡ p.turn
   pub jump : Jump (without p.board from) piece set.empty from over to
 
--- some piece of the side to move can jump
+-- A piece of the side to move has a first jump.
 abbrev pub HasCapture : Position → Type 0
 HasCapture p = (from : ℕ) × (over : ℕ) × (to : ℕ) × FirstJump p from over to

@@ -1,4 +1,4 @@
--- What a check of a move answers, by the rules and computed.
+-- The answer of a move check, by the rules and computed.
 use Rattle.std.specs.Prelude.{◌≡◌, ◌↔◌, Bool, false, ◌&&◌, ◌==◌, nat_lt, if◌then◌else◌, Result, Ok, Err, IsOk}
 use Rattle.std.specs.List.{list_any}
 use Rattle.std.specs.Option.{option_map_or}
@@ -15,14 +15,14 @@ use Rattle.draughts_moves.specs.Search.{own_at, routes_of, most, is_step}
 abbrev pub Answer : Type 0
 Answer = Result (Unit {0}) Illegal
 
--- Legal moves pass. A quiet move where something can be taken, and a capture that takes fewer than the most, each have
--- a refusal of their own; whatever else is refused is no move.
+-- Legal moves pass. A quiet move while a capture exists, and a capture shorter than the longest, have their own
+-- refusals; every other refused move is no possible move.
 pub record IsCheck (p : Position) (m : DMove) (answer : Answer) : Type 0 where
   pub legal : IsOk answer ↔ Legal p m
   pub must_capture : (answer ≡ Err MustCapture) ↔ (IsQuiet p m × HasCapture p)
   pub not_longest : (answer ≡ Err NotLongest) ↔ IsShortCapture p m
 
--- whether some route of the piece takes what the move takes and ends where it ends
+-- Whether a capture route with the move's start, end and captured pieces exists.
 unfoldable pub is_capture : Position → DMove → Bool
 is_capture p m =
     option_map_or
@@ -36,6 +36,6 @@ abbrev pub check_capture : Position → DMove → Answer
 check_capture p m = if is_capture p m then if nat_lt (set.len m.taken) (most p) then Err NotLongest else Ok tt else Err
     NoSuchMove
 
--- the answer of a check, computed
+-- The computed answer of a move check.
 unfoldable pub check_of : Position → DMove → Answer
 check_of p m = if set.len m.taken == 0 then check_quiet p m else check_capture p m

@@ -1,4 +1,4 @@
--- What is proved of the rules as a whole.
+-- Properties of the rules as a whole.
 use Rattle.std.specs.Prelude.{◌≡◌, ◌↔◌, ℕ, List, [], ◌∷◌, ◌++◌, IsTrue}
 use Rattle.std.specs.FinSet as set
 use Rattle.squares.specs.declared.draughts.piece.DPiece.{DPiece}
@@ -11,23 +11,23 @@ use Rattle.draughts_moves.specs.Legal.{IsCapture, Legal, HasMove, play}
 use Rattle.draughts_moves.specs.Search.{has_move}
 use Rattle.draughts_moves.specs.Check.{IsCheck, check_of}
 
--- The computed answer of a check is the one by the rules.
+-- The computed check agrees with the rules.
 abbrev pub CheckIs : Type 0
 CheckIs = (p : Position) (m : DMove) → IsCheck p m (check_of p m)
 
--- The computed answer whether there is a move is the one by the rules.
+-- The computed `has_move` agrees with the rules.
 abbrev pub HasMoveIs : Type 0
 HasMoveIs = (p : Position) → IsTrue (has_move p) ↔ HasMove p
 
--- Something can be taken exactly where some piece can make a first jump.
+-- A capture exists exactly if a piece has a first jump.
 abbrev pub CapturesBeginWithJumps : Type 0
 CapturesBeginWithJumps = (p : Position) → ((m : DMove) × IsCapture p m) ↔ HasCapture p
 
--- After a legal move the other side is to move.
+-- A legal move passes the turn.
 abbrev pub TurnPasses : Type 0
 TurnPasses = (p : Position) (m : DMove) → Legal p m → (play p m).turn ≡ other p.turn
 
--- A route that has come to a square, with what it has taken by then, goes on by one more jump from there.
+-- A capture route that ends on `at`, followed by one more jump.
 pub record GrownRoute (b : Cells) (p : DPiece) (start : Squares) (from : ℕ) (landings : List ℕ) (last : ℕ)
     (all : Squares) (to : ℕ) : Type 0 where
   pub at : ℕ
@@ -38,7 +38,7 @@ pub record GrownRoute (b : Cells) (p : DPiece) (start : Squares) (from : ℕ) (l
   pub takes : set.insert taken over ≡ all
   pub ends : last ≡ to
 
--- The routes of one more landing are the routes that grow by one more jump at their end.
+-- The routes with one more landing are the routes extended by one jump.
 abbrev pub RoutesGrow : Type 0
 RoutesGrow =
     (b : Cells) (p : DPiece) (start : Squares) (from : ℕ) (landings : List ℕ) (last : ℕ) (all : Squares) (to : ℕ)

@@ -1,5 +1,4 @@
--- The legal moves of international draughts, as the World Draughts Federation (FMJD) plays it, and the position that a
--- move leaves.
+-- Legal moves under the FMJD rules of international draughts, and the position after a move.
 use Rattle.std.specs.Prelude.{◌≡◌, ◌⊎◌, ◌<◌, ℕ, Bool, true, false, not, ◌||◌, ◌==◌, Option, Some, None, List, [], ◌∷◌}
 use Rattle.std.specs.Prelude.{◌++◌}
 use Rattle.std.specs.FinSet as set
@@ -15,7 +14,7 @@ use Rattle.squares.specs.DraughtsBoard.{Position}
 use Rattle.squares.specs.DraughtsGeometry.{ray, row_of}
 use Rattle.draughts_moves.specs.Capture.{AllClear, Capture, LegalCapture, HasCapture}
 
--- First goes up the board, Second down
+-- First moves up the board, Second down.
 abbrev pub is_forward : Side → Direction → Bool
 is_forward First UpLeft = true
 is_forward First UpRight = true
@@ -24,8 +23,8 @@ is_forward Second DownLeft = true
 is_forward Second DownRight = true
 is_forward Second d = false
 
--- A piece of the side to move goes along a diagonal over empty squares to an empty square. A man goes one square
--- forward.
+-- A quiet move: a piece of the side to move goes along a diagonal over empty squares to an empty square. A man goes one
+-- square forward.
 pub record QuietMove (p : Position) (from to : ℕ) : Type 0 where
   pub piece : DPiece
   pub stands : map.get p.board from ≡ Some piece
@@ -38,36 +37,36 @@ pub record QuietMove (p : Position) (from to : ℕ) : Type 0 where
   pub lands : map.get p.board to ≡ None
   pub man : piece.king ≡ false → (before ≡ []) × (is_forward piece.side toward ≡ true)
 
--- a quiet move takes nothing
+-- A quiet move captures nothing.
 abbrev pub IsQuiet : Position → DMove → Type 0
 IsQuiet p m = QuietMove p m.from m.to × (m.taken ≡ set.empty)
 
--- some route of the piece ends on the square, takes these pieces, and takes something
+-- A capture route of the piece with the move's end and captured pieces, at least one.
 pub record IsCapture (p : Position) (m : DMove) : Type 0 where
   pub landings : List ℕ
   pub capture : Capture p m.from landings m.taken m.to
   pub takes : 0 < set.len m.taken
 
--- a capture, where some other capture takes more
+-- A capture while another capture takes more pieces.
 pub record IsShortCapture (p : Position) (m : DMove) : Type 0 where
   pub short : IsCapture p m
   pub longer : DMove
   pub is_capture : IsCapture p longer
   pub takes_more : set.len m.taken < set.len longer.taken
 
--- a capture that takes the most, or, where nothing can be taken, a quiet move
+-- A legal move: a longest capture, or, if no capture exists, a quiet move.
 abbrev pub Legal : Position → DMove → Type 0
 Legal p m = LegalCapture p m.from m.to m.taken ⊎ ((HasCapture p → ⊥) × IsQuiet p m)
 
 abbrev pub HasMove : Position → Type 0
 HasMove p = (m : DMove) × Legal p m
 
--- the row that a side's men go towards
+-- The last row of a side, on which its men promote.
 abbrev pub far_row : Side → ℕ
 far_row First = 0
 far_row Second = 9
 
--- a man whose move ends on its far row becomes a king
+-- A man whose move ends on its last row becomes a king.
 abbrev pub crowned : DPiece → ℕ → DPiece
 crowned q to = record q { king = q.king || row_of to == far_row q.side }
 
@@ -79,7 +78,6 @@ moved p m (Some q) = record {
   turn = other p.turn;
 }
 
--- The position after a move: the piece leaves its square, what it takes leaves the board, it stands on the square that
--- it came to, and the turn passes.
+-- The position after a move: the piece moves, the captured pieces leave the board, and the turn passes.
 abbrev pub play : Position → DMove → Position
 play p m = moved p m (map.get p.board m.from)

@@ -1,4 +1,4 @@
--- The legal moves, computed, and their order: by from, to, and then the ascending list of the squares taken.
+-- The computed legal moves, ordered by start, end and the ascending list of captured squares.
 use Rattle.std.specs.Prelude.{ℕ, ◌==◌, if◌then◌else◌, List, [], ◌∷◌, map, filter}
 use Rattle.std.specs.Ordering.{nat_cmp}
 use Rattle.std.specs.List.{flat_map, range_with_len}
@@ -13,7 +13,7 @@ use Rattle.squares.specs.declared.draughts.moves.DMove.{DMove}
 use Rattle.draughts_moves.specs.Capture.{without}
 use Rattle.draughts_moves.specs.Search.{own_at, routes_of, steps, is_step}
 
--- what moves are ordered by
+-- The sort key of a move.
 abbrev pub key_of : DMove → List ℕ
 key_of m = m.from ∷ m.to ∷ ascending m.taken
 
@@ -23,29 +23,29 @@ move_cmp a b = slice_cmp nat_cmp (key_of a) (key_of b)
 abbrev pub move_to : ℕ → Squares × ℕ → DMove
 move_to x e = record { from = x; to = e.1; taken = e.0 }
 
--- the captures of n jumps of the piece on x
+-- The captures of n jumps of the piece on x.
 unfoldable pub captures_at : Position → ℕ → ℕ → List DMove
 captures_at p n x = option_map_or (λ q. map (move_to x) (routes_of (without p.board x) q n set.empty x)) (own_at p x) []
 
 abbrev pub step_to : ℕ → ℕ → DMove
 step_to x y = record { from = x; to = y; taken = set.empty }
 
--- the quiet moves of the piece on x
+-- The quiet moves of the piece on x.
 unfoldable pub quiet_at : Position → ℕ → List DMove
 quiet_at p x = option_map_or (λ q. map (step_to x) (steps (finite_map.get p.board) q x)) (own_at p x) []
 
--- the quiet moves of the piece on x by the squares that it goes to
+-- The quiet moves of the piece on x, ordered by target square.
 unfoldable pub quiet_in_order : Position → ℕ → List DMove
 quiet_in_order p x = map (step_to x) (filter (is_step p x) (range_with_len 1 50))
 
--- the quiet moves of all pieces
+-- The quiet moves of all pieces.
 unfoldable pub quiet_list : Position → List DMove
 quiet_list p = flat_map (quiet_in_order p) (range_with_len 1 50)
 
--- the moves of the piece on x, where the most that can be taken is n
+-- The moves of the piece on x, if the longest capture takes n pieces.
 unfoldable pub moves_at : Position → ℕ → ℕ → List DMove
 moves_at p n x = if n == 0 then quiet_at p x else captures_at p n x
 
--- the moves, where the most that can be taken is n
+-- The moves of all pieces, if the longest capture takes n pieces.
 unfoldable pub moves : Position → ℕ → List DMove
 moves p n = flat_map (moves_at p n) (range_with_len 1 50)

@@ -1,4 +1,4 @@
--- The rule that each refusal of a move names.
+-- The text of each refusal.
 use Rattle.std.specs.Prelude.{ℕ, List, codes}
 use Rattle.draughts_moves.specs.declared.checking.Illegal.{Illegal}
 use Rattle.draughts_moves.specs.declared.checking.Illegal.TheVariants.{NoSuchMove, MustCapture, NotLongest}

@@ -1,4 +1,4 @@
--- The routes of a capture, computed, and their order: as lists of landings, like words in a dictionary.
+-- The computed capture routes, in lexicographic order of their landings.
 use Rattle.std.specs.Prelude.{ℕ, ◌&&◌, ◌==◌, if◌then◌else◌, List, [], ◌∷◌, map, Vec}
 use Rattle.std.proofs.Common.{zero, suc}
 use Rattle.std.specs.declared.alloc.Global.{Global}
@@ -12,15 +12,15 @@ use Rattle.squares.specs.DraughtsSets.{Squares, same_squares}
 use Rattle.draughts_moves.specs.Capture.{Cells}
 use Rattle.draughts_moves.specs.Search.{jumps}
 
--- the order of a dictionary
+-- The lexicographic order of routes.
 abbrev pub route_cmp : List ℕ → List ℕ → Ordering
 route_cmp a b = slice_cmp nat_cmp a b
 
--- the lists that vectors hold
+-- The lists in a list of vectors.
 abbrev pub lists_in : List (Vec ℕ Global) → List (List ℕ)
 lists_in vectors = map (λ v. v.items) vectors
 
--- the landings of each route of n jumps that takes `all` and ends on `to`
+-- The landings of each route of n jumps that captures `all` and ends on `to`.
 unfoldable pub landings_of : Cells → DPiece → Squares → ℕ → ℕ → Squares → ℕ → List (List ℕ)
 landings_of b q all to zero taken s = if s == to && same_squares taken all then [] ∷ [] else []
 landings_of b q all to (suc n) taken s =

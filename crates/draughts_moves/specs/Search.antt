@@ -1,4 +1,4 @@
--- The moves of a position, computed.
+-- The computed moves of a position.
 use Rattle.std.specs.Prelude.{◌≡◌, ℕ, ◌+◌, Bool, false, not, cond, length, ◌&&◌, Option, Some, None, is_none}
 use Rattle.std.specs.Prelude.{is_some, List, []}
 use Rattle.std.specs.Prelude.{◌∷◌, ◌++◌, max, count_by, fold, map, take, nat_lt, ◌||◌, ◌==◌, option_and_then}
@@ -20,7 +20,7 @@ use Rattle.draughts_moves.specs.Legal.{is_forward}
 use Rattle.draughts_moves.specs.Capture.{Cells, is_enemy, without}
 use Rattle.squares.specs.Sides.{same_side, other}
 
--- the squares up to the first piece
+-- The squares before the first piece.
 abbrev pub clear_front : Cells → List ℕ → List ℕ
 clear_front b [] = []
 clear_front b (n ∷ ns) = cond (is_none (b n)) (n ∷ clear_front b ns) []
@@ -28,19 +28,19 @@ clear_front b (n ∷ ns) = cond (is_none (b n)) (n ∷ clear_front b ns) []
 abbrev pub is_prey : Cells → DPiece → Squares → ℕ → Bool
 is_prey b p taken n = is_enemy p (b n) && not (set.contains taken n)
 
--- whether the piece takes what stands on n by a jump in a direction: the next square is there and empty
+-- Whether the piece can capture the enemy on n by a jump in a direction: the next square exists and is empty.
 abbrev pub takes : Cells → DPiece → Squares → Direction → ℕ → Bool
 takes b p taken d n = is_prey b p taken n && option_map_or (λ l. is_none (b l)) (step d n) false
 
--- the set has the squares where something stands
+-- The set holds exactly the occupied squares.
 abbrev pub AreStanding : Cells → Squares → Type 0
 AreStanding b pieces = (n : ℕ) → set.contains pieces n ≡ is_some (b n)
 
--- one set has the squares of what the piece can take, and the other those of all that stands
+-- One set holds the pieces that can be captured, the other all pieces.
 abbrev pub Meets : Cells → DPiece → Squares → Squares → Squares → Type 0
 Meets b p taken prey pieces = ((n : ℕ) → set.contains prey n ≡ is_prey b p taken n) × AreStanding b pieces
 
--- the jumps of a king along a line: the square jumped over, and the landing
+-- The jumps of a king along a line: the square jumped over, and the landing.
 abbrev pub king_jumps : Cells → DPiece → Squares → List ℕ → List (ℕ × ℕ)
 king_jumps b p taken [] = []
 king_jumps b p taken (n ∷ ns) = cond (is_none (b n)) (king_jumps b p taken ns)
@@ -61,94 +61,94 @@ jumps b p taken s =
     (line_jumps b p taken (ray UpRight s) ++
     (line_jumps b p taken (ray DownLeft s) ++ line_jumps b p taken (ray DownRight s)))
 
--- how many squares a piece goes at most: a king along the whole line, a man one, and only forward
+-- The range of a quiet move: the whole diagonal for a king; for a man one square, forward only.
 abbrev pub reach : DPiece → Direction → ℕ
 reach q d = if q.king then 9 else if is_forward q.side d then 1 else 0
 
--- where a piece goes in a direction without taking
+-- The target squares of a piece's quiet moves in a direction.
 unfoldable pub steps_along : Cells → DPiece → Direction → ℕ → List ℕ
 steps_along b q d x = clear_front b (take (reach q d) (ray d x))
 
--- where a piece goes without taking
+-- The target squares of a piece's quiet moves.
 unfoldable pub steps : Cells → DPiece → ℕ → List ℕ
 steps b q x = steps_along b q UpLeft x ++
     (steps_along b q UpRight x ++ (steps_along b q DownLeft x ++ steps_along b q DownRight x))
 
--- what is taken and where the piece ends, for each route of n jumps
+-- The captured pieces and the end of each route of n jumps.
 unfoldable pub routes_of : Cells → DPiece → ℕ → Squares → ℕ → List (Squares × ℕ)
 routes_of b p zero taken s = (taken, s) ∷ []
 routes_of b p (suc n) taken s = flat_map (λ j. routes_of b p n (set.insert taken j.0) j.1) (jumps b p taken s)
 
--- the most jumps in a row, up to k
+-- The greatest number of consecutive jumps, at most k.
 unfoldable pub longest : Cells → DPiece → ℕ → Squares → ℕ → ℕ
 longest b p zero taken s = 0
 longest b p (suc k) taken s = fold (λ m j. max m (longest b p k (set.insert taken j.0) j.1 + 1)) 0 (jumps b p taken s)
 
--- how many enemies are not taken
+-- The number of enemies that are not captured.
 unfoldable pub prey_left : Cells → DPiece → Squares → ℕ
 prey_left b p taken = count_by (is_prey b p taken) (range_with_len 1 50)
 
--- the most jumps in a row
+-- The greatest number of consecutive jumps.
 unfoldable pub greatest : Cells → DPiece → Squares → ℕ → ℕ
 greatest b p taken s = longest b p (prey_left b p taken) taken s
 
--- the piece on x, if it is of the side to move
+-- The piece on x, if it belongs to the side to move.
 abbrev pub own_at : Position → ℕ → Option DPiece
 own_at p x = option_and_then (λ q. if same_side q.side p.turn then Some q else None) (finite_map.get p.board x)
 
--- the set has the squares of the other side's pieces, and no other
+-- The set holds exactly the enemy's pieces.
 abbrev pub AreEnemies : Position → Squares → Type 0
 AreEnemies p enemies = (n : ℕ) → set.contains enemies n ≡ is_of (other p.turn) (finite_map.get p.board n)
 
--- whether the next square in a direction is of the set
+-- Whether the next square in a direction is in the set.
 abbrev pub next_in : Squares → Direction → ℕ → Bool
 next_in s d n = option_map_or (set.contains s) (step d n) false
 
--- whether one of the two squares before a man of a side is of the set
+-- Whether one of the two squares in front of a man is in the set.
 abbrev pub is_before : Side → Squares → ℕ → Bool
 is_before First s n = next_in s UpLeft n || next_in s UpRight n
 is_before Second s n = next_in s DownLeft n || next_in s DownRight n
 
--- the set has the squares of the other side's pieces with an empty square next to them in a direction
+-- The set holds exactly the enemy's pieces whose next square in a direction is empty.
 abbrev pub AreExposed : Position → Direction → Squares → Type 0
 AreExposed p d s =
     (n : ℕ)
     → set.contains s n ≡ (is_of (other p.turn) (finite_map.get p.board n) && option_map_or
     (λ l. is_none (finite_map.get p.board l)) (step d n) false)
 
--- whether the first square of one set on the way in a direction is of another
+-- Whether the first square of `pieces` in a direction is in `these`.
 abbrev pub faces : Squares → Squares → Direction → ℕ → Bool
 faces pieces these d n = option_map_or (set.contains these) (find (set.contains pieces) (ray d n)) false
 
--- whether the next square in a direction is of one set, and the square behind it of another
+-- Whether the next square in a direction is in one set, and the square behind it in another.
 abbrev pub next_before : Squares → Squares → Direction → ℕ → Bool
 next_before s behind d n = option_map_or (λ m. set.contains s m && next_in behind d m) (step d n) false
 
--- whether that is so in one of the four directions
+-- The same in any of the four directions.
 abbrev pub is_beside : Squares → Squares → ℕ → Bool
 is_beside s behind n =
     ((next_before s behind UpLeft n || next_before s behind UpRight n) || next_before s behind DownLeft n) ||
     next_before s behind DownRight n
 
--- the most jumps in a row of the piece on x
+-- The greatest number of consecutive jumps of the piece on x.
 unfoldable pub greatest_at : Position → ℕ → ℕ
 greatest_at p x = option_map_or (λ q. greatest (without p.board x) q set.empty x) (own_at p x) 0
 
--- the most jumps in a row of any piece of the side to move
+-- The greatest number of consecutive jumps of any piece of the side to move.
 unfoldable pub most : Position → ℕ
 most p = fold (λ m x. max m (greatest_at p x)) 0 (range_with_len 1 50)
 
--- whether the piece on x, of the side to move, can go to y without taking
+-- Whether the piece on x belongs to the side to move and has a quiet move to y.
 unfoldable pub is_step : Position → ℕ → ℕ → Bool
 is_step p x y = option_map_or (λ q. list_any (λ z. z == y) (steps (finite_map.get p.board) q x)) (own_at p x) false
 
--- whether the piece on x, of the side to move, can go or jump anywhere
+-- Whether the piece on x belongs to the side to move and has a quiet move or a jump.
 unfoldable pub can_move : Position → ℕ → Bool
 can_move p x =
     option_map_or
     (λ q. nat_lt 0 (length (steps (finite_map.get p.board) q x)) || nat_lt 0
     (length (jumps (without p.board x) q set.empty x))) (own_at p x) false
 
--- whether the side to move has a move
+-- Whether the side to move has a legal move.
 unfoldable pub has_move : Position → Bool
 has_move p = list_any (can_move p) (range_with_len 1 50)

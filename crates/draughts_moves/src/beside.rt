@@ -1,18 +1,18 @@
-//! The squares beside what can be jumped over.
+//! Squares next to a piece that can be jumped over, and squares in front of an empty one.
 ghost use Rattle.std.specs.Prelude.{◌≡◌, ◌&&◌, ℕ};
 ghost use Rattle.std.specs.FinSet as set;
 ghost use Rattle.draughts_moves.specs.Search.{is_before, is_beside, next_before, next_in};
 
 use squares::{DSet, Direction, Side};
 
-/// The squares of a set with an empty square next to them in a direction.
+/// The squares of a set whose next square in a direction is empty.
 pub fn exposed(squares: DSet, empty: DSet, toward: Direction) -> DSet
     ensures { (n : ℕ) → set.contains result n ≡ (set.contains squares n && next_in empty toward n) }
 {
     squares.intersection(empty.beside(toward))
 }
 
-// The squares whose next square in a direction is of a set, and the square behind it empty.
+// The squares whose next square in a direction is in the set, with an empty square behind it.
 fn beside_along(squares: DSet, empty: DSet, toward: Direction) -> DSet
     ensures { (n : ℕ) → set.contains result n ≡ next_before squares empty toward n }
 {
@@ -20,7 +20,7 @@ fn beside_along(squares: DSet, empty: DSet, toward: Direction) -> DSet
     near.beside(toward)
 }
 
-/// The squares that have, in any of the four directions, a square of the set next to them, and an empty one behind it.
+/// The squares that have, in any direction, a square of the set next to them and an empty square behind it.
 pub fn all_beside(squares: DSet, empty: DSet) -> DSet
     ensures { (n : ℕ) → set.contains result n ≡ is_beside squares empty n }
 {
@@ -31,7 +31,7 @@ pub fn all_beside(squares: DSet, empty: DSet) -> DSet
     up_or_left.union(beside_along(squares, empty, Direction::DownRight))
 }
 
-/// The squares from which a man of a side may step to a square of the set: it is one of the two before it.
+/// The squares from which a man of a side can step to a square of the set.
 pub fn men_before(squares: DSet, side: Side) -> DSet
     ensures { (n : ℕ) → set.contains result n ≡ is_before side squares n }
 {

@@ -1,4 +1,4 @@
-//! Which moves are legal.
+//! The check of a single move.
 ghost use Rattle.std.specs.Prelude.{◌≡◌, ◌↔◌, ◌≢◌, ◌<◌, IsTrue, IsOk, Err};
 ghost use Rattle.std.specs.FinSet as set;
 ghost use Rattle.squares.specs.declared.draughts.moves.DMove.{DMove};
@@ -15,14 +15,14 @@ use crate::steps::steps_from;
 use squares::{DMove, DPos, Dsq};
 use std::fmt;
 
-/// Why a move is refused.
+/// Why a move is illegal.
 #[derive(Clone, Copy, Debug, PartialEq, Eq)]
 pub enum Illegal {
-    /// No piece of the side to move can move so.
+    /// No piece of the side to move can make this move.
     NoSuchMove,
-    /// The move takes nothing, and something can be taken.
+    /// The move captures nothing, but a capture exists.
     MustCapture,
-    /// The capture takes fewer pieces than another would.
+    /// The capture takes fewer pieces than another one.
     NotLongest,
 }
 
@@ -40,7 +40,6 @@ impl fmt::Display for Illegal {
 impl Illegal {
     ghost use Rattle.draughts_moves.specs.Refusal.{rule_text};
 
-    // The rule that the move breaks.
     fn rule(self) -> &'static str
         ensures { result.now ≡ rule_text self }
     {
@@ -52,19 +51,32 @@ impl Illegal {
     }
 }
 
-/// Whether a move is legal, and if it is not, why. It takes no memory.
+/// Checks whether a move is legal.
+///
+/// Allocates nothing.
+///
+/// # Errors
+///
+/// - `NoSuchMove`: no piece of the side to move can make the move.
+/// - `MustCapture`: the move captures nothing, but a capture exists.
+/// - `NotLongest`: another capture takes more pieces.
+///
+/// # Guarantees
+///
+/// `legal`: returns `Ok` for the legal moves and for no others. `must_capture` and `not_longest` say when these two
+/// refusals are returned.
 pub fn check(position: &DPos, played: &DMove) -> Result<(), Illegal>
     ensures legal { IsOk result ↔ Legal position.now played.now }
 
-    // A quiet move where something can be taken.
+    // A quiet move where a capture exists.
     ensures must_capture { (result ≡ Err Illegal.MustCapture)
         ↔ (IsQuiet position.now played.now × HasCapture position.now) }
 
-    // A capture that takes fewer than another. A capture that stops on its way is one too.
+    // A capture that takes fewer pieces than another one, also one that stops halfway.
     ensures not_longest { (result ≡ Err Illegal.NotLongest)
         ↔ IsShortCapture position.now played.now }
 
-    // The answer as a function of the position and the move.
+    // The result as a function of the position and the move.
     ensures value { result ≡ check_of position.now played.now }
 {
     if played.taken.is_empty() {
@@ -73,7 +85,7 @@ pub fn check(position: &DPos, played: &DMove) -> Result<(), Illegal>
     check_capture(position, played)
 }
 
-// The check of a move that takes nothing.
+// Checks a quiet move.
 fn check_quiet(position: &DPos, played: &DMove) -> Result<(), Illegal>
     requires { played.now.taken ≡ set.empty }
     ensures { IsCheck position.now played.now result }
@@ -87,7 +99,7 @@ fn check_quiet(position: &DPos, played: &DMove) -> Result<(), Illegal>
     Ok(())
 }
 
-// The check of a move that takes something.
+// Checks a capture.
 fn check_capture(position: &DPos, played: &DMove) -> Result<(), Illegal>
     requires { played.now.taken ≢ set.empty }
     ensures { IsCheck position.now played.now result }
@@ -101,7 +113,7 @@ fn check_capture(position: &DPos, played: &DMove) -> Result<(), Illegal>
     Ok(())
 }
 
-// Whether the piece on `from` can go to `to` without taking.
+// Whether the piece on `from` can make a quiet move to `to`.
 #[tactic(auto, unfolding(crate::specs::Search::is_step))]
 fn is_step(position: &DPos, from: Dsq, to: Dsq) -> bool
     ensures { result ≡ is_step position.now from to }
@@ -112,7 +124,7 @@ fn is_step(position: &DPos, from: Dsq, to: Dsq) -> bool
     }
 }
 
-// Whether some route takes what the move takes and ends where it ends.
+// Whether a capture route exists with the start, the end and the captured pieces of the move.
 fn is_capture(position: &DPos, played: &DMove) -> bool
     requires { played.now.taken ≢ set.empty }
     ensures { IsTrue result ↔ IsCapture position.now played.now }
@@ -124,11 +136,13 @@ fn is_capture(position: &DPos, played: &DMove) -> bool
     }
 }
 
-/// Whether the side to move has a legal move. It takes no memory.
+/// Whether the side to move has a legal move.
+///
+/// Allocates nothing.
 pub fn has_move(position: &DPos) -> bool
     ensures legal { IsTrue result ↔ HasMove position.now }
 
-    // The answer as a function of the position.
+    // The result as a function of the position.
     ensures value { result ≡ has_move position.now }
 {
     for square in &Dsq::all() {
@@ -139,7 +153,7 @@ pub fn has_move(position: &DPos) -> bool
     false
 }
 
-// Whether the piece on a square is of the side to move, and can go or jump anywhere.
+// Whether the piece on a square belongs to the side to move and has a quiet move or a jump.
 #[tactic(auto, unfolding(crate::specs::Search::can_move))]
 fn can_move(position: &DPos, square: Dsq) -> bool
     ensures { result ≡ can_move position.now square }

@@ -1,4 +1,4 @@
-//! How many legal moves there are.
+//! The number of legal moves.
 ghost use Rattle.std.specs.Prelude.{◌≡◌, ◌≤◌, ◌&&◌, length, IfOk};
 ghost use Rattle.std.specs.FinSet as set;
 ghost use Rattle.draughts_moves.specs.Counting.{IsCountOfLegal, count_squares, sum_squares, quiet_count};
@@ -14,7 +14,7 @@ use memory::Memory;
 use squares::{DPos, DSet, Direction, Dsq, Side};
 use std::alloc::Global;
 
-// How many of the squares have an empty square next to them in a direction.
+// The number of squares of the set whose next square in a direction is empty.
 fn count_toward(squares: DSet, empty: DSet, toward: Direction) -> usize
     ensures value { result ≡ count_squares (λ n. set.contains squares n && next_in empty toward n) }
     ensures few { result ≤ 50 }
@@ -23,7 +23,7 @@ fn count_toward(squares: DSet, empty: DSet, toward: Direction) -> usize
     before.len()
 }
 
-// How many quiet moves the men of the side to move have.
+// The number of quiet moves of the men of the side to move.
 fn count_of_men(position: &DPos) -> usize
     ensures value { result ≡ sum_squares (man_count position.now) }
     ensures few { result ≤ 100 }
@@ -43,7 +43,7 @@ fn count_of_men(position: &DPos) -> usize
     }
 }
 
-// How many quiet moves the piece on a square has, if it is of the side to move.
+// The number of quiet moves of the piece on a square, 0 unless it belongs to the side to move.
 fn count_from(position: &DPos, square: Dsq) -> usize
     ensures { result ≡ quiet_count position.now square }
 {
@@ -56,7 +56,7 @@ fn count_from(position: &DPos, square: Dsq) -> usize
     }
 }
 
-// How many quiet moves the kings of the side to move have.
+// The number of quiet moves of the kings of the side to move.
 fn count_of_kings(position: &DPos) -> usize
     ensures value { result ≡ sum_squares (king_count position.now) }
     ensures few { result ≤ 2500 }
@@ -70,7 +70,7 @@ fn count_of_kings(position: &DPos) -> usize
     count
 }
 
-// How many quiet moves there are.
+// The number of quiet moves of the side to move.
 fn count_of_quiet(position: &DPos) -> usize
     ensures { result ≡ length (quiet_list position.now) }
 {
@@ -78,9 +78,11 @@ fn count_of_quiet(position: &DPos) -> usize
     men + count_of_kings(position)
 }
 
-/// How many legal moves there are, without a list of those that take nothing.
+/// The number of legal moves; only captures are listed to count them.
 ///
-/// It fails where memory is refused, and then alone.
+/// # Errors
+///
+/// `Memory` if out of memory.
 pub fn legal_count(alloc: Global, position: &DPos) -> Result<usize, Memory>
     ensures { IfOk result (λ count. IsCountOfLegal position.now count) }
 {

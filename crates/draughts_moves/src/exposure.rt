@@ -1,4 +1,4 @@
-//! Which kings can jump.
+//! A fast test for kings that can jump.
 ghost use Rattle.std.specs.Prelude.{◌≡◌, ◌||◌, ℕ, Some, true, false, is_some};
 ghost use Rattle.std.specs.FinMap as map;
 ghost use Rattle.std.specs.FinSet as set;
@@ -9,7 +9,7 @@ ghost use Rattle.draughts_moves.specs.Search.{own_at, greatest_at, AreExposed, f
 use crate::beside::exposed;
 use squares::{DPos, DSet, Direction, Dsq, Side};
 
-// The squares of all pieces, and for each direction those of the enemies with an empty square behind them.
+// All pieces, and for each direction the enemies that have an empty square behind them.
 #[derive(Drop)]
 struct Sight {
     pieces: DSet,
@@ -19,7 +19,7 @@ struct Sight {
     down_right: DSet,
 }
 
-// What the kings of the side to move look at.
+// The pieces and exposed enemies for the kings of the side to move.
 fn look(position: &DPos) -> Sight
     ensures pieces { (n : ℕ) → set.contains result.pieces n ≡ is_some (map.get position.now.board n) }
     ensures up_left { AreExposed position.now direction.UpLeft result.up_left }
@@ -39,7 +39,7 @@ fn look(position: &DPos) -> Sight
     }
 }
 
-// Whether the first of the pieces on the way in a direction is one of these.
+// Whether the first of `pieces` in a direction is in `these`.
 fn faces(from: Dsq, toward: Direction, pieces: DSet, these: DSet) -> bool
     ensures { result ≡ faces pieces these toward from }
 {
@@ -69,7 +69,11 @@ fn king_can_jump(sight: &Sight, square: Dsq) -> bool
     faces(square, Direction::DownRight, pieces, sight.down_right)
 }
 
-/// The squares of the kings of the side to move that can jump. A king that is not of them takes nothing.
+/// The kings of the side to move that can jump.
+///
+/// # Guarantees
+///
+/// A king of the side to move that is not in the result has no capture.
 pub fn jumping_kings(position: &DPos) -> DSet
     ensures { (n : ℕ) (q : DPiece) → own_at position.now n ≡ Some q → q.king ≡ true
         → set.contains result n ≡ false → greatest_at position.now n ≡ 0 }

@@ -1,4 +1,4 @@
-//! Whether a piece can jump.
+//! Whether a piece can make a jump.
 ghost use Rattle.std.specs.Prelude.{◌≡◌, is_none, false, length, nat_lt};
 ghost use Rattle.std.specs.Option.{option_map_or};
 ghost use Rattle.draughts_moves.specs.Capture.{without};
@@ -9,7 +9,7 @@ use crate::jumps::{is_prey, others, stands};
 use crate::mover::Mover;
 use squares::{DPos, Direction, Dsq};
 
-// Whether the next square is on the board and empty, once the piece on `origin` has left it.
+// Whether the next square exists and is empty once the piece on `origin` has left.
 fn is_open(position: &DPos, origin: Dsq, from: Dsq, toward: Direction) -> bool
     ensures { result
         ≡ option_map_or (λ l. is_none (without position.now.board origin l)) (step toward from) false }
@@ -20,7 +20,7 @@ fn is_open(position: &DPos, origin: Dsq, from: Dsq, toward: Direction) -> bool
     }
 }
 
-// Whether the piece takes what stands on `over` by a jump in a direction.
+// Whether the piece can capture the enemy on `over` by a jump in a direction.
 fn takes(position: &DPos, mover: &Mover, over: Dsq, toward: Direction) -> bool
     ensures { result ≡ takes (without position.now.board mover.now.origin)
         mover.now.piece mover.now.taken toward over }
@@ -42,7 +42,7 @@ fn man_can_jump(position: &DPos, mover: &Mover, toward: Direction) -> bool
     }
 }
 
-// Whether a king can jump in a direction: what stands first on its way is what it can take.
+// Whether a king can jump in a direction, that is, over the first piece in it.
 fn king_can_jump(position: &DPos, mover: &Mover, toward: Direction) -> bool
     ensures { result ≡ nat_lt 0 (length (king_jumps (without position.now.board mover.now.origin)
         mover.now.piece mover.now.taken (ray toward mover.now.at))) }
@@ -65,7 +65,7 @@ fn can_jump_along(position: &DPos, mover: &Mover, toward: Direction) -> bool
     man_can_jump(position, mover, toward)
 }
 
-/// Whether a piece can make a jump next.
+/// Whether a piece can make a jump, at the start of a capture or in the middle of it.
 pub fn can_jump(position: &DPos, mover: &Mover) -> bool
     ensures { result ≡ nat_lt 0 (length (jumps (without position.now.board mover.now.origin)
         mover.now.piece mover.now.taken mover.now.at)) }

@@ -1,4 +1,4 @@
-//! The captures that take the most of those that a search has come to.
+//! The longest captures that a search has found so far.
 ghost use Rattle.std.specs.Prelude.{◌≡◌, [], max, OnOk};
 ghost use Rattle.std.specs.FinSet as set;
 ghost use Rattle.std.specs.List.Sorted.{IsStrictlySortedBy};
@@ -10,7 +10,7 @@ use crate::ordering::put_move;
 use squares::DMove;
 use std::alloc::{AllocError, Global};
 
-/// Captures in order, and how many pieces each of them takes.
+/// Captures in order, and the number of pieces that each of them takes.
 #[derive(Drop)]
 pub struct Found {
     pub size: usize,
@@ -18,7 +18,7 @@ pub struct Found {
 }
 
 impl Found {
-    /// Nothing, before a search.
+    /// The empty result before a search.
     pub fn new(alloc: Global) -> Found
         ensures size { result.size ≡ 0 }
         ensures moves { result.moves.items ≡ [] }
@@ -29,7 +29,13 @@ impl Found {
         }
     }
 
-    /// Takes in a capture, unless it takes nothing or less than those found; those that take less than it are dropped.
+    /// Adds a capture if it is not shorter than those found, and drops those that are shorter than it.
+    ///
+    /// Ignores a move that takes nothing.
+    ///
+    /// # Errors
+    ///
+    /// `AllocError` if out of memory.
     pub fn offer(&mut self, end: DMove) -> Result<(), AllocError>
         requires { IsStrictlySortedBy move_cmp self.old.moves.items }
         ensures size { OnOk result (self.new.size ≡ max self.old.size (set.len end.taken)) }

@@ -12,7 +12,7 @@ use crate::mover::Mover;
 use squares::{DPiece, DPos, DSet, Direction, Dsq, Side};
 use std::marker::Model;
 
-/// Jumps, each by the square jumped over and the landing.
+/// A list of at most 36 jumps, each with the square jumped over and the landing square.
 #[derive(Drop)]
 pub struct Jumps {
     jumps: [(Dsq, Dsq); 36],
@@ -47,7 +47,7 @@ impl Jumps {
         self.len += 1;
     }
 
-    /// How many jumps there are.
+    /// The number of jumps.
     pub fn len(&self) -> usize
         ensures { result ≡ length self.now }
     {
@@ -62,7 +62,7 @@ impl Jumps {
     }
 }
 
-// What stands on a square, once the piece on `origin` has left it.
+// The piece on a square once the piece on `origin` has left.
 pub(crate) fn stands(position: &DPos, origin: Dsq, square: Dsq) -> Option<DPiece>
     ensures { result ≡ without position.now.board origin square }
 {
@@ -72,7 +72,7 @@ pub(crate) fn stands(position: &DPos, origin: Dsq, square: Dsq) -> Option<DPiece
     position.at(square)
 }
 
-// Whether an enemy stands there that is not taken.
+// Whether the square holds an enemy that is not yet captured.
 pub(crate) fn is_prey(position: &DPos, mover: &Mover, square: Dsq) -> bool
     ensures { result
         ≡ is_prey (without position.now.board mover.now.origin) mover.now.piece mover.now.taken square }
@@ -83,7 +83,7 @@ pub(crate) fn is_prey(position: &DPos, mover: &Mover, square: Dsq) -> bool
     }
 }
 
-// The squares of all pieces but the one on `origin`.
+// The squares of all pieces except the one on `origin`.
 pub(crate) fn others(position: &DPos, origin: Dsq) -> DSet
     ensures { (n : ℕ) → set.contains result n
         ≡ is_some (without position.now.board origin n) }
@@ -93,14 +93,14 @@ pub(crate) fn others(position: &DPos, origin: Dsq) -> DSet
     all.without(origin)
 }
 
-// What a piece that captures meets on its way: the enemies that it has not taken, and all pieces but itself.
+// The pieces that a capturing piece can meet: enemies that are not yet captured, and all pieces except itself.
 #[derive(Drop)]
 struct Met {
     prey: DSet,
     pieces: DSet,
 }
 
-// What a piece meets.
+// The pieces that a capturing piece can meet.
 fn look(position: &DPos, mover: &Mover) -> Met
     ensures { Meets (without position.now.board mover.now.origin) mover.now.piece mover.now.taken
         result.prey result.pieces }
@@ -113,7 +113,7 @@ fn look(position: &DPos, mover: &Mover) -> Met
     }
 }
 
-// Adds the landings behind an enemy, the squares of the line up to the first piece.
+// Adds a jump for each empty square behind an enemy, up to the next piece.
 fn landings(pieces: DSet, over: Dsq, toward: Direction, jumps: &mut Jumps)
     requires room { length jumps.old + 9 ≤ 36 }
     ensures added { (b : Cells) → AreStanding b pieces → jumps.new ≡ jumps.old ++ map (λ l. (over, l))
@@ -135,7 +135,7 @@ fn landings(pieces: DSet, over: Dsq, toward: Direction, jumps: &mut Jumps)
     }
 }
 
-// Adds a king's jumps in a direction, over the first piece on its way.
+// Adds a king's jumps in a direction, over the first piece in it.
 fn king_jumps(met: &Met, at: Dsq, toward: Direction, jumps: &mut Jumps)
     requires room { length jumps.old + 9 ≤ 36 }
     ensures added { (b : Cells) (p : DPiece) (t : Squares) → Meets b p t met.now.prey met.now.pieces
@@ -152,7 +152,7 @@ fn king_jumps(met: &Met, at: Dsq, toward: Direction, jumps: &mut Jumps)
     }
 }
 
-// Adds a man's jump in a direction, if it has one.
+// Adds a man's jump in a direction, if there is one.
 fn man_jumps(met: &Met, at: Dsq, toward: Direction, jumps: &mut Jumps)
     requires room { length jumps.old + 9 ≤ 36 }
     ensures added { (b : Cells) (p : DPiece) (t : Squares) → Meets b p t met.now.prey met.now.pieces

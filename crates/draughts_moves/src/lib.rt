@@ -1,4 +1,6 @@
-//! The moves of international draughts: which are legal, and what they leave.
+//! The rules of international draughts: legal moves, and the position after a move.
+//!
+//! Follows the FMJD rules of international draughts (https://www.fmjd.org/).
 #![tactic(auto)]
 
 mod beside;

@@ -1,4 +1,4 @@
-//! The legal moves in order.
+//! The list of legal moves.
 ghost use Rattle.std.specs.Prelude.{◌≡◌, ◌↔◌, ◌++◌, ℕ, false, [], ◌∷◌, map, OnOk, IfOk, Contains};
 ghost use Rattle.std.specs.FinSet as set;
 ghost use Rattle.std.specs.List.Sorted.{IsStrictlySortedBy};
@@ -15,7 +15,7 @@ use memory::Memory;
 use squares::{DMove, DPos, DSet, Dsq};
 use std::alloc::{AllocError, Global};
 
-// Adds a move at the end; where there is room for it, without a call.
+// Appends a move; reserved capacity is used without an allocation.
 fn push_move(played: DMove, moves: &mut Vec<DMove>) -> Result<(), AllocError>
     ensures { OnOk result (moves.new.items ≡ moves.old.items ++ played ∷ []) }
 {
@@ -27,7 +27,7 @@ fn push_move(played: DMove, moves: &mut Vec<DMove>) -> Result<(), AllocError>
     Ok(())
 }
 
-// Adds the quiet moves from a square to each square of a set.
+// Appends the quiet moves from a square to each square of a set.
 fn push_steps(from: Dsq, targets: DSet, moves: &mut Vec<DMove>) -> Result<(), AllocError>
     ensures { OnOk result (moves.new.items ≡ moves.old.items ++ map (step_to from) (ascending targets)) }
 {
@@ -45,7 +45,7 @@ fn push_steps(from: Dsq, targets: DSet, moves: &mut Vec<DMove>) -> Result<(), Al
     Ok(())
 }
 
-// Adds the quiet moves of the piece on a square, if it is of the side to move.
+// Appends the quiet moves of the piece on a square, if it belongs to the side to move.
 fn push_quiet(position: &DPos, square: Dsq, moves: &mut Vec<DMove>) -> Result<(), AllocError>
     ensures { OnOk result (moves.new.items ≡ moves.old.items ++ quiet_in_order position.now square) }
 {
@@ -59,7 +59,7 @@ fn push_quiet(position: &DPos, square: Dsq, moves: &mut Vec<DMove>) -> Result<()
     }
 }
 
-// The pieces of the side to move that may go without taking: its kings, and its men before an empty square.
+// The pieces of the side to move that may have a quiet move: kings, and men in front of an empty square.
 fn may_go(position: &DPos) -> DSet
     ensures { (n : ℕ) → set.contains result n ≡ false → quiet_in_order position.now n ≡ [] }
 {
@@ -69,7 +69,7 @@ fn may_go(position: &DPos) -> DSet
     own.intersection(able)
 }
 
-// For how many moves there is room at first: few positions have more.
+// The initial capacity of a move list; few positions have more moves.
 const ROOM: usize = 64;
 
 // The quiet moves in order.
@@ -84,10 +84,17 @@ fn quiet_moves(alloc: Global, position: &DPos) -> Result<Vec<DMove>, AllocError>
     Ok(moves)
 }
 
-/// The legal moves, each once, ordered by from, to, and the ascending list of the squares taken.
-/// Where something can be taken, they are the captures that take the most, else the quiet moves.
+/// The legal moves, each once, ordered by start, end and the ascending list of captured squares.
 ///
-/// It fails where memory is refused, and then alone.
+/// If a capture exists they are the captures of the most pieces, otherwise the quiet moves.
+///
+/// # Errors
+///
+/// `Memory` if out of memory.
+///
+/// # Guarantees
+///
+/// `members`: the list holds the legal moves and no others. `in_order`: it is strictly sorted.
 pub fn legal(alloc: Global, position: &DPos) -> Result<Vec<DMove>, Memory>
     ensures in_order { IfOk result (λ moves. IsStrictlySortedBy move_cmp moves.items) }
     ensures members { IfOk result (λ moves. (m : DMove)

@@ -1,4 +1,4 @@
-//! The most jumps in a row.
+//! The length of the longest capture of a piece.
 ghost use Rattle.std.specs.Prelude.{◌≡◌, ◌≤◌};
 ghost use Rattle.draughts_moves.specs.Capture.{without};
 ghost use Rattle.draughts_moves.specs.Search.{greatest};
@@ -8,7 +8,7 @@ use crate::jumps::jumps_from;
 use crate::mover::Mover;
 use squares::DPos;
 
-/// The most jumps in a row that a piece can make from where it has come to.
+/// The greatest number of further jumps that a piece can make from its present square.
 pub fn longest(position: &DPos, mover: &Mover) -> usize
     ensures value { result ≡ greatest (without position.now.board mover.now.origin)
         mover.now.piece mover.now.taken mover.now.at }

@@ -1,4 +1,4 @@
-//! The greatest number of pieces that can be taken.
+//! The number of pieces that the longest capture takes.
 ghost use Rattle.std.specs.Prelude.{◌≡◌, ◌≤◌, ℕ, false};
 ghost use Rattle.std.specs.FinSet as set;
 ghost use Rattle.draughts_moves.specs.Capture.{IsMost};
@@ -10,7 +10,7 @@ use crate::longest::longest;
 use crate::mover::Mover;
 use squares::{DPiece, DPos, DSet, Dsq};
 
-/// The piece on a square, if it is of the side to move.
+/// The piece on a square, if it belongs to the side to move.
 pub fn own_at(position: &DPos, square: Dsq) -> Option<DPiece>
     ensures { result ≡ own_at position.now square }
 {
@@ -25,8 +25,8 @@ pub fn own_at(position: &DPos, square: Dsq) -> Option<DPiece>
     }
 }
 
-// The pieces of the side to move that may take something: its kings that can jump, and its pieces beside an enemy with
-// an empty square behind it.
+// The pieces of the side to move that may capture: kings that can jump, and pieces next to an enemy with an empty
+// square behind it.
 pub(crate) fn may_take(position: &DPos) -> DSet
     ensures { (n : ℕ) → set.contains result n ≡ false → greatest_at position.now n ≡ 0 }
 {
@@ -37,7 +37,7 @@ pub(crate) fn may_take(position: &DPos) -> DSet
     men.union(jumping_kings(position))
 }
 
-// The most jumps in a row of the piece on a square.
+// The greatest number of jumps of the piece on a square.
 #[tactic(auto, unfolding(crate::specs::Search::greatest_at))]
 fn greatest_at(position: &DPos, square: Dsq) -> usize
     ensures value { result ≡ greatest_at position.now square }
@@ -49,7 +49,7 @@ fn greatest_at(position: &DPos, square: Dsq) -> usize
     }
 }
 
-/// The greatest number of pieces that a capture takes, or 0 where there is no capture.
+/// The greatest number of pieces that a capture takes, or 0 if there is no capture.
 pub fn most(position: &DPos) -> usize
     ensures most { IsMost position.now result }
     ensures few { result ≤ 50 }

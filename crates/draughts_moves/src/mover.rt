@@ -1,10 +1,10 @@
-//! A piece that captures, on its way over the board.
+//! A piece in the middle of a capture.
 ghost use Rattle.std.specs.Prelude.{◌≡◌};
 ghost use Rattle.std.specs.FinSet as set;
 
 use squares::{DPiece, DSet, Dsq};
 
-/// A piece that captures: where it came from, where it has come to, and what it has taken so far.
+/// A piece in the middle of a capture: its starting square, its present square and the pieces captured so far.
 #[derive(Clone, Copy)]
 pub struct Mover {
     pub piece: DPiece,
@@ -14,7 +14,7 @@ pub struct Mover {
 }
 
 impl Mover {
-    /// A piece on its square, before its first jump.
+    /// A piece before its first jump.
     pub fn new(piece: DPiece, origin: Dsq) -> Mover
         ensures { result
             ≡ record { piece = piece; origin = origin; at = origin; taken = set.empty } }
@@ -27,7 +27,7 @@ impl Mover {
         }
     }
 
-    /// The piece after one more jump.
+    /// A copy of the piece after one more jump.
     pub fn jumped(&self, over: Dsq, to: Dsq) -> Mover
         ensures { result ≡ record self.now { at = to; taken = set.insert self.now.taken over } }
     {
@@ -47,7 +47,7 @@ impl Mover {
         self.taken = self.taken.with(over);
     }
 
-    /// Takes a jump back: what was jumped over is not taken, and the piece is where it came from.
+    /// Undoes a jump: the piece is back on `from`, and `over` is not captured.
     pub fn take_back(&mut self, over: Dsq, from: Dsq)
         ensures { self.new ≡ record self.old { at = from; taken = set.remove self.old.taken over } }
     {

@@ -20,7 +20,11 @@ fn compare(a: &DMove, b: &DMove) -> Ordering
     }
 }
 
-/// Puts a move at its place, if it is not there. Its place is looked for from the end.
+/// Inserts a move at its place in the sorted list, unless it is there already; searches from the end.
+///
+/// # Errors
+///
+/// `AllocError` if out of memory.
 pub fn put_move(moves: &mut Vec<DMove>, played: DMove) -> Result<(), AllocError>
     requires { IsStrictlySortedBy move_cmp moves.old.items }
     ensures { OnOk result (moves.new.items ≡ put move_cmp played moves.old.items) }

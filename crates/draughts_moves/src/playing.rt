@@ -1,11 +1,12 @@
-//! The position that a move leaves.
+//! The position after a move.
 ghost use Rattle.std.specs.Prelude.{◌≡◌};
 ghost use Rattle.draughts_moves.specs.Legal.{Legal, far_row, crowned, play};
 
 use squares::{DMove, DPiece, DPos, Dsq, Side};
 
-/// The position after a legal move: the piece stands on the square that it came to, what it took
-/// is off the board, a man whose move ended on its far row is a king, and the turn has passed.
+/// The position after a legal move.
+///
+/// Moves the piece, removes the captured pieces, promotes a man that ends on its last row, and passes the turn.
 pub fn play(position: &DPos, played: &DMove) -> DPos
     requires { Legal position.now played.now }
     ensures { result ≡ play position.now played.now }
@@ -23,7 +24,7 @@ pub fn play(position: &DPos, played: &DMove) -> DPos
     }
 }
 
-// The row that a side's men go towards.
+// The last row of a side, on which its men promote.
 fn far_row(side: Side) -> u8
     ensures { result ≡ far_row side }
 {
@@ -33,7 +34,7 @@ fn far_row(side: Side) -> u8
     }
 }
 
-// A man that has come to its far row is a king.
+// The piece after its move: a man on its last row becomes a king.
 fn crowned(piece: DPiece, to: Dsq) -> DPiece
     ensures { result ≡ crowned piece to }
 {

@@ -1,4 +1,4 @@
-//! Whether jumps lead to a square with given squares taken.
+//! Whether a piece can complete a given capture.
 ghost use Rattle.std.specs.Prelude.{◌↔◌, IsTrue};
 ghost use Rattle.draughts_moves.specs.Capture.{without, Reaches};
 
@@ -6,7 +6,7 @@ use crate::jumps::jumps_from;
 use crate::mover::Mover;
 use squares::{DMove, DPos};
 
-/// Whether `left` more jumps lead to where and to what a move takes.
+/// Whether `left` more jumps can end on the target square of the move with exactly its captured pieces.
 pub fn reaches(position: &DPos, mover: &Mover, left: usize, played: &DMove) -> bool
     ensures { IsTrue result
         ↔ Reaches (without position.now.board mover.now.origin) mover.now.piece left

@@ -1,4 +1,4 @@
-//! The routes of a capture.
+//! The capture routes of a move.
 ghost use Rattle.std.specs.Prelude.{◌≡◌, ◌↔◌, ◌≤◌, ◌++◌, [], ◌∷◌, ◌&&◌, ◌==◌, if◌then◌else◌, ℕ, List, length, map};
 ghost use Rattle.std.specs.Prelude.{OnOk, IfOk, MatchOption, Contains, take, drop};
 ghost use Rattle.std.specs.List.Sorted.{IsStrictlySortedBy};
@@ -15,7 +15,7 @@ use squares::{DMove, DPos, Dsq};
 use std::alloc::{AllocError, Global};
 use std::cmp::Ordering;
 
-// The place of a route among routes in order, or None where it is there.
+// The index at which a route belongs in the sorted list, or `None` if it is there already.
 fn place_of(routes: &[Vec<Dsq>], route: &[Dsq]) -> Option<usize>
     ensures { MatchOption result
         (put route_cmp route.now (lists_in routes.now) ≡ lists_in routes.now)
@@ -33,7 +33,7 @@ fn place_of(routes: &[Vec<Dsq>], route: &[Dsq]) -> Option<usize>
     Some(routes.len())
 }
 
-// Puts a route at its place, if it is not there.
+// Inserts a route at its place, unless it is there already.
 fn put_route(alloc: Global, route: &[Dsq], routes: &mut Vec<Vec<Dsq>>) -> Result<(), AllocError>
     ensures { OnOk result (lists_in routes.new.items
         ≡ put route_cmp route.now (lists_in routes.old.items)) }
@@ -48,7 +48,7 @@ fn put_route(alloc: Global, route: &[Dsq], routes: &mut Vec<Vec<Dsq>>) -> Result
     }
 }
 
-// Puts a route, if the piece has come to where the move ends, with what the move takes.
+// Inserts the route if the piece has reached the end of the move with the move's captured pieces.
 fn put_end(
     alloc: Global,
     played: &DMove,
@@ -70,8 +70,7 @@ fn put_end(
     put_route(alloc, path, routes)
 }
 
-// Puts the routes that go on from `path`, which has brought the piece to where it is, by `left`
-// more jumps.
+// Inserts the routes that extend `path` by `left` more jumps.
 fn collect_routes(
     alloc: Global,
     position: &DPos,
@@ -102,10 +101,13 @@ fn collect_routes(
     Ok(())
 }
 
-/// The routes by which a piece makes a capture, each once and in the order of a dictionary. A
-/// route is the list of the squares on which the piece lands.
+/// The routes by which a piece can make a capture, each once, in lexicographic order.
 ///
-/// It fails where memory is refused, and then alone.
+/// A route is the list of landing squares.
+///
+/// # Errors
+///
+/// `Memory` if out of memory.
 pub fn routes(alloc: Global, position: &DPos, played: &DMove) -> Result<Vec<Vec<Dsq>>, Memory>
     ensures in_order { IfOk result
         (λ routes. IsStrictlySortedBy route_cmp (lists_in routes.items)) }

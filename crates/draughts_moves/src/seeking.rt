@@ -1,4 +1,4 @@
-//! The search for the captures that take the most: one walk over the jumps finds their number and lists them.
+//! The search for the longest captures, which finds their length and lists them in one pass.
 ghost use Rattle.std.specs.Prelude.{◌≡◌, ◌+◌, ◌<◌, [], max, OnOk, IfOk};
 ghost use Rattle.std.specs.FinSet as set;
 ghost use Rattle.std.specs.List.Sorted.{IsStrictlySortedBy};
@@ -15,7 +15,7 @@ use crate::mover::Mover;
 use squares::{DMove, DPos, Dsq};
 use std::alloc::{AllocError, Global};
 
-// Goes on with a capture to each of its ends, and comes back with nothing more taken.
+// Continues a capture to each of its ends and restores the piece afterwards.
 fn seek(position: &DPos, mover: &mut Mover, found: &mut Found) -> Result<(), AllocError>
     requires { IsStrictlySortedBy move_cmp found.old.moves.items }
     ensures back { OnOk result (mover.new ≡ mover.old) }
@@ -45,7 +45,7 @@ fn seek(position: &DPos, mover: &mut Mover, found: &mut Found) -> Result<(), All
     Ok(())
 }
 
-// Takes in the captures of the piece on a square.
+// Searches the captures of the piece on a square.
 fn seek_from(position: &DPos, square: Dsq, found: &mut Found) -> Result<(), AllocError>
     requires { IsStrictlySortedBy move_cmp found.old.moves.items }
     ensures size { OnOk result (found.new.size
@@ -63,7 +63,11 @@ fn seek_from(position: &DPos, square: Dsq, found: &mut Found) -> Result<(), Allo
     }
 }
 
-/// The captures that take the most, and how many pieces they take: 0, where nothing can be taken.
+/// The captures that take the most pieces, and their number of pieces, which is 0 if there is no capture.
+///
+/// # Errors
+///
+/// `AllocError` if out of memory.
 pub fn longest_captures(alloc: Global, position: &DPos) -> Result<Found, AllocError>
     ensures size { IfOk result (λ found. found.size ≡ most position.now) }
     ensures moves { IfOk result (λ found. 0 < found.size

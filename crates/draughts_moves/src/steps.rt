@@ -1,4 +1,4 @@
-//! Where a piece goes without taking.
+//! Quiet moves of a piece.
 ghost use Rattle.std.specs.Prelude.{◌≡◌, ◌==◌, ℕ, false, true, take};
 ghost use Rattle.std.specs.FinMap as map;
 ghost use Rattle.std.specs.FinSet as set;
@@ -9,7 +9,7 @@ ghost use Rattle.draughts_moves.specs.Search.{clear_front, steps};
 
 use squares::{DPiece, DPos, DSet, Direction, Dsq, Side};
 
-// The next square in a direction, or no square at the edge of the board.
+// The next square in a direction as a set, empty at the edge of the board.
 fn next_square(from: Dsq, toward: Direction) -> DSet
     ensures { (n : ℕ) → set.contains result n ≡ option_map_or (λ m. m == n) (step toward from) false }
 {
@@ -19,7 +19,7 @@ fn next_square(from: Dsq, toward: Direction) -> DSet
     }
 }
 
-// The next square in a direction, if it is empty.
+// The next square in a direction as a set, if it is empty.
 fn step_ahead(position: &DPos, from: Dsq, toward: Direction) -> DSet
     ensures { (n : ℕ) → set.contains result n
         ≡ list_any (λ m. m == n) (clear_front (map.get position.now.board) (take 1 (ray toward from))) }
@@ -28,7 +28,7 @@ fn step_ahead(position: &DPos, from: Dsq, toward: Direction) -> DSet
     next.intersection(position.empty_squares())
 }
 
-// The squares that a man goes to: the empty ones of the two before it.
+// The target squares of a man's quiet moves: the empty ones of the two squares in front of it.
 fn man_steps(position: &DPos, piece: DPiece, from: Dsq) -> DSet
     requires { piece.king ≡ false }
     ensures { (n : ℕ) → set.contains result n
@@ -46,7 +46,7 @@ fn man_steps(position: &DPos, piece: DPiece, from: Dsq) -> DSet
     }
 }
 
-// The squares on the way in a direction up to the first piece.
+// The squares in a direction up to the first piece, without it.
 fn clear_line(position: &DPos, from: Dsq, toward: Direction) -> DSet
     ensures { (n : ℕ) → set.contains result n
         ≡ list_any (λ m. m == n) (clear_front (map.get position.now.board) (ray toward from)) }
@@ -60,7 +60,7 @@ fn clear_line(position: &DPos, from: Dsq, toward: Direction) -> DSet
     }
 }
 
-// The squares that a king goes to: those of the four lines up to the first piece.
+// The target squares of a king's quiet moves: the four diagonals up to the first piece.
 fn king_steps(position: &DPos, piece: DPiece, from: Dsq) -> DSet
     requires { piece.king ≡ true }
     ensures { (n : ℕ) → set.contains result n
@@ -74,7 +74,7 @@ fn king_steps(position: &DPos, piece: DPiece, from: Dsq) -> DSet
     up_left.union(up_right.union(down))
 }
 
-/// The squares that a piece goes to from a square without taking.
+/// The target squares of a piece's quiet moves.
 pub fn steps_from(position: &DPos, piece: DPiece, from: Dsq) -> DSet
     ensures { (n : ℕ) → set.contains result n
         ≡ list_any (λ m. m == n) (steps (map.get position.now.board) piece from) }

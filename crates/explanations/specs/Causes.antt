@@ -1,4 +1,4 @@
--- What a refusal of a command is about.
+-- The subject of the explanation of a refused command.
 use Rattle.std.specs.Prelude.{length, Option, Some, None, if◌then◌else◌, nat_lt, ◌==◌, string_bytes}
 use Rattle.std.specs.Str.{bytes_eq}
 use Rattle.club_requests.specs.Limits.{is_budget, is_name, most_record_bytes}
@@ -19,7 +19,7 @@ use Rattle.explanations.specs.declared.causes.WrongValue.TheVariants.{MemberName
 use Rattle.explanations.specs.declared.causes.WrongValue.TheVariants.{Increment, GameKey, SamePlayer, UnknownPlayer}
 use Rattle.explanations.specs.declared.causes.WrongValue.TheVariants.{RecordLength, NoPart, PlayerOrRecord, MoveText}
 
--- the first value that is wrong by itself; where all others may be taken, the last one
+-- the first value that is invalid in itself; if all others are valid, the last one
 
 abbrev pub value_of_member : AddMember → WrongValue
 value_of_member m = if is_name (string_bytes m.name) then MemberKey else MemberName
@@ -49,7 +49,7 @@ abbrev pub value_on_game : GameCommand → Option WrongValue
 value_on_game (Move ply text) = Some MoveText
 value_on_game _ = None
 
--- the value of a command that the club does not take, where the command tells
+-- the value that a command is refused for, if the command alone shows it
 abbrev pub wrong_value : Command → Option WrongValue
 wrong_value (command.AddMember c) = Some (value_of_member c)
 wrong_value (command.AddEvent c) = Some (value_of_event c)
@@ -62,7 +62,7 @@ abbrev pub value_explained : Option WrongValue → Explanation
 value_explained (Some value) = explanation.Value value
 value_explained None = explanation.Refusal BadValue
 
--- by 65 the value that it is about, and by every other number what the number says
+-- the refused value for 65, otherwise the refusal itself
 abbrev pub refusal_explained : Refusal → Command → Explanation
 refusal_explained BadValue command = value_explained (wrong_value command)
 refusal_explained refusal command = explanation.Refusal refusal

@@ -1,4 +1,4 @@
--- Which line explains what: the lines themselves stand once, in the code.
+-- The explanation of each refusal, value and fault. The texts are constants of the code.
 use Rattle.std.specs.Prelude.{List, ℕ}
 use Rattle.club_rules.specs.declared.names.GameKind.TheVariants.{Draughts, Shogi}
 use Rattle.club_rules.specs.declared.records.RecordFormat.TheVariants.{Pdn, Csa}
@@ -33,7 +33,7 @@ use Rattle.explanations.specs.declared.texts.TheConstants.{LATER_SCHEMA, DAMAGED
 use Rattle.explanations.specs.declared.texts.TheConstants.{MEMORY, NO_CLOCK, NO_RECORD, NO_PORT, NO_OUTPUT}
 use Rattle.explanations.specs.declared.texts.TheConstants.{NO_COPY}
 
--- a move that the rules refuse
+-- refusals of a move by the rules
 abbrev pub move_line : MoveRefusal → List ℕ
 move_line (NoSuchMove game) = NO_SUCH_MOVE.now
 move_line MustCapture = MUST_CAPTURE.now
@@ -48,7 +48,7 @@ move_line (BadText Draughts offset) = NO_DRAUGHTS_MOVE.now
 move_line (BadText Shogi offset) = NO_SHOGI_MOVE.now
 move_line Ambiguous = AMBIGUOUS.now
 
--- a record that is refused
+-- refusals of a record
 abbrev pub record_line : RecordRefusal → List ℕ
 record_line (of_record.BadText Pdn place) = NO_PDN.now
 record_line (of_record.BadText Csa place) = NO_CSA.now
@@ -61,7 +61,7 @@ record_line (of_record.AfterEnd format ply) = AFTER_END.now
 record_line (of_record.Unfinished format) = UNFINISHED.now
 record_line (of_record.ResultDiffers format) = RESULT_DIFFERS.now
 
--- what the club refuses
+-- refusals by the club
 abbrev pub refusal_line : Refusal → List ℕ
 refusal_line refusal.UnknownKey = UNKNOWN_KEY.now
 refusal_line refusal.NotAllowed = NOT_ALLOWED.now
@@ -84,7 +84,7 @@ refusal_line refusal.NotDeclarable = NOT_DECLARABLE.now
 refusal_line (refusal.Play ply refusal) = move_line refusal
 refusal_line (refusal.Record refusal) = record_line refusal
 
--- the value that 65 is about
+-- values that are refused by 65
 abbrev pub value_line : WrongValue → List ℕ
 value_line value.MemberName = MEMBER_NAME.now
 value_line value.MemberKey = MEMBER_KEY.now
@@ -100,7 +100,7 @@ value_line value.PlayerOrRecord = PLAYER_OR_RECORD.now
 value_line value.MoveText = MOVE_TEXT.now
 value_line value.ListedMember = LISTED_MEMBER.now
 
--- the file, memory, what is read and what is written
+-- faults of the file, memory, input and output
 abbrev pub fault_line : ExplainedFault → List ℕ
 fault_line fault.NoClub = NO_CLUB.now
 fault_line fault.NotEmpty = NOT_EMPTY.now

@@ -1,4 +1,4 @@
-//! What a refusal or a fault is about.
+//! The subject of an explanation: a refusal, a refused value or a fault.
 
 ghost use Rattle.std.specs.Prelude.{◌≡◌};
 ghost use Rattle.explanations.specs.Causes.{refusal_explained, wrong_value, value_of_event, value_of_import};
@@ -9,7 +9,7 @@ use crate::texts::{fault_line, refusal_line, value_line};
 use club_requests::values::{MOST_RECORD_BYTES, is_budget, is_member_key, is_name};
 use club_requests::{AddEvent, AddMember, Command, GameCommand, Import, OnGame, Refusal, Seat};
 
-/// The value that the club does not take, as far as the order tells.
+/// The value of a command or query that is refused, as far as the command or query shows it.
 #[derive(Clone, Copy, Debug, PartialEq, Eq)]
 pub enum WrongValue {
     /// The name of a new member.
@@ -18,76 +18,77 @@ pub enum WrongValue {
     MemberKey,
     /// The name of a new event.
     EventName,
-    /// The seconds that each player of an event starts with.
+    /// The initial time of each player of an event, in seconds.
     Budget,
-    /// The seconds that a player of an event gains at each move.
+    /// The time added for each move in an event, in seconds.
     Increment,
     /// The key of a new game.
     GameKey,
-    /// Both players of a new game have one name.
+    /// Both players of a new game have the same name.
     SamePlayer,
-    /// A player of a new game is no member.
+    /// A player of a new game is not a member.
     UnknownPlayer,
-    /// The text of records is longer than one may be.
+    /// The text of records is too long.
     RecordLength,
-    /// The part 0 of a text of records, whose parts count from 1.
+    /// The part 0 of a text of records; parts count from 1.
     NoPart,
-    /// A player of an imported game is no member, the text has no such part, or it is of the event's other game.
+    /// A player of an imported game is not a member, the text has no such part, or it is in the format of the other
+    /// game.
     PlayerOrRecord,
-    /// The text of a move is longer than one may be.
+    /// The text of a move is too long.
     MoveText,
-    /// The member whose games are listed is none.
+    /// The member whose games are listed does not exist.
     ListedMember,
 }
 
-/// Why an order was not done, where that lies in no value of it.
+/// The fault of an order that is not caused by one of its values, with the number that is printed for it.
 #[derive(Clone, Copy, Debug, PartialEq, Eq)]
 pub enum ExplainedFault {
-    /// 70: there is no club in the file.
+    /// 70: the file contains no club.
     NoClub,
-    /// 70: a club was to be made, and the file has tables already.
+    /// 70: `init` was given a file that already has tables.
     NotEmpty,
-    /// 71: the file is of schema 1.
+    /// 71: the file has schema 1.
     OlderSchema,
-    /// 71: the file is of a schema that the program does not know.
+    /// 71: the file has a schema that this program does not know.
     LaterSchema,
-    /// 72: a table has rows that no club has.
+    /// 72: a table has rows that are not valid for a club.
     Damaged,
-    /// 73: another program has the file.
+    /// 73: another program has locked the file.
     InUse,
     /// 73: the file cannot be opened.
     NotOpened,
-    /// 73: a call of the database failed.
+    /// 73: a database call failed.
     Store,
-    /// 74: an earlier call failed, so that the file has to be opened again.
+    /// 74: an earlier database call failed, so the file must be opened again.
     Reopen,
-    /// 75: memory was refused.
+    /// 75: out of memory.
     Memory,
-    /// 76: the machine's clock cannot be read.
+    /// 76: the system clock cannot be read.
     NoClock,
     /// 76: the record of an import cannot be read.
     NoRecord,
-    /// 76: the port of the desk is not to be had.
+    /// 76: the server cannot listen on the port.
     NoPort,
-    /// 77: what was to be printed could not be written.
+    /// 77: the output could not be written.
     NoOutput,
-    /// 77: the file of a copy cannot be made or written.
+    /// 77: the backup file cannot be created or written.
     NoCopy,
 }
 
-/// What an explanation is about.
+/// The subject of an explanation.
 #[derive(Clone, Copy, Debug, PartialEq, Eq)]
 pub enum Explanation {
-    /// A refusal that says all by its number and what stands behind it.
+    /// A refusal that is explained by its number and parameters alone.
     Refusal(Refusal),
-    /// The value that is refused by 65.
+    /// The value that is refused by 65 `BadValue`.
     Value(WrongValue),
-    /// A fault of the store, of what is read or of what is written.
+    /// A fault of the store, of the input or of the output.
     Fault(ExplainedFault),
 }
 
 impl Explanation {
-    /// What it means and what can be done: one line, with its end.
+    /// The explanation and its remedy: one line, with its newline.
     pub fn line(self) -> &'static str
         ensures { result.now ≡ line_of self }
     {
@@ -99,7 +100,6 @@ impl Explanation {
     }
 }
 
-// The value of a new member that is refused.
 fn value_of_member(member: &AddMember) -> WrongValue
     ensures { result ≡ value_of_member member.now }
 {
@@ -110,7 +110,6 @@ fn value_of_member(member: &AddMember) -> WrongValue
     }
 }
 
-// The value of a new event that is refused.
 fn value_of_event(event: &AddEvent) -> WrongValue
     ensures { result ≡ value_of_event event.now }
 {
@@ -124,7 +123,6 @@ fn value_of_event(event: &AddEvent) -> WrongValue
     }
 }
 
-// The value of a new game that is refused.
 fn value_of_seat(seat: &Seat) -> WrongValue
     ensures { result ≡ value_of_seat seat.now }
 {
@@ -138,7 +136,6 @@ fn value_of_seat(seat: &Seat) -> WrongValue
     }
 }
 
-// The value of an import that is refused.
 fn value_of_import(import: &Import) -> WrongValue
     ensures { result ≡ value_of_import import.now }
 {
@@ -158,7 +155,7 @@ fn value_of_import(import: &Import) -> WrongValue
     }
 }
 
-// The value of a command that is refused, where the command tells.
+// The value that a command is refused for, if the command alone shows it.
 fn wrong_value(command: &Command) -> Option<WrongValue>
     ensures { result ≡ wrong_value command.now }
 {
@@ -177,8 +174,10 @@ fn wrong_value(command: &Command) -> Option<WrongValue>
     }
 }
 
-/// What a refusal of a command is about: by 65 the first of its values, in the order in which they are given, that is
-/// wrong by itself, or else the one that the club does not know.
+/// The explanation of a refused command.
+///
+/// For 65 `BadValue` it names the first value, in the order of the command's arguments, that is invalid in itself,
+/// otherwise the value that the club does not know.
 pub fn refused(refusal: Refusal, command: &Command) -> Explanation
     ensures { result ≡ refusal_explained refusal command.now }
 {

@@ -1,4 +1,4 @@
-//! What a refusal or a fault means, in words for the person who gave the order.
+//! Explanations of refusals and faults for the user of the command line.
 #![tactic(auto)]
 
 pub mod causes;

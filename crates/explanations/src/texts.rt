@@ -1,4 +1,4 @@
-//! The explanations: a line for each number, and for 65, 70, 71, 73 and 76 a line for each cause.
+//! The texts of the explanations: one line per number; for 65, 70, 71, 73 and 76 one line per cause.
 
 ghost use Rattle.std.specs.Prelude.{◌≡◌};
 ghost use Rattle.explanations.specs.Lines.{fault_line, move_line, record_line, refusal_line, value_line};
@@ -7,7 +7,7 @@ use crate::causes::{ExplainedFault, WrongValue};
 use club_requests::Refusal;
 use club_rules::{GameKind, MoveRefusal, RecordFormat, RecordRefusal};
 
-// 50 to 67, in the order in which they are looked for: what the club refuses.
+// Refusals by the club, 50 to 67, in the order of their checks.
 
 // 50
 const UNKNOWN_KEY: &str = "no member has this key\n";
@@ -50,7 +50,7 @@ const FULL: &str = "the club has no room for it: it holds 200 members, 50 events
 // 67
 const NOT_DECLARABLE: &str = "the side to move may not declare that it has won\n";
 
-// 10 to 19, and 20, 30 and 21 of a move's text: what the rules of the games refuse.
+// Refusals of a move by the rules of the games, 10 to 19, and of its text, 20, 21 and 30.
 
 // 10 and 13
 const NO_SUCH_MOVE: &str = "no piece may move so; 'legal' lists the moves of a game\n";
@@ -83,7 +83,7 @@ const NO_SHOGI_MOVE: &str =
 const AMBIGUOUS: &str =
     "several captures are written so: name the squares between as well, as in 46x37x26x12\n";
 
-// 20 to 27, PDN, and 40 to 46, CSA: what is refused of the record of an import.
+// Refusals of an imported record: 20 to 27 for PDN, 40 to 46 for CSA.
 
 // 20
 const NO_PDN: &str = "RECORD is no PDN from that byte on, the first byte being 0\n";
@@ -110,7 +110,7 @@ const UNFINISHED: &str =
 const RESULT_DIFFERS: &str =
     "the result of RECORD is not that of the rules, or not that of its own tag\n";
 
-// 65, by the value that it is about.
+// Refused values (65), by value.
 
 const MEMBER_NAME: &str = "NAME has to be 1 to 24 letters, digits, '.', '_' or '-'\n";
 
@@ -140,7 +140,7 @@ const MOVE_TEXT: &str = "TEXT has more than 200 bytes\n";
 
 const LISTED_MEMBER: &str = "--member names nobody; 'members' lists them\n";
 
-// 70 to 77: the file, memory, what is read and what is written.
+// Faults of the file, memory, input and output, 70 to 77.
 
 // 70
 const NO_CLUB: &str =
@@ -148,7 +148,7 @@ const NO_CLUB: &str =
 // 70, of init
 const NOT_EMPTY: &str =
     "FILE holds tables already: 'init' makes a club in a new or an empty file\n";
-// 71 1
+// 71, schema 1
 const OLDER_SCHEMA: &str =
     "an earlier version of the program made FILE: copy it, and then give 'upgrade'\n";
 // 71
@@ -183,7 +183,7 @@ const NO_OUTPUT: &str =
 const NO_COPY: &str =
     "FILE2 has to be a new name, that of no log, in a folder where it can be made and has room\n";
 
-/// The line of a refusal by its number.
+/// The explanation of a refusal.
 pub(crate) fn refusal_line(refusal: Refusal) -> &'static str
     ensures { result.now ≡ refusal_line refusal }
 {
@@ -211,7 +211,6 @@ pub(crate) fn refusal_line(refusal: Refusal) -> &'static str
     }
 }
 
-// The line of a refusal of a move.
 fn move_line(refusal: MoveRefusal) -> &'static str
     ensures { result.now ≡ move_line refusal }
 {
@@ -231,7 +230,6 @@ fn move_line(refusal: MoveRefusal) -> &'static str
     }
 }
 
-// The line of a refusal of a record.
 fn record_line(refusal: RecordRefusal) -> &'static str
     ensures { result.now ≡ record_line refusal }
 {
@@ -253,7 +251,7 @@ fn record_line(refusal: RecordRefusal) -> &'static str
     }
 }
 
-/// The line of a value that is refused.
+/// The explanation of a refused value.
 pub(crate) fn value_line(value: WrongValue) -> &'static str
     ensures { result.now ≡ value_line value }
 {
@@ -274,7 +272,7 @@ pub(crate) fn value_line(value: WrongValue) -> &'static str
     }
 }
 
-/// The line of a fault.
+/// The explanation of a fault.
 pub(crate) fn fault_line(fault: ExplainedFault) -> &'static str
     ensures { result.now ≡ fault_line fault }
 {

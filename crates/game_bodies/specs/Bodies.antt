@@ -1,4 +1,4 @@
--- The JSON of a game and of its legal moves. The keys of an object stand in byte order.
+-- JSON of a game and of its legal moves. The keys of an object are in byte order.
 use Rattle.std.specs.Prelude.{ℕ, List, [], ◌∷◌, length, Option, Some, None, option_map, codes}
 use Rattle.serde_json.specs.Data.{Data, null, number, unsigned, string, array, object, Items, no_items, item, Members}
 use Rattle.serde_json.specs.Data.{no_members, member, put}
@@ -22,7 +22,7 @@ moves_data rows = object (member (codes "moves") (array (texts rows)) no_members
 abbrev pub lefts : ℕ → ℕ → Data
 lefts first second = array (item (number_data first) (item (number_data second) no_items))
 
--- the members of a game in byte order, up to its moves
+-- the members of a game's object in byte order, up to `moves`
 abbrev pub game_front : (id : ℕ) → (end event first left moves : Data) → Members
 game_front id end event first left moves =
     member (codes "end") end
@@ -32,7 +32,7 @@ game_front id end event first left moves =
     (member (codes "left") left
     (member (codes "moves") moves no_members)))))
 
--- with those behind them, as an object
+-- the object with the members after `moves`
 abbrev pub game_object : Members → (offer ply position result second : Data) → Data
 game_object front offer ply position result second =
     object

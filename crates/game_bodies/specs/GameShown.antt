@@ -1,4 +1,4 @@
--- What a club tells the desk.
+-- The view of a game that members see.
 use Rattle.std.specs.Prelude.{ℕ, List, Option}
 use Rattle.squares.specs.declared.sides.Score.{Score}
 use Rattle.club_rules.specs.declared.names.EndName.{EndName}
@@ -7,8 +7,7 @@ use Rattle.club_core.specs.declared.rows.GameEnd.{GameEnd}
 use Rattle.club_core.specs.declared.rows.GameEnd.TheVariants.{Rule, Outside}
 use Rattle.club_requests.specs.OutsideEnd.{outside_text}
 
--- a game as any member may see it: its event and its players by their names, its moves and its position as they are
--- written
+-- a game as any member may see it: event and players by name, moves and position in notation
 pub record GameShown : Type 0 where
   pub event : List ℕ
   pub first : List ℕ
@@ -17,12 +16,12 @@ pub record GameShown : Type 0 where
   pub position : List ℕ
   pub left_first : ℕ
   pub left_second : ℕ
-  -- the name of the member whose offer of a draw stands
+  -- the member who has made a draw offer that is still valid
   pub offer : Option (List ℕ)
   pub end : Option (GameEnd EndName)
   pub result : Option Score
 
--- the name of an end, without its side
+-- name of an end, without its side
 abbrev pub end_name : GameEnd EndName → List ℕ
 end_name (Rule end) = end_text end
 end_name (Outside end) = outside_text end

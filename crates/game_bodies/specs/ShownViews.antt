@@ -1,4 +1,4 @@
--- What the values of the code stand for.
+-- Maps the values of the code to those of the specification.
 use Rattle.std.specs.Prelude.{ℕ, List, map, option_map, String, string_bytes}
 use Rattle.std.specs.declared.alloc.Global.{Global}
 use Rattle.game_bodies.specs.declared.shown.GameShown as given

@@ -1,4 +1,4 @@
-//! The JSON of a game and of its legal moves.
+//! JSON of a game and of its legal moves.
 ghost use Rattle.std.specs.Prelude.{◌≡◌, IfOk, option_map, string_bytes, map};
 ghost use Rattle.serde_json.specs.Data.{string, array};
 ghost use Rattle.serde_json.specs.View.{view, members_view};
@@ -25,7 +25,7 @@ fn values_of(alloc: Global, texts: Vec<String>) -> Result<Vec<Value>, AllocError
         .collect(alloc)
 }
 
-// A list of texts.
+// An array of strings.
 fn texts(alloc: Global, rows: Vec<String>) -> Result<Value, AllocError>
     ensures { IfOk result (λ v. view v ≡ array (texts (texts_view rows.items))) }
 {
@@ -40,7 +40,11 @@ fn moves_value(alloc: Global, rows: Vec<String>) -> Result<Value, AllocError>
     json!(in alloc; {"moves": list})
 }
 
-/// The legal moves of a game, as they are written, in the order in which they are listed.
+/// The legal moves of a game as a JSON object, in the order of the list.
+///
+/// # Errors
+///
+/// `AllocError` if out of memory.
 #[tactic(auto, using(crate::proofs::BodyLemmas::moves_float))]
 pub fn moves_text(alloc: Global, rows: Vec<String>) -> Result<String, AllocError>
     ensures { IfOk result (λ t. string_bytes t ≡ compact_text (moves_data (texts_view rows.items))) }
@@ -49,7 +53,7 @@ pub fn moves_text(alloc: Global, rows: Vec<String>) -> Result<String, AllocError
     value.to_string(alloc)
 }
 
-// A text, or null.
+// A string, or null.
 fn text_or_null(text: Option<String>) -> Value
     ensures { view result ≡ text_or_null (option_map string_bytes text) }
 {
@@ -59,7 +63,11 @@ fn text_or_null(text: Option<String>) -> Value
     }
 }
 
-/// A text that stands in the program, as JSON.
+/// A JSON string with a copy of this text.
+///
+/// # Errors
+///
+/// `AllocError` if out of memory.
 pub fn text_value(alloc: Global, text: &str) -> Result<Value, AllocError>
     ensures { IfOk result (λ v. view v ≡ string text.now) }
 {
@@ -98,7 +106,7 @@ fn number_value(alloc: Global, n: usize) -> Result<Value, AllocError>
     json!(in alloc; n)
 }
 
-// The members of a game up to its moves.
+// The members of a game's object up to `moves`.
 fn game_front(
     alloc: Global,
     id: u64,
@@ -122,7 +130,7 @@ fn game_front(
     Ok(front)
 }
 
-// A game, with the members behind its moves.
+// A game's object: `front` with the members after `moves`.
 fn game_object(
     alloc: Global,
     front: Map<String, Value>,
@@ -162,7 +170,11 @@ fn game_value(alloc: Global, id: u64, game: GameShown) -> Result<Value, AllocErr
     Ok(value)
 }
 
-/// A game of that number, as members see it.
+/// A game with this id, as a JSON object.
+///
+/// # Errors
+///
+/// `AllocError` if out of memory.
 #[tactic(auto, using(crate::proofs::BodyLemmas::game_float))]
 pub fn game_text(alloc: Global, id: u64, game: GameShown) -> Result<String, AllocError>
     ensures { IfOk result (λ t. string_bytes t ≡ compact_text (game_data id (game_view game))) }

@@ -1,4 +1,6 @@
-//! A game, and its legal moves, as JSON.
+//! JSON (RFC 8259) of a game and of its legal moves, as members see them.
+//!
+//! - RFC 8259: <https://www.rfc-editor.org/rfc/rfc8259>
 #![tactic(auto)]
 
 mod bodies;

@@ -1,4 +1,4 @@
-//! What a club shows of a game.
+//! The view of a game that members see.
 ghost use Rattle.std.specs.Prelude.{◌≡◌};
 ghost use Rattle.game_bodies.specs.GameShown.{end_name};
 
@@ -6,8 +6,8 @@ use club_core::GameEnd;
 use club_rules::EndName;
 use squares::Score;
 
-/// A game as any member may see it: its event and its players by their names, its moves and its position as they are
-/// written, and the seconds that each side has left.
+/// A game as any member may see it: event and players by name, moves and position in notation, and the seconds that
+/// each side has left.
 #[derive(Drop)]
 pub struct GameShown {
     pub event: String,
@@ -17,10 +17,10 @@ pub struct GameShown {
     pub position: String,
     pub left_first: u64,
     pub left_second: u64,
-    /// The name of the member whose offer of a draw stands.
+    /// The name of the member who has made a draw offer that is still valid.
     pub offer: Option<String>,
     pub end: Option<GameEnd<EndName>>,
-    /// None while the game is running.
+    /// `None` while the game is running.
     pub result: Option<Score>,
 }
 

@@ -1,4 +1,4 @@
--- What is said of a line that is not judged, in a game whose causes have texts.
+-- The text of a fault, for a game whose refusals have texts.
 use Rattle.std.specs.Prelude.{ℕ, List, ◌++◌, codes, Option, Some}
 use Rattle.std.specs.Fmt.{decimal}
 use Rattle.std.specs.Option.{option_map}

@@ -1,17 +1,19 @@
-//! What is wrong with a line of moves.
+//! Faults of a sequence of moves.
 
 use std::alloc::AllocFailed;
 use std::error::Error;
 use std::fmt;
 
-/// Why a line of moves is not judged, in a game that refuses a move for a cause. Plies count from 1.
+/// Why a sequence of moves is rejected; `C` is the reason that a game's rules give for an illegal move.
+///
+/// Plies count from 1.
 #[derive(Clone, Copy, Debug, PartialEq, Eq)]
 pub enum LineFault<C> {
-    /// Memory was refused.
+    /// An allocation failed.
     Memory,
-    /// The move of this ply is not legal, and why.
+    /// The move at this ply is illegal, for the given cause.
     Illegal { ply: usize, cause: C },
-    /// The game had ended before this ply.
+    /// The game had already ended before this ply.
     AfterEnd { ply: usize },
 }
 

@@ -1,5 +1,6 @@
-//! What holds of lines of any game: the positions of a play from a position, move by move, and the fault of a line that
-//! is not played by the rules.
+//! Game histories of either game: the fault of a sequence of moves that breaks the rules.
+//!
+//! Its `specs` define, for any game, the positions of a sequence of moves and when a move continues it.
 #![tactic(auto)]
 
 pub mod faults;

@@ -1,4 +1,4 @@
--- The bodies of replies, and what the body of a request asks for.
+-- JSON bodies of requests and replies.
 use Rattle.std.specs.Prelude.{ℕ, Bool, List, Option, Some, None, option_map, option_and_then}
 use Rattle.std.specs.Prelude.{codes, if◌then◌else◌}
 use Rattle.std.specs.Str.{is_utf8}
@@ -15,7 +15,7 @@ use Rattle.club_requests.specs.Outcome.{challenge_accepted}
 use Rattle.club_core.specs.State.{Command, open_challenge, answer_challenge}
 use Rattle.game_bodies.specs.Bodies.{text_or_null, number_data}
 
--- ---- replies: the keys of an object stand in byte order
+-- ---- replies: the keys of an object are in byte order
 
 abbrev pub moved_data : ℕ → MoveReply → Data
 moved_data id m = object
@@ -38,15 +38,15 @@ ended_data id end result = object
     (member (codes "game") (number_data id)
     (member (codes "result") (string result) no_members)))
 
--- something that was added, by its id
+-- the id of a new member, event or game
 abbrev pub added_data : List ℕ → ℕ → Data
 added_data kind id = object (member kind (number_data id) no_members)
 
--- so many games were ended by time
+-- the number of games ended by time
 abbrev pub swept_data : ℕ → Data
 swept_data count = object (member (codes "swept") (number_data count) no_members)
 
--- how a challenge stands, and the game that it has started
+-- the state of a challenge, and the game that it started
 abbrev pub stands_data : ℕ → List ℕ → Data
 stands_data n state =
     object (member (codes "challenge") (number_data n) (member (codes "state") (string state) no_members))
@@ -57,7 +57,7 @@ started_data n id = object
     (member (codes "game") (number_data id)
     (member (codes "state") (string (codes "accepted")) no_members)))
 
--- what a command is answered, one on a game being on that of this number
+-- the answer to a command; `id` is the number of the game, if it was a command on a game
 abbrev pub reply_data : ℕ → Reply → Data
 reply_data id (moved m) = moved_data id m
 reply_data id (draw_offered ply) = offered_data id ply
@@ -73,11 +73,11 @@ reply_data id (challenge_accepted n game) = started_data n game
 
 -- ---- requests
 
--- JSON as `serde_json` reads it
+-- JSON as `serde_json` parses it
 abbrev pub json_of : List ℕ → Option Data
 json_of body = if is_utf8 body then read body else None
 
--- the text, and the truth value, under a key
+-- the string or the boolean under a key
 abbrev pub text_in : List ℕ → Data → Option (List ℕ)
 text_in key data_read = option_and_then as_str (get key data_read)
 
@@ -97,7 +97,7 @@ challenge_with n (Some event) (Some other) (Some first) = Some (open_challenge n
 abbrev pub challenge_in : ℕ → Data → Option Command
 challenge_in n d = challenge_with n (text_in (codes "event") d) (text_in (codes "other") d) (bool_in (codes "first") d)
 
--- a challenge of that number
+-- the challenge with this number
 unfoldable pub challenge_of : ℕ → List ℕ → Option Command
 challenge_of n body = option_and_then (challenge_in n) (json_of body)
 
@@ -108,6 +108,6 @@ answer_with challenger n (Some accept) = Some (answer_challenge challenger n acc
 abbrev pub answer_in : List ℕ → ℕ → Data → Option Command
 answer_in challenger n d = answer_with challenger n (bool_in (codes "accept") d)
 
--- an answer to that member's challenge of that number
+-- the answer to the challenge of this member with this number
 unfoldable pub answer_of : List ℕ → ℕ → List ℕ → Option Command
 answer_of challenger n body = option_and_then (answer_in challenger n) (json_of body)

@@ -1,4 +1,4 @@
--- The numbers, names and statuses of refusals.
+-- Numbers, names and HTTP statuses of refusals.
 use Rattle.std.specs.Prelude.{ℕ, List, codes}
 use Rattle.http_head.specs.Refusals.{head_number, head_name, head_status}
 use Rattle.club_requests.specs.declared.refusals.Refusal as of_club

@@ -27,26 +27,26 @@ type_line kind = codes "Content-Type: " ++ kind ++ codes "\r\n"
 abbrev pub length_line : ℕ → List ℕ
 length_line n = codes "Content-Length: " ++ decimal n ++ codes "\r\n"
 
--- a kind as the head of a reply names it
+-- the value of Content-Type
 abbrev pub kind_text : Kind → List ℕ
 kind_text Json = codes "application/json"
 kind_text Plain = codes "text/plain"
 kind_text Html = codes "text/html; charset=utf-8"
 
--- the head of a reply: further lines stand last
+-- the head of a reply; added header lines are last
 unfoldable pub reply_head : ℕ → List ℕ → Kind → ℕ → List ℕ → List ℕ
 reply_head status phrase kind body_length further =
     status_line status phrase
     ++ type_line (kind_text kind) ++ length_line body_length ++ codes "Connection: close\r\n" ++ further
     ++ codes "\r\n"
 
--- a reply: the length is that of the body, also where that is left out
+-- a reply; Content-Length is that of the body, also if the body is left out
 abbrev pub reply_bytes : ℕ → Kind → List ℕ → List ℕ → Bool → List ℕ
 reply_bytes status kind further body without_body =
     reply_head status (unwrap_or (reason_phrase status) []) kind (length body) further
     ++ (if without_body then [] else body)
 
--- what a refusal adds to the head: the method that the path takes, or how a member shows who it is
+-- the header lines of a refusal: the authentication scheme, or the method that the route has
 abbrev pub key_lines : of_club.Refusal → List ℕ
 key_lines club.UnknownKey = codes "WWW-Authenticate: Member-Key\r\n"
 key_lines club.NotAllowed = []
@@ -77,7 +77,7 @@ further_lines (WrongMethod Post) = codes "Allow: POST\r\n"
 further_lines BadBody = []
 further_lines (Club refusal) = key_lines refusal
 
--- a number and a name as JSON
+-- the JSON body of an error
 abbrev pub error_data : ℕ → List ℕ → Data
 error_data n name =
     object (member (codes "error") (number (unsigned n)) (member (codes "name") (string name) no_members))
@@ -86,11 +86,11 @@ abbrev pub refusal_reply : Refusal → Bool → List ℕ
 refusal_reply refusal without_body = reply_bytes (refusal_status refusal) Json (further_lines refusal)
     (compact_text (error_data (refusal_number refusal) (refusal_name refusal))) without_body
 
--- a reply at 200 whose body is of this kind
+-- a 200 reply with a body of this content type
 abbrev pub shown_reply : Kind → List ℕ → Bool → List ℕ
 shown_reply kind body without_body = reply_bytes 200 kind [] body without_body
 
--- what a browser lets a page do
+-- the content security policy
 abbrev pub policy_line : List ℕ → List ℕ
 policy_line policy = codes "Content-Security-Policy: " ++ policy ++ codes "\r\n"
 
@@ -98,10 +98,10 @@ policy_line policy = codes "Content-Security-Policy: " ++ policy ++ codes "\r\n"
 abbrev pub page_reply : Bool → List ℕ
 page_reply without_body = reply_bytes 200 Html (policy_line policy) page without_body
 
--- a fault of the store
+-- the 503 reply for a fault of the club
 abbrev pub fault_reply : ℕ → List ℕ → Bool → List ℕ
 fault_reply n name without_body = reply_bytes 503 Json [] (compact_text (error_data n name)) without_body
 
--- the status that stands behind the version, where there are bytes enough
+-- the status in the status line, if there are bytes enough
 abbrev pub status_in : List ℕ → Option ℕ
 status_in reply = if nat_lt (length reply) 12 then None else number_of (take 3 (drop 9 reply))

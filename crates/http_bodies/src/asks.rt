@@ -1,4 +1,4 @@
-//! What the body of a request asks for.
+//! Parsing of request bodies. Unknown keys of an object are ignored.
 ghost use Rattle.std.specs.Prelude.{◌≡◌, ◌↔◌, IsTrue, IfOk, option_map, string_bytes};
 ghost use Rattle.serde_json.specs.View.{view};
 ghost use Rattle.serde_json.specs.Errors.{IsMemory};
@@ -10,14 +10,14 @@ use club_requests::{AnswerChallenge, Command, OpenChallenge};
 use serde_json::{Category, Error, Value};
 use std::alloc::{AllocError, Global};
 
-// Whether memory was refused to a read.
+// Whether a parser error means out of memory.
 fn is_memory(error: &Error) -> bool
     ensures { IsTrue result ↔ IsMemory error.now }
 {
     matches!(error.classify(), Category::Memory)
 }
 
-// A body as JSON.
+// The body as JSON; `None` if it is malformed.
 fn json_of(alloc: Global, body: &[u8]) -> Result<Option<Value>, AllocError>
     ensures { IfOk result (λ v. option_map view v ≡ json_of body.now) }
 {
@@ -33,21 +33,23 @@ fn json_of(alloc: Global, body: &[u8]) -> Result<Option<Value>, AllocError>
     }
 }
 
-// The text under a key of a value.
 fn text_in<'v>(value: &'v Value, key: &str) -> Option<&'v str>
     ensures { option_map (λ t. t.now) result ≡ text_in key.now (view value.now) }
 {
     value.get(key).and_then(Value::as_str)
 }
 
-// The truth value under a key of a value.
 fn bool_in(value: &Value, key: &str) -> Option<bool>
     ensures { result ≡ bool_in key.now (view value.now) }
 {
     value.get(key).and_then(Value::as_bool)
 }
 
-/// The text of a move.
+/// The text of a move in a JSON body; `None` if the body is malformed.
+///
+/// # Errors
+///
+/// `AllocError` if out of memory.
 #[tactic(auto, unfolding(crate::specs::Bodies::move_text))]
 pub fn move_text(alloc: Global, body: &[u8]) -> Result<Option<String>, AllocError>
     ensures { IfOk result (λ t. option_map string_bytes t ≡ move_text body.now) }
@@ -61,7 +63,7 @@ pub fn move_text(alloc: Global, body: &[u8]) -> Result<Option<String>, AllocErro
     }
 }
 
-// The challenge of that number that a value describes.
+// The challenge that a JSON value describes.
 fn challenge_in(alloc: Global, number: u32, value: &Value) -> Result<Option<Command>, AllocError>
     ensures { IfOk result (λ c. option_map command_of c ≡ challenge_in number (view value.now)) }
 {
@@ -84,7 +86,11 @@ fn challenge_in(alloc: Global, number: u32, value: &Value) -> Result<Option<Comm
     })))
 }
 
-/// A challenge of that number.
+/// The command that opens a challenge, from its number and a JSON body; `None` if the body is malformed.
+///
+/// # Errors
+///
+/// `AllocError` if out of memory.
 #[tactic(auto, unfolding(crate::specs::Bodies::challenge_of))]
 pub fn challenge_of(alloc: Global, number: u32, body: &[u8]) -> Result<Option<Command>, AllocError>
     ensures { IfOk result (λ c. option_map command_of c ≡ challenge_of number body.now) }
@@ -95,7 +101,7 @@ pub fn challenge_of(alloc: Global, number: u32, body: &[u8]) -> Result<Option<Co
     }
 }
 
-// Whether a value accepts a challenge.
+// The answer to a challenge that a JSON value describes.
 fn answer_in(
     alloc: Global,
     challenger: &str,
@@ -115,7 +121,11 @@ fn answer_in(
     })))
 }
 
-/// An answer to a member's challenge of that number.
+/// The command that accepts or refuses a member's challenge, from a JSON body; `None` if the body is malformed.
+///
+/// # Errors
+///
+/// `AllocError` if out of memory.
 #[tactic(auto, unfolding(crate::specs::Bodies::answer_of))]
 pub fn answer_of(
     alloc: Global,

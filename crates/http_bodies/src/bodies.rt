@@ -1,4 +1,4 @@
-//! The bodies of replies.
+//! JSON bodies of replies to commands.
 ghost use Rattle.std.specs.Prelude.{◌≡◌, IfOk, option_map, codes, string_bytes};
 ghost use Rattle.serde_json.specs.View.{view};
 ghost use Rattle.serde_json.specs.Written.{compact_text};
@@ -88,7 +88,7 @@ fn started_value(alloc: Global, number: u32, game: u32) -> Result<Value, AllocEr
     json!(in alloc; {"challenge": number, "game": game, "state": "accepted"})
 }
 
-// The answer to a command, one on a game being on that of this number.
+// The answer to a command as JSON. `id` is the number of the game, if it was a command on a game.
 fn answer_value(alloc: Global, id: u32, answer: Answer) -> Result<Value, AllocError>
     ensures { IfOk result (λ v. view v ≡ reply_data id (reply_of answer)) }
 {
@@ -107,7 +107,11 @@ fn answer_value(alloc: Global, id: u32, answer: Answer) -> Result<Value, AllocEr
     }
 }
 
-/// The answer to a command, one on a game being on that of this number.
+/// The answer to a command as JSON text. `id` is the number of the game, if it was a command on a game.
+///
+/// # Errors
+///
+/// `AllocError` if out of memory.
 #[tactic(auto, using(crate::proofs::BodyLemmas::reply_float))]
 pub fn answer_text(alloc: Global, id: u32, answer: Answer) -> Result<String, AllocError>
     ensures { IfOk result (λ t. string_bytes t ≡ compact_text (reply_data id (reply_of answer))) }

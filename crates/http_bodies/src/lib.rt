@@ -1,4 +1,7 @@
-//! The bodies of requests and replies: what the body of a request asks for, and the replies that carry the others.
+//! JSON bodies of requests, and the bytes of HTTP replies.
+//!
+//! It follows RFC 9112 (https://www.rfc-editor.org/rfc/rfc9112) and RFC 8259
+//! (https://www.rfc-editor.org/rfc/rfc8259).
 #![tactic(auto)]
 
 mod asks;

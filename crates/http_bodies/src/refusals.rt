@@ -1,29 +1,35 @@
-//! What a request is refused for.
+//! Refusals of requests, with their error numbers, names and HTTP statuses.
 ghost use Rattle.std.specs.Prelude.{◌≡◌};
 ghost use Rattle.http_bodies.specs.Refusals.{club_status, refusal_number, refusal_name, refusal_status};
 
 use club_requests::Refusal as ClubRefusal;
 use http_head::HeadRefusal;
 
-/// A method that a path may take.
+/// An HTTP method that a route may have.
 #[derive(Clone, Copy, Debug, PartialEq, Eq)]
 pub enum Method {
+    /// GET.
     Get,
+    /// POST.
     Post,
 }
 
-/// Why a request is refused: by its head, by its path or body, or by the club.
+/// Why a request is refused: by its head, by its route, method or body, or by the club.
 #[derive(Clone, Copy, Debug, PartialEq, Eq)]
 pub enum Refusal {
+    /// By its head.
     Head(HeadRefusal),
+    /// No route matches the target (404).
     NoRoute,
-    /// The path takes this method alone.
+    /// The route has another method, this one (405).
     WrongMethod(Method),
+    /// The body is malformed (400).
     BadBody,
+    /// By the club.
     Club(ClubRefusal),
 }
 
-// The status of what the club refuses.
+// The HTTP status of a refusal of the club.
 fn club_status(refusal: ClubRefusal) -> u16
     ensures { result ≡ club_status refusal }
 {
@@ -52,7 +58,7 @@ fn club_status(refusal: ClubRefusal) -> u16
 }
 
 impl Refusal {
-    /// The number by which a member knows the refusal.
+    /// The error number in the reply.
     pub fn number(self) -> u16
         ensures { result ≡ refusal_number self }
     {
@@ -65,7 +71,7 @@ impl Refusal {
         }
     }
 
-    /// The name of the refusal.
+    /// The error name in the reply.
     pub fn name(self) -> &'static str
         ensures { result.now ≡ refusal_name self }
     {
@@ -78,7 +84,7 @@ impl Refusal {
         }
     }
 
-    /// The status of its reply.
+    /// The HTTP status of the reply.
     pub fn status(self) -> u16
         ensures { result ≡ refusal_status self }
     {

@@ -1,4 +1,4 @@
-//! The bytes of replies.
+//! The bytes of replies: status line, header fields and body (RFC 9112, section 2.1).
 ghost use Rattle.std.specs.Prelude.{◌≡◌, IfOk, string_bytes, Some, None, unwrap_or, [], false};
 ghost use Rattle.http.specs.StatusCode.{IsStatusCode, reason_phrase};
 ghost use Rattle.serde_json.specs.Written.{compact_text, has_float};
@@ -18,15 +18,18 @@ use std::alloc::{AllocError, Global};
 // The first allocation for the page, in bytes: all of it.
 const PAGE_ROOM: usize = 112_640;
 
-/// What the bytes of a body are.
+/// The content type of a body.
 #[derive(Clone, Copy, Debug, PartialEq, Eq)]
 pub enum Kind {
+    /// `application/json`.
     Json,
+    /// `text/plain`.
     Plain,
+    /// `text/html` in UTF-8.
     Html,
 }
 
-// A kind as the head of a reply names it.
+// The value of `Content-Type`.
 fn kind_text(kind: Kind) -> &'static str
     ensures { result.now ≡ kind_text kind }
 {
@@ -37,7 +40,7 @@ fn kind_text(kind: Kind) -> &'static str
     }
 }
 
-// The phrase of a status.
+// The reason phrase of a status.
 fn phrase(status: u16) -> &'static str
     requires { IsStatusCode status }
     ensures { result.now ≡ unwrap_or (reason_phrase status) [] }
@@ -72,7 +75,6 @@ fn length_line(alloc: Global, n: usize) -> Result<String, AllocError>
     format!(in alloc; "Content-Length: {n}\r\n")
 }
 
-// The head of a reply.
 #[tactic(auto, unfolding(crate::specs::Reply::reply_head))]
 fn reply_head(
     alloc: Global,
@@ -95,7 +97,7 @@ fn reply_head(
     Ok(text)
 }
 
-// A reply, of which the body may be left out.
+// A reply, with or without its body. Its `Content-Length` is that of the body either way.
 fn reply_bytes(
     alloc: Global,
     status: u16,
@@ -115,7 +117,7 @@ fn reply_bytes(
     Ok(bytes)
 }
 
-// How a member shows who it is, where the club knows no such key.
+// The header line that names the authentication scheme, for an unknown key.
 fn key_lines(refusal: ClubRefusal) -> &'static str
     ensures { result.now ≡ key_lines refusal }
 {
@@ -125,7 +127,7 @@ fn key_lines(refusal: ClubRefusal) -> &'static str
     }
 }
 
-// What a refusal adds to the head.
+// The header lines that a refusal adds.
 fn further_lines(refusal: Refusal) -> &'static str
     ensures { result.now ≡ further_lines refusal }
 {
@@ -137,14 +139,18 @@ fn further_lines(refusal: Refusal) -> &'static str
     }
 }
 
-// A number and a name.
+// The JSON body of an error.
 fn error_value(alloc: Global, number: u64, name: &str) -> Result<Value, AllocError>
     ensures { IfOk result (λ v. view v ≡ error_data number name.now) }
 {
     json!(in alloc; {"error": number, "name": name})
 }
 
-/// A value as JSON.
+/// A JSON value as compact text.
+///
+/// # Errors
+///
+/// `AllocError` if out of memory.
 pub fn text_of(alloc: Global, value: &Value) -> Result<String, AllocError>
     requires { has_float (view value.now) ≡ false }
     ensures { IfOk result (λ s. string_bytes s ≡ compact_text (view value.now)) }
@@ -152,7 +158,6 @@ pub fn text_of(alloc: Global, value: &Value) -> Result<String, AllocError>
     value.to_string(alloc)
 }
 
-// A reply whose body is a value as JSON.
 fn json_reply(
     alloc: Global,
     status: u16,
@@ -176,7 +181,6 @@ fn json_reply(
     )
 }
 
-// A reply whose body is a number and a name.
 fn error_reply(
     alloc: Global,
     status: u16,
@@ -193,7 +197,11 @@ fn error_reply(
     json_reply(alloc, status, further, &value, without_body)
 }
 
-/// The reply of a refusal.
+/// The reply to a refused request.
+///
+/// # Errors
+///
+/// `AllocError` if out of memory.
 pub fn refusal_reply(
     alloc: Global,
     refusal: Refusal,
@@ -211,7 +219,11 @@ pub fn refusal_reply(
     )
 }
 
-/// A reply at 200 with these bytes, which are of this kind.
+/// A 200 reply with a body of a content type.
+///
+/// # Errors
+///
+/// `AllocError` if out of memory.
 pub fn shown_reply(
     alloc: Global,
     kind: Kind,
@@ -223,7 +235,6 @@ pub fn shown_reply(
     reply_bytes(alloc, 200, kind, "", body, without_body)
 }
 
-// What a browser lets a page do.
 fn policy_line(alloc: Global, policy: &str) -> Result<String, AllocError>
     ensures { IfOk result (λ s. string_bytes s ≡ policy_line policy.now) }
 {
@@ -243,7 +254,11 @@ fn page_text(alloc: Global) -> Result<String, AllocError>
     Ok(text)
 }
 
-/// The reply that is the members' page, with its policy.
+/// The members' page, with its content security policy.
+///
+/// # Errors
+///
+/// `AllocError` if out of memory.
 pub fn page_reply(alloc: Global, without_body: bool) -> Result<Vec<u8>, AllocError>
     ensures { IfOk result (λ v. v.items ≡ page_reply without_body) }
 {
@@ -259,7 +274,11 @@ pub fn page_reply(alloc: Global, without_body: bool) -> Result<Vec<u8>, AllocErr
     )
 }
 
-/// The reply of a fault of the store.
+/// The 503 reply for a fault of the club, with its error number and name.
+///
+/// # Errors
+///
+/// `AllocError` if out of memory.
 pub fn fault_reply(
     alloc: Global,
     number: u16,

@@ -4,7 +4,7 @@ ghost use Rattle.http_bodies.specs.Reply.{status_in};
 
 use http_head::number_of;
 
-/// The status that the first line of a reply names, behind the version. No bytes have none.
+/// The three-digit status in the status line of a reply; `None` if it has fewer than 12 bytes.
 pub fn status_of(reply: &[u8]) -> Option<u32>
     ensures { result ≡ status_in reply.now }
 {

@@ -1,4 +1,4 @@
--- A club that cannot be taken over: it knows no key and shows nothing.
+-- An unavailable club: it knows no key and shows nothing.
 use Rattle.std.specs.Prelude.{None}
 use Rattle.club_requests.specs.declared.refusals.Refusal.TheVariants.{UnknownKey}
 use Rattle.club_requests.specs.Outcome.{refused}

@@ -1,4 +1,4 @@
--- What the desk answers: by the club's state and by what the bytes amount to.
+-- The reply that the club's state and a request determine.
 use Rattle.std.specs.Prelude.{◌≡◌, ◌⊎◌, ℕ, Bool, ◌&&◌, List, [], Option, Some, None, Result, Ok, Err, option_map, codes}
 use Rattle.std.specs.Prelude.{if◌then◌else◌, is_some, ⊤}
 use Rattle.std.specs.Str.{bytes_eq, is_utf8}
@@ -28,7 +28,7 @@ use Rattle.http_desk.specs.Served.{Club, IsOfCall, Serves}
 use Rattle.http_desk.specs.declared.desk.AnswerFault.{AnswerFault}
 use Rattle.http_desk.specs.declared.desk.AnswerFault.TheVariants as stop
 
--- what a reply shows
+-- the content of a reply
 pub data Answer : Type 0 where
   refusal : Refusal → Answer
   shows : Kind → List ℕ → Answer
@@ -39,18 +39,18 @@ answer_reply (refusal r) without_body = refusal_reply r without_body
 answer_reply (shows kind bytes) without_body = shown_reply kind bytes without_body
 answer_reply shows_page without_body = page_reply without_body
 
--- what is to be answered: this, or what the club shows at a moment to one who asks
+-- the expected answer: this one, or the club's answer to a query of a member at a timestamp
 pub data Due : Type 0 where
   this : Answer → Due
   question_page : (moment : ℕ) → Asking → (key : List ℕ) → Due
 
--- ---- pages
+-- ---- queries
 
 abbrev pub question_answer : Kind → Result (List ℕ) of_club.Refusal → Answer
 question_answer kind (Ok bytes) = shows kind bytes
 question_answer kind (Err r) = refusal (OfClub r)
 
--- the answer is the one that is due in a state
+-- the answer is the expected one in a state
 abbrev pub IsDue : {S : Type 0} → Club S → S → Due → Answer → Type 0
 IsDue club s (this expected) given = given ≡ expected
 IsDue club s (question_page moment asking key) given = (about : Question × Kind) × Asks asking key about
@@ -72,7 +72,7 @@ command_given resign body = Some play.resign
 command_given claim_time body = Some play.claim_time
 command_given (declare ply) body = Some (play.declare ply)
 
--- accepted and repeated commands have the same answer
+-- a repeated command has the same answer as the accepted one
 abbrev pub outcome_answer : ℕ → Outcome (Unit {0}) → Answer
 outcome_answer id (accepted after reply) = shows Json (compact_text (reply_data id reply))
 outcome_answer id (repeated reply) = shows Json (compact_text (reply_data id reply))
@@ -81,19 +81,19 @@ outcome_answer id (declined r) = refusal (OfClub r)
 abbrev pub told_outcome : {S : Type 0} → ℕ → S × Outcome (Unit {0}) → S × Due
 told_outcome id told = (told.0, this (outcome_answer id told.1))
 
--- a command, if one is given
+-- the club executes the command, if there is one
 abbrev pub serve_command : {S : Type 0} → Club S → S → ℕ → List ℕ → ℕ → Option Command → S × Due
 serve_command club s moment key id None = (s, this (refusal BadBody))
 serve_command club s moment key id (Some command) =
     told_outcome id (club.step s (record { who = key_holder key; command = command; moment = moment }))
 
--- ---- the answer
+-- ---- endpoints
 
 abbrev pub is_method : List ℕ → Method → Bool
 is_method bytes Get = bytes_eq bytes (codes "GET")
 is_method bytes Post = bytes_eq bytes (codes "POST")
 
--- a page, for a member
+-- an endpoint, for a member
 abbrev pub serve_page : {S : Type 0} → Club S → S → ℕ → List ℕ → List ℕ → Asked → S × Due
 serve_page club s moment key body members_page = (s, this shows_page)
 serve_page club s moment key body (question asking) = (s, question_page moment asking key)
@@ -109,7 +109,7 @@ serve_known club s moment (Some key) body asked =
     if is_utf8 key && is_some (club.holder_of s key) then serve_page club s moment key body
     asked else (s, this (refusal (OfClub UnknownKey)))
 
--- what anybody is shown, or a page for the bearer of a key
+-- a public endpoint, or one for the holder of a key
 abbrev pub serve_caller : {S : Type 0} → Club S → S → ℕ → Option (List ℕ) → List ℕ → Asked → S × Due
 serve_caller club s moment key body asked =
     if is_for_all asked then (s, this shows_page) else serve_known club s moment key body asked
@@ -121,18 +121,18 @@ serve_asked club s moment request (Some asked) =
     then serve_caller club s moment request.key request.body asked
     else (s, this (refusal (WrongMethod (method_of asked))))
 
--- the state behind a whole request, and the answer that is due to it
+-- the next state and the expected answer, for a complete request
 unfoldable pub serve : {S : Type 0} → Club S → S → ℕ → Request → S × Due
 serve club s moment request = serve_asked club s moment request (asked_of request.target)
 
--- ---- who asks
+-- ---- the member who sends a request
 
--- the name of the member whose key is shown
+-- the name of the member who has the key
 abbrev pub known_caller : {S : Type 0} → Club S → S → Option (List ℕ) → Option (List ℕ)
 known_caller club s None = None
 known_caller club s (Some key) = if is_utf8 key then club.holder_of s key else None
 
--- nobody is asked who it is where something is shown to anybody
+-- a public endpoint identifies nobody
 abbrev pub caller_for : {S : Type 0} → Club S → S → Option (List ℕ) → Asked → Option (List ℕ)
 caller_for club s key asked = if is_for_all asked then None else known_caller club s key
 
@@ -141,52 +141,52 @@ asked_caller club s request None = None
 asked_caller club s request (Some asked) =
     if is_method request.method (method_of asked) then caller_for club s request.key asked else None
 
--- the name of the member who asks by a whole request, where it asks for what is shown to members
+-- the name of the member who sends a complete request, if its endpoint needs a key
 unfoldable pub caller : {S : Type 0} → Club S → S → Request → Option (List ℕ)
 caller club s request = asked_caller club s request (asked_of request.target)
 
--- the same of what bytes amount to
+-- the same for the result of parsing
 abbrev pub caller_behind : {S : Type 0} → Club S → S → Seen → Option (List ℕ)
 caller_behind club s unfinished = None
 caller_behind club s (refused r) = None
 caller_behind club s (whole request) = caller club s request
 
--- why an open club gives no answer
+-- the faults of an open club
 abbrev pub IsStop : AnswerFault → Type 0
 IsStop (stop.Club fault) = IsOfCall fault
 IsStop stop.Memory = ⊤
 
--- what a call leaves to which this is due
+-- the effect of a call with this next state and expected answer
 abbrev pub ServesDue : {S A : Type 0} → Club S → (S → Type 0) → (S → S → Type 0) → (A → Answer) → S → S × Due
     → Result A AnswerFault → Type 0
 ServesDue club stands leaves view s due result =
     Serves stands leaves s due.0 (λ a. IsDue club s due.1 (view a)) IsStop result
 
--- who is told to have asked: the one who is due, or at a fault that one or nobody
+-- the member that a call names: the expected one, or at a fault that one or nobody
 abbrev pub TellsCaller : {A : Type 0} → Option (List ℕ) → Option (List ℕ) → Result A AnswerFault → Type 0
 TellsCaller due told (Ok a) = told ≡ due
 TellsCaller due told (Err fault) = (told ≡ None) ⊎ (told ≡ due)
 
 -- ---- replies
 
--- the reply tells a fault of a call on the club, and one of two states is left
+-- the reply reports a fault of the club, and one of two states is left
 abbrev pub TellsFault : {S : Type 0} → (S → S → Type 0) → S → S → Bool → List ℕ → Type 0
 TellsFault leaves s next without_body reply =
     (fault : ClubFault) × IsOfCall fault
     × (reply ≡ fault_reply (club_fault_number fault) (club_fault_name fault) without_body) × leaves s next
 
--- who is told to have asked: nobody else than the one who did, and nobody at all only where the reply tells a fault
+-- nobody is named but the sender of the request; nobody at all only if the reply reports a fault
 abbrev pub NamesCaller : {S : Type 0} → Club S → S → Bool → Seen → List ℕ → Option (List ℕ) → Type 0
 NamesCaller club s without_body seen reply told = (told ≡ caller_behind club s seen)
     ⊎ ((told ≡ None) × (fault : ClubFault) × IsOfCall fault
     × (reply ≡ fault_reply (club_fault_number fault) (club_fault_name fault) without_body))
 
--- the reply shows the answer that is due, and the state behind it stands
+-- the reply has the expected answer, and the club is in the next state
 abbrev pub ShowsDue : {S : Type 0} → Club S → (S → Type 0) → S → S × Due → Bool → List ℕ → Type 0
 ShowsDue club stands s due without_body reply =
     ((given : Answer) × IsDue club s due.1 given × (reply ≡ answer_reply given without_body)) × stands due.0
 
--- the reply to what bytes amount to, and where the club stands behind it
+-- the reply to the result of parsing, and the state of the club after it
 abbrev pub IsReply : {S : Type 0} → Club S → (S → Type 0) → (S → S → Type 0) → S → ℕ → Bool → Seen → List ℕ → Type 0
 IsReply club stands leaves s moment without_body unfinished reply = (reply ≡ []) × stands s
 IsReply club stands leaves s moment without_body (refused r) reply = (reply ≡ refusal_reply (Head r) without_body)
@@ -195,27 +195,27 @@ IsReply club stands leaves s moment without_body (whole request) reply =
     ShowsDue club stands s (serve club s moment request) without_body reply
     ⊎ TellsFault leaves s (serve club s moment request).0 without_body reply
 
--- the state behind it
+-- the next state
 abbrev pub state_behind : {S : Type 0} → Club S → S → ℕ → Seen → S
 state_behind club s moment unfinished = s
 state_behind club s moment (refused r) = s
 state_behind club s moment (whole request) = (serve club s moment request).0
 
--- a call that replies, or has a fault of its own: then one of the two states is left
+-- a call replies, or fails by itself and leaves one of the two states
 abbrev pub RepliesTo : {S A F : Type 0} → Club S → (S → Type 0) → (S → S → Type 0) → (A → List ℕ) → S → ℕ → Bool → Seen
     → Result A F → Type 0
 RepliesTo club stands leaves view s moment without_body seen (Ok reply) =
     IsReply club stands leaves s moment without_body seen (view reply)
 RepliesTo club stands leaves view s moment without_body seen (Err fault) = leaves s (state_behind club s moment seen)
 
--- ---- a club that is shut
+-- ---- an unavailable club
 
--- the answer that does not come to the club, or the fault that it is shut by
+-- an answer that needs no club, or the club's fault
 abbrev pub shut_known : ClubFault → Option (List ℕ) → Result Answer ClubFault
 shut_known fault None = Ok (refusal (OfClub UnknownKey))
 shut_known fault (Some key) = if is_utf8 key then Err fault else Ok (refusal (OfClub UnknownKey))
 
--- the page is shown all the same
+-- the members' page needs no club
 abbrev pub shut_caller : ClubFault → Option (List ℕ) → Asked → Result Answer ClubFault
 shut_caller fault key asked = if is_for_all asked then Ok shows_page else shut_known fault key
 
@@ -232,25 +232,25 @@ abbrev pub shut_text : Result Answer ClubFault → Bool → List ℕ
 shut_text (Ok given) without_body = answer_reply given without_body
 shut_text (Err fault) without_body = fault_reply (club_fault_number fault) (club_fault_name fault) without_body
 
--- the reply to what bytes amount to: every request that comes to the club is told the fault
+-- the reply to the result of parsing: a request that needs the club gets the fault
 abbrev pub shut_reply : ClubFault → Bool → Seen → List ℕ
 shut_reply fault without_body unfinished = []
 shut_reply fault without_body (refused r) = refusal_reply (Head r) without_body
 shut_reply fault without_body (whole request) = shut_text (shut_serve fault request) without_body
 
--- the same of bytes
+-- the same for bytes
 abbrev pub IsShutReply : ClubFault → List ℕ → List ℕ → Type 0
 IsShutReply fault bytes reply = (seen : Seen) × Sees bytes seen × (reply ≡ shut_reply fault (asks_head bytes) seen)
 
 -- ---- bytes
 
--- a call that replies to bytes, or has a fault of its own
+-- a call replies to bytes, or fails by itself
 abbrev pub Answers : {S A F : Type 0} → Club S → (S → Type 0) → (S → S → Type 0) → (A → List ℕ) → S → ℕ → List ℕ
     → Result A F → Type 0
 Answers club stands leaves view s moment bytes result =
     (seen : Seen) × Sees bytes seen × RepliesTo club stands leaves view s moment (asks_head bytes) seen result
 
--- who is told to have asked by bytes, beside the reply to them
+-- the member that is named along with the reply to bytes
 abbrev pub NamesCallerOf : {S : Type 0} → Club S → S → List ℕ → List ℕ → Option (List ℕ) → Type 0
 NamesCallerOf club s bytes reply told =
     (seen : Seen) × Sees bytes seen × NamesCaller club s (asks_head bytes) seen reply told

@@ -1,4 +1,4 @@
--- What an answer of the code, and a command that it makes, stand for.
+-- The mathematical values of the code's answers and commands.
 use Rattle.std.specs.Prelude.{◌≡◌, Option, Result, Ok, Err, option_map}
 use Rattle.club_requests.specs.declared.requests.GameCommand as given
 use Rattle.club_core.specs.Answer.{game_command_of}
@@ -18,7 +18,7 @@ answer_view variants.Page = shows_page
 abbrev pub command_view : Option given.GameCommand → Option GameCommand
 command_view command = option_map game_command_of command
 
--- a call on a club that is shut: it answers or tells what is expected, unless memory was refused
+-- the result of a call on an unavailable club: the expected answer or fault, or out of memory
 abbrev pub IsShutBy : Result Answer ClubFault → Result code.DeskAnswer AnswerFault → Type 0
 IsShutBy expected (Ok shown) = expected ≡ Ok (answer_view shown)
 IsShutBy expected (Err (faults.Club fault)) = expected ≡ Err fault

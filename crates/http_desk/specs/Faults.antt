@@ -1,4 +1,4 @@
--- The numbers and names of the faults of a club.
+-- Numbers and names of the faults of a club.
 use Rattle.std.specs.Prelude.{ℕ, List, codes}
 use Rattle.http_desk.specs.declared.faults.ClubFault.{ClubFault}
 use Rattle.http_desk.specs.declared.faults.ClubFault.TheVariants.{Foreign, Schema, Damaged, Store, Reopen, Memory}

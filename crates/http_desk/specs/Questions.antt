@@ -1,4 +1,4 @@
--- What a path asks the club, where one shows a key.
+-- The query of a path and a key.
 use Rattle.std.specs.Prelude.{◌≡◌, ℕ, List, String, string_bytes}
 use Rattle.std.specs.declared.alloc.Global.{Global}
 use Rattle.club_questions.specs.declared.questions.Question.{Question}
@@ -13,24 +13,24 @@ use Rattle.http_desk.specs.declared.questions.OfMember.{OfMember}
 use Rattle.http_desk.specs.declared.questions.OfMember.TheVariants as of_members
 use Rattle.http_desk.specs.Routes.{Asking, of_game, of_event, of_member}
 
--- what is asked of the game of that number, and the kind of the bytes that are shown
+-- a query about a game, and the content type of its answer
 abbrev pub game_question : OfGame → ℕ → Question × Kind
 game_question View game = (asked.GameBody game, Json)
 game_question Moves game = (asked.MovesBody game, Json)
 game_question Record game = (asked.Record game, Plain)
 game_question Clock game = (asked.ClockOf game, Json)
 
--- what is asked of the event of that name
+-- a query about an event
 abbrev pub event_question : OfEvent → String Global → Question × Kind
 event_question of_events.Table event = (asked.CrossTable event, Plain)
 event_question of_events.Games event = (asked.EventGames event, Json)
 
--- what is asked by the member who has that key
+-- a query of the member who has the key
 abbrev pub member_question : OfMember → String Global → Question × Kind
 member_question of_members.Games key = (asked.Mine key, Json)
 member_question of_members.Events key = (asked.Inviting key, Json)
 
--- the question of a path by one who shows a key, over a text that has the bytes of the name or of the key
+-- the query of a path and a key; the text in it has the bytes of the event's name or of the key
 abbrev pub Asks : Asking → (key : List ℕ) → Question × Kind → Type 0
 Asks (of_game topic game) key about = about ≡ game_question topic game
 Asks (of_event topic event) key about = (name : String Global) × (string_bytes name ≡ event)

@@ -1,4 +1,4 @@
--- What the values of the code's routes stand for.
+-- The mathematical values of the code's endpoints.
 use Rattle.http_desk.specs.declared.routes.GameAction as given_action
 use Rattle.http_desk.specs.declared.routes.GameAction.TheVariants as turn
 use Rattle.http_desk.specs.declared.routes.Asked as given

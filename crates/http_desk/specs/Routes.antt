@@ -1,4 +1,4 @@
--- What a target asks for.
+-- Routing: the endpoint of a request target.
 use Rattle.std.specs.Prelude.{ℕ, Bool, ◌&&◌, ◌==◌, List, [], ◌∷◌, Option, Some, None, Result, Ok, Err, option_map}
 use Rattle.std.specs.Prelude.{codes, length, map, take, drop, nat_lt, if◌then◌else◌, true, false}
 use Rattle.std.specs.Str.{bytes_eq, is_utf8}
@@ -24,12 +24,12 @@ use Rattle.http_head.specs.Head.{number_of}
 abbrev pub slash : ℕ
 slash = 47
 
--- what stands before the first such byte
+-- the bytes before the first `b`
 abbrev pub before : ℕ → List ℕ → List ℕ
 before b [] = []
 before b (x ∷ bytes) = if x == b then [] else x ∷ before b bytes
 
--- what stands behind it
+-- the bytes after it
 abbrev pub behind : ℕ → List ℕ → List ℕ
 behind b [] = []
 behind b (x ∷ bytes) = if x == b then bytes else behind b bytes
@@ -37,7 +37,7 @@ behind b (x ∷ bytes) = if x == b then bytes else behind b bytes
 abbrev pub begins : List ℕ → List ℕ → Bool
 begins bytes front = bytes_eq (take (length front) bytes) front
 
--- the path behind an authority, neither of them empty
+-- the path after an authority; neither is empty
 abbrev pub path_behind : ℕ → List ℕ → Option (List ℕ)
 path_behind n bytes = if nat_lt 0 n && nat_lt n (length bytes) then Some (drop n bytes) else None
 
@@ -46,31 +46,31 @@ path_among bytes = if begins bytes (codes "/") then Some
     bytes else (if begins bytes (codes "http://") then path_behind (length (before slash (drop 7 bytes)))
     (drop 7 bytes) else None)
 
--- the path of a target: from `?` on nothing is looked at
+-- the path of a target, without its query
 abbrev pub path_of : List ℕ → Option (List ℕ)
 path_of target = path_among (before 63 target)
 
 -- ---- routes
 
--- the rows with one route more, as `matchit` reads it
+-- the routing table with one more route, as `matchit` parses it
 abbrev pub with_route : Result Scan InsertError → Page → RowsOf (RouteOf Page) → RowsOf (RouteOf Page)
 with_route (Ok scan) page rows = placed (scan.pattern, route_from scan page) rows
 with_route (Err e) page rows = rows
 
--- the rows with the routes of a list put in one after the other
+-- the routing table with the routes of a list inserted in order
 abbrev pub with_routes : List (List ℕ × Page) → RowsOf (RouteOf Page) → RowsOf (RouteOf Page)
 with_routes [] rows = rows
 with_routes ((route, page) ∷ more) rows = with_routes more (with_route (parse_route route) page rows)
 
--- the routes of the desk: those of its table
+-- the routing table of the server
 unfoldable pub routes : RowsOf (RouteOf Page)
 routes = with_routes (map (λ (route, page). (route.now, page)) TABLE) []
 
--- the page that `matchit` gives of a path
+-- the route that `matchit` finds for a path
 abbrev pub page_of : List ℕ → Option Page
 page_of path = option_map (λ route. route.value) (first routes path)
 
--- the parts of a path between its slashes, from the one behind the first: the second, the third and the fourth
+-- the second, third and fourth segment of a path
 abbrev pub second_part : List ℕ → List ℕ
 second_part path = before slash (behind slash (behind slash path))
 
@@ -80,7 +80,7 @@ third_part path = before slash (behind slash (behind slash (behind slash path)))
 abbrev pub fourth_part : List ℕ → List ℕ
 fourth_part path = before slash (behind slash (behind slash (behind slash (behind slash path))))
 
--- what a path asks of a game that changes it
+-- a command on a game
 pub data GameAction : Type 0 where
   make_move : (ply : ℕ) → GameAction
   offer_draw : (ply : ℕ) → GameAction
@@ -89,13 +89,13 @@ pub data GameAction : Type 0 where
   claim_time : GameAction
   declare : (ply : ℕ) → GameAction
 
--- what a path asks the club: of a game, of an event, or of the member who shows the key
+-- a query about a game, about an event, or of the member who has the key
 pub data Asking : Type 0 where
   of_game : OfGame → (game : ℕ) → Asking
   of_event : OfEvent → (event : List ℕ) → Asking
   of_member : OfMember → Asking
 
--- what a path asks for
+-- an endpoint: a route with its parameters
 pub data Asked : Type 0 where
   members_page : Asked
   question : Asking → Asked
@@ -151,7 +151,7 @@ asked_of_path (Some path) = if is_utf8 path then asked_of_page (page_of path) pa
 abbrev pub asked_of : List ℕ → Option Asked
 asked_of target = asked_of_path (path_of target)
 
--- the one method that serves it
+-- the one method of an endpoint
 abbrev pub method_of : Asked → Method
 method_of members_page = Get
 method_of (question asking) = Get
@@ -160,7 +160,7 @@ method_of (challenge number) = Post
 method_of (withdraw number) = Post
 method_of (answer member number) = Post
 
--- whether anybody is shown it, with or without a key
+-- the endpoint needs no key
 abbrev pub is_for_all : Asked → Bool
 is_for_all members_page = true
 is_for_all (question asking) = false

@@ -1,4 +1,4 @@
--- A club as the desk sees it, and what a call on it leaves.
+-- A club as the HTTP application sees it, and the effect of a call.
 use Rattle.std.specs.Prelude.{◌≡◌, ◌⊎◌, ℕ, List, Option, Result, Ok, Err}
 use Rattle.club_requests.specs.Outcome.{Outcome}
 use Rattle.club_requests.specs.declared.refusals.Refusal.{Refusal}
@@ -7,21 +7,21 @@ use Rattle.club_core.specs.State.{Request}
 use Rattle.http_desk.specs.declared.faults.ClubFault.{ClubFault}
 use Rattle.http_desk.specs.declared.faults.ClubFault.TheVariants.{Store, Memory}
 
--- what is asked of a club in a state: what it shows are relations, what it does are functions
+-- a club as an abstract machine: answers are relations, steps are functions
 pub record Club (S : Type 0) : Type 1 where
-  -- the name of the member who has the key, where there is one
+  -- the name of the member who has the key, if there is one
   pub holder_of : S → List ℕ → Option (List ℕ)
-  -- the bytes that a question is shown at a moment, or why there are none
+  -- the answer to a query at a timestamp, or the refusal
   pub IsShown : S → ℕ → Question → Result (List ℕ) Refusal → Type 0
-  -- the state after a request, and its answer
+  -- the next state and the outcome of a command
   pub step : S → Request → S × Outcome (Unit {0})
 
--- the fault of a call on an open club: a call of the database failed, or memory was refused
+-- the faults of a call on an open club: a database call failed, or out of memory
 abbrev pub IsOfCall : ClubFault → Type 0
 IsOfCall fault = (fault ≡ Store) ⊎ (fault ≡ Memory)
 
--- what a call leaves of a club in the state `s`: on Ok a right answer, and the club in the state `next`; on a fault,
--- which is one that may be told, one of the two states
+-- The effect of a call in the state `s`: on Ok a right answer and the state `next`; on Err a possible fault and one
+-- of the two states.
 abbrev pub Serves : {S A F : Type 0} → (S → Type 0) → (S → S → Type 0) → S → S → (A → Type 0) → (F → Type 0)
     → Result A F → Type 0
 Serves stands leaves s next is_right is_told (Ok a) = is_right a × stands next

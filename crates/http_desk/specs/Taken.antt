@@ -1,4 +1,4 @@
--- What the parameters of a route took from its path, and what a page asks for by them.
+-- Path parameters, and the endpoint that a route makes of them.
 use Rattle.std.specs.Prelude.{ℕ, List, Option, Some, option_map, option_and_then, codes}
 use Rattle.matchit.specs.Params.{walk, named}
 use Rattle.matchit.specs.declared.params.Params.{Params}
@@ -12,18 +12,18 @@ use Rattle.http_desk.specs.Routes.{make_move, offer_draw, accept_draw, resign, c
 use Rattle.http_desk.specs.Routes.{about_game, about_event, action_asked, ply_asked, answer_asked}
 use Rattle.http_head.specs.Head.{number_of}
 
--- the names of parameters, each with the part of the path that it took
+-- the names of parameters, each with its segment of the path
 abbrev pub Parts : Type 0
 Parts = List (List ℕ × List ℕ)
 
 abbrev pub parts_taken : Params → Parts
 parts_taken params = walk params.pattern.now params.text.now params.path.now params.names.now 0 0
 
--- the number that the part of this name is
+-- a parameter as a number
 abbrev pub number_named : List ℕ → Parts → Option ℕ
 number_named name parts = option_and_then number_of (named name parts)
 
--- what a page asks for by the parts that its route names
+-- the endpoint of a route and its parameters
 abbrev pub asked_by : Page → Parts → Option Asked
 asked_by Members parts = Some members_page
 asked_by (AskGame topic) parts = option_map (about_game topic) (number_named (codes "id") parts)

@@ -1,4 +1,4 @@
--- That every route of the desk is in its table, and is found.
+-- Every route is in the routing table, and is found.
 use Rattle.std.specs.Prelude.{◌≡◌, ℕ, List, Some, option_map, Ok, codes, length}
 use Rattle.matchit.specs.Order.{lookup}
 use Rattle.matchit.specs.Route.{Scan, parse_route}
@@ -12,13 +12,13 @@ use Rattle.http_desk.specs.declared.questions.OfEvent.TheVariants as of_events
 use Rattle.http_desk.specs.declared.questions.OfMember.TheVariants as of_members
 use Rattle.http_desk.specs.Routes.{page_of, routes}
 
--- the text of a route reads, and its pattern leads to the page
+-- the pattern parses, and leads to the route
 pub record LeadsTo (text : List ℕ) (page : Page) : Type 0 where
   pub scan : Scan
   pub reads : parse_route text ≡ Ok scan
   pub leads : option_map (λ route. route.value) (lookup scan.pattern routes) ≡ Some page
 
--- all routes of the table, and no more than these
+-- all routes of the table, and no others
 pub record AreThere : Type 0 where
   pub game : LeadsTo (codes "/games/{id}") (AskGame View)
   pub legal : LeadsTo (codes "/games/{id}/legal") (AskGame Moves)
@@ -40,7 +40,7 @@ pub record AreThere : Type 0 where
   pub play : LeadsTo (codes "/play") Members
   pub no_more : length routes ≡ 18
 
--- the page of a path of each kind
+-- an example path of each route
 pub record AreFound : Type 0 where
   pub game : page_of (codes "/games/7") ≡ Some (AskGame View)
   pub legal : page_of (codes "/games/7/legal") ≡ Some (AskGame Moves)

@@ -1,4 +1,4 @@
-//! A club that cannot be taken over.
+//! A club that is unavailable.
 
 use crate::faults::ClubFault;
 use crate::served::ServedClub;
@@ -7,9 +7,10 @@ use club_questions::Question;
 use club_requests::{Command, Outcome, Refusal, Who};
 use std::alloc::Global;
 
-/// A club whose file could not be taken over: it stands in no state, and answers every call with the reason.
+/// A club whose file could not be opened: it has no state, and answers every call with the fault.
 #[derive(Clone, Copy, Debug, PartialEq, Eq)]
 pub struct Closed {
+    /// The fault that every call returns.
     pub fault: ClubFault,
 }
 

@@ -1,4 +1,4 @@
-//! Commands of members, as paths and bodies give them.
+//! Commands of members: from a path and a body to the club, and its outcome to a reply.
 ghost use Rattle.std.specs.Prelude.{◌≡◌, IfOk, option_map};
 ghost use Rattle.serde_json.specs.Written.{compact_text};
 ghost use Rattle.club_core.specs.Answer.{command_of, game_command_of, outcome_of, reply_of, who_of};
@@ -17,7 +17,7 @@ use club_requests::{Answer, Command, GameCommand, OnGame, Outcome, Who, Withdraw
 use http_bodies::{Kind, Refusal, answer_text, move_text};
 use std::alloc::{AllocError, Global};
 
-// What a path and a body give to do in a game.
+// The command on a game that a path and a body give; `None` if the body is malformed.
 fn command_given(
     alloc: Global,
     turn: GameAction,
@@ -47,7 +47,7 @@ fn command_given(
     }
 }
 
-// The answer to a command that stands.
+// The JSON answer to an accepted command.
 fn answer_shown(alloc: Global, game: u32, answer: Answer) -> Result<DeskAnswer, AllocError>
     ensures { IfOk result (λ shown. answer_view shown ≡ shows Json (compact_text (reply_data game (reply_of answer)))) }
 {
@@ -55,7 +55,7 @@ fn answer_shown(alloc: Global, game: u32, answer: Answer) -> Result<DeskAnswer, 
     Ok(DeskAnswer::Shows(Kind::Json, text.into_bytes()))
 }
 
-// What a command is answered: the same whether it was accepted now or before.
+// The answer to a command; a repeated command has the same answer as the accepted one.
 fn outcome_shown(alloc: Global, game: u32, outcome: Outcome) -> Result<DeskAnswer, AllocError>
     ensures { IfOk result (λ shown. answer_view shown ≡ outcome_answer game (outcome_of outcome)) }
 {
@@ -66,7 +66,6 @@ fn outcome_shown(alloc: Global, game: u32, outcome: Outcome) -> Result<DeskAnswe
     }
 }
 
-// One who shows a key.
 fn key_holder(alloc: Global, key: &str) -> Result<Who, AllocError>
     ensures { IfOk result (λ who. who_of who ≡ key_holder key.now) }
 {
@@ -74,7 +73,6 @@ fn key_holder(alloc: Global, key: &str) -> Result<Who, AllocError>
     Ok(Who::Key(key))
 }
 
-// A command on the game of that number.
 fn on_game(game: u32, command: GameCommand) -> Command
     ensures { command_of result ≡ on_game game (game_command_of command) }
 {
@@ -84,7 +82,7 @@ fn on_game(game: u32, command: GameCommand) -> Command
     })
 }
 
-// The command on the game of that number that a path and a body give.
+// The command on game `game` that a path and a body give; `None` if the body is malformed.
 pub(crate) fn turn_given(
     alloc: Global,
     game: u32,
@@ -100,7 +98,7 @@ pub(crate) fn turn_given(
     }
 }
 
-// The withdrawal of the challenge of that number.
+// The command that withdraws a challenge.
 pub(crate) fn withdrawal(number: u32) -> Command
     ensures { command_of result ≡ withdraw_challenge number }
 {
@@ -109,7 +107,7 @@ pub(crate) fn withdrawal(number: u32) -> Command
     })
 }
 
-// A command, if one is given; a command on a game is on that of this number.
+// Executes a command, or refuses the body if there is none. `id` is the number of its game or challenge.
 pub(crate) fn serve_command<C: ServedClub>(
     alloc: Global,
     club: &mut C,

@@ -1,4 +1,4 @@
-//! The answer to a request.
+//! The reply to a request: route, method, key, then query or command.
 ghost use Rattle.std.specs.Prelude.{◌≡◌, None, IfOk, IfErr, option_map, option_and_then, string_bytes};
 ghost use Rattle.http_head.specs.Request.{whole};
 ghost use Rattle.http_head.specs.RequestViews.{request_view, seen_view};
@@ -26,28 +26,28 @@ use http_bodies::{
 use http_head::{Request, Seen, read_request};
 use std::alloc::{AllocError, Global};
 
-/// What a reply shows.
+/// The content of a reply.
 #[derive(Drop)]
 pub(crate) enum DeskAnswer {
     Refused(Refusal),
     Shows(Kind, Vec<u8>),
-    /// The page on which members play.
+    /// The members' page.
     Page,
 }
 
-// What is shown, and to whom: the name of the member whose key was shown, as soon as that is known.
+// An answer, and the name of the member whose key the request has, as soon as it is known.
 #[derive(Drop)]
 struct Served {
     shown: Result<DeskAnswer, AnswerFault>,
     caller: Option<String>,
 }
 
-/// What is replied, and to whom.
+/// A reply, and the member who sent the request.
 #[derive(Drop)]
 pub struct Replied {
     /// The bytes of the reply.
     pub reply: Vec<u8>,
-    /// The name of the member who asked, where a key was asked for and is a member's.
+    /// The name of the member, if the route needs a key and the key is a member's.
     pub caller: Option<String>,
 }
 
@@ -80,7 +80,7 @@ impl From<AllocError> for AnswerFault {
     }
 }
 
-// A page, for a member.
+// Executes a route for a member.
 fn serve_page<C: ServedClub>(
     alloc: Global,
     club: &mut C,
@@ -116,7 +116,6 @@ fn serve_page<C: ServedClub>(
     }
 }
 
-// Whether the bytes are the method.
 fn is_method(bytes: &[u8], method: Method) -> bool
     ensures { result ≡ is_method bytes.now method }
 {
@@ -126,7 +125,7 @@ fn is_method(bytes: &[u8], method: Method) -> bool
     }
 }
 
-// The bytes of a key as text.
+// The key as text, if it is UTF-8.
 fn key_text<'k>(key: Option<&'k [u8]>) -> Option<&'k str>
     ensures { option_map (λ t. t.now) result ≡ option_and_then text_of (option_map (λ k. k.now) key.entry) }
 {
@@ -136,7 +135,7 @@ fn key_text<'k>(key: Option<&'k [u8]>) -> Option<&'k str>
     }
 }
 
-// A page, for the bearer of a key.
+// Executes a route if the key is a member's; otherwise refuses it as `UnknownKey`.
 fn serve_known<C: ServedClub>(
     alloc: Global,
     club: &mut C,
@@ -179,7 +178,7 @@ fn serve_known<C: ServedClub>(
     }
 }
 
-// What anybody is shown, or a page for the bearer of a key.
+// Executes a route: a public one at once, another for the holder of the key.
 fn serve_caller<C: ServedClub>(
     alloc: Global,
     club: &mut C,
@@ -209,7 +208,7 @@ fn serve_caller<C: ServedClub>(
     }
 }
 
-// What a request asks for, by its method.
+// Executes a route if the method is its own.
 fn serve_asked<C: ServedClub>(
     alloc: Global,
     club: &mut C,
@@ -247,7 +246,7 @@ fn serve_asked<C: ServedClub>(
     }
 }
 
-// The answer to a whole request.
+// The answer to a complete request.
 #[tactic(auto, unfolding(crate::specs::Desk::serve, crate::specs::Desk::shut_serve, crate::specs::Desk::caller))]
 fn serve<C: ServedClub>(
     alloc: Global,
@@ -271,7 +270,6 @@ fn serve<C: ServedClub>(
     serve_asked(alloc, club, request, asked, moment)
 }
 
-// The reply that shows an answer.
 fn answer_reply(
     alloc: Global,
     answer: DeskAnswer,
@@ -286,7 +284,7 @@ fn answer_reply(
     }
 }
 
-// The reply to a whole request.
+// The reply to a complete request.
 fn reply_whole<C: ServedClub>(
     alloc: Global,
     routes: &Routes,
@@ -321,7 +319,7 @@ fn reply_whole<C: ServedClub>(
     }
 }
 
-// The reply to what bytes amount to.
+// The reply to the result of parsing.
 fn reply<C: ServedClub>(
     alloc: Global,
     routes: &Routes,
@@ -357,10 +355,20 @@ fn reply<C: ServedClub>(
     }
 }
 
-/// The reply to the bytes of a connection at a moment: that of the least beginning that is a whole request or refused,
-/// and no bytes where there is none yet; and the name of the member who asked, where the request asks for what is shown
-/// to members and its key is one's. A club that is shut by a fault tells it to every request that comes to it, and
-/// knows nobody.
+/// Parses and executes the request in the bytes of a connection at a timestamp, and returns the reply.
+///
+/// The reply is empty if the request is incomplete.
+///
+/// # Errors
+///
+/// `Memory` if out of memory; the command may or may not have taken effect.
+///
+/// # Guarantees
+///
+/// - `replies`: the reply is the one that the club's state and the request determine, or reports a fault of the club;
+///   the request is executed at most once.
+/// - `caller`: the member named is the holder of the key.
+/// - `shut`, `nobody`: a failed club answers with its fault and names nobody.
 pub fn answer<C: ServedClub>(
     alloc: Global,
     routes: &Routes,

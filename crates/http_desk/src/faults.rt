@@ -1,20 +1,20 @@
-//! Why a connection was not served, and why a club does not answer.
+//! Faults of a connection and of a club.
 ghost use Rattle.std.specs.Prelude.{◌≡◌};
 ghost use Rattle.http_desk.specs.Faults.{club_fault_number, club_fault_name};
 
 use std::alloc::AllocError;
 use thiserror::Error;
 
-/// Why a connection was not served.
+/// Why a connection got no complete reply.
 #[derive(Clone, Copy, Debug, PartialEq, Eq, Error)]
 pub enum DeskFault {
-    /// The allocator refused.
+    /// Out of memory.
     #[error("memory was refused")]
     Memory,
-    /// The peer's bytes could not be read.
+    /// The request could not be read.
     #[error("the request could not be read")]
     Read,
-    /// The reply could not be written, or a beginning of it was.
+    /// The reply could not be written; a prefix of it may have been.
     #[error("the reply could not be written")]
     Write,
 }
@@ -30,25 +30,25 @@ impl From<AllocError> for DeskFault {
     }
 }
 
-/// Why a club does not answer: its file could not be taken over, or a call on it failed.
+/// Why a club is unavailable: its file could not be opened, or a call failed.
 #[derive(Clone, Copy, Debug, PartialEq, Eq)]
 pub enum ClubFault {
-    /// The file is not a club's.
+    /// The file is not a club file.
     Foreign,
-    /// The file is of another schema.
+    /// The file has another schema version.
     Schema,
-    /// A table has rows that no club has.
+    /// A table has rows that no club can have.
     Damaged,
-    /// A call of the database failed.
+    /// A database call failed.
     Store,
-    /// An earlier call failed, and the file has to be opened again.
+    /// An earlier call failed, and the file must be reopened.
     Reopen,
-    /// The allocator refused the club.
+    /// Out of memory.
     Memory,
 }
 
 impl ClubFault {
-    /// The number of the fault: 70 to 75.
+    /// The error number in the reply: 70 to 75.
     pub fn number(self) -> u16
         ensures { result ≡ club_fault_number self }
     {
@@ -62,7 +62,7 @@ impl ClubFault {
         }
     }
 
-    /// The name of the fault.
+    /// The error name in the reply.
     pub fn name(self) -> &'static str
         ensures { result.now ≡ club_fault_name self }
     {

@@ -1,4 +1,4 @@
-//! What holds of all answers, and of all routes.
+//! Properties of all replies and all routes. Each is the contract of a function with an empty body.
 ghost use Rattle.std.specs.Prelude.{◌≡◌, ℕ, Ok, codes};
 ghost use Rattle.club_requests.specs.Outcome.{Reply, accepted, repeated};
 ghost use Rattle.http_head.specs.Request.{Request};
@@ -8,23 +8,23 @@ ghost use Rattle.http_desk.specs.There.{AreThere, AreFound};
 
 use crate::served::ServedClub;
 
-/// A command that was accepted before is answered as when it was accepted.
+/// A repeated command has the same answer as the accepted one (idempotence).
 pub fn repeats_are_answered_alike()
     ensures { (game : ℕ) (reply : Reply) →
         outcome_answer game (accepted tt reply) ≡ outcome_answer game (repeated reply) }
 {}
 
-/// Each route of the desk reads, and is in its table under its page; and there are no others.
+/// Every route parses and leads to its `Page`, and the table has no other routes.
 pub fn routes_are_there()
     ensures { AreThere }
 {}
 
-/// A path of each kind is found to be of its page.
+/// An example path of each route is matched to its `Page`.
 pub fn paths_are_found()
     ensures { AreFound }
 {}
 
-/// Anybody is shown the members' page, with any key or none, and also where the club is shut.
+/// GET `/play` shows the members' page with any key or none, also if the club is unavailable.
 pub fn the_page_is_for_all<C: ServedClub>()
     ensures stands { (s : C.State) (moment : ℕ) (request : Request) → request.method ≡ codes "GET" →
         request.target ≡ codes "/play" → serve C.club s moment request ≡ (s, this shows_page) }

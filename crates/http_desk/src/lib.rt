@@ -1,4 +1,6 @@
-//! The club over HTTP: what a request asks of it, and the reply that is due.
+//! The HTTP application: routes, authentication by key, and the reply that a request and the club's state determine.
+//!
+//! It knows nothing of sockets; `http_port` serves it.
 #![tactic(auto)]
 
 pub mod closed;

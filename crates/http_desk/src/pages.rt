@@ -1,4 +1,4 @@
-//! The pages that a club shows.
+//! Routes that query the club.
 ghost use Rattle.http_desk.specs.RouteViews.{asking_view};
 ghost use Rattle.http_desk.specs.Desk.{question_page, ServesDue};
 ghost use Rattle.http_desk.specs.DeskViews.{answer_view};
@@ -10,7 +10,7 @@ use clocks::Moment;
 use http_bodies::Refusal;
 use std::alloc::Global;
 
-// What the club shows to one who asks by a path.
+// Answers the query of a path.
 pub(crate) fn serve_question<C: ServedClub>(
     alloc: Global,
     club: &mut C,

@@ -1,4 +1,4 @@
-//! What members ask the club, each question by a path of its own.
+//! Queries of members: the question that a path asks, and the content type of the answer.
 ghost use Rattle.std.specs.Prelude.{◌≡◌, IfOk};
 ghost use Rattle.http_desk.specs.RouteViews.{asking_view};
 ghost use Rattle.http_desk.specs.Questions.{game_question, event_question, member_question, Asks};
@@ -7,44 +7,48 @@ use club_questions::Question;
 use http_bodies::Kind;
 use std::alloc::{AllocError, Global};
 
-/// What is asked of a game.
+/// A query about a game.
 #[derive(Clone, Copy, Debug, PartialEq, Eq)]
 pub enum OfGame {
-    /// The game as members see it.
+    /// The game as JSON.
     View,
+    /// Its legal moves as JSON.
     Moves,
+    /// Its record as plain text.
     Record,
+    /// Its clock as JSON.
     Clock,
 }
 
-/// What is asked of an event.
+/// A query about an event.
 #[derive(Clone, Copy, Debug, PartialEq, Eq)]
 pub enum OfEvent {
+    /// The cross table as plain text.
     Table,
+    /// The games of the event as JSON.
     Games,
 }
 
-/// What members ask of themselves.
+/// A query about the member who has the key.
 #[derive(Clone, Copy, Debug, PartialEq, Eq)]
 pub enum OfMember {
-    /// The games that one plays, and one's challenges.
+    /// The member's games and challenges as JSON.
     Games,
-    /// The events, and whom one may challenge in them.
+    /// The events, and the members to challenge in each, as JSON.
     Events,
 }
 
-/// What a path asks the club.
+/// The query that a path names.
 #[derive(Clone, Copy)]
 pub enum Asking<'p> {
-    /// The game of that number.
+    /// About the game with this number.
     OfGame(OfGame, u32),
-    /// The event of that name.
+    /// About the event with this name.
     OfEvent(OfEvent, &'p str),
-    /// The member who shows the key.
+    /// About the member who has the key.
     OfMember(OfMember),
 }
 
-// What is asked of the game of that number, and of which kind the bytes are that are shown.
 fn game_question(topic: OfGame, game: u64) -> (Question, Kind)
     ensures { result ≡ game_question topic game }
 {
@@ -56,7 +60,6 @@ fn game_question(topic: OfGame, game: u64) -> (Question, Kind)
     }
 }
 
-// What is asked of the event of that name.
 fn event_question(topic: OfEvent, event: String) -> (Question, Kind)
     ensures { result ≡ event_question topic event }
 {
@@ -66,7 +69,6 @@ fn event_question(topic: OfEvent, event: String) -> (Question, Kind)
     }
 }
 
-// What is asked by the member who has that key.
 fn member_question(topic: OfMember, key: String) -> (Question, Kind)
     ensures { result ≡ member_question topic key }
 {
@@ -76,7 +78,7 @@ fn member_question(topic: OfMember, key: String) -> (Question, Kind)
     }
 }
 
-// What one who shows a key asks by a path.
+// The question of a path and a key, and the content type of its answer.
 pub(crate) fn question_of(
     alloc: Global,
     asking: Asking<'_>,

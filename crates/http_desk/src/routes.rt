@@ -1,4 +1,4 @@
-//! What a target asks for.
+//! The router: from a request target to an endpoint and its parameters.
 ghost use Rattle.std.specs.Prelude.{◌≡◌, [], IfOk, Ok, codes, length, map, option_map};
 ghost use Rattle.matchit.specs.Params.{AllText, named};
 ghost use Rattle.http_desk.specs.Routes.{before, begins, path_behind, path_of, with_routes};
@@ -15,51 +15,73 @@ use matchit::{InsertError, Params, Router};
 use std::alloc::Global;
 use std::marker::Model;
 
-/// The pages of the desk, each with a path of its own.
+/// A route, without its parameters.
 #[derive(Clone, Copy, Debug, PartialEq, Eq)]
 pub enum Page {
+    /// The members' page.
     Members,
+    /// A query about a game.
     AskGame(OfGame),
+    /// A query about an event.
     AskEvent(OfEvent),
+    /// A query about the member who has the key.
     AskMember(OfMember),
+    /// A move.
     MakeMove,
+    /// An offer of a draw.
     OfferDraw,
+    /// The acceptance of a draw.
     AcceptDraw,
+    /// A resignation.
     Resign,
+    /// A claim that the opponent is out of time.
     ClaimTime,
+    /// A declaration.
     Declare,
+    /// A new challenge.
     Challenge,
+    /// The withdrawal of a challenge.
     Withdraw,
+    /// An answer to a challenge.
     Answer,
 }
 
-/// What a path asks of a game that changes it. Plies count from 1.
+/// A command on a game, by its path. The number is the ply, from 1.
 #[derive(Clone, Copy, Debug, PartialEq, Eq)]
 pub enum GameAction {
+    /// A move; the body has its text.
     MakeMove(u32),
+    /// An offer of a draw.
     OfferDraw(u32),
+    /// The acceptance of a draw.
     AcceptDraw(u32),
+    /// A resignation.
     Resign,
+    /// A claim that the opponent is out of time.
     ClaimTime,
+    /// A declaration.
     Declare(u32),
 }
 
-/// What a path asks for.
+/// An endpoint: a route with its parameters.
 #[derive(Clone, Copy)]
 pub enum Asked<'p> {
-    /// The page on which members play.
+    /// The members' page.
     MembersPage,
+    /// A query.
     Question(Asking<'p>),
-    /// The game of that number.
+    /// A command on the game with this number.
     OnGame(u32, GameAction),
+    /// A new challenge with this number.
     Challenge(u32),
+    /// The withdrawal of the challenge with this number.
     Withdraw(u32),
-    /// The member who challenged, and the number of the challenge.
+    /// An answer to a challenge: the challenger and the challenge's number.
     Answer(&'p str, u32),
 }
 
 impl<'p> Asked<'p> {
-    /// The one method that serves it.
+    /// The one method of the endpoint.
     pub fn method(self) -> Method
         ensures { result ≡ method_of (asked_view self.entry) }
     {
@@ -73,7 +95,7 @@ impl<'p> Asked<'p> {
         }
     }
 
-    /// Whether it is the members' page, which anybody is shown.
+    /// Whether the endpoint needs no key; only the members' page is so.
     pub fn is_for_all(self) -> bool
         ensures { result ≡ is_for_all (asked_view self.entry) }
     {
@@ -88,7 +110,7 @@ impl<'p> Asked<'p> {
     }
 }
 
-// What stands before the first such byte.
+// The bytes before the first `byte`; all of them if there is none.
 fn front(bytes: &[u8], byte: u8) -> &[u8]
     ensures { result.now ≡ before byte bytes.now }
 {
@@ -98,7 +120,7 @@ fn front(bytes: &[u8], byte: u8) -> &[u8]
     }
 }
 
-/// Whether bytes begin with others.
+/// Whether `bytes` starts with `front`.
 pub fn begins(bytes: &[u8], front: &[u8]) -> bool
     ensures { result ≡ begins bytes.now front.now }
 {
@@ -106,7 +128,7 @@ pub fn begins(bytes: &[u8], front: &[u8]) -> bool
     &bytes[..length] == front
 }
 
-// The path behind an authority.
+// The path after a non-empty authority.
 fn path_behind(bytes: &[u8]) -> Option<&[u8]>
     ensures { option_map (λ p. p.now) result ≡ path_behind (length (before 47 bytes.now)) bytes.now }
 {
@@ -120,7 +142,7 @@ fn path_behind(bytes: &[u8]) -> Option<&[u8]>
     Some(&bytes[n..])
 }
 
-/// The path of a target.
+/// The path of a request target in origin form or absolute form (`http`), without its query (RFC 9112, section 3.2).
 pub fn path_of(target: &[u8]) -> Option<&[u8]>
     ensures { option_map (λ p. p.now) result ≡ path_of target.now }
 {
@@ -134,7 +156,7 @@ pub fn path_of(target: &[u8]) -> Option<&[u8]>
     None
 }
 
-// The routes of the desk, each with its page.
+// The route table.
 const TABLE: [(&str, Page); 18] = [
     ("/games/{id}", Page::AskGame(OfGame::View)),
     ("/games/{id}/legal", Page::AskGame(OfGame::Moves)),
@@ -156,7 +178,6 @@ const TABLE: [(&str, Page); 18] = [
     ("/play", Page::Members),
 ];
 
-// A router with these routes.
 fn router_of(alloc: Global, routes: &[(&str, Page)]) -> Result<Router<Page>, InsertError>
     ensures { IfOk result (λ router. router ≡ with_routes (map (λ (route, page). (route.now, page)) routes.now) []) }
 {
@@ -167,7 +188,7 @@ fn router_of(alloc: Global, routes: &[(&str, Page)]) -> Result<Router<Page>, Ins
     Ok(router)
 }
 
-/// The routes of the desk, made once.
+/// The router, built once.
 #[derive(Drop)]
 pub struct Routes {
     router: Router<Page>,
@@ -188,13 +209,17 @@ impl Model for Routes {
 }
 
 impl Routes {
-    /// The routes.
+    /// Builds the router.
+    ///
+    /// # Errors
+    ///
+    /// `InsertError` if out of memory.
     pub fn new(alloc: Global) -> Result<Routes, InsertError> {
         let router = router_of(alloc, &TABLE)?;
         Ok(Routes { router })
     }
 
-    /// What a target asks for.
+    /// The endpoint of a request target, if a route matches.
     pub fn asked_of<'t>(&self, target: &'t [u8]) -> Option<Asked<'t>>
         ensures { option_map asked_view result ≡ asked_of target.now }
     {
@@ -211,7 +236,7 @@ impl Routes {
     }
 }
 
-/// The bytes as text.
+/// The bytes as text, if they are UTF-8.
 pub fn text_of(bytes: &[u8]) -> Option<&str>
     ensures { option_map (λ t. t.now) result ≡ text_of bytes.now }
 {
@@ -221,7 +246,7 @@ pub fn text_of(bytes: &[u8]) -> Option<&str>
     }
 }
 
-// The part of that name as a number.
+// A path parameter as a number.
 fn number_named(params: &Params<'_, '_>, name: &str) -> Option<u32>
     requires { AllText (parts_taken params.now) }
     ensures { result ≡ number_named name.now (parts_taken params.now) }
@@ -232,7 +257,7 @@ fn number_named(params: &Params<'_, '_>, name: &str) -> Option<u32>
     }
 }
 
-// What is asked of the game that a path names.
+// A command on a game without a ply.
 fn action_asked<'p>(turn: GameAction, params: &Params<'_, 'p>) -> Option<Asked<'p>>
     requires { AllText (parts_taken params.now) }
     ensures { option_map asked_view result ≡
@@ -244,7 +269,6 @@ fn action_asked<'p>(turn: GameAction, params: &Params<'_, 'p>) -> Option<Asked<'
     }
 }
 
-// What is asked at the ply that a path names.
 fn move_asked<'p>(params: &Params<'_, 'p>) -> Option<Asked<'p>>
     requires { AllText (parts_taken params.now) }
     ensures { option_map asked_view result ≡ ply_asked make_move (number_named (codes "id") (parts_taken params.now))
@@ -301,7 +325,6 @@ fn declare_asked<'p>(params: &Params<'_, 'p>) -> Option<Asked<'p>>
     }
 }
 
-// Which challenge a path answers.
 fn answer_asked<'p>(params: &Params<'_, 'p>) -> Option<Asked<'p>>
     requires { AllText (parts_taken params.now) }
     ensures { option_map asked_view result ≡ answer_asked (named (codes "member") (parts_taken params.now))
@@ -316,7 +339,6 @@ fn answer_asked<'p>(params: &Params<'_, 'p>) -> Option<Asked<'p>>
     }
 }
 
-// What is asked of the game whose number a path names.
 fn game_asked<'p>(topic: OfGame, params: &Params<'_, 'p>) -> Option<Asked<'p>>
     requires { AllText (parts_taken params.now) }
     ensures { option_map asked_view result ≡
@@ -328,7 +350,6 @@ fn game_asked<'p>(topic: OfGame, params: &Params<'_, 'p>) -> Option<Asked<'p>>
     }
 }
 
-// What is asked of the event that a path names.
 fn event_asked<'p>(topic: OfEvent, params: &Params<'_, 'p>) -> Option<Asked<'p>>
     requires { AllText (parts_taken params.now) }
     ensures { option_map asked_view result ≡
@@ -340,7 +361,7 @@ fn event_asked<'p>(topic: OfEvent, params: &Params<'_, 'p>) -> Option<Asked<'p>>
     }
 }
 
-// What a page asks for by the parts of its path.
+// The endpoint of a route and its parameters; `None` if a number is malformed.
 fn asked_of_page<'p>(page: Page, params: &Params<'_, 'p>) -> Option<Asked<'p>>
     requires { AllText (parts_taken params.now) }
     ensures { option_map asked_view result ≡ asked_by page (parts_taken params.now) }

@@ -1,4 +1,4 @@
-//! What the desk asks of a club.
+//! The interface between the HTTP application and a club.
 ghost use Rattle.std.specs.Prelude.{◌≡◌, Err, option_map, string_bytes};
 ghost use Rattle.club_core.specs.Answer.{command_of, outcome_of, who_of};
 ghost use Rattle.http_bodies.specs.ShownViews.{shown_view};
@@ -10,9 +10,10 @@ use club_questions::Question;
 use club_requests::{Command, Outcome, Refusal, Who};
 use std::alloc::Global;
 
-/// A club that stands in a state. A call that fails leaves the state before it or the one after it, and tells that a
-/// call of the database failed or that memory was refused. A club that is shut by a fault, whichever it is, answers
-/// every call with it; one that was not taken over is shut, and stands in no state.
+/// A club that can be served.
+///
+/// A call that fails leaves the state before it or the one after it; its fault is `Store` or `Memory`. A failed club
+/// answers every call with its fault, whichever that is. A club that could not be opened has no state.
 pub trait ServedClub {
     ghost use Rattle.http_desk.specs.declared.faults.ClubFault.{ClubFault};
 
@@ -29,6 +30,16 @@ pub trait ServedClub {
     ghost IsShut: { Self → ClubFault → Type 0 };
 
     /// The name of the member who has the key, if there is one.
+    ///
+    /// # Errors
+    ///
+    /// - `Store` if a database call fails.
+    /// - `Memory` if out of memory.
+    /// - The fault of a failed club.
+    ///
+    /// # Guarantees
+    ///
+    /// `serves`: the state is unchanged, and the name is the one in that state.
     fn holder_of(&mut self, alloc: Global, key: &str) -> Result<Option<String>, ClubFault>
         ensures clean { IsClean self.new → IsClean self.old }
         ensures shut { (fault : ClubFault) → IsShut self.old fault →
@@ -37,7 +48,15 @@ pub trait ServedClub {
             Serves (Stands self.new) (Leaves self.new) s s
             (λ name. option_map string_bytes name ≡ club.holder_of s key.now) IsOfCall result };
 
-    /// The bytes that a question is shown at a moment, or why there are none.
+    /// The answer to a query at a timestamp, or the refusal.
+    ///
+    /// # Errors
+    ///
+    /// As for `holder_of`.
+    ///
+    /// # Guarantees
+    ///
+    /// `serves`: the state is unchanged, and the answer is the one in that state.
     fn ask(
         &mut self,
         alloc: Global,
@@ -51,7 +70,15 @@ pub trait ServedClub {
             Serves (Stands self.new) (Leaves self.new) s s
             (λ shown. club.IsShown s moment question.now (shown_view shown)) IsOfCall result };
 
-    /// Gives the club a command.
+    /// Executes a command.
+    ///
+    /// # Errors
+    ///
+    /// As for `holder_of`.
+    ///
+    /// # Guarantees
+    ///
+    /// `serves`: the state and the outcome are those of one step of the club; at a fault the step was made or not.
     fn apply(
         &mut self,
         alloc: Global,
@@ -69,7 +96,8 @@ pub trait ServedClub {
             (club.step s (record { who = who_of who.now; command = command_of command.now; moment = moment })).1)
             IsOfCall result };
 
-    /// What stands is what is left, whichever the other state is.
+    /// A present state is a possible result of a failed call, as the state before it (`stays`) and after it
+    /// (`settled`).
     ghost stays: { (b : Self) (s t : State) → Stands b s → Leaves b s t };
 
     ghost settled: { (b : Self) (s t : State) → Stands b t → Leaves b s t };

@@ -1,4 +1,4 @@
--- Where the head of a request ends.
+-- The end of a request's head.
 use Rattle.std.specs.Prelude.{ℕ, ◌+◌, Bool, true, false, ◌&&◌, List, [], ◌∷◌, Option, Some, None, take, ◌==◌, nat_lt}
 use Rattle.std.specs.Prelude.{if◌then◌else◌}
 use Rattle.http_head.specs.declared.framing.Line.{Line}
@@ -12,31 +12,31 @@ line_feed = 10
 abbrev pub carriage_return : ℕ
 carriage_return = 13
 
--- the line with one byte more, which does not end it
+-- the line with one more byte that does not end it
 abbrev pub longer : Line → ℕ → Line
 longer Fresh b = if b == carriage_return then Returned else Filled
 longer Returned b = Filled
 longer Filled b = Filled
 
--- an LF or CR LF alone is an empty line
+-- LF or CR LF alone is an empty line
 abbrev pub is_empty : Line → Bool
 is_empty Fresh = true
 is_empty Returned = true
 is_empty Filled = false
 
--- nothing of the bytes has been looked at
+-- before the first byte
 abbrev pub scan_start : Scan
 scan_start = record { at = 0; lines = 0; line = Fresh }
 
--- the byte ends an empty line, and one that is not empty stands before it
+-- the byte ends an empty line, and a line that is not empty precedes it
 abbrev pub ends_head : Scan → ℕ → Bool
 ends_head s b = b == line_feed && is_empty s.line && nat_lt 0 s.lines
 
--- how many lines that are not empty have ended, when this line ends too
+-- the number of lines that are not empty, this one included
 abbrev pub lines_with : ℕ → Line → ℕ
 lines_with lines line = if is_empty line then lines else lines + 1
 
--- the scan after one byte more
+-- the scan after one more byte
 abbrev pub after : Scan → ℕ → Scan
 after s b = record {
   at = s.at + 1;
@@ -44,19 +44,19 @@ after s b = record {
   line = if b == line_feed then Fresh else longer s.line b;
 }
 
--- where the head ends, and how many of its lines are not empty
+-- the length of the head, and the number of its lines that are not empty
 abbrev pub end_from : Scan → List ℕ → Option (ℕ × ℕ)
 end_from s [] = None
 end_from s (b ∷ bytes) = if ends_head s b then Some (s.at + 1, s.lines) else end_from (after s b) bytes
 
--- the most bytes that a head has
+-- the most bytes of a head
 abbrev pub head_limit : ℕ
 head_limit = 16384
 
--- the fewest bytes that are refused as no head ends in them
+-- the least number of bytes without an end of the head that is refused
 abbrev pub past_limit : ℕ
 past_limit = 16385
 
--- the length of the head and the number of its lines that are not empty, where it ends within the limit
+-- the length of the head and the number of its lines that are not empty, if it ends within the limit
 unfoldable pub head_end : List ℕ → Option (ℕ × ℕ)
 head_end bytes = end_from scan_start (take head_limit bytes)

@@ -1,4 +1,4 @@
--- What the head of a request says, and which of the refusals it decides.
+-- The head of a request, and the refusals that it decides.
 use Rattle.std.specs.Prelude.{◌≡◌, ℕ, Bool, true, false, ◌&&◌, List, [], ◌∷◌, Option, Some, None, Result, Ok, Err}
 use Rattle.std.specs.Prelude.{codes, length, map, ◌==◌, nat_lt, if◌then◌else◌}
 use Rattle.std.specs.List.{list_all}
@@ -13,20 +13,20 @@ use Rattle.http_head.specs.declared.refusals.HeadRefusal.TheVariants.{NoLength, 
 
 -- ---- fields
 
--- names are the same whichever case their letters have
+-- field names are equal if they differ in ASCII case alone
 abbrev pub is_name : List ℕ → List ℕ → Bool
 is_name a b = bytes_eq (map to_ascii_lowercase a) (map to_ascii_lowercase b)
 
--- a field is its name and its value
+-- header fields: name and value
 abbrev pub Fields : Type 0
 Fields = List (List ℕ × List ℕ)
 
--- the values of the fields of a name
+-- the values of the fields with a name
 abbrev pub values : List ℕ → Fields → List (List ℕ)
 values name [] = []
 values name (field ∷ fields) = if is_name name field.0 then field.1 ∷ values name fields else values name fields
 
--- how often a field stands
+-- the occurrences of a field
 pub data Occurrence : Type 0 where
   absent : Occurrence
   once : List ℕ → Occurrence
@@ -52,11 +52,11 @@ number_of text = if is_number text then Some (digits_value 10 text) else None
 
 -- ---- the head
 
--- the fields of a head as `httparse` reads them, without the blanks around a value
+-- the fields of a head as `httparse` reads them; values are trimmed
 abbrev pub fields_of : RequestHead → Fields
 fields_of h = map name_and_value h.fields
 
--- what the desk takes from a head
+-- the parts of a head that the server uses
 pub record Outline : Type 0 where
   pub method : List ℕ
   pub target : List ℕ
@@ -67,13 +67,13 @@ abbrev pub named_number : Option ℕ → Result (Option ℕ) HeadRefusal
 named_number None = Err BadHead
 named_number (Some n) = Ok (Some n)
 
--- the length that Content-Length names, if there is one: nothing where it names none well
+-- the value of Content-Length, if present; a malformed or repeated one is refused
 abbrev pub named_length : Occurrence → Result (Option ℕ) HeadRefusal
 named_length absent = Ok None
 named_length (once value) = named_number (number_of value)
 named_length twice = Err BadHead
 
--- Host stands once, or not at all in HTTP/1.0
+-- Host occurs once, or is absent in HTTP/1.0
 abbrev pub has_good_host : ℕ → Occurrence → Bool
 has_good_host minor absent = minor == 0
 has_good_host minor (once value) = true
@@ -84,20 +84,21 @@ is_absent absent = true
 is_absent (once value) = false
 is_absent twice = false
 
--- the one value of a field that stands once
+-- the value of a field that occurs once
 abbrev pub only : Occurrence → Option (List ℕ)
 only absent = None
 only (once value) = Some value
 only twice = None
 
--- the most bytes that a body has, and the most lines of a head that are not empty
+-- the most bytes of a body
 abbrev pub body_limit : ℕ
 body_limit = 65536
 
+-- the most lines of a head that are not empty
 abbrev pub line_limit : ℕ
 line_limit = 65
 
--- the length of the body: a request without one has none, but a POST must name it
+-- the length of the body: a POST must name it, another request without one has no body
 abbrev pub body_length : List ℕ → Option ℕ → Result ℕ HeadRefusal
 body_length method None = if bytes_eq method (codes "POST") then Err NoLength else Ok 0
 body_length method (Some n) = if nat_lt body_limit n then Err TooLong else Ok n
@@ -108,7 +109,7 @@ outline_with method target fields (Err refusal) = Err refusal
 outline_with method target fields (Ok n) =
     Ok (record { method = method; target = target; key = only (stands (codes "Member-Key") fields); length = n })
 
--- the refusals behind that of Content-Length, in their order
+-- the refusals after that of Content-Length, in their order
 abbrev pub outline_behind : List ℕ → List ℕ → ℕ → Fields → Result (Option ℕ) HeadRefusal → Result Outline HeadRefusal
 outline_behind method target minor fields (Err refusal) = Err refusal
 outline_behind method target minor fields (Ok named) =
@@ -121,22 +122,22 @@ abbrev pub outline_from : List ℕ → List ℕ → ℕ → Fields → Result Ou
 outline_from method target minor fields =
     outline_behind method target minor fields (named_length (stands (codes "Content-Length") fields))
 
--- what a head gives, or the first refusal that it decides
+-- the parts of a head, or the first refusal that applies
 abbrev pub outline_of : ℕ → Option RequestHead → Result Outline HeadRefusal
 outline_of lines None = if nat_lt line_limit lines then Err HeadTooLong else Err BadHead
 outline_of lines (Some h) = if nat_lt line_limit lines then Err HeadTooLong else outline_from h.method h.target h.minor
     (fields_of h)
 
--- the bytes are this head as `httparse` reads it, all of them, or they are none
+-- `httparse` reads all the bytes as this head, or reads no head
 abbrev pub IsHead : List ℕ → Option RequestHead → Type 0
 IsHead bytes None = (h : RequestHead) → ReadsRequest bytes h [] → ⊥
 IsHead bytes (Some h) = ReadsRequest bytes h []
 
--- a head of too many lines is not read
+-- a head with too many lines is not parsed
 abbrev pub IsReadIf : Bool → List ℕ → Option RequestHead → Type 0
 IsReadIf true bytes read = read ≡ None
 IsReadIf false bytes read = IsHead bytes read
 
--- what a head of so many lines is read as
+-- the head that is read from bytes with so many lines
 abbrev pub IsReadAs : ℕ → List ℕ → Option RequestHead → Type 0
 IsReadAs lines bytes read = IsReadIf (nat_lt line_limit lines) bytes read

@@ -1,4 +1,4 @@
--- What the values of the code stand for.
+-- The mathematical values of the code's types.
 use Rattle.std.specs.Prelude.{ℕ, List, [], ◌∷◌, Result, Ok, Err, option_map}
 use Rattle.http_head.specs.declared.head.Given.{Given}
 use Rattle.http_head.specs.declared.head.Given.TheVariants.{Absent, Once, Twice}

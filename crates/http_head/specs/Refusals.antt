@@ -1,4 +1,4 @@
--- The numbers, names and statuses of what is refused by a head.
+-- Numbers, names and HTTP statuses of the refusals of a head.
 use Rattle.std.specs.Prelude.{ℕ, List, codes}
 use Rattle.http_head.specs.declared.refusals.HeadRefusal.{HeadRefusal}
 use Rattle.http_head.specs.declared.refusals.HeadRefusal.TheVariants.{HeadTooLong, BadHead, BadHost, NotImplemented}

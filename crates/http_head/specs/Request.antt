@@ -1,4 +1,4 @@
--- What the bytes of a connection amount to, so far as they have come.
+-- The result of parsing a prefix of a request.
 use Rattle.std.specs.Prelude.{◌≡◌, ℕ, Bool, ◌||◌, ◌==◌, codes, List, [], ◌∷◌, Option, Some, None, Result, Ok, Err}
 use Rattle.std.specs.Prelude.{length, take, drop, nat_lt, if◌then◌else◌}
 use Rattle.std.specs.Str.{bytes_eq}
@@ -8,20 +8,20 @@ use Rattle.http_head.specs.declared.refusals.HeadRefusal.TheVariants.{HeadTooLon
 use Rattle.http_head.specs.Framing.{head_end, head_limit, past_limit}
 use Rattle.http_head.specs.Head.{Outline, outline_of, IsReadAs}
 
--- a whole request
+-- a complete request
 pub record Request : Type 0 where
   pub method : List ℕ
   pub target : List ℕ
   pub key : Option (List ℕ)
   pub body : List ℕ
 
--- neither whole nor refused, refused by its framing, or whole
+-- incomplete, refused by its head, or complete
 pub data Seen : Type 0 where
   unfinished : Seen
   refused : HeadRefusal → Seen
   whole : Request → Seen
 
--- the body is what stands behind the head, as long as the head says
+-- the body is as many of the bytes after the head as the head says
 abbrev pub body_seen : List ℕ → Result Outline HeadRefusal → Seen
 body_seen behind (Err refusal) = refused refusal
 body_seen behind (Ok o) = if nat_lt (length behind) o.length then unfinished else whole
@@ -31,18 +31,18 @@ abbrev pub seen_after : List ℕ → Option (ℕ × ℕ) → Option RequestHead 
 seen_after bytes None read = if nat_lt head_limit (length bytes) then refused HeadTooLong else unfinished
 seen_after bytes (Some end) read = body_seen (drop end.0 bytes) (outline_of end.1 read)
 
--- what the head is read as, where one ends
+-- the parsed head, if the head is complete
 abbrev pub IsHeadRead : List ℕ → Option (ℕ × ℕ) → Option RequestHead → Type 0
 IsHeadRead bytes None read = read ≡ None
 IsHeadRead bytes (Some end) read = IsReadAs end.1 (take end.0 bytes) read
 
--- the bytes amount to this
+-- the bytes are parsed to this result
 pub record Sees (bytes : List ℕ) (seen : Seen) : Type 0 where
   pub read : Option RequestHead
   pub is_read : IsHeadRead bytes (head_end bytes) read
   pub is_seen : seen ≡ seen_after bytes (head_end bytes) read
 
--- the bytes behind the CR and LF at the front
+-- the bytes without CR and LF at the front
 abbrev pub behind_breaks : List ℕ → List ℕ
 behind_breaks [] = []
 behind_breaks (b ∷ bytes) = if b == 13 || b == 10 then behind_breaks bytes else b ∷ bytes
@@ -55,10 +55,10 @@ abbrev pub asks_head_by : List ℕ → Option (ℕ × ℕ) → Bool
 asks_head_by bytes None = begin_with_head (take past_limit bytes)
 asks_head_by bytes (Some end) = begin_with_head (take end.0 bytes)
 
--- the reply has no body: the head decides it, or where none ends the least beginning that is refused for that
+-- The method is HEAD, so the reply has no body. The head decides, or without one the least prefix that is refused.
 unfoldable pub asks_head : List ℕ → Bool
 asks_head bytes = asks_head_by bytes (head_end bytes)
 
--- they amount to something that no further bytes change
+-- the request is complete or refused: no further bytes change that
 abbrev pub IsDecided : List ℕ → Type 0
 IsDecided bytes = (seen : Seen) × Sees bytes seen × (seen ≡ unfinished → ⊥)

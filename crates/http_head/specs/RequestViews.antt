@@ -1,4 +1,4 @@
--- What a request of the code stands for.
+-- The mathematical values of the code's requests.
 use Rattle.std.specs.Prelude.{option_map}
 use Rattle.http_head.specs.declared.request.Request as code
 use Rattle.http_head.specs.declared.request.Seen.{Seen}

@@ -1,17 +1,20 @@
-//! Where the head of a request ends.
+//! Request framing: the search for the empty line that ends the head (RFC 9112, section 2.1).
 ghost use Rattle.std.specs.Prelude.{◌≡◌, ◌≤◌, ◌+◌, ◌<◌, ◌++◌, ℕ, List, length, Some, None, IfSome, IfNone};
 ghost use Rattle.http_head.specs.Framing.{is_empty, longer, scan_start, ends_head, end_from, after};
 
-/// What stands so far of the line that a scan has come to.
+/// The state of the line that a scan is in.
 #[derive(Clone, Copy, Debug, PartialEq, Eq)]
 pub enum Line {
+    /// No byte of the line was read.
     Fresh,
+    /// Only a CR was read.
     Returned,
+    /// The line is not empty.
     Filled,
 }
 
 impl Line {
-    // Whether a line that ends so is empty.
+    // Whether the line is empty if it ends here.
     fn is_empty(self) -> bool
         ensures { result ≡ is_empty self }
     {
@@ -22,7 +25,7 @@ impl Line {
         }
     }
 
-    // The line with one byte more.
+    // The line with one more byte.
     fn longer(self, byte: u8) -> Line
         ensures { result ≡ longer self byte }
     {
@@ -40,18 +43,23 @@ impl Line {
     }
 }
 
-/// How far the search for the head's end has come.
+/// The state of the search for the end of the head.
 #[derive(Clone, Copy, Debug)]
 pub struct Scan {
+    /// The number of bytes scanned.
     pub at: usize,
+    /// The number of lines read that are not empty.
     pub lines: usize,
+    /// The present line.
     pub line: Line,
 }
 
-/// Where a head ends, and how many of its lines are not empty.
+/// The end of a head.
 #[derive(Clone, Copy, Debug)]
 pub struct HeadEnd {
+    /// The length of the head in bytes, its empty line included.
     pub length: usize,
+    /// The number of its lines that are not empty, the request line included.
     pub lines: usize,
 }
 
@@ -73,7 +81,7 @@ impl Scan {
         byte == b'\n' && self.line.is_empty() && self.lines > 0
     }
 
-    // Takes one byte more.
+    // Scans one more byte.
     fn step(&mut self, byte: u8)
         requires room { self.old.at < 16384 }
         requires sane { self.old.lines ≤ self.old.at }
@@ -90,7 +98,7 @@ impl Scan {
         self.at += 1;
     }
 
-    /// Looks at the bytes that came next, and stops at the head's end.
+    /// Scans further bytes, up to the end of the head.
     pub(crate) fn go_on(&mut self, bytes: &[u8]) -> Option<HeadEnd>
         requires sane { self.old.lines ≤ self.old.at }
         requires room { self.old.at + length bytes.now ≤ 16384 }

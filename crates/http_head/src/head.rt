@@ -1,4 +1,4 @@
-//! What the head of a request says.
+//! The head of a request: method, target and the header fields that the server uses.
 ghost use Rattle.std.specs.Prelude.{◌≡◌, ◌+◌, ◌<◌, length, map, Some, None, true, All, Option};
 ghost use Rattle.std.specs.Prelude.{option_map};
 ghost use Rattle.std.specs.List.{list_all};
@@ -15,7 +15,7 @@ use crate::refusals::HeadRefusal;
 use httparse::Status;
 use httparse::spans::{EMPTY_HEADER_SPAN, HeaderSpan, RequestSpans, parse_request};
 
-/// How often a field stands in a head.
+/// The occurrences of a header field.
 #[derive(Clone, Copy)]
 enum Given<'b> {
     Absent,
@@ -23,23 +23,27 @@ enum Given<'b> {
     Twice,
 }
 
-/// What the desk takes from a head.
+/// The parts of a head that the server uses.
 #[derive(Clone, Copy)]
 pub struct Outline<'b> {
+    /// The method.
     pub method: &'b [u8],
+    /// The request target.
     pub target: &'b [u8],
+    /// The value of `Member-Key`, if the field occurs once.
     pub key: Option<&'b [u8]>,
+    /// The length of the body in bytes.
     pub length: usize,
 }
 
-// Whether two names are the same, whichever case their letters have.
+// Whether two field names are equal, ignoring ASCII case.
 fn is_name(name: &[u8], other: &[u8]) -> bool
     ensures { result ≡ is_name name.now other.now }
 {
     name.eq_ignore_ascii_case(other)
 }
 
-// How often a field of this name stands.
+// The occurrences of a field name.
 fn field<'b>(head: &'b [u8], spans: &[HeaderSpan], name: &[u8]) -> Given<'b>
     requires { All (IsHeaderWithin (length head.now)) spans.now }
     ensures { occurrence_view result ≡ stands name.now (map (header_bytes head.now) spans.now) }
@@ -57,14 +61,13 @@ fn field<'b>(head: &'b [u8], spans: &[HeaderSpan], name: &[u8]) -> Given<'b>
     found
 }
 
-// Whether there are digits alone.
 fn has_digits(text: &[u8]) -> bool
     ensures { result ≡ list_all is_ascii_digit text.now }
 {
     text.iter().all(|byte| byte.is_ascii_digit())
 }
 
-// Whether a text is 1 to 9 digits.
+// Whether the text is 1 to 9 digits.
 fn is_number(text: &[u8]) -> bool
     ensures { result ≡ is_number text.now }
 {
@@ -77,7 +80,7 @@ fn is_number(text: &[u8]) -> bool
     has_digits(text)
 }
 
-// The number that the digits write.
+// The decimal value of the digits.
 fn value_of(text: &[u8]) -> u32
     requires { is_number text.now ≡ true }
     ensures { result ≡ digits_value 10 text.now }
@@ -89,7 +92,7 @@ fn value_of(text: &[u8]) -> u32
     n
 }
 
-/// A number of 1 to 9 digits.
+/// Parses a number of 1 to 9 digits.
 pub fn number_of(text: &[u8]) -> Option<u32>
     ensures { result ≡ number_of text.now }
 {
@@ -100,7 +103,7 @@ pub fn number_of(text: &[u8]) -> Option<u32>
     }
 }
 
-// The length that Content-Length names.
+// The value of `Content-Length`, if present; it may occur once only.
 fn named_length(field: Given<'_>) -> Result<Option<u32>, HeadRefusal>
     ensures { result ≡ named_length (occurrence_view field.entry) }
 {
@@ -114,7 +117,7 @@ fn named_length(field: Given<'_>) -> Result<Option<u32>, HeadRefusal>
     }
 }
 
-// Whether Host stands as it must.
+// Whether `Host` occurs once, or is absent in HTTP/1.0 (RFC 9112, section 3.2).
 fn has_good_host(minor: u8, field: Given<'_>) -> bool
     ensures { result ≡ has_good_host minor (occurrence_view field.entry) }
 {
@@ -135,7 +138,7 @@ fn is_absent(field: Given<'_>) -> bool
     }
 }
 
-// The one value of a field.
+// The value of a field that occurs once.
 fn only<'b>(field: Given<'b>) -> Option<&'b [u8]>
     ensures { option_map (λ v. v.now) result ≡ only (occurrence_view field.entry) }
 {
@@ -146,7 +149,7 @@ fn only<'b>(field: Given<'b>) -> Option<&'b [u8]>
     }
 }
 
-// The length of the body.
+// The length of the body: a POST must name it, another request without one has no body.
 fn body_length(method: &[u8], named: Option<u32>) -> Result<usize, HeadRefusal>
     ensures { result ≡ body_length method.now named }
 {
@@ -168,7 +171,7 @@ fn body_length(method: &[u8], named: Option<u32>) -> Result<usize, HeadRefusal>
     }
 }
 
-// What the parts of a head give.
+// Checks the fields of a parsed head, in the order of the refusals.
 fn outline_from<'b>(
     head: &'b [u8],
     found: &RequestSpans,
@@ -198,7 +201,11 @@ fn outline_from<'b>(
     })
 }
 
-/// What a head says, or the first refusal that it decides.
+/// Parses a head.
+///
+/// # Errors
+///
+/// The first `HeadRefusal` that applies, in the order of the specification `outline_of`.
 pub(crate) fn read_head(head: &[u8], lines: usize) -> Result<Outline<'_>, HeadRefusal>
     requires { end_from scan_start head.now ≡ Some (length head.now, lines) }
     ensures { (read : Option RequestHead) × IsReadAs lines head.now read ×

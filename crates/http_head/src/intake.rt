@@ -1,4 +1,6 @@
-//! How far the bytes of a connection have been looked at.
+//! The progress of reading a request.
+//!
+//! It is kept between reads, so that no byte is scanned twice.
 ghost use Rattle.std.specs.Prelude.{[], IsTrue};
 ghost use Rattle.http_head.specs.Intake.{IsIntake, IsBodyOf};
 ghost use Rattle.http_head.specs.Request.{IsDecided};
@@ -6,14 +8,16 @@ ghost use Rattle.http_head.specs.Request.{IsDecided};
 use crate::framing::Scan;
 use crate::head::read_head;
 
-/// The search for the head's end, or how many bytes are wanted behind it.
+/// The state of reading a request.
 #[derive(Clone, Copy)]
 pub enum Intake {
+    /// The end of the head is still searched for.
     Head(Scan),
+    /// The head's length and the number of bytes needed after it.
     Body(usize, usize),
 }
 
-// Whether so many bytes stand behind a place.
+// Whether `count` bytes follow the head, which ends at `start`.
 fn has_body(start: usize, count: usize, bytes: &[u8]) -> bool
     requires { IsBodyOf start count bytes.now }
     ensures { IsTrue result → IsDecided bytes.now }
@@ -22,14 +26,14 @@ fn has_body(start: usize, count: usize, bytes: &[u8]) -> bool
 }
 
 impl Intake {
-    /// A request of which nothing was read.
+    /// The state before the first byte.
     pub fn start() -> Intake
         ensures { IsIntake result [] }
     {
         Intake::Head(Scan::start())
     }
 
-    // The search goes on.
+    // Continues the search for the end of the head; whether the bytes are decided.
     fn look(scan: Scan, bytes: &[u8]) -> (Intake, bool)
         requires { IsIntake (Intake.Head scan) bytes.now }
         ensures still { IsIntake result.0 bytes.now }
@@ -51,7 +55,11 @@ impl Intake {
         }
     }
 
-    /// Whether the bytes amount to something that no further bytes change. Each is looked at once.
+    /// Whether the bytes are a complete or rejected request; only bytes added since the last call are scanned.
+    ///
+    /// # Guarantees
+    ///
+    /// `enough`: if so, no further bytes change how the request is read.
     pub fn is_enough(&mut self, bytes: &[u8]) -> bool
         requires { IsIntake self.old bytes.now }
         ensures still { IsIntake self.new bytes.now }

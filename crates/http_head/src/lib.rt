@@ -1,4 +1,6 @@
-//! Requests of HTTP, as far as their bytes have come: where a head ends, what it says, and which body it has.
+//! Parser of HTTP requests: framing, head and body, for any prefix of the bytes.
+//!
+//! It follows RFC 9112 (https://www.rfc-editor.org/rfc/rfc9112), with limits of its own; `httparse` reads the head.
 #![tactic(auto)]
 
 pub mod framing;

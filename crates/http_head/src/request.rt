@@ -1,4 +1,4 @@
-//! Requests, as far as their bytes have come.
+//! Parsing of requests from any prefix of their bytes.
 ghost use Rattle.std.specs.Prelude.{◌≡◌, Ok, length};
 ghost use Rattle.http_head.specs.Head.{Outline as outline};
 ghost use Rattle.http_head.specs.HeadViews.{outline_view};
@@ -9,24 +9,31 @@ use crate::framing::Scan;
 use crate::head::{Outline, read_head};
 use crate::refusals::HeadRefusal;
 
-/// A whole request.
+/// A complete request.
 #[derive(Clone, Copy)]
 pub struct Request<'b> {
+    /// The method.
     pub method: &'b [u8],
+    /// The request target.
     pub target: &'b [u8],
+    /// The value of `Member-Key`, if the field occurs once.
     pub key: Option<&'b [u8]>,
+    /// The body.
     pub body: &'b [u8],
 }
 
-/// What bytes amount to so far.
+/// The result of parsing a prefix of a request.
 #[derive(Clone, Copy)]
 pub enum Seen<'b> {
+    /// More bytes are needed.
     Unfinished,
+    /// The head is refused.
     Refused(HeadRefusal),
+    /// The request is complete; further bytes are ignored.
     Whole(Request<'b>),
 }
 
-// The request of a head and of what stands behind it.
+// A request from its parsed head and the bytes after it.
 fn with_body<'b>(outline: Outline<'b>, behind: &'b [u8]) -> Seen<'b>
     ensures { seen_view result ≡ body_seen behind.now (Ok (outline_view outline.entry)) }
 {
@@ -41,14 +48,16 @@ fn with_body<'b>(outline: Outline<'b>, behind: &'b [u8]) -> Seen<'b>
     })
 }
 
-/// What bytes amount to, and whether the reply to them has no body.
+/// The result of parsing, and whether the reply must have no body.
 #[derive(Clone, Copy)]
 pub struct Reading<'b> {
+    /// The result of parsing.
     pub seen: Seen<'b>,
+    /// Whether the method is HEAD, whose reply has no body (RFC 9110, section 9.3.2).
     pub asks_head: bool,
 }
 
-// The bytes behind the CR and LF at the front.
+// The bytes without CR and LF at the front (RFC 9112, section 2.2).
 fn behind_breaks(bytes: &[u8]) -> &[u8]
     ensures { result.now ≡ behind_breaks bytes.now }
 {
@@ -60,7 +69,7 @@ fn behind_breaks(bytes: &[u8]) -> &[u8]
     &[]
 }
 
-// Whether the bytes begin with HEAD and a blank.
+// Whether the bytes begin with HEAD and a blank, after any CR and LF.
 fn begin_with_head(bytes: &[u8]) -> bool
     ensures { result ≡ begin_with_head bytes.now }
 {
@@ -69,7 +78,11 @@ fn begin_with_head(bytes: &[u8]) -> bool
     &rest[..length] == b"HEAD ".as_slice()
 }
 
-/// What the bytes amount to.
+/// Parses a prefix of a request.
+///
+/// # Guarantees
+///
+/// `seen`: the result is the one that the specification `Sees` allows; by `laws::one_reading` there is one only.
 pub fn read_request(bytes: &[u8]) -> Reading<'_>
     ensures seen { Sees bytes.now (seen_view result.seen) }
     ensures asks_head { result.asks_head ≡ asks_head bytes.now }

@@ -1,4 +1,4 @@
-//! The bytes of a request, as a reader gives them.
+//! Reading a request from a stream.
 ghost use Rattle.std.specs.Prelude.{◌⊎◌, IfOk};
 ghost use Rattle.std.specs.Io.KnownBytes.{IsAtEnd};
 ghost use Rattle.http_head.specs.Intake.{HasTaken};
@@ -8,10 +8,10 @@ use crate::intake::Intake;
 use std::alloc::AllocError;
 use std::io::{Error, ErrorKind, Read};
 
-/// Why no bytes were taken in.
+/// Why reading failed.
 #[derive(Clone, Copy, Debug, PartialEq, Eq)]
 pub enum TakeFault {
-    /// The allocator refused.
+    /// Out of memory.
     Memory,
     /// The reader failed.
     Read,
@@ -23,13 +23,21 @@ impl From<AllocError> for TakeFault {
     }
 }
 
-/// Whether a call was interrupted and may be tried again.
+/// Whether a call was interrupted by a signal and can be repeated.
 pub fn is_interrupted(error: &Error) -> bool {
     matches!(error.kind(), ErrorKind::Interrupted)
 }
 
-/// Reads on from what was heard before, in large pieces, until the bytes amount to something that no further bytes
-/// change, or the input ends. Each byte is looked at once.
+/// Reads, after the bytes in `heard`, until the request is complete or rejected, or the input ends.
+///
+/// # Errors
+///
+/// - `Memory` if out of memory.
+/// - `Read` if the reader fails.
+///
+/// # Guarantees
+///
+/// `taken`: the result is `heard` and the bytes read, in order.
 pub fn take_in<R: Read>(heard: Vec<u8>, reader: &mut R) -> Result<Vec<u8>, TakeFault>
     ensures taken { IfOk result (λ v. HasTaken heard.items v.items (R.remaining reader.old)
         (R.remaining reader.new)) }

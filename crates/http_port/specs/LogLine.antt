@@ -1,6 +1,5 @@
--- The line that is written of a connection: moment, method, path, status and the name of the member who asked. The key
--- that was shown is no part of it.
--- And the line of an order of the officer's: moment, `officer`, its word, and the status with which that ends.
+-- The access log: timestamp, method, path, status and member for a request; never a key.
+-- An order of the control socket is logged as timestamp, `officer`, command and exit status.
 use Rattle.std.specs.Prelude.{◌≡◌, ◌⊎◌, ◌++◌, ◌+◌, ◌-◌, ◌^◌, ℕ, List, [], Option, Some, None, Result, Ok, Err, codes}
 use Rattle.std.specs.Prelude.{decimal}
 use Rattle.std.specs.Prelude.{Bool, take, min, nat_lt, option_and_then, option_map, string_bytes, if◌then◌else◌}
@@ -23,15 +22,15 @@ use Rattle.http_port.specs.declared.log_lines.Noted.{Noted}
 use Rattle.http_port.specs.declared.log_lines.Noted.TheVariants.{Call, Order}
 use Rattle.http_port.specs.declared.serve.Exchange.{Exchange}
 
--- the most bytes that are shown of a method
+-- the most bytes of a method in the log
 abbrev pub method_limit : ℕ
 method_limit = 16
 
--- a text that is printable ASCII alone, with no blank
+-- the text, if it is printable ASCII without blanks
 abbrev pub shown : List ℕ → Option (List ℕ)
 shown bytes = if list_all is_ascii_graphic bytes then text_of bytes else None
 
--- a text, or a mark in its place
+-- the text, or `-`
 abbrev pub or_mark : Option (List ℕ) → List ℕ
 or_mark None = codes "-"
 or_mark (Some text) = text
@@ -41,7 +40,7 @@ method_written unfinished = codes "-"
 method_written (refused refusal) = codes "-"
 method_written (whole request) = or_mark (shown (take method_limit request.method))
 
--- without what stands behind the path
+-- the path without its query
 abbrev pub path_written : Seen → List ℕ
 path_written unfinished = codes "-"
 path_written (refused refusal) = codes "-"
@@ -51,7 +50,7 @@ abbrev pub status_written : Option ℕ → List ℕ
 status_written None = codes "-"
 status_written (Some status) = decimal status
 
--- the name of the member who asked, or a mark in its place where nobody did who is known
+-- the member's name, or `-` if none is known
 abbrev pub caller_written : Option (List ℕ) → List ℕ
 caller_written name = or_mark (option_and_then shown name)
 
@@ -60,7 +59,7 @@ fault_written Memory = codes "memory was refused"
 fault_written Read = codes "the request could not be read"
 fault_written Write = codes "the reply could not be written"
 
--- what stands behind the path
+-- status and member, after the path
 abbrev pub end_written : Option ℕ → List ℕ → List ℕ
 end_written status caller = codes " " ++ (status_written status ++ (codes " " ++ (caller ++ codes "\n")))
 
@@ -71,19 +70,19 @@ line_written moment method path status caller =
 abbrev pub fault_line_written : ℕ → DeskFault → List ℕ
 fault_line_written moment fault = decimal moment ++ (codes " - - " ++ (fault_written fault ++ codes "\n"))
 
--- the line of what the bytes of a connection amount to and of its reply, or of why there was none
+-- the line of a request and its reply, or of a connection without a reply
 abbrev pub IsCallLine : ℕ → Result Exchange DeskFault → List ℕ → Type 0
 IsCallLine moment (Ok done) line = (seen : Seen) × Sees done.bytes.items seen
     × (line ≡ line_written moment (method_written seen) (path_written seen) (status_in done.reply.items)
     (caller_written (option_map string_bytes done.caller)))
 IsCallLine moment (Err fault) line = line ≡ fault_line_written moment fault
 
--- how many lines were left out since the last one that was written, where there are such
+-- the number of lines dropped since the last one written, if there are any
 abbrev pub left_out_written : ℕ → ℕ → List ℕ
 left_out_written moment count =
     if nat_lt 0 count then decimal moment ++ (codes " - - " ++ (decimal count ++ codes " left out\n")) else []
 
--- ---- an order of the officer's
+-- ---- orders of the control socket
 
 abbrev pub import_word : RecordFormat → List ℕ
 import_word Pdn = codes "import-pdn"
@@ -100,7 +99,7 @@ command_word (command.Challenge given) = codes "-"
 command_word (command.Withdraw given) = codes "-"
 command_word (command.Answer given) = codes "-"
 
--- the word by which it is ordered; one of the many words that only ask is a question
+-- the command line's word for an operation; all queries are `question`
 abbrev pub word_of : Errand → List ℕ
 word_of (Command given) = command_word given
 word_of (Question asked) = codes "question"
@@ -113,15 +112,14 @@ abbrev pub order_line_written : ℕ → List ℕ → Result Bool OrderFault → 
 order_line_written moment word done =
     decimal moment ++ (codes " officer " ++ (word ++ (codes " " ++ (order_status done ++ codes "\n"))))
 
--- ---- what is written
+-- ---- writing
 
--- a line of what a line is written of
+-- the line of an event
 abbrev pub IsLineOf : ℕ → Noted → List ℕ → Type 0
 IsLineOf moment (Call done) line = IsCallLine moment done.now line
 IsLineOf moment (Order errand done) line = line ≡ order_line_written moment (word_of errand.now) done
 
--- what is written of it: its line behind the number of those that were left out, or at a fault nothing or a beginning
--- of that
+-- the writer gets the line, after the number of dropped lines; at a fault nothing or a prefix of that
 abbrev pub IsLogged : {U : Type 0} → ℕ → ℕ → Noted → Option (List ℕ) → Option (List ℕ) → Result U DeskFault → Type 0
 IsLogged left_out moment noted before now (Ok u) = (line : List ℕ) × IsLineOf moment noted line
     × Appends before now (left_out_written moment left_out ++ line)
@@ -129,12 +127,12 @@ IsLogged left_out moment noted before now (Err fault) = (now ≡ before)
     ⊎ ((line : List ℕ) × (n : ℕ) × IsLineOf moment noted line
     × Appends before now (take n (left_out_written moment left_out ++ line)))
 
--- a line was written, and none is left out any more
+-- the line was written, and the count of dropped lines is zero again
 abbrev pub IsNoted : ℕ → ℕ → ℕ → Noted → Option (List ℕ) → Option (List ℕ) → Type 0
 IsNoted left_out left_now moment noted before now =
     (left_now ≡ 0) × IsLogged {U = Unit {0}} left_out moment noted before now (Ok tt)
 
--- a line was left out, and is counted
+-- the line was dropped and counted
 abbrev pub IsLeftOut : ℕ → ℕ → ℕ → Noted → Option (List ℕ) → Option (List ℕ) → Type 0
 IsLeftOut left_out left_now moment noted before now = (left_now ≡ min (left_out + 1) (2 ^ 64 - 1))
     × ((fault : DeskFault) × IsLogged {U = Unit {0}} left_out moment noted before now (Err fault))

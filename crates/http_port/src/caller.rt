@@ -1,4 +1,4 @@
-//! One who has come, and the socket by which it is heard and given a reply.
+//! A client: its socket, and the part of its request that was received.
 
 ghost use Rattle.std.specs.Prelude.{◌≤◌, length, IfOk};
 
@@ -9,7 +9,7 @@ use std::io::{ErrorKind, Write};
 use std::net::TcpStream;
 use std::time::{Duration, Instant};
 
-// What is left of a time, over a socket, from the first call on.
+// The time left for the calls of a socket; it runs from the first call.
 #[derive(Drop)]
 pub(crate) struct Timer<'a> {
     rt: &'a HostRuntime,
@@ -19,7 +19,7 @@ pub(crate) struct Timer<'a> {
 }
 
 impl Timer<'_> {
-    // When the first call was made: now, if none was.
+    // The time of the first call: now, if there was none.
     fn begin(&mut self) -> io::Result<Instant> {
         if let Some(begin) = self.begin {
             return Ok(begin);
@@ -45,7 +45,7 @@ impl Countdown for Timer<'_> {
     }
 }
 
-// A socket of which no call is made once so much time is over.
+// A socket with one deadline over all its calls, in place of a timeout for each.
 pub(crate) fn timed<'c>(
     rt: &'c HostRuntime,
     stream: &'c TcpStream,
@@ -60,8 +60,7 @@ pub(crate) fn timed<'c>(
     Deadline::new(stream, timer)
 }
 
-/// A socket that gives an error rather than wait, to which a reply is written: what it does not take at once, it is
-/// waited for until a time is over.
+/// Writes a reply to a non-blocking socket; if the socket is full, waits until a deadline.
 #[derive(Drop)]
 pub(crate) struct Replying<'c> {
     stream: &'c TcpStream,
@@ -69,7 +68,7 @@ pub(crate) struct Replying<'c> {
 }
 
 impl<'c> Replying<'c> {
-    /// The socket, for which is waited so long at most.
+    /// A writer that waits for at most `limit` in all.
     pub(crate) fn new(rt: &'c HostRuntime, stream: &'c TcpStream, limit: Duration) -> Replying<'c> {
         Replying {
             stream,
@@ -77,7 +76,7 @@ impl<'c> Replying<'c> {
         }
     }
 
-    // Writes as soon as the socket takes something.
+    // Writes in blocking mode, within the deadline.
     fn wait(&mut self, buf: &[u8]) -> io::Result<usize>
         ensures { IfOk result (λ n. n ≤ length buf.now) }
     {
@@ -101,23 +100,23 @@ impl Write for Replying<'_> {
     }
 }
 
-/// One who has come, and what was heard of it so far.
+/// A client, and the bytes that were received from it.
 #[derive(Drop)]
 pub(crate) struct Caller {
     pub(crate) stream: TcpStream,
     pub(crate) heard: Heard,
-    /// Its name among those whom the desk listens to.
+    /// Its token in the poll registry.
     pub(crate) token: usize,
-    /// How long the desk will have heard when this one's time is over.
+    /// The value of `Callers::heard_for` at which its time is over.
     pub(crate) until: Duration,
-    /// Whether something was heard to have come of it.
+    /// Whether the poll reported it readable since the last read.
     pub(crate) is_stirred: bool,
-    /// Whether it may go on sending when it is given a reply.
+    /// Whether the request was rejected before the client may have sent all of it.
     pub(crate) is_early: bool,
 }
 
 impl Caller {
-    /// Takes what has come of it.
+    /// Reads the available bytes.
     pub(crate) fn hear(&mut self) -> Come {
         self.is_stirred = false;
         let come = self.heard.take(&mut &self.stream);
@@ -126,7 +125,7 @@ impl Caller {
     }
 }
 
-/// Takes one out of those at a place.
+/// Removes and returns the client at an index, if there is one.
 pub(crate) fn take_out(callers: &mut Vec<Caller>, at: usize) -> Option<Caller> {
     if at < callers.len() {
         Some(callers.remove(at))
@@ -135,7 +134,7 @@ pub(crate) fn take_out(callers: &mut Vec<Caller>, at: usize) -> Option<Caller> {
     }
 }
 
-/// Hears the one at a place, if something has come of it.
+/// Reads from the client at an index, if it is readable.
 pub(crate) fn hear_at(callers: &mut Vec<Caller>, at: usize) -> Come {
     match callers.get_mut(at) {
         Some(caller) => {
@@ -149,7 +148,7 @@ pub(crate) fn hear_at(callers: &mut Vec<Caller>, at: usize) -> Come {
     }
 }
 
-/// The place of the one who has said nothing for longest, among those whose time is over at this moment.
+/// The index of the oldest client that has sent nothing and whose time is over at `moment`.
 pub(crate) fn silent_at(callers: &[Caller], moment: Duration) -> Option<usize> {
     callers
         .iter()

@@ -1,4 +1,6 @@
-//! Those who come to a port of this machine. Sockets and clocks are read here, and what they give is not proved.
+//! The HTTP server: listener, poll loop and time limits.
+//!
+//! Nothing is assumed of what sockets and clocks return.
 
 ghost use Rattle.http_port.specs.Visits.{HasActedOn, HasServed};
 ghost use Rattle.officer_door.specs.Orders.{HasObeyed};
@@ -24,36 +26,36 @@ use std::os::fd::AsRawFd;
 use std::thread::sleep;
 use std::time::{Duration, Instant};
 
-// How many are heard side by side, those included who are to be served: others wait before the door. With the bytes
-// that a request may have, they take 42 MB at most.
+// The most clients connected at once, those with a complete request included; others stay in the listen backlog. At
+// 80 KiB for a request their buffers take 42 MB at most.
 const MOST_CALLERS: usize = 512;
 
-// The name of the listener among those whom the desk listens to. Callers have greater ones.
+// The poll token of the listener; clients have greater ones.
 const LISTENER: usize = 0;
 
-// How long the desk waits where a call fails that is to tell who has come.
+// The pause after a failed `poll` or `accept`.
 const PAUSE_MILLISECONDS: u64 = 10;
 
-// How long the desk holds the club at most, while one comes after another, where nobody can ask for the file. So often
-// it sees whether its door still stands, where it has one.
+// The longest serving session under load without a control socket. With one, the interval at which the server checks
+// that its socket file still exists.
 const HELD_SECONDS: u64 = 2;
 
-// How long the file is lent to one who asks for it at most: longer than a word takes over a large club.
+// The longest lease of the file: longer than a command takes over a large club.
 const LENT_SECONDS: u64 = 15;
 
-// The seconds within which a whole request is to come, of the time in which the desk hears.
+// The time within which a client must send its request; only time in which the server polls counts.
 const REQUEST_SECONDS: u64 = 10;
 
-// How long one is heard at least, where others stand before the door and there is no room.
+// The least time that a client is kept if the server is full and others wait.
 const CROWDED_MILLISECONDS: u64 = 10;
 
-// The errors of the system that say that no more files may be open, of this program or of all (Linux: ENFILE, EMFILE).
+// The OS errors for "out of file descriptors", of the system or of the process (Linux: ENFILE, EMFILE).
 const TOO_MANY_FILES: [i32; 2] = [23, 24];
 
-// How long one may take to be given a reply, while the club is held.
+// The time limit for writing a reply while the club is held.
 const WRITE_SECONDS: u64 = 1;
 
-// Marks those of whom something has come; and whether someone new has.
+// Marks the clients that the poll reports readable; whether the listener is readable, too.
 fn stir(callers: &mut Vec<Caller>, events: &Events<Global>) -> bool {
     let mut has_come = false;
     for event in events.iter() {
@@ -70,7 +72,7 @@ fn stir(callers: &mut Vec<Caller>, events: &Events<Global>) -> bool {
     has_come
 }
 
-// Gives the reply to what was heard of one, and to what is heard further of it for a time.
+// Serves the client on a stream: `heard` and what it sends within `limit`.
 fn reply<C: ServedClub>(
     rt: &HostRuntime,
     alloc: Global,
@@ -91,17 +93,17 @@ fn reply<C: ServedClub>(
     done
 }
 
-// The next one who is to be served.
+// The next item to serve.
 #[derive(Drop)]
 enum Visit {
-    // A member, or who else has come to the port.
+    // A client on the HTTP port.
     Call(Caller),
-    // The officer.
+    // An order on the control socket.
     Order(Ordered),
     Nobody,
 }
 
-// Does what one orders, and tells it what that was answered. Who is told nothing does it by itself.
+// Executes an order and sends its answer. If the order is not accepted, the command line executes it itself.
 fn obey<C: ServedClub>(alloc: Global, ordered: &Ordered, club: &mut C) -> Result<bool, OrderFault>
     ensures clean { C.IsClean club.new → C.IsClean club.old }
     ensures obeys { C.IsClean club.new → (s : C.State) → C.Stands club.old s →
@@ -114,18 +116,18 @@ fn obey<C: ServedClub>(alloc: Global, ordered: &Ordered, club: &mut C) -> Result
     serve_order(alloc, &mut writer, club, &ordered.errand, ordered.moment)
 }
 
-/// How those who come are served.
+/// The options of a server.
 #[derive(Clone, Copy, Debug)]
 pub struct Terms {
-    /// The moment that counts at each connection, if one was given: that of the machine's clock otherwise.
+    /// A fixed timestamp for every request; if `None`, the system clock is read.
     pub now: Option<Moment>,
-    /// Whether a line is written of each to the standard error.
+    /// Whether requests are logged to standard error.
     pub is_logged: bool,
-    /// How many are let in, before no one more is.
+    /// The number of connections to accept before the server ends.
     pub count: u64,
 }
 
-/// Those who come to a port of this machine.
+/// An HTTP server on a loopback port.
 #[derive(Drop)]
 pub struct Callers<'a> {
     rt: &'a HostRuntime,
@@ -133,38 +135,43 @@ pub struct Callers<'a> {
     routes: Routes,
     now: Option<Moment>,
     log: Option<Log<Outlet<'a>>>,
-    // Tells when someone comes, and when something comes of those who have.
+    // Reports new clients, and input of the present ones.
     poll: Poll,
     events: Events<Global>,
-    // Whether someone may stand before the door.
+    // Whether the listen backlog may hold a client.
     may_come: bool,
-    // How many are still to be let in.
+    // The number of connections still to accept.
     left: u64,
-    // The name of the next one.
+    // The last token used.
     token: usize,
-    // Those of whom more is to be heard, the first who came first.
+    // Clients with an incomplete request, oldest first.
     hearing: Vec<Caller>,
-    // Those who are to be served, the first of whom enough was heard first.
+    // Clients with a complete or rejected request, in order of completion.
     ready: Vec<Caller>,
-    // Those who were given a reply and may still send.
+    // Clients that have their reply and may still send.
     leaving: Leaving,
-    // How long the desk has heard, and when it last looked.
+    // The time in which the server has polled, and the time of the last poll.
     heard_for: Duration,
     last_look: Option<Instant>,
-    // Since when one after another is served over the club.
+    // The start of the present interval of holding the file.
     held_since: Option<Instant>,
-    // How long the club is held while nobody is to be served.
+    // The idle time after which the serving session ends.
     idle: Duration,
-    // When the club was begun to be opened, until that is done.
+    // The time at which opening the club began, until it is open.
     begun: Option<Instant>,
-    // How many of those who waited while the club was opened are still to be served.
+    // The number of requests that were queued while the club was opened and are not served yet.
     owed: usize,
-    // The door by which others ask for the file.
+    // The control socket.
     door: Option<Door<'a>>,
 }
 
 impl<'a> Callers<'a> {
-    /// Listens on the port of this machine's own address: no one comes to it from another machine.
+    /// Listens on a port of 127.0.0.1; other machines cannot connect.
+    ///
+    /// # Errors
+    ///
+    /// An `io::Error` if the port is in use or not permitted, if another socket or poll call fails, or if out of
+    /// memory.
     pub fn listen(rt: &'a HostRuntime, port: u16, terms: Terms) -> io::Result<Callers<'a>> {
         let address = SocketAddr::V4(SocketAddrV4::new(Ipv4Addr::LOCALHOST, port));
         let listener = TcpListener::bind(rt, address)?;
@@ -208,7 +215,8 @@ impl<'a> Callers<'a> {
         })
     }
 
-    /// Hears those who come, until one of them is to be served: false where no one more is.
+    /// Receives until a request or an order is ready; leases the file meanwhile. `false` if no more connections will
+    /// follow.
     pub fn await_next(&mut self) -> bool {
         self.last_look = None;
         self.tick();
@@ -225,18 +233,17 @@ impl<'a> Callers<'a> {
         false
     }
 
-    /// Opens the door beside a file, by which others ask for it. Where there can be none, the desk gives the file up
-    /// every two seconds.
+    /// Opens the control socket beside a file. If that fails, the server releases the file every two seconds.
     pub fn open_door(&mut self, file: &str) {
         self.door = Door::open(self.rt, file, &self.poll).ok();
     }
 
-    /// Whether others can ask for the file.
+    /// Whether the control socket is open.
     pub fn has_door(&self) -> bool {
         self.door.is_some()
     }
 
-    /// Shuts the door, and takes its socket away.
+    /// Closes the control socket and removes its file.
     pub fn close_door(&mut self) {
         if let Some(door) = &self.door {
             door.close();
@@ -244,8 +251,8 @@ impl<'a> Callers<'a> {
         self.door = None;
     }
 
-    /// Lends the file, which the desk has given up, to the one who asks for it first: whether somebody did. Those who
-    /// come are heard until it is given back, for fifteen seconds at most.
+    /// Leases the released file to the first process that waits for it; `false` if none waits. Clients are received
+    /// until the lease ends, for at most fifteen seconds.
     pub fn lend(&mut self) -> bool {
         if !self.is_asked_for_file() {
             return false;
@@ -260,7 +267,7 @@ impl<'a> Callers<'a> {
         true
     }
 
-    // Hears those who come while the file is lent.
+    // Receives clients during a lease.
     fn hear_beside_guest(&mut self) {
         let mut left = Duration::from_secs(LENT_SECONDS);
         self.last_look = None;
@@ -274,27 +281,28 @@ impl<'a> Callers<'a> {
         }
     }
 
-    // Whether the file is lent, and the one who has it is there.
+    // Whether a lease is held, and its holder is still connected.
     fn has_guest(&self) -> bool {
         self.door.as_ref().is_some_and(|door| door.has_guest())
     }
 
-    // Whether somebody asks for the file.
+    // Whether a process waits for the file.
     fn is_asked_for_file(&self) -> bool {
         self.door.as_ref().is_some_and(|door| door.is_asked())
     }
 
-    /// Hears those who come for so long, while the club is not held: false where no one more is to be heard or served.
+    /// Receives clients for `time` without the club; `false` if no more connections will follow.
     pub fn hear(&mut self, time: Duration) -> bool {
         self.hear_until(time, false)
     }
 
-    /// The same, until one of them is to be served, for so long at most.
+    /// Receives clients until a request or an order is ready, for at most `time`; `false` if no more connections will
+    /// follow.
     pub fn await_for(&mut self, time: Duration) -> bool {
         self.hear_until(time, true)
     }
 
-    // Hears those who come for so long, or where that is wanted until one of them is to be served.
+    // Receives clients for `time`; if `ends_early`, only until a request or an order is ready.
     fn hear_until(&mut self, time: Duration, ends_early: bool) -> bool {
         self.last_look = None;
         self.tick();
@@ -312,17 +320,15 @@ impl<'a> Callers<'a> {
         false
     }
 
-    /// Whether someone is to be served.
+    /// Whether a request or an order is ready.
     pub fn is_awaited(&self) -> bool {
         !self.ready.is_empty() || self.has_order()
     }
 
-    // Whether the officer orders something.
     fn has_order(&self) -> bool {
         self.door.as_ref().is_some_and(|door| door.has_order())
     }
 
-    // The next order, if there is one.
     fn take_order(&mut self) -> Option<Ordered> {
         match &mut self.door {
             Some(door) => door.next_order(),
@@ -330,17 +336,17 @@ impl<'a> Callers<'a> {
         }
     }
 
-    /// The club is held anew, from when the next one is looked for. What has passed until then is nobody's time.
+    /// Starts a serving session. Its time limit begins with the first `serve_next`.
     pub fn begin(&mut self) {
         self.begin_for(idle_after(Duration::ZERO));
     }
 
-    /// Those are served who are to be served now: nobody is waited for.
+    /// Starts a serving session that serves ready requests only and does not wait for others.
     pub fn begin_with_these(&mut self) {
         self.begin_for(Duration::ZERO);
     }
 
-    // The club is held anew, and nobody is waited for for longer than this.
+    // Starts a serving session that ends after `idle` without a request.
     fn begin_for(&mut self, idle: Duration) {
         self.held_since = None;
         self.last_look = None;
@@ -349,8 +355,8 @@ impl<'a> Callers<'a> {
         self.idle = idle;
     }
 
-    // The club has been opened: the longer that took, the longer it is held while nobody is to be served. Who has
-    // waited for that is served before the file is given up again.
+    // The club is open: a slow opening extends the idle time. Requests that were queued meanwhile are served before
+    // the file is released again.
     fn end_opening(&mut self) {
         let (Some(begun), Some(now)) = (self.begun, self.last_look) else {
             return;
@@ -362,12 +368,12 @@ impl<'a> Callers<'a> {
         }
     }
 
-    // Whether the club is to be given up for one who asks for it: after the present request.
+    // Whether the file must be released to a waiting process after the present request.
     fn gives_way(&self) -> bool {
         gives_way(self.is_asked_for_file(), self.owed, self.ready.len())
     }
 
-    // Whether no one more is to be heard or served, and nothing more to be read off.
+    // Whether no more connections follow and none is open.
     fn is_done(&self) -> bool {
         self.left == 0
             && self.hearing.is_empty()
@@ -375,7 +381,7 @@ impl<'a> Callers<'a> {
             && self.leaving.is_empty()
     }
 
-    // Counts the time in which the desk hears, and gives what has passed since it last looked.
+    // Advances `heard_for`; returns the time since the last call.
     fn tick(&mut self) -> Duration {
         let Ok(now) = Instant::now(self.rt) else {
             self.last_look = None;
@@ -390,8 +396,8 @@ impl<'a> Callers<'a> {
         passed
     }
 
-    // What is left of the time for which the club may be held. A desk that can be asked for the file holds it on as
-    // long as its door stands.
+    // The time left of the serving session. With a control socket the session goes on as long as the socket file
+    // exists.
     fn hold_left(&mut self) -> Duration {
         let Some(now) = self.last_look else {
             return Duration::ZERO;
@@ -408,7 +414,7 @@ impl<'a> Callers<'a> {
         left
     }
 
-    // Whether others can still ask for the file. A door that was taken away is given up, and another may be opened.
+    // Whether the control socket still works; if its file was removed, it is closed so that another can be opened.
     fn can_be_asked(&mut self) -> bool {
         let stands = self.door.as_ref().is_some_and(|door| door.stands());
         if !stands {
@@ -417,27 +423,28 @@ impl<'a> Callers<'a> {
         stands
     }
 
-    // Whether as many are heard as may be.
+    // Whether the number of clients is at its limit.
     fn is_full(&self) -> bool {
         self.hearing.len().saturating_add(self.ready.len()) >= MOST_CALLERS
     }
 
-    // Whether someone who may be let in may stand before the door.
+    // Whether a client that may be accepted may be in the backlog.
     fn is_asked(&self) -> bool {
         self.may_come && self.left != 0
     }
 
-    // Whether someone may be let in at once.
+    // Whether a client can be accepted now.
     fn has_room(&self) -> bool {
         self.is_asked() && !self.is_full()
     }
 
-    // Whether someone stands before the door for whom there is no room.
+    // Whether a client may wait in the backlog for which there is no room.
     fn is_crowded(&self) -> bool {
         self.is_asked() && self.is_full()
     }
 
-    // How long the desk has heard, as those count it who make room.
+    // The value of `heard_for` to compare with a client's `until`; further on while the server is full and others
+    // wait.
     fn time_over(&self) -> Duration {
         if self.is_crowded() {
             let kept = Duration::from_secs(REQUEST_SECONDS).saturating_sub(Duration::from_millis(
@@ -449,7 +456,7 @@ impl<'a> Callers<'a> {
         }
     }
 
-    // How long it is until the first of those who were given a reply goes.
+    // The time until the oldest lingering client must be closed.
     fn patience_with_leaving(&self) -> Duration {
         match self.leaving.first_until() {
             Some(until) => until.saturating_sub(self.heard_for),
@@ -457,7 +464,7 @@ impl<'a> Callers<'a> {
         }
     }
 
-    // How long nothing need be done, if nothing comes.
+    // The poll timeout: the time until something must be done without input.
     fn patience(&self) -> Duration {
         if self.has_room() {
             return Duration::ZERO;
@@ -469,7 +476,7 @@ impl<'a> Callers<'a> {
         }
     }
 
-    // Hears those who have come and who come, waiting for something to come for so long at most; and the time that has
+    // Polls once for at most `limit`, reads and accepts clients, and drops those whose time is over. Returns the time
     // passed.
     fn look(&mut self, limit: Duration) -> Duration {
         let limit = limit.min(self.patience());
@@ -488,7 +495,7 @@ impl<'a> Callers<'a> {
         passed
     }
 
-    // Hears those who have come to ask for the file.
+    // Reads from the control socket, if it is readable.
     fn hear_door(&mut self) {
         let has_come = self.events.iter().any(|event| event.token() == DOOR);
         if let Some(door) = &mut self.door {
@@ -498,7 +505,7 @@ impl<'a> Callers<'a> {
         }
     }
 
-    // Hears those of whom something has come.
+    // Reads from all readable clients.
     fn hear_all(&mut self) {
         let mut at = 0;
         for _ in 0..MOST_CALLERS {
@@ -516,7 +523,7 @@ impl<'a> Callers<'a> {
         }
     }
 
-    // Puts one where it belongs by what has come of it.
+    // Puts a client into the list that its progress calls for, or closes it.
     fn place(&mut self, caller: Caller, come: Come) {
         match come {
             Come::Part => {
@@ -530,7 +537,7 @@ impl<'a> Callers<'a> {
         }
     }
 
-    // Lets those in who stand before the door. A call that fails is one who came and went.
+    // Accepts clients from the backlog. A failed `accept` counts as a lost connection.
     fn let_in(&mut self) {
         for _ in 0..MOST_CALLERS {
             if !self.has_room() {
@@ -553,7 +560,8 @@ impl<'a> Callers<'a> {
         }
     }
 
-    // One could not be let in: who was heard longest makes room for it, or it came and went.
+    // `accept` failed. If we are out of file descriptors, drop the oldest client; otherwise count the connection as
+    // lost.
     fn miss(&mut self, error: &io::Error) {
         let has_no_room = error
             .raw_os_error()
@@ -566,7 +574,7 @@ impl<'a> Callers<'a> {
         sleep(self.rt, Duration::from_millis(PAUSE_MILLISECONDS));
     }
 
-    // Hears one who has just come, and listens to it if more is to come.
+    // Reads from a new client, and registers it with the poll if its request is incomplete.
     fn greet(&mut self, stream: TcpStream) {
         if stream.set_nonblocking(true).is_err() {
             return;
@@ -589,7 +597,6 @@ impl<'a> Callers<'a> {
         self.place(caller, come);
     }
 
-    // Has the desk told when something comes of one.
     fn listen_to(&self, caller: &Caller) -> io::Result<()> {
         let descriptor = caller.stream.as_raw_fd();
         self.poll.registry().register(
@@ -599,8 +606,8 @@ impl<'a> Callers<'a> {
         )
     }
 
-    // The place of one who is to be let go: whose time is over, or, where others stand before the door and there is no
-    // room, who has said nothing for longest, or was heard for longest.
+    // The index of the client to drop: one whose time is over; or, if the server is full and others wait, the oldest
+    // that has sent nothing, otherwise the oldest.
     fn next_to_go(&self) -> Option<usize> {
         let moment = self.time_over();
         let first = self.hearing.first()?;
@@ -613,14 +620,14 @@ impl<'a> Callers<'a> {
         Some(0)
     }
 
-    // Lets one go of whom no request has come.
+    // Drops the client at an index, whose request is incomplete.
     fn let_go(&mut self, at: usize) {
         if let Some(caller) = take_out(&mut self.hearing, at) {
             self.dismiss(caller, Duration::ZERO);
         }
     }
 
-    // Lets those go whose time is over.
+    // Drops the clients whose time is over.
     fn give_up(&mut self) {
         for _ in 0..MOST_CALLERS {
             match self.next_to_go() {
@@ -630,7 +637,7 @@ impl<'a> Callers<'a> {
         }
     }
 
-    // The next one who is to be served, if there is one before the desk is to give way.
+    // The next item to serve: an order before a client. `Nobody` if the session ends.
     fn next_visit(&mut self) -> Visit {
         self.tick();
         self.end_opening();
@@ -659,12 +666,12 @@ impl<'a> Callers<'a> {
         Visit::Nobody
     }
 
-    // The moment that counts now.
+    // The timestamp for a request: the fixed one, or the system clock.
     fn moment(&self) -> Option<Moment> {
         self.now.or(clock(self.rt))
     }
 
-    // Ends with one of whom no request has come: it needs no club. So long it is still heard.
+    // Ends a client with an incomplete request; that needs no club. Its input is read for at most `limit`.
     fn dismiss(&mut self, caller: Caller, limit: Duration) {
         let mut nothing = Closed {
             fault: ClubFault::Store,
@@ -674,7 +681,7 @@ impl<'a> Callers<'a> {
         }
     }
 
-    // Serves one at the moment that counts now, if there is one.
+    // Serves a client at the present timestamp; drops it if there is no clock.
     fn serve_call<C: ServedClub>(&mut self, alloc: Global, caller: Caller, club: &mut C)
         ensures clean { C.IsClean club.new → C.IsClean club.old }
         ensures acts { C.IsClean club.new → (s : C.State) → C.Stands club.old s →
@@ -688,7 +695,7 @@ impl<'a> Callers<'a> {
         self.serve_caller(alloc, caller, limit, club, moment);
     }
 
-    // Does what one orders, and writes a line of it where that is wanted.
+    // Executes an order and logs it.
     fn serve_ordered<C: ServedClub>(&mut self, alloc: Global, ordered: &Ordered, club: &mut C)
         ensures clean { C.IsClean club.new → C.IsClean club.old }
         ensures acts { C.IsClean club.new → (s : C.State) → C.Stands club.old s →
@@ -701,7 +708,7 @@ impl<'a> Callers<'a> {
         }
     }
 
-    // Serves one, writes a line of it where that is wanted, and takes leave of it.
+    // Serves a client, logs the request, and closes the connection.
     fn serve_caller<C: ServedClub>(
         &mut self,
         alloc: Global,
@@ -738,7 +745,7 @@ impl<'a> Callers<'a> {
         }
     }
 
-    // Closes the socket of one who was given a reply, once what it still sends is read off.
+    // Shuts down our side of a connection; the socket is closed after the client's input is drained.
     fn take_leave(&mut self, stream: TcpStream, is_early: bool) {
         let _ended = stream.shutdown(Shutdown::Write);
         let until = self

@@ -1,15 +1,19 @@
-//! Streams whose time is limited.
+//! Streams with a deadline.
 
 use std::io;
 use std::io::{Read, Write};
 
-/// What is left of a time. Over a socket it also sets how long the next call may wait.
+/// The time left for the calls of a stream; over a socket it also sets the timeout of the next call.
 pub trait Countdown {
-    /// Allows one call more, or fails once the time is over.
+    /// Permits one more call.
+    ///
+    /// # Errors
+    ///
+    /// An `io::Error` once the time is over, or if a clock or socket call fails.
     fn allow(&mut self) -> io::Result<()>;
 }
 
-/// A stream of which no call is made once its time is over, however slowly its bytes come.
+/// A stream that makes no call once its time is over, however slowly its bytes arrive.
 #[derive(Drop)]
 pub struct Deadline<T, C> {
     stream: T,
@@ -17,7 +21,7 @@ pub struct Deadline<T, C> {
 }
 
 impl<T, C> Deadline<T, C> {
-    /// The stream, until the countdown is over.
+    /// A stream that is limited by a countdown.
     pub fn new(stream: T, countdown: C) -> Deadline<T, C> {
         Deadline { stream, countdown }
     }

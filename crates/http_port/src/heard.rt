@@ -1,4 +1,4 @@
-//! What has come of a request so far.
+//! The bytes of a request that were received so far.
 
 ghost use Rattle.std.specs.Prelude.{◌≡◌};
 
@@ -6,51 +6,51 @@ use http_head::{Seen, is_interrupted, read_request};
 use std::alloc::Global;
 use std::io::{ErrorKind, Read};
 
-// The bytes of a piece that is asked for.
+// The bytes read by one call.
 const PIECE_BYTES: usize = 4096;
 
-/// How far a request has come.
+/// The progress of reading a request.
 #[derive(Clone, Copy, Debug, PartialEq, Eq)]
 pub(crate) enum Come {
-    /// More of it is to come.
+    /// More bytes are needed.
     Part,
-    /// It is whole.
+    /// The request is complete.
     Whole,
-    /// It is refused, whatever further bytes come.
+    /// The request is rejected; further bytes change nothing.
     Refused,
-    /// It has ended before.
+    /// The client closed its side before the request was complete.
     End,
-    /// It cannot be heard further.
+    /// Reading failed, or out of memory.
     Fault,
 }
 
-/// The bytes that have come of a request.
+/// The received bytes of a request.
 #[derive(Drop)]
 pub(crate) struct Heard {
     bytes: Vec<u8>,
 }
 
 impl Heard {
-    /// Nothing has come.
+    /// An empty buffer.
     pub(crate) fn new(alloc: Global) -> Heard {
         Heard {
             bytes: Vec::new(alloc),
         }
     }
 
-    /// The bytes that have come.
+    /// The received bytes.
     pub(crate) fn into_bytes(self) -> Vec<u8>
         ensures { result ≡ self.bytes }
     {
         self.bytes
     }
 
-    /// Whether nothing has come.
+    /// Whether nothing was received.
     pub(crate) fn is_empty(&self) -> bool {
         self.bytes.is_empty()
     }
 
-    // How far the request has come by its bytes.
+    // The progress that the received bytes make.
     fn come(&self) -> Come {
         match read_request(&self.bytes).seen {
             Seen::Unfinished => Come::Part,
@@ -59,7 +59,7 @@ impl Heard {
         }
     }
 
-    /// Takes what has come, from a reader that gives an error rather than wait.
+    /// Reads the available bytes from a non-blocking reader.
     pub(crate) fn take<R: Read>(&mut self, reader: &mut R) -> Come {
         let mut piece = [0_u8; PIECE_BYTES];
         for _ in 0..u64::MAX {

@@ -1,5 +1,7 @@
-//! Those who were given a reply and may still send. A socket that is closed with bytes unread takes the reply away from
-//! its peer, so what they send is read off first.
+//! Lingering close: clients that have their reply and may still send.
+//!
+//! A socket that is closed with unread input is reset, and the client may lose the reply. So the input is drained
+//! first (RFC 9112, section 9.6).
 
 use mio::unix::SourceFd;
 use mio::{Interest, Poll, Token};
@@ -9,33 +11,33 @@ use std::net::TcpStream;
 use std::os::fd::AsRawFd;
 use std::time::Duration;
 
-// How many are kept at once: where there are more, who was kept longest goes.
+// The most clients kept; a new one replaces the oldest.
 const MOST_LEAVING: usize = 64;
 
-// The most bytes that are read off of one: four times what the longest request may have, sixteen times over.
+// The most bytes drained from one client.
 const MOST_BYTES: usize = 4 << 20;
 
-// The bytes that are read off by one call.
+// The bytes drained by one call.
 const PIECE_BYTES: usize = 16_384;
 
-// The name of all of them among those whom the desk listens to.
+// The one poll token of all of them.
 const LEAVING: Token = Token(usize::MAX);
 
-/// How long one is kept at most, in seconds.
+/// The longest time that a client is kept, in seconds.
 pub(crate) const LEAVING_SECONDS: u64 = 2;
 
-/// One who was given a reply.
+/// A client that has its reply.
 #[derive(Drop)]
 struct Leaver {
     stream: TcpStream,
-    // How long the desk will have heard when this one's time is over.
+    // The value of `Callers::heard_for` at which its time is over.
     until: Duration,
-    // How many bytes are still to be read off at most.
+    // The most bytes still to drain.
     left: usize,
 }
 
 impl Leaver {
-    // Reads off what has come. Whether more may come.
+    // Drains the available input; whether more may follow.
     fn read_off(&mut self) -> bool {
         let mut piece = [0_u8; PIECE_BYTES];
         for _ in 0..u64::MAX {
@@ -56,19 +58,19 @@ impl Leaver {
         false
     }
 
-    // Whether something was read off.
+    // Whether any byte was drained.
     fn has_sent(&self) -> bool {
         self.left < MOST_BYTES
     }
 }
 
-/// Those who were given a reply and may still send, the first who was kept first.
+/// The clients that have their reply and may still send, oldest first.
 #[derive(Drop)]
 pub(crate) struct Leaving {
     leavers: Vec<Leaver>,
 }
 
-// Reads off what has come of the one at a place, at a moment. Whether it goes.
+// Drains the client at an index; whether it must be closed.
 fn goes(leavers: &mut Vec<Leaver>, at: usize, moment: Duration) -> bool {
     match leavers.get_mut(at) {
         Some(leaver) => !leaver.read_off() || leaver.until <= moment,
@@ -77,25 +79,29 @@ fn goes(leavers: &mut Vec<Leaver>, at: usize, moment: Duration) -> bool {
 }
 
 impl Leaving {
-    /// Nobody.
+    /// An empty list.
+    ///
+    /// # Errors
+    ///
+    /// `AllocError` if out of memory.
     pub(crate) fn new(alloc: Global) -> Result<Leaving, AllocError> {
         Ok(Leaving {
             leavers: Vec::with_capacity(alloc, MOST_LEAVING)?,
         })
     }
 
-    /// Whether there is nobody.
+    /// Whether no client is kept.
     pub(crate) fn is_empty(&self) -> bool {
         self.leavers.is_empty()
     }
 
-    /// How long the desk will have heard when the first one's time is over.
+    /// The value of `Callers::heard_for` at which the oldest client's time is over.
     pub(crate) fn first_until(&self) -> Option<Duration> {
         self.leavers.first().map(|leaver| leaver.until)
     }
 
-    /// Takes leave of one who was given a reply, by a socket that gives an error rather than wait: closes it at once
-    /// where all that came of it was read and no more is expected.
+    /// Closes a non-blocking socket: at once if its input is drained and no more is expected, otherwise by
+    /// `read_off`.
     pub(crate) fn add(&mut self, poll: &Poll, stream: TcpStream, until: Duration, is_early: bool) {
         let mut leaver = Leaver {
             stream,
@@ -112,14 +118,14 @@ impl Leaving {
             let _first = self.leavers.remove(0);
         }
         let descriptor = leaver.stream.as_raw_fd();
-        // One to whom the desk has listened before is listened to further.
+        // A client that is already registered keeps its old token.
         let _listened = poll
             .registry()
             .register(&mut SourceFd(&descriptor), LEAVING, Interest::READABLE);
         let _kept = self.leavers.push(leaver);
     }
 
-    /// Reads off what has come of all, and closes the sockets of those who have ended and of those whose time is over.
+    /// Drains all clients, and closes those that have ended or whose time is over.
     pub(crate) fn read_off(&mut self, moment: Duration) {
         let mut at = 0;
         for _ in 0..MOST_LEAVING {

@@ -1,6 +1,7 @@
-//! Those who come to a port of this machine, over any club: what a connection brings is kept until it can be replied
-//! to, one reply is made of it and written, and a line is written of each. The sockets and the machine's clock are read
-//! here.
+//! The HTTP server on the loopback address: accept loop, poll loop, time limits and access log.
+//!
+//! It serves HTTP/1.1 by RFC 9112 (https://www.rfc-editor.org/rfc/rfc9112), one request per connection. TCP sockets and
+//! the system clock are used here alone.
 #![tactic(auto)]
 
 mod caller;

@@ -1,6 +1,6 @@
-//! The line that is written of a connection: moment, method, path, status and the name of the member who asked. No key
-//! stands in it. And that of an order of the officer's: moment, `officer`, its word and the status with which that
-//! ends.
+//! The access log: timestamp, method, path, status and member for a request; never a key.
+//!
+//! An order of the control socket is logged as timestamp, `officer`, command and exit status.
 
 ghost use Rattle.std.specs.Prelude.{◌≡◌, ◌⊎◌, ◌++◌, ℕ, List, IfOk, option_map, option_and_then, string_bytes, take};
 ghost use Rattle.std.specs.Char.{is_ascii_graphic};
@@ -25,23 +25,23 @@ use officer_door::{Errand, OrderFault, write_reply};
 use std::alloc::{AllocError, Global};
 use std::io::Write;
 
-/// What a line is written of.
+/// An event to log.
 #[derive(Clone, Copy)]
 pub(crate) enum Noted<'n> {
-    /// A connection.
+    /// A connection: the exchange, or the fault.
     Call(&'n Result<Exchange, DeskFault>),
-    /// An order of the officer's, and whether it was done or refused.
+    /// An order, and whether it was done (`true`) or refused.
     Order(&'n Errand, Result<bool, OrderFault>),
 }
 
-// Whether bytes are printable ASCII alone, with no blank.
+// Whether all bytes are printable ASCII without blanks.
 fn is_graphic(bytes: &[u8]) -> bool
     ensures { result ≡ list_all is_ascii_graphic bytes.now }
 {
     bytes.iter().all(|byte| byte.is_ascii_graphic())
 }
 
-// A text that is printable ASCII alone, with no blank.
+// The text, if it is printable ASCII without blanks.
 fn shown(bytes: &[u8]) -> Option<&str>
     ensures { option_map (λ t. t.now) result ≡ shown bytes.now }
 {
@@ -52,7 +52,7 @@ fn shown(bytes: &[u8]) -> Option<&str>
     }
 }
 
-// The method of a request, as far as it is shown.
+// The method, at most 16 bytes; `-` if it is not printable.
 fn method_shown(method: &[u8]) -> &str
     ensures { result.now ≡ or_mark (shown (take method_limit method.now)) }
 {
@@ -60,7 +60,7 @@ fn method_shown(method: &[u8]) -> &str
     shown(&method[..length]).unwrap_or("-")
 }
 
-// The path of a target, without what stands behind it.
+// The path of a request target without its query; `-` if it is not printable.
 fn path_shown(target: &[u8]) -> &str
     ensures { result.now ≡ or_mark (option_and_then shown (path_of target.now)) }
 {
@@ -70,7 +70,7 @@ fn path_shown(target: &[u8]) -> &str
     }
 }
 
-// The method and the path of what was asked, or marks in their place where there is no request.
+// The method and the path of a request; `-` for each if there is no complete request.
 fn asked(bytes: &[u8]) -> (&str, &str)
     ensures { (seen : SeenIn) × Sees bytes.now seen ×
         (result.0.now ≡ method_written seen) × (result.1.now ≡ path_written seen) }
@@ -81,7 +81,7 @@ fn asked(bytes: &[u8]) -> (&str, &str)
     }
 }
 
-// The name of the member who asked, or a mark in its place.
+// The member's name, or `-`.
 fn caller_shown(caller: Option<&str>) -> &str
     ensures { result.now ≡ caller_written (option_map (λ name. name.now) caller.entry) }
 {
@@ -91,7 +91,7 @@ fn caller_shown(caller: Option<&str>) -> &str
     }
 }
 
-// The line of a connection that was served.
+// The line of a request with a reply.
 fn served_line(
     alloc: Global,
     seconds: u64,
@@ -109,7 +109,7 @@ fn served_line(
     }
 }
 
-// Why a connection was not served.
+// The text for a connection without a reply.
 fn fault_shown(fault: DeskFault) -> &'static str
     ensures { result.now ≡ fault_written fault }
 {
@@ -120,14 +120,13 @@ fn fault_shown(fault: DeskFault) -> &'static str
     }
 }
 
-// The line of a connection that was not served.
+// The line of a connection without a reply.
 fn unserved_line(alloc: Global, seconds: u64, fault: DeskFault) -> Result<String, AllocError>
     ensures { IfOk result (λ line. string_bytes line ≡ fault_line_written seconds fault) }
 {
     format!(in alloc; "{seconds} - - {}\n", fault_shown(fault))
 }
 
-// The line of a connection.
 fn call_line(
     alloc: Global,
     moment: Moment,
@@ -146,7 +145,7 @@ fn call_line(
     }
 }
 
-// The line that tells how many were left out, where there are such.
+// The line that reports the number of dropped lines; empty if it is zero.
 fn left_out_line(alloc: Global, seconds: u64, count: u64) -> Result<String, AllocError>
     ensures { IfOk result (λ line. string_bytes line ≡ left_out_written seconds count) }
 {
@@ -157,7 +156,7 @@ fn left_out_line(alloc: Global, seconds: u64, count: u64) -> Result<String, Allo
     }
 }
 
-// The word by which a record is imported.
+// The command that imports a record of this format.
 fn import_word(format: RecordFormat) -> &'static str
     ensures { result.now ≡ import_word format }
 {
@@ -167,7 +166,7 @@ fn import_word(format: RecordFormat) -> &'static str
     }
 }
 
-// The word by which a command is ordered: the officer gives no challenges.
+// The command line's word for a command; `-` for challenges, which the officer cannot send.
 fn command_word(command: &Command) -> &'static str
     ensures { result.now ≡ command_word command.now }
 {
@@ -184,7 +183,7 @@ fn command_word(command: &Command) -> &'static str
     }
 }
 
-// The word by which something is ordered; those that only ask are a question.
+// The command line's word for an operation; `question` for all queries.
 fn word_of(errand: &Errand) -> &'static str
     ensures { result.now ≡ word_of errand.now }
 {
@@ -194,7 +193,7 @@ fn word_of(errand: &Errand) -> &'static str
     }
 }
 
-// The status with which the word of an order ends, where it was told.
+// The exit status of the command, or `-` if its answer could not be sent.
 fn order_status(done: Result<bool, OrderFault>) -> &'static str
     ensures { result.now ≡ order_status done }
 {
@@ -205,7 +204,6 @@ fn order_status(done: Result<bool, OrderFault>) -> &'static str
     }
 }
 
-// The line of an order.
 fn order_line(
     alloc: Global,
     moment: Moment,
@@ -218,7 +216,6 @@ fn order_line(
     format!(in alloc; "{seconds} officer {word} {}\n", order_status(done))
 }
 
-// The line of what one is written of.
 fn line_of(alloc: Global, moment: Moment, noted: Noted<'_>) -> Result<String, AllocError>
     ensures { IfOk result (λ line. IsLineOf moment noted.entry (string_bytes line)) }
 {
@@ -228,7 +225,7 @@ fn line_of(alloc: Global, moment: Moment, noted: Noted<'_>) -> Result<String, Al
     }
 }
 
-// The line of what one is written of, behind the number of those that were left out.
+// The line of an event, after the report of dropped lines.
 fn text_of_line(
     alloc: Global,
     left_out: u64,
@@ -243,8 +240,8 @@ fn text_of_line(
     format!(in alloc; "{told}{line}")
 }
 
-// Writes the line of what one is written of behind the number of those that were left out, or where the writer fails a
-// beginning of that.
+// Writes the line of an event, after the report of dropped lines; if the writer fails, a prefix of that may be
+// written.
 fn log_line<W: Write>(
     alloc: Global,
     writer: &mut W,
@@ -261,7 +258,7 @@ fn log_line<W: Write>(
     }
 }
 
-/// The log of requests, over a writer that fails rather than wait.
+/// The access log, over a writer that fails instead of blocking.
 #[derive(Drop)]
 pub(crate) struct Log<W> {
     writer: W,
@@ -270,7 +267,7 @@ pub(crate) struct Log<W> {
 }
 
 impl<W: Write> Log<W> {
-    /// A log of which no line was left out.
+    /// A log without dropped lines.
     pub(crate) fn new(writer: W) -> Log<W> {
         Log {
             writer,
@@ -278,7 +275,11 @@ impl<W: Write> Log<W> {
         }
     }
 
-    /// Writes a line, or leaves it out and counts it.
+    /// Writes the line of an event; if the writer fails, drops and counts it.
+    ///
+    /// # Guarantees
+    ///
+    /// The written text holds no key: it is the line of `IsLineOf`, after the number of dropped lines.
     pub(crate) fn note(&mut self, alloc: Global, moment: Moment, noted: Noted<'_>)
         ensures { IsNoted self.old.left_out self.new.left_out moment noted.entry (W.contents self.old.writer)
             (W.contents self.new.writer) ⊎ IsLeftOut self.old.left_out self.new.left_out moment noted.entry

@@ -1,4 +1,4 @@
-//! The standard error, of which nobody waits.
+//! Standard error, written without blocking.
 
 use mio::unix::SourceFd;
 use mio::{Events, Interest, Poll, Token};
@@ -8,31 +8,31 @@ use std::io::{ErrorKind, Write};
 use std::os::fd::AsRawFd;
 use std::time::Duration;
 
-// The most bytes that a pipe takes whole or not at all (POSIX's PIPE_BUF, as Linux has it).
+// The most bytes that a pipe takes atomically (POSIX `PIPE_BUF`; 4096 on Linux).
 const AT_ONCE: usize = 4096;
 
-// The name of the standard error among those whom its own Poll looks at.
+// The poll token of standard error.
 const ERRORS: Token = Token(0);
 
-/// What is known of a writing that might wait.
+/// How to learn whether a write would block.
 #[derive(Drop)]
 enum Watch {
-    /// It waits for nobody, as that to a file.
+    /// Writes never block: standard error is a file.
     Needless,
-    /// The system tells whether it would.
+    /// Poll it.
     By(Poll, Events<Global>),
-    /// Nothing.
+    /// Unknown, so nothing is written.
     Unknown,
 }
 
-/// Writes to the standard error what it takes at once, and fails where it would wait.
+/// Writes to standard error what it takes at once; otherwise fails with `WouldBlock`.
 #[derive(Drop)]
 pub(crate) struct Outlet<'a> {
     rt: &'a HostRuntime,
     watch: Watch,
 }
 
-// Whether a source that is looked at takes bytes now.
+// Whether standard error is writable now.
 fn is_ready(rt: &HostRuntime, poll: &mut Poll, events: &mut Events<Global>) -> bool {
     let descriptor = rt.stderr().as_raw_fd();
     let renewed = poll
@@ -45,7 +45,11 @@ fn is_ready(rt: &HostRuntime, poll: &mut Poll, events: &mut Events<Global>) -> b
 }
 
 impl<'a> Outlet<'a> {
-    /// Writes to the standard error of this program.
+    /// A writer to standard error of this process.
+    ///
+    /// # Errors
+    ///
+    /// An `io::Error` if the poll cannot be made, or if out of memory.
     pub(crate) fn new(rt: &'a HostRuntime) -> io::Result<Outlet<'a>> {
         let poll = Poll::new(rt)?;
         let events = Events::with_capacity(rt.alloc(), 1)?;
@@ -55,14 +59,14 @@ impl<'a> Outlet<'a> {
             .register(&mut SourceFd(&descriptor), ERRORS, Interest::WRITABLE);
         let watch = match registered {
             Ok(()) => Watch::By(poll, events),
-            // The system looks at no file.
+            // epoll refuses regular files.
             Err(error) if error.kind() == ErrorKind::PermissionDenied => Watch::Needless,
             Err(_) => Watch::Unknown,
         };
         Ok(Outlet { rt, watch })
     }
 
-    // Whether so many bytes are taken at once.
+    // Whether a write of `count` bytes would not block.
     fn takes(&mut self, count: usize) -> bool {
         match &mut self.watch {
             Watch::Needless => true,

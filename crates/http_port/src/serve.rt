@@ -1,4 +1,4 @@
-//! One connection.
+//! One connection: read a request, execute it, write the reply.
 ghost use Rattle.std.specs.Prelude.{◌≡◌, ◌++◌, ℕ, List, None, Some, IfOk};
 ghost use Rattle.std.specs.Prelude.{option_map, string_bytes};
 ghost use Rattle.std.specs.Io.KnownBytes.{Appends};
@@ -14,20 +14,35 @@ use officer_door::write_reply;
 use std::alloc::Global;
 use std::io::{Read, Write};
 
-/// What a connection brought, the reply to it, and who asked.
+/// The request bytes of a connection, the reply to them, and the member who sent them.
 #[derive(Drop)]
 pub struct Exchange {
+    /// The bytes of the request, as received.
     pub bytes: Vec<u8>,
+    /// The bytes of the reply, as written.
     pub reply: Vec<u8>,
-    /// The name of the member who asked, where a key was asked for and is a member's.
+    /// The name of the member who sent the request, if the route needs a key and the key is a member's.
     pub caller: Option<String>,
 }
 
-/// Serves one connection at a moment: to what was heard of it before, reads on in large pieces until a reply can be
-/// given or the input ends, and writes the reply to all that was heard. A reader that fails before leaves the club as
-/// it was; a writer that fails got a beginning of the reply. Whatever the reader gives, the club does what the bytes
-/// ask for that were heard before and further, once, or nothing; and where the writer does not fail it gets the reply
-/// to them. Who asked is known where the bytes ask for what is shown to members, by a key that is one's.
+/// Serves one connection at a timestamp: reads until the request is complete, rejected or at its end, executes it,
+/// and writes the reply.
+///
+/// `heard` holds the bytes that were received before; `reader` gives the rest.
+///
+/// # Errors
+///
+/// - `Memory` if out of memory: nothing is written; the command may or may not have taken effect.
+/// - `Read` if the reader fails: nothing is written, and the club is unchanged.
+/// - `Write` if the writer fails: a prefix of the reply may be written; the command may have taken effect.
+///
+/// # Guarantees
+///
+/// - `acts`: whatever is received, the request is executed once or not at all.
+/// - `serves`, `answers`: the reply is the one that the club's state and the request determine, or reports a fault of
+///   the club.
+/// - `caller`, `nobody`: no member is named but the holder of the key.
+/// - `shut`: a failed club answers with its fault.
 pub fn serve_one<R: Read, W: Write, C: ServedClub>(
     alloc: Global,
     routes: &Routes,

@@ -1,9 +1,9 @@
-//! The machine's clock.
+//! The system clock.
 
 use clocks::Moment;
 use std::time::{SystemTime, UNIX_EPOCH};
 
-/// The moment of the machine's clock.
+/// The timestamp of the system clock; `None` if the clock fails or is out of the range of `Moment`.
 pub fn clock(rt: &HostRuntime) -> Option<Moment> {
     let now = match SystemTime::now(rt) {
         Ok(now) => now,

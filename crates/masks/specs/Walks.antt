@@ -1,4 +1,4 @@
--- Walks over a set in ascending order.
+-- Lemmas about loops over a set in ascending order.
 use Rattle.std.proofs.Common.{◌≡◌, ℕ, zero, suc, ◌+◌, ◌<◌, Bool, true, false, not, ◌&&◌, cond, List, [], ◌∷◌, ◌++◌}
 use Rattle.std.proofs.Common.{length, refl, sym, ap, ◌∙◌, arith}
 use Rattle.std.specs.List.{flat_map, range_with_len}
@@ -26,15 +26,15 @@ flat_map-passing f test first (suc count) none =
       | false ↦ λ e. ap (λ xs. xs ++ flat_map f (range_with_len (first + 1) count)) (none first e) ∙ rest
     ] refl
 
--- What is added for each number of a range is what is added for those of a set, if nothing is added for the others.
+-- Flat-mapping over a range equals flat-mapping over a set, if `f` is empty outside the set.
 pub flat_map-ascending : {A : Type 0} (f : ℕ → List A) (s : Numbers) (first count : ℕ)
     → ((q : ℕ) → set.contains s q ≡ false → f q ≡ [])
     → flat_map f (range_with_len first count) ≡ flat_map f (ascending first count s)
 unfolding ascending
 flat_map-ascending f s first count none = flat_map-passing f (set.contains s) first count none
 
--- A loop that takes the least number out of a set and adds what belongs to it: what is there with what is to come stays
--- the same.
+-- Invariant of a loop that pops the least number and appends its part: the list so far followed by the rest stays the
+-- same.
 pub popped_more : {A : Type 0} (f : ℕ → List A) (first count : ℕ) (before after : Numbers) (n : ℕ)
     (whole old new : List A) → ascending first count before ≡ n ∷ ascending first count after →
     old ++ flat_map f (ascending first count before) ≡ whole → new ≡ old ++ f n
@@ -54,7 +54,7 @@ pub popped_fewer : (first count : ℕ) (before after : Numbers) (n : ℕ)
     → length (ascending first count after) < length (ascending first count before)
 popped_fewer first count before after n pop = omega (arith, ap length pop)
 
--- what is left in a set was there before
+-- A number that is still in a set after a removal was in it before.
 pub popped_kept : (s : Numbers) (n q : ℕ) → set.contains (set.remove s n) q ≡ true → set.contains s q ≡ true
 popped_kept s n q h = right (not (eq_by_cmp nat_cmp q n)) (set.contains s q)
     (sym (set.contains-remove nat_cmp_total s n q) ∙ h)

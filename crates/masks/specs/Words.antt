@@ -1,4 +1,4 @@
--- Sets of numbers kept in the bits of a word: bit k stands for the number `first + k`.
+-- Bitboards: sets of numbers kept in the bits of a word, in which bit k is the number `first + k`.
 use Rattle.std.proofs.Common.{◌≡◌, ℕ, zero, suc, ◌+◌, ◌-◌, ◌*◌, ◌%◌, ◌^◌, ◌<◌, ◌≤◌, Bool, true, false, cond, nat_eq}
 use Rattle.std.proofs.Common.{◌||◌, ◌⊎◌, inl, inr, Option, Some, None, List, [], ◌∷◌, refl, sym, ap, ◌∙◌, arith}
 use Rattle.std.specs.Int.{bit_at}
@@ -14,41 +14,41 @@ use Rattle.std.proofs.lemmas.Nat.Bits.{bit_at-lt, bit_at_above}
 abbrev pub Numbers : Type 0
 Numbers = set.FinSet nat_cmp
 
--- whether bit k of the word is set
+-- Whether bit k of the word is set.
 unfoldable pub has_bit : ℕ → ℕ → Bool
 has_bit w k = nat_eq (bit_at w k) 1
 
--- of so many numbers from `first` on, those that pass the test, in ascending order
+-- The numbers in `first .. first + count` that pass the test, in ascending order.
 unfoldable pub passing : (ℕ → Bool) → ℕ → ℕ → List ℕ
 passing test first zero = []
 passing test first (suc count) = cond (test first) (first ∷ passing test (suc first) count)
     (passing test (suc first) count)
 
--- the numbers of a set in ascending order, where all are among so many from `first` on
+-- The numbers of a set within `first .. first + count`, in ascending order.
 unfoldable pub ascending : ℕ → ℕ → Numbers → List ℕ
 ascending first count s = passing (set.contains s) first count
 
--- the set that the bits of a word name
+-- The set that a word represents.
 unfoldable pub set_of_word : ℕ → ℕ → ℕ → Numbers
 set_of_word first count w = set.from_list (passing (λ n. has_bit w (n - first)) first count)
 
--- the word of a set
+-- The word that represents a set.
 unfoldable pub word_of : ℕ → ℕ → Numbers → ℕ
 word_of first zero s = 0
 word_of first (suc count) s = cond (set.contains s (first + count)) 1 0 * 2 ^ count + word_of first count s
 
--- what taking the least number out of a set answers and leaves
+-- The result and the remaining set when the least number is popped.
 abbrev pub Pops : ℕ → ℕ → Numbers → Option ℕ → Numbers → Type 0
 Pops first count before None after = (before ≡ set.empty) × (ascending first count before ≡ []) × (after ≡ before)
 Pops first count before (Some n) after = (ascending first count before ≡ n ∷ ascending first count after)
     × (after ≡ set.remove before n) × (first ≤ n) × (n < first + count) × (set.contains before n ≡ true)
 
--- the least number of a set, if it has any
+-- The least number of a set, or `None` if it is empty.
 abbrev pub IsLeast : Numbers → Option ℕ → Type 0
 IsLeast s None = s ≡ set.empty
 IsLeast s (Some n) = (set.contains s n ≡ true) × ((q : ℕ) → set.contains s q ≡ true → n ≤ q)
 
--- the greatest number of a set, if it has any
+-- The greatest number of a set, or `None` if it is empty.
 abbrev pub IsGreatest : Numbers → Option ℕ → Type 0
 IsGreatest s None = s ≡ set.empty
 IsGreatest s (Some n) = (set.contains s n ≡ true) × ((q : ℕ) → set.contains s q ≡ true → q ≤ n)
@@ -62,7 +62,7 @@ nat_eq_above n q h = grind (arith, common_steps)
 pub nat_eq_same : (n q : ℕ) → n ≡ q → nat_eq n q ≡ true
 nat_eq_same n q h = grind (arith, common_steps)
 
--- which numbers pass
+-- Membership in `passing`.
 module _ (test : ℕ → Bool) where
   pub passing-below : (first count q : ℕ) → q < first → list_any (λ y. nat_eq y q) (passing test first count) ≡ false
   unfolding passing
@@ -112,7 +112,7 @@ module _ (test : ℕ → Bool) where
         | false ↦ passing-past (suc first) count q (omega arith)
       ]
 
--- what a word of `count` bits contains
+-- Membership in the set of a word of `count` bits.
 module _ (first count w : ℕ) (h : w < 2 ^ count) where
   pub contains_below : (q : ℕ) → q < first → set.contains (set_of_word first count w) q ≡ false
   unfolding set_of_word
@@ -147,7 +147,7 @@ module _ (first count w : ℕ) (h : w < 2 ^ count) where
   contains_past q past = set.contains-from_list_nat (passing (λ n. has_bit w (n - first)) first count) q
       ∙ passing-past (λ n. has_bit w (n - first)) first count q past
 
--- the word of the set of a word
+-- A word is recovered from its set.
 bit_of : (b : ℕ) → b < 2 → cond (nat_eq b 1) 1 0 ≡ b
 bit_of zero h = refl
 bit_of (suc zero) h = refl

@@ -1,4 +1,4 @@
-//! Sets of squares, each kept as one word.
+//! Bitboards: sets of squares of the draughts and shogi boards, one machine word each.
 #![tactic(auto)]
 
 mod word50;

@@ -1,11 +1,11 @@
-//! A set of squares of the board of fifty.
+//! The bitboard of the 50 dark squares of a draughts board.
 ghost use Rattle.std.specs.Prelude.{◌≡◌, ◌↔◌, ◌+◌, ◌-◌, ◌^◌, ◌≤◌, ℕ, false, true, ◌⊎◌, ◌<◌, IsTrue};
 ghost use Rattle.std.specs.FinSet as set;
 ghost use Rattle.masks.specs.Words.{IsGreatest, IsLeast, Pops, has_bit};
 
 use std::marker::Model;
 
-/// A set of squares, each named by its number, 1 to 50. Bit `n - 1` of the word stands for square `n`.
+/// A set of draughts squares, numbered 1 to 50, in a `u64`: bit `n - 1` is set if square `n` is in the set.
 #[derive(Clone, Copy, Debug)]
 pub struct Word50 {
     bits: u64,
@@ -31,14 +31,14 @@ impl Model for Word50 {
 }
 
 impl Word50 {
-    /// The set with no square.
+    /// The empty set.
     pub fn new() -> Word50
         ensures { result ≡ set.empty }
     {
         Word50 { bits: 0 }
     }
 
-    /// The set of all fifty squares.
+    /// The set of all 50 squares.
     pub fn full() -> Word50
         ensures { (q : ℕ) → 1 ≤ q → q ≤ 50 → set.contains result q ≡ true }
     {
@@ -47,14 +47,14 @@ impl Word50 {
         }
     }
 
-    /// The word: bit `n` is set exactly where the square `n + 1` is in the set.
+    /// The bits of the set: bit `n` is set if square `n + 1` is in the set.
     pub fn word(self) -> u64
         ensures { (n : ℕ) → has_bit result n ≡ set.contains self (n + 1) }
     {
         self.bits
     }
 
-    /// Whether the set has a square.
+    /// Whether the square is in the set.
     pub fn contains(self, square: u8) -> bool
         requires { (1 ≤ square) × (square ≤ 50) }
         ensures { result ≡ set.contains self square }
@@ -62,14 +62,14 @@ impl Word50 {
         (self.bits >> u32::from(square - 1)) & 1 == 1
     }
 
-    /// Whether the set has no square.
+    /// Whether the set is empty.
     pub fn is_empty(self) -> bool
         ensures { IsTrue result ↔ (self ≡ set.empty) }
     {
         self.bits == 0
     }
 
-    /// The set with this square too.
+    /// The set with a square added.
     pub fn with(self, square: u8) -> Word50
         requires { (1 ≤ square) × (square ≤ 50) }
         ensures { result ≡ set.insert self square }
@@ -79,7 +79,7 @@ impl Word50 {
         }
     }
 
-    /// The set without this square.
+    /// The set with a square removed.
     pub fn without(self, square: u8) -> Word50
         requires { (1 ≤ square) × (square ≤ 50) }
         ensures { result ≡ set.remove self square }
@@ -89,7 +89,7 @@ impl Word50 {
         }
     }
 
-    /// The squares of either set.
+    /// The union of the sets.
     pub fn union(self, other: Word50) -> Word50
         ensures { result ≡ set.union self other }
     {
@@ -98,7 +98,7 @@ impl Word50 {
         }
     }
 
-    /// The squares of both sets.
+    /// The intersection of the sets.
     pub fn intersection(self, other: Word50) -> Word50
         ensures { result ≡ set.intersection self other }
     {
@@ -107,7 +107,7 @@ impl Word50 {
         }
     }
 
-    /// The squares of this set that the other has not.
+    /// The squares of this set that are not in the other.
     pub fn difference(self, other: Word50) -> Word50
         ensures { result ≡ set.difference self other }
     {
@@ -116,21 +116,21 @@ impl Word50 {
         }
     }
 
-    /// Whether two sets have the same squares.
+    /// Whether the sets are equal.
     pub fn is_same(self, other: Word50) -> bool
         ensures { IsTrue result ↔ (self ≡ other) }
     {
         self.bits == other.bits
     }
 
-    /// A law: the set has no number that is no square.
+    /// Lemma: a set contains only the numbers 1 to 50.
     pub fn keeps_to_its_squares(self)
         ensures { (q : ℕ) → (q < 1) ⊎ (50 < q) → set.contains self q ≡ false }
     {
         let _bits = self.bits;
     }
 
-    /// The set of a word: it has the square `n + 1` exactly where bit `n` is set.
+    /// The set with the given bits: square `n + 1` is in the set if bit `n` is set.
     pub fn of_word(bits: u64) -> Word50
         requires { bits < 2 ^ 50 }
         ensures { (n : ℕ) → set.contains result (n + 1) ≡ has_bit bits n }
@@ -138,7 +138,7 @@ impl Word50 {
         Word50 { bits }
     }
 
-    /// The squares that come so many numbers after a square of the set.
+    /// Adds `by` to the number of every square; squares that would pass 50 are dropped.
     pub fn raised(self, by: u8) -> Word50
         requires { by < 50 }
         ensures moved { (q : ℕ) → by < q → q ≤ 50
@@ -150,7 +150,7 @@ impl Word50 {
         }
     }
 
-    /// The squares that come so many numbers before a square of the set.
+    /// Subtracts `by` from the number of every square; squares that would fall below 1 are dropped.
     pub fn lowered(self, by: u8) -> Word50
         requires { by < 50 }
         ensures { (q : ℕ) → 1 ≤ q → set.contains result q ≡ set.contains self (q + by) }
@@ -160,14 +160,14 @@ impl Word50 {
         }
     }
 
-    /// How many squares the set has.
+    /// The number of squares in the set.
     pub fn len(self) -> u32
         ensures { result ≡ set.len self }
     {
         self.bits.count_ones()
     }
 
-    /// The least square of the set, or None where it has none.
+    /// The lowest square, or `None` if the set is empty.
     pub fn least(self) -> Option<u8>
         ensures { IsLeast self result }
     {
@@ -177,7 +177,7 @@ impl Word50 {
         Some(self.bits.trailing_zeros() as u8 + 1)
     }
 
-    /// The greatest square of the set, or None where it has none.
+    /// The highest square, or `None` if the set is empty.
     pub fn greatest(self) -> Option<u8>
         ensures { IsGreatest self result }
     {
@@ -187,7 +187,7 @@ impl Word50 {
         Some(64 - self.bits.leading_zeros() as u8)
     }
 
-    /// Takes the least square out of the set, or answers None where there is none.
+    /// Removes and returns the lowest square, or returns `None` if the set is empty.
     pub fn pop(&mut self) -> Option<u8>
         ensures { Pops 1 50 self.old result self.new }
     {

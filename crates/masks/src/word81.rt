@@ -1,11 +1,11 @@
-//! A set of squares of the board of eighty-one.
+//! The bitboard of the 81 squares of a shogi board.
 ghost use Rattle.std.specs.Prelude.{◌≡◌, ◌↔◌, ◌<◌, ◌≤◌, ℕ, false, IsTrue};
 ghost use Rattle.std.specs.FinSet as set;
 ghost use Rattle.masks.specs.Words.{Pops, has_bit};
 
 use std::marker::Model;
 
-/// A set of squares, each named by its number, 0 to 80. Bit `n` of the word stands for square `n`.
+/// A set of shogi squares, numbered 0 to 80, in a `u128`: bit `n` is set if square `n` is in the set.
 #[derive(Clone, Copy, Debug)]
 pub struct Word81 {
     bits: u128,
@@ -31,21 +31,21 @@ impl Model for Word81 {
 }
 
 impl Word81 {
-    /// The set with no square.
+    /// The empty set.
     pub fn new() -> Word81
         ensures { result ≡ set.empty }
     {
         Word81 { bits: 0 }
     }
 
-    /// The word: bit `n` is set exactly for the squares `n` of the set.
+    /// The bits of the set: bit `n` is set if square `n` is in the set.
     pub fn word(self) -> u128
         ensures { (n : ℕ) → has_bit result n ≡ set.contains self n }
     {
         self.bits
     }
 
-    /// Whether the set has a square.
+    /// Whether the square is in the set.
     pub fn contains(self, square: u8) -> bool
         requires { square < 81 }
         ensures { result ≡ set.contains self square }
@@ -53,14 +53,14 @@ impl Word81 {
         (self.bits >> u32::from(square)) & 1 == 1
     }
 
-    /// Whether the set has no square.
+    /// Whether the set is empty.
     pub fn is_empty(self) -> bool
         ensures { IsTrue result ↔ (self ≡ set.empty) }
     {
         self.bits == 0
     }
 
-    /// The set with this square too.
+    /// The set with a square added.
     pub fn with(self, square: u8) -> Word81
         requires { square < 81 }
         ensures { result ≡ set.insert self square }
@@ -70,7 +70,7 @@ impl Word81 {
         }
     }
 
-    /// The set without this square.
+    /// The set with a square removed.
     pub fn without(self, square: u8) -> Word81
         requires { square < 81 }
         ensures { result ≡ set.remove self square }
@@ -80,7 +80,7 @@ impl Word81 {
         }
     }
 
-    /// The squares of either set.
+    /// The union of the sets.
     pub fn union(self, other: Word81) -> Word81
         ensures { result ≡ set.union self other }
     {
@@ -89,7 +89,7 @@ impl Word81 {
         }
     }
 
-    /// The squares of both sets.
+    /// The intersection of the sets.
     pub fn intersection(self, other: Word81) -> Word81
         ensures { result ≡ set.intersection self other }
     {
@@ -98,7 +98,7 @@ impl Word81 {
         }
     }
 
-    /// The squares of this set that the other has not.
+    /// The squares of this set that are not in the other.
     pub fn difference(self, other: Word81) -> Word81
         ensures { result ≡ set.difference self other }
     {
@@ -107,28 +107,28 @@ impl Word81 {
         }
     }
 
-    /// Whether two sets have the same squares.
+    /// Whether the sets are equal.
     pub fn is_same(self, other: Word81) -> bool
         ensures { IsTrue result ↔ (self ≡ other) }
     {
         self.bits == other.bits
     }
 
-    /// A law: the set has no number that is no square.
+    /// Lemma: a set contains only the numbers 0 to 80.
     pub fn keeps_to_its_squares(self)
         ensures { (q : ℕ) → 81 ≤ q → set.contains self q ≡ false }
     {
         let _bits = self.bits;
     }
 
-    /// How many squares the set has.
+    /// The number of squares in the set.
     pub fn len(self) -> u32
         ensures { result ≡ set.len self }
     {
         self.bits.count_ones()
     }
 
-    /// Takes the least square out of the set, or answers None where there is none.
+    /// Removes and returns the lowest square, or returns `None` if the set is empty.
     pub fn pop(&mut self) -> Option<u8>
         ensures { Pops 0 81 self.old result self.new }
     {

@@ -1,11 +1,11 @@
-//! The failure to get memory.
+//! The out-of-memory error shared by the crates above.
 #![tactic(auto)]
 
 use std::alloc::{AllocError, AllocFailed};
 use std::error::Error;
 use std::fmt;
 
-/// Memory was refused.
+/// An allocation failed.
 #[derive(Clone, Copy, Debug, PartialEq, Eq)]
 pub struct Memory;
 

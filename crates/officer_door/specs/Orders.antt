@@ -1,4 +1,4 @@
--- What the officer has the desk do, and what is told of it.
+-- The effect of orders on a club, and their answers.
 use Rattle.std.specs.Prelude.{◌≡◌, ◌⊎◌, ℕ, Bool, List, Option, Result, Ok, Err, take}
 use Rattle.std.specs.Io.KnownBytes.{Appends}
 use Rattle.club_requests.specs.declared.answers.Outcome.{Outcome}
@@ -13,23 +13,24 @@ use Rattle.officer_door.specs.declared.orders.Errand.TheVariants.{Command, Quest
 use Rattle.officer_door.specs.declared.orders.OrderFault.{OrderFault}
 use Rattle.officer_door.specs.declared.orders.OrderFault.TheVariants.{Undone, Untold}
 
--- the officer gives a command at a moment
+-- a command of the officer at a timestamp
 abbrev pub order : Given → ℕ → Request
 order command moment = record { who = officer; command = command; moment = moment }
 
--- the state behind an errand: a question changes nothing
+-- the next state; a query changes nothing
 abbrev pub state_after : {S : Type 0} → Club S → S → ℕ → Errand → S
 state_after club s moment (Command command) = (club.step s (order (command_of command) moment)).0
 state_after club s moment (Question question) = s
 
--- Nothing was done, or the errand, once: the state behind it stands, or a stop leaves that or the one before.
+-- The operation took effect once or not at all: the club is in the next state, or a crash leaves that one or the one
+-- before.
 abbrev pub HasObeyed : {S : Type 0} → Club S → (S → Type 0) → (S → S → Type 0) → S → ℕ → Errand → Type 0
 HasObeyed club stands leaves s moment errand =
     stands s ⊎ (stands (state_after club s moment errand) ⊎ leaves s (state_after club s moment errand))
 
--- ---- what is printed of it
+-- ---- output
 
--- what is printed of an errand: the machine's answer to a command; what a question is shown, or why it is shown nothing
+-- the output of an operation: the outcome of a command, the answer to a query, or the refusal
 abbrev pub IsPrinted : {S : Type 0} → Club S → S → ℕ → Errand → Print → Type 0
 IsPrinted club s moment (Command command) print =
     (outcome : Outcome) × (outcome_of outcome ≡ (club.step s (order (command_of command) moment)).1)
@@ -37,10 +38,10 @@ IsPrinted club s moment (Command command) print =
 IsPrinted club s moment (Question question) print =
     (shown : Result (List ℕ) Refusal) × club.IsShown s moment question shown × (print ≡ shown_printed shown)
 
--- ---- what is told over the door
+-- ---- answers
 
--- What is told of an errand is told once the state behind it stands; where the writer fails, a beginning of that.
--- Nothing is told of what was not done.
+-- The answer is sent after the operation took effect; if the writer fails, a prefix of it. Nothing is sent of an
+-- operation that did not.
 abbrev pub HasTold : {S : Type 0} → Club S → (S → Type 0) → S → ℕ → Errand → Option (List ℕ) → Option (List ℕ)
     → Result Bool OrderFault → Type 0
 HasTold club stands s moment errand before now (Ok done) =

@@ -1,11 +1,11 @@
--- What is read off the front of bytes: what stands before a byte.
+-- Bytes before and after a delimiter.
 use Rattle.std.specs.Prelude.{◌≡◌, ◌≢◌, ◌<◌, ℕ, List, ◌∷◌, ◌++◌, length, slice_index}
 
--- the byte stands nowhere in the bytes
+-- the byte does not occur
 abbrev pub Lacks : ℕ → List ℕ → Type 0
 Lacks byte bytes = (k : ℕ) → k < length bytes → slice_index bytes k ≢ byte
 
--- the bytes before the first such byte, and those behind it
+-- the bytes before and after its first occurrence
 pub record IsCut (byte : ℕ) (bytes front rest : List ℕ) : Type 0 where
   pub is : bytes ≡ front ++ byte ∷ rest
   pub first : Lacks byte front

@@ -1,26 +1,26 @@
--- What one says over the door: that it wants the file, or an order.
+-- The wire format of messages: a lease request, or an order.
 use Rattle.std.specs.Prelude.{◌≡◌, ◌⊎◌, ◌<◌, ◌≤◌, ◌++◌, ◌^◌, ℕ, List, codes, decimal, length}
 use Rattle.officer_door.specs.declared.said.Said.{Said}
 use Rattle.officer_door.specs.declared.said.Said.TheVariants.{Part, File, Order, Nothing}
 
--- the first line of an order: its moment, and how many bytes its words and the text of its record have
+-- the first line of an order: timestamp, and lengths of command line and record in bytes
 abbrev pub line_of : ℕ → ℕ → ℕ → List ℕ
 line_of moment words text =
     codes "order " ++ (decimal moment ++ (codes " " ++ (decimal words ++ (codes " " ++ decimal text))))
 
--- the line of three numbers, each of which fits 64 bits
+-- the line of three numbers of 64 bits
 pub record IsLine (line : List ℕ) (m w t : ℕ) : Type 0 where
   pub is : line ≡ line_of m w t
   pub moment : m < 2 ^ 64
   pub words : w < 2 ^ 64
   pub text : t < 2 ^ 64
 
--- an order: that line, the words, and the text
+-- an order: that line, the command line, and the record
 abbrev pub order_said : ℕ → List ℕ → List ℕ → List ℕ
 order_said moment words text =
     line_of moment (length words) (length text) ++ (codes "\n" ++ (words ++ text))
 
--- a moment that there is, and no more bytes than are heard
+-- a valid timestamp, and lengths within the limits
 pub record IsWithin (m w t : ℕ) : Type 0 where
   pub moment : m ≤ 253402300799
   pub words : w ≤ 65536
@@ -33,17 +33,17 @@ pub record IsOrder (bytes : List ℕ) : Type 0 where
   pub within : IsWithin moment (length words) (length text)
   pub is : bytes ≡ order_said moment words text
 
--- all that one says who wants something
+-- a complete message
 abbrev pub IsWhole : List ℕ → Type 0
 IsWhole bytes = (bytes ≡ codes "file\n") ⊎ IsOrder bytes
 
--- these bytes are said to be that order
+-- the bytes are decoded to this order
 abbrev pub SaysOrder : Said → ℕ → List ℕ → List ℕ → Type 0
 SaysOrder (Order given) moment words text =
     (given.moment ≡ moment) × (given.words.now ≡ words) × (given.text.now ≡ text)
 SaysOrder _ moment words text = ⊥
 
--- what the bytes amount to: all that is said, a part to which more may come, or nothing, whatever comes
+-- the result of parsing a prefix: a message, incomplete, or malformed whatever follows
 abbrev pub IsSaid : List ℕ → Said → Type 0
 IsSaid bytes File = bytes ≡ codes "file\n"
 IsSaid bytes (Order given) =

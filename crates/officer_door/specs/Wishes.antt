@@ -1,4 +1,4 @@
--- What one wants by what it has said: the file, or an errand at the order's own moment.
+-- The request in a message: a lease, or an operation at the order's timestamp.
 use Rattle.std.specs.Prelude.{◌≡◌, ◌⊎◌, ℕ, List, Option, Some, None}
 use Rattle.std.specs.Str.{IsUtf8}
 use Rattle.club_words.specs.declared.words.Words.{Words}
@@ -11,8 +11,7 @@ use Rattle.officer_door.specs.declared.orders.Errand.{Errand}
 use Rattle.officer_door.specs.declared.said.Said.{Said}
 use Rattle.officer_door.specs.declared.said.Said.TheVariants.{Part, File, Order, Nothing}
 
--- the words of an order, one behind the other, say what the desk is to do, as the program's own words do; bytes that
--- are no text are no words
+-- the operation of the command line in a message, parsed as by the program itself; no operation if it is not UTF-8
 abbrev pub IsErrandSaid : (words text : List ℕ) → Option Errand → Type 0
 IsErrandSaid words text errand =
     ((read : Words) × AreSaid (parted words) read × IsErrandOf read text errand)
@@ -30,12 +29,12 @@ IsWishBy File wanted = wanted ≡ wish.File
 IsWishBy (Order given) wanted = IsOrderWish given.moment given.words.now given.text.now wanted
 IsWishBy Nothing wanted = wanted ≡ wish.Nothing
 
--- the wish of the bytes that one has said
+-- the request in a message
 pub record IsWish (bytes : List ℕ) (wanted : Wish) : Type 0 where
   pub said : Said
   pub is_said : IsSaid bytes said
   pub is_wish : IsWishBy said wanted
 
--- the wish of the bytes that were heard of one, or nothing, where no more can be heard of it
+-- the request in the bytes received, or nothing if no more can be received
 abbrev pub IsHeard : List ℕ → Wish → Type 0
 IsHeard bytes wanted = IsWish bytes wanted ⊎ (wanted ≡ wish.Nothing)

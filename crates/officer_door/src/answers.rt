@@ -1,4 +1,4 @@
-//! What a desk answers to an order, and how that is told over the door.
+//! Answers of the server to orders, and their wire format.
 
 ghost use Rattle.std.specs.Prelude.{◌≡◌, ◌≢◌, ◌++◌, ◌<◌, ℕ, Bool, List, Some, IfOk, MatchOption, codes};
 ghost use Rattle.std.specs.Prelude.{decimal, string_bytes};
@@ -9,16 +9,16 @@ use std::alloc::{AllocError, Global};
 use std::io;
 use std::io::Read;
 
-/// What a desk answers to an order.
+/// An answer to an order.
 #[derive(Debug, Drop)]
 pub struct Answered {
-    /// Whether it was done, now or before: it was refused otherwise.
+    /// Whether it was done, now or before; otherwise it was refused.
     pub is_done: bool,
-    /// What is printed of it.
+    /// The output for the command line to print.
     pub text: Vec<u8>,
 }
 
-// The first line of an answer: the status with which the word ends, and how many bytes it prints.
+// The first line of an answer: exit status and length of the output in bytes.
 fn heading(alloc: Global, is_done: bool, length: usize) -> Result<String, AllocError>
     ensures { IfOk result (λ line. string_bytes line ≡ status_text is_done ++ (decimal length ++ codes "\n")) }
 {
@@ -29,7 +29,11 @@ fn heading(alloc: Global, is_done: bool, length: usize) -> Result<String, AllocE
     }
 }
 
-/// What is told of an answer.
+/// The bytes of an answer.
+///
+/// # Errors
+///
+/// `AllocError` if out of memory.
 pub(crate) fn told(alloc: Global, answered: &Answered) -> Result<Vec<u8>, AllocError>
     ensures { IfOk result (λ bytes. bytes.items ≡ told answered.now.is_done answered.now.text.items) }
 {
@@ -39,7 +43,7 @@ pub(crate) fn told(alloc: Global, answered: &Answered) -> Result<Vec<u8>, AllocE
     Ok(bytes)
 }
 
-// The status that is told, and the bytes behind it.
+// The exit status, and the bytes after it.
 fn status_in(said: &[u8]) -> Option<(bool, &[u8])>
     ensures { MatchOption result ((done : Bool) (rest : List ℕ) → said.now ≢ status_text done ++ rest)
         (λ read. said.now ≡ status_text read.0 ++ read.1.now) }
@@ -54,7 +58,11 @@ fn status_in(said: &[u8]) -> Option<(bool, &[u8])>
     }
 }
 
-/// The answer that the bytes tell, if they are the whole of one.
+/// Decodes an answer; `None` if the bytes are no complete answer.
+///
+/// # Errors
+///
+/// `AllocError` if out of memory.
 pub(crate) fn answer_in(alloc: Global, said: &[u8]) -> Result<Option<Answered>, AllocError>
     ensures { IfOk result (IsAnswerIn said.now) }
 {
@@ -74,7 +82,11 @@ pub(crate) fn answer_in(alloc: Global, said: &[u8]) -> Result<Option<Answered>, 
     Ok(Some(Answered { is_done, text }))
 }
 
-/// Hears an answer to its end: none where the whole of one did not come.
+/// Receives an answer; `None` if it is incomplete when the input ends.
+///
+/// # Errors
+///
+/// An `io::Error` if the reader fails, or if out of memory.
 pub(crate) fn hear_answer<R: Read>(alloc: Global, reader: &mut R) -> io::Result<Option<Answered>>
     ensures { (said : List ℕ) → R.remaining reader.old ≡ Some said → IfOk result (Hears said) }
 {

@@ -1,4 +1,4 @@
-//! What one who comes to the door wants: the file, or that what the officer orders is done.
+//! Requests at the control socket: decoding of a message into a lease request or an operation.
 
 ghost use Rattle.std.specs.Prelude.{◌≡◌, IfOk, map};
 ghost use Rattle.officer_door.specs.Asking.{IsErrandOf, errand_of, parted};
@@ -10,20 +10,20 @@ use clocks::Moment;
 use club_words::{BadWords, Order, Task, Words, read_words};
 use std::alloc::{AllocError, Global};
 
-/// What one wants.
+/// A request at the control socket.
 #[derive(Drop)]
 pub(crate) enum Wish {
-    /// More is to come.
+    /// The message is incomplete.
     Part,
-    /// The file.
+    /// A lease of the file.
     File,
-    /// That this is done, at this moment.
+    /// An operation at a timestamp.
     Order(Errand, Moment),
-    /// Nothing that is done here.
+    /// Nothing that the server does.
     Nothing,
 }
 
-// What a task has the desk do. What wants the file for itself is no errand.
+// The operation of a task; `None` for tasks that need the file to themselves.
 fn errand_in(task: Task) -> Option<Errand>
     ensures { result ≡ errand_of task }
 {
@@ -34,7 +34,6 @@ fn errand_in(task: Task) -> Option<Errand>
     }
 }
 
-// The text of a record.
 fn text_given(alloc: Global, text: &[u8]) -> Result<Vec<u8>, AllocError>
     ensures { IfOk result (λ given. given.items ≡ text.now) }
 {
@@ -43,7 +42,7 @@ fn text_given(alloc: Global, text: &[u8]) -> Result<Vec<u8>, AllocError>
     Ok(given)
 }
 
-// What an order has the desk do, with the text of its record.
+// The operation of an order with its record.
 fn errand_with(alloc: Global, order: Order, text: &[u8]) -> Result<Option<Errand>, BadWords>
     ensures { IfOk result (IsErrandOf (Words.Order order) text.now) }
 {
@@ -53,7 +52,7 @@ fn errand_with(alloc: Global, order: Order, text: &[u8]) -> Result<Option<Errand
     Ok(errand_in(order.task))
 }
 
-// What words that were read have the desk do, with the text of a record.
+// The operation of a parsed command line with its record; `None` for batches, round robins and `serve`.
 fn errand_from(alloc: Global, words: Words, text: &[u8]) -> Result<Option<Errand>, BadWords>
     ensures { IfOk result (IsErrandOf words text.now) }
 {
@@ -66,14 +65,14 @@ fn errand_from(alloc: Global, words: Words, text: &[u8]) -> Result<Option<Errand
     }
 }
 
-// The words that stand one behind the other.
+// The words of a command line.
 fn parts_of(alloc: Global, words: &str) -> Result<Vec<&str>, AllocError>
     ensures { IfOk result (λ parts. map (λ part. part.now) parts.items ≡ parted words.now) }
 {
     words.split('\0').collect(alloc)
 }
 
-// What the words of an order have the desk do. Words that are none, as their bytes are no text, are no errand.
+// The operation of the command line in a message, parsed as by the program itself.
 fn errand_said(alloc: Global, words: &[u8], text: &[u8]) -> Result<Option<Errand>, BadWords>
     ensures { IfOk result (IsErrandSaid words.now text.now) }
 {
@@ -87,7 +86,6 @@ fn errand_said(alloc: Global, words: &[u8], text: &[u8]) -> Result<Option<Errand
     Ok(errand)
 }
 
-// What one wants who has said an order.
 fn wish_for(alloc: Global, given: &Given<'_>) -> Result<Wish, BadWords>
     ensures { IfOk result (IsOrderWish given.now.moment given.now.words.now given.now.text.now) }
 {
@@ -98,7 +96,11 @@ fn wish_for(alloc: Global, given: &Given<'_>) -> Result<Wish, BadWords>
     }
 }
 
-/// What the bytes that one has said amount to.
+/// Decodes a message.
+///
+/// # Errors
+///
+/// `BadWords` if its command line is malformed, or if out of memory.
 pub(crate) fn wish_of(alloc: Global, said: &[u8]) -> Result<Wish, BadWords>
     ensures { IfOk result (IsWish said.now) }
 {

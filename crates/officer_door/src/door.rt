@@ -1,5 +1,6 @@
-//! The socket beside a file, by which who wants the file asks the desk that holds it, or has it do what the officer
-//! orders. Who is let in has the file until it goes.
+//! The control socket: orders for the server, and leases of the database file.
+//!
+//! A lease lasts until its holder disconnects.
 
 ghost use Rattle.std.specs.Prelude.{◌≡◌, ◌++◌, ℕ, List, None, IfOk, codes, string_bytes};
 ghost use Rattle.std.specs.Fs.{permissions_mode};
@@ -20,38 +21,42 @@ use std::os::unix::net::{UnixListener, UnixStream};
 use std::time::Duration;
 use std::{fs, io};
 
-// How many may stand at the door when it is opened, and are sent away, since they may have come before it was its
-// owner's alone: more than the system keeps waiting.
+// The most connections closed unread when the socket is opened: they may predate its permissions.
 const MOST_EARLY: usize = 256;
 
-// How long who asks waits for the file at most.
+// The longest wait for a lease.
 const ASKING_SECONDS: u64 = 5;
 
-// The bytes that are heard by one call.
+// The bytes read by one call.
 const PIECE_BYTES: usize = 4096;
 
-// What is said to one who is let in.
+// The message that grants a lease.
 const YOURS: [u8; 1] = [b'1'];
 
-/// The names of the door, and of the one who was let in, among those whom the desk listens to.
+/// The poll token of the control socket and of its connections.
 pub const DOOR: Token = Token(usize::MAX - 1);
 
+// The poll token of the holder of the lease.
 const GUEST: Token = Token(usize::MAX - 2);
 
-/// The path of the socket beside a file.
+/// The path of the control socket of a file.
+///
+/// # Errors
+///
+/// `AllocError` if out of memory.
 pub(crate) fn beside(alloc: Global, file: &str) -> Result<String, AllocError>
     ensures { IfOk result (λ path. string_bytes path ≡ file.now ++ codes "-desk") }
 {
     format!(in alloc; "{file}-desk")
 }
 
-/// The leave to use a file, which its desk has given up for so long.
+/// A lease of a file that a server has released; it ends when dropped.
 #[derive(Drop)]
 pub struct Leave {
     _guest: UnixStream,
 }
 
-// Asks for the file, and waits until the one who is asked gives an answer, or goes.
+// Requests a lease, and waits until the server grants it or closes the connection.
 fn hear_answer(guest: &UnixStream) -> io::Result<()> {
     let mut answer = [0_u8; 1];
     guest.set_read_timeout(Some(Duration::from_secs(ASKING_SECONDS)))?;
@@ -60,8 +65,8 @@ fn hear_answer(guest: &UnixStream) -> io::Result<()> {
     Ok(())
 }
 
-/// Asks the desk that holds a file for it, where there is such a desk, and waits until it gives it up: five seconds at
-/// most. It is taken back once the leave is dropped.
+/// Leases a file from the server that holds it; `None` if no server does. After at most five seconds it returns
+/// `Some` also without a grant.
 pub fn ask_for(rt: &HostRuntime, file: &str) -> Option<Leave> {
     let Ok(path) = beside(rt.alloc(), file) else {
         return None;
@@ -73,7 +78,7 @@ pub fn ask_for(rt: &HostRuntime, file: &str) -> Option<Leave> {
     Some(Leave { _guest: guest })
 }
 
-// One who has come to the door, and what it has said so far.
+// A connection with an incomplete message.
 #[derive(Drop)]
 struct Asker {
     stream: UnixStream,
@@ -81,7 +86,7 @@ struct Asker {
 }
 
 impl Asker {
-    // Hears what it says further: false where nothing more can be heard.
+    // Reads the available bytes; `false` at the end of input, at a fault or if the message is too long.
     fn hear(&mut self) -> bool
         ensures { (more : List ℕ) × (self.new.said.items ≡ self.old.said.items ++ more) }
     {
@@ -106,7 +111,7 @@ impl Asker {
         false
     }
 
-    // What it wants, as far as it has said so. Nothing, where no more can be heard, or memory was refused.
+    // Reads and parses the message; `Nothing` if reading ends or out of memory.
     fn wish(&mut self, alloc: Global) -> Wish
         ensures { IsHeard self.new.said.items result }
     {
@@ -120,39 +125,41 @@ impl Asker {
     }
 }
 
-/// One who has the desk do what the officer orders.
+/// An order that waits for the server.
 #[derive(Drop)]
 pub struct Ordered {
+    /// The connection for the answer.
     pub stream: UnixStream,
+    /// The operation.
     pub errand: Errand,
+    /// The timestamp at which to execute it.
     pub moment: Moment,
 }
 
-/// The door of a desk.
+/// The control socket of a server.
 #[derive(Drop)]
 pub struct Door<'a> {
     rt: &'a HostRuntime,
     path: String,
-    // The number of the socket's file, by which it is told from another of that path.
+    // The inode of the socket file, to notice a replacement.
     number: Option<u64>,
     listener: UnixListener,
-    // Those of whom more is to be heard.
+    // Connections with an incomplete message.
     hearing: Vec<Asker>,
-    // Those who order something, and those who ask for the file, the first who came first.
+    // Orders, and connections that wait for a lease; oldest first.
     orders: Vec<Ordered>,
     asking: Vec<UnixStream>,
-    // Who was let in.
+    // The holder of the lease.
     guest: Option<UnixStream>,
 }
 
-// Nobody but the owner of the socket may come to it.
 fn owner_alone() -> Permissions
     ensures { permissions_mode result ≡ 0o600 }
 {
     Permissions::from_mode(0o600)
 }
 
-// The number of the socket's file at a path, where a socket stands there.
+// The inode of the socket at a path, if one exists.
 fn socket_at(rt: &HostRuntime, path: &str) -> Option<u64> {
     let found = metadata(rt, path).ok()?;
     if found.file_type().is_socket() {
@@ -163,8 +170,12 @@ fn socket_at(rt: &HostRuntime, path: &str) -> Option<u64> {
 }
 
 impl<'a> Door<'a> {
-    /// Opens the door beside a file, for its owner alone: none where another desk has it, or where no socket can stand
-    /// there. The socket of a desk that is no more is taken away; what is no socket stays.
+    /// Opens the control socket beside a file. A stale socket is replaced; another kind of file stays.
+    ///
+    /// # Errors
+    ///
+    /// - `AddrInUse` if another server listens on it.
+    /// - An `io::Error` if the socket cannot be made or registered, or if out of memory.
     pub fn open(rt: &'a HostRuntime, file: &str, poll: &Poll) -> io::Result<Door<'a>> {
         let path = beside(rt.alloc(), file)?;
         if UnixStream::connect(rt, path.as_str()).is_ok() {
@@ -189,7 +200,7 @@ impl<'a> Door<'a> {
         Ok(door)
     }
 
-    // Sees that only the owner comes, and has the desk told when somebody does.
+    // Restricts the socket to its owner (mode 600), and registers it with the poll.
     fn guard(&self, poll: &Poll) -> io::Result<()> {
         fs::set_permissions(self.rt, self.path.as_str(), owner_alone())?;
         self.listener.set_nonblocking(true)?;
@@ -203,7 +214,7 @@ impl<'a> Door<'a> {
             .register(&mut SourceFd(&descriptor), DOOR, Interest::READABLE)
     }
 
-    /// Hears those who have come.
+    /// Accepts connections, and reads from all with an incomplete message.
     pub fn hear(&mut self, poll: &Poll) {
         for _ in 0..u64::MAX {
             match self.listener.accept() {
@@ -214,7 +225,6 @@ impl<'a> Door<'a> {
         self.hear_all();
     }
 
-    // Hears all of whom more is to be heard.
     fn hear_all(&mut self) {
         let mut at = 0;
         for _ in 0..u64::MAX {
@@ -225,7 +235,7 @@ impl<'a> Door<'a> {
         }
     }
 
-    // Listens to one who has just come.
+    // Registers a new connection.
     fn greet(&mut self, poll: &Poll, stream: UnixStream) {
         let descriptor = stream.as_raw_fd();
         let listened = poll
@@ -239,7 +249,7 @@ impl<'a> Door<'a> {
         }
     }
 
-    // Hears the one at a place, and puts it where it belongs; the place of the next one.
+    // Reads from the connection at an index, and moves it if its message is complete. Returns the next index.
     fn hear_at(&mut self, at: usize) -> usize {
         let wish = match self.hearing.get_mut(at) {
             Some(asker) => asker.wish(self.rt.alloc()),
@@ -255,7 +265,7 @@ impl<'a> Door<'a> {
         at
     }
 
-    // Puts one where it belongs by what it wants.
+    // Queues a connection by its message, or closes it.
     fn place(&mut self, asker: Asker, wish: Wish) {
         let Asker { stream, .. } = asker;
         match wish {
@@ -273,12 +283,12 @@ impl<'a> Door<'a> {
         }
     }
 
-    /// Whether somebody orders something.
+    /// Whether an order is ready.
     pub fn has_order(&self) -> bool {
         !self.orders.is_empty()
     }
 
-    /// The next one who orders something. Who has gone since has it done by itself.
+    /// The oldest order whose sender is still connected; the others execute their orders themselves.
     pub fn next_order(&mut self) -> Option<Ordered> {
         for _ in 0..u64::MAX {
             if self.orders.is_empty() {
@@ -292,12 +302,12 @@ impl<'a> Door<'a> {
         None
     }
 
-    /// Whether somebody asks for the file.
+    /// Whether a connection waits for a lease.
     pub fn is_asked(&self) -> bool {
         !self.asking.is_empty()
     }
 
-    /// Lets the first one in who asks: the file is given up.
+    /// Grants a lease to the oldest connection that waits; the file must be released before.
     pub fn let_in(&mut self, poll: &Poll) {
         if self.asking.is_empty() {
             return;
@@ -315,7 +325,7 @@ impl<'a> Door<'a> {
         }
     }
 
-    /// Whether the one who was let in is still there.
+    /// Whether a lease is held, and its holder is still connected.
     pub fn has_guest(&self) -> bool {
         match &self.guest {
             Some(guest) => is_there(guest),
@@ -323,19 +333,19 @@ impl<'a> Door<'a> {
         }
     }
 
-    /// Takes leave of the one who was let in.
+    /// Ends the lease, if there is one.
     pub fn take_leave(&mut self)
         ensures { self.new.guest ≡ None }
     {
         self.guest = None;
     }
 
-    /// Whether those who ask still come to this door, and not to another of that path, or to none.
+    /// Whether the socket file still exists and is this one.
     pub fn stands(&self) -> bool {
         self.number.is_some() && socket_at(self.rt, self.path.as_str()) == self.number
     }
 
-    /// Takes the socket away, unless another stands in its place.
+    /// Removes the socket file, unless it was replaced.
     pub fn close(&self) {
         if self.stands() {
             let _cleared = fs::remove_file(self.rt, self.path.as_str());
@@ -343,7 +353,7 @@ impl<'a> Door<'a> {
     }
 }
 
-// Whether one who has said all has not gone.
+// Whether a client that has sent its message is still connected.
 fn is_there(guest: &UnixStream) -> bool {
     let mut said = [0_u8; 1];
     match (&mut &*guest).read(&mut said) {

@@ -1,4 +1,4 @@
-//! For how long the desk holds the club.
+//! The policy for releasing the file.
 
 ghost use Rattle.std.specs.Prelude.{◌≡◌};
 ghost use Rattle.std.specs.Duration.{as_nanos};
@@ -6,14 +6,13 @@ ghost use Rattle.officer_door.specs.Holding.{gives_way, idle_after};
 
 use std::time::Duration;
 
-// How long the desk holds the club at least while nobody is to be served, and how many times as long as its opening
-// took.
+// The least idle time before the file is released.
 const IDLE_SECONDS: u64 = 1;
 
+// The idle time as a multiple of the time that opening the file took.
 const IDLE_OPENINGS: u32 = 10;
 
-/// How long the club is held while nobody is to be served, by how long its opening took: an opening is dear, and a file
-/// that is opened in no time may be lent to whoever comes.
+/// The idle time after which the file is released: the longer its opening took, the longer it is kept.
 pub fn idle_after(opening: Duration) -> Duration
     ensures { as_nanos result ≡ idle_after (as_nanos opening) }
 {
@@ -22,8 +21,9 @@ pub fn idle_after(opening: Duration) -> Duration
     least.max(long)
 }
 
-/// Whether the file is given up for one who asks for it, when so many are ready to be served, and so many are owed it
-/// who waited while the file was opened.
+/// Whether the server must release the file to a process that waits for it.
+///
+/// First it serves the `owed` requests that were queued while the file was opened; `ready` requests are ready in all.
 pub fn gives_way(is_asked: bool, owed: usize, ready: usize) -> bool
     ensures { result ≡ gives_way is_asked owed ready }
 {

@@ -1,5 +1,6 @@
-//! The door beside a file: a socket by which a word of the program asks the desk for the file, or has it do what the
-//! officer orders, and by which the desk tells what is printed of that.
+//! The control socket of the server: command lines send it commands and queries, or lease the database file from it.
+//!
+//! It is a Unix domain socket beside the file, for the file's owner alone.
 #![tactic(auto)]
 
 mod answers;

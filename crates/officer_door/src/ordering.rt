@@ -1,4 +1,4 @@
-//! An order that a word of the program has the desk do, from the word's side.
+//! The client of the control socket: sends an order and receives its answer.
 
 ghost use Rattle.std.specs.Prelude.{◌≡◌, ◌<◌, ◌≤◌, ◌++◌, ◌∷◌, ℕ, IfOk, IfSome, MatchOption, OnOk, OnSome, map};
 ghost use Rattle.std.specs.Prelude.{string_bytes, take};
@@ -18,15 +18,16 @@ use std::io::Write;
 use std::os::unix::net::UnixStream;
 use std::time::Duration;
 
-// How long the desk may be silent before an order is done without it.
+// The time limit of each read and write; after it the order is executed without the server.
 const ORDER_SECONDS: u64 = 10;
 
-// The status of an order that was done, and of one that was refused.
+// The exit status of an order that was done.
 const DONE: u8 = 0;
 
+// The exit status of an order that was refused.
 const REFUSED: u8 = 1;
 
-// Adds a word behind those that stand there: how many these are.
+// Appends a word, with a NUL before it if it is not the first.
 fn add_word(all: &mut String, before: usize, word: &str) -> Result<(), AllocError>
     ensures first { before ≡ 0 → OnOk result (string_bytes all.new ≡ string_bytes all.old ++ word.now) }
     ensures next { 0 < before → OnOk result (string_bytes all.new ≡ string_bytes all.old ++ 0 ∷ word.now) }
@@ -40,7 +41,6 @@ fn add_word(all: &mut String, before: usize, word: &str) -> Result<(), AllocErro
     Ok(())
 }
 
-// The words, one behind the other.
 fn in_line(alloc: Global, words: &[String]) -> Result<String, AllocError>
     ensures { IfOk result (λ all. string_bytes all ≡ joined (map string_bytes words.now)) }
 {
@@ -51,7 +51,7 @@ fn in_line(alloc: Global, words: &[String]) -> Result<String, AllocError>
     Ok(all)
 }
 
-// The words, one behind the other: where none has a NUL, as none of a command line has, they come apart again.
+// The words, joined by NUL. Words without NUL, as all of a command line are, can be split again.
 fn joined(alloc: Global, words: &[String]) -> Result<String, AllocError>
     ensures joined { IfOk result (λ all. string_bytes all ≡ joined (map string_bytes words.now)) }
     ensures parted { IfOk result (λ all. AreWords (map string_bytes words.now) →
@@ -61,7 +61,7 @@ fn joined(alloc: Global, words: &[String]) -> Result<String, AllocError>
     Ok(all)
 }
 
-// Says an order: its moment, its words and the text of its record. None where it was not said whole.
+// Sends an order; `None` if it could not be sent whole.
 fn say<W: Write>(
     alloc: Global,
     writer: &mut W,
@@ -86,15 +86,16 @@ fn say<W: Write>(
     }
 }
 
-// Waits so long at most until the desk takes an order and answers it.
 fn limited(stream: &UnixStream) -> io::Result<()> {
     let limit = Some(Duration::from_secs(ORDER_SECONDS));
     stream.set_write_timeout(limit)?;
     stream.set_read_timeout(limit)
 }
 
-/// Has the desk that holds a file do what the words order at a moment, where there is such a desk that does it: what it
-/// answered. Where it gives no whole answer, the order was done once, or not at all.
+/// Has the server that holds a file execute a command line at a timestamp, and returns its answer.
+///
+/// `None` if no server holds the file, or it gives no complete answer: then the order took effect once or not at all.
+/// Commands are idempotent, so the caller can run it again.
 pub fn order(
     rt: &HostRuntime,
     file: &str,
@@ -109,7 +110,7 @@ pub fn order(
     hear_answer(rt.alloc(), &mut &stream).ok()?
 }
 
-// Prints a text. Gives the status where all of it was written.
+// Prints a text; returns the status if all of it was written.
 fn print_to<W: Write>(writer: &mut W, text: &[u8], status: u8) -> Option<u8>
     ensures { MatchOption result
         ((n : ℕ) × Appends (W.contents writer.old) (W.contents writer.new) (take n text.now))
@@ -122,8 +123,12 @@ fn print_to<W: Write>(writer: &mut W, text: &[u8], status: u8) -> Option<u8>
     }
 }
 
-/// Prints what a desk answered: what was done to the standard output, a refusal to the standard error. Gives the status
-/// with which the word ends; none where not all of it could be written, but a beginning.
+/// Prints an answer of the server: to standard output if it was done, to standard error if refused. Returns the exit
+/// status, 0 or 1; `None` if a write fails.
+///
+/// # Guarantees
+///
+/// `printed`: all of the text was written to that stream, and nothing to the other; or, for `None`, a prefix of it.
 #[tactic(auto, using(crate::proofs::PrintedLemmas::printed_done, crate::proofs::PrintedLemmas::printed_refused))]
 pub fn print_answered<O: Write, E: Write>(
     answered: &Answered,

@@ -1,4 +1,4 @@
-//! What the officer orders, done at the desk.
+//! Execution of orders on the server.
 
 ghost use Rattle.std.specs.Prelude.{◌≡◌, ◌++◌, ℕ, List, IfOk, codes};
 ghost use Rattle.club_requests.specs.AnswerText.{outcome_text};
@@ -17,25 +17,25 @@ use http_desk::{ClubFault, ServedClub};
 use std::alloc::{AllocError, Global};
 use std::io::Write;
 
-/// What the officer has the desk do.
+/// An operation that the server can execute for the command line.
 #[derive(Debug, Drop)]
 pub enum Errand {
-    /// To give the club a command of the officer's.
+    /// A command, sent as the officer.
     Command(Command),
-    /// To ask the club, which changes nothing.
+    /// A query, which changes nothing.
     Question(Question),
 }
 
 /// Why an order has no answer.
 #[derive(Clone, Copy, Debug, PartialEq, Eq)]
 pub enum OrderFault {
-    /// A call on the club failed, or memory was refused: it was done once, or not at all, and nothing was told of it.
+    /// A call on the club failed, or out of memory: it took effect once or not at all, and nothing was sent.
     Undone,
-    /// It was done, and the answer could not be written.
+    /// It took effect, and the answer could not be sent; a prefix of it may have been.
     Untold,
 }
 
-// Whether a command was done, now or before.
+// Whether a command was accepted, now or before.
 fn is_done(outcome: &Outcome) -> bool
     ensures { (text : List ℕ) → text ≡ outcome_text outcome.now ++ codes "\n" →
         print_of result text ≡ printed outcome.now }
@@ -47,7 +47,7 @@ fn is_done(outcome: &Outcome) -> bool
     }
 }
 
-// What is printed of what a command was answered.
+// The output of a command.
 fn outcome_printed(alloc: Global, outcome: &Outcome) -> Result<Answered, AllocError>
     ensures { IfOk result (λ answered. print_of answered.is_done answered.text.items ≡ printed outcome.now) }
 {
@@ -58,7 +58,7 @@ fn outcome_printed(alloc: Global, outcome: &Outcome) -> Result<Answered, AllocEr
     })
 }
 
-// What is printed of what a question was shown.
+// The output of a query.
 fn shown_printed(alloc: Global, shown: Result<Vec<u8>, Refusal>) -> Result<Answered, AllocError>
     ensures { IfOk result (λ answered.
         print_of answered.is_done answered.text.items ≡ shown_printed (shown_view shown)) }
@@ -75,7 +75,6 @@ fn shown_printed(alloc: Global, shown: Result<Vec<u8>, Refusal>) -> Result<Answe
     }
 }
 
-// Gives the club a command of the officer's.
 fn give<C: ServedClub>(
     alloc: Global,
     club: &mut C,
@@ -99,7 +98,6 @@ fn give<C: ServedClub>(
     }
 }
 
-// Asks the club for the officer.
 fn ask<C: ServedClub>(
     alloc: Global,
     club: &mut C,
@@ -122,7 +120,6 @@ fn ask<C: ServedClub>(
     }
 }
 
-// Does what the officer orders.
 fn obey<C: ServedClub>(
     alloc: Global,
     club: &mut C,
@@ -141,9 +138,18 @@ fn obey<C: ServedClub>(
     }
 }
 
-/// Does what the officer orders at a moment, and tells the one who ordered it what it was answered and prints: the
-/// answer is the club's, and the club does it once, or nothing. Nothing is told before it is done: a call that failed
-/// leaves the state before it or the one after it, and of that nothing is told.
+/// Executes an operation at a timestamp and sends its output to the client; `false` if the club refuses it.
+///
+/// # Errors
+///
+/// - `Undone` if a call on the club fails, or if out of memory: it took effect once or not at all, and nothing is
+///   sent.
+/// - `Untold` if the answer cannot be sent: it took effect.
+///
+/// # Guarantees
+///
+/// - `obeys`: the operation takes effect once or not at all.
+/// - `tells`: nothing is sent before it has taken effect.
 pub fn serve_order<W: Write, C: ServedClub>(
     alloc: Global,
     writer: &mut W,

@@ -1,11 +1,11 @@
-//! Numbers and lines, read off the front of bytes.
+//! Parsing of numbers and delimiters from bytes.
 
 ghost use Rattle.std.specs.Prelude.{◌≡◌, ◌≢◌, ◌<◌, ◌≤◌, ◌++◌, ◌^◌, ◌∷◌, ℕ, List, MatchOption, decimal, length};
 ghost use Rattle.std.specs.Prelude.{slice_index};
 ghost use Rattle.std.specs.Prelude.{true, false};
 ghost use Rattle.officer_door.specs.Reading.{IsCut, Lacks};
 
-/// The bytes behind those that are to stand in front.
+/// The bytes after a prefix, if they have it.
 pub(crate) fn behind<'a>(bytes: &'a [u8], front: &[u8]) -> Option<&'a [u8]>
     ensures { MatchOption result ((rest : List ℕ) → bytes.now ≢ front.now ++ rest)
         (λ rest. bytes.now ≡ front.now ++ rest.now) }
@@ -13,7 +13,7 @@ pub(crate) fn behind<'a>(bytes: &'a [u8], front: &[u8]) -> Option<&'a [u8]>
     bytes.strip_prefix(front)
 }
 
-/// The bytes before the first such byte, and those behind it.
+/// The bytes before and after the first `byte`.
 pub(crate) fn cut_at(bytes: &[u8], byte: u8) -> Option<(&[u8], &[u8])>
     ensures { MatchOption result (Lacks byte bytes.now)
         (λ parts. IsCut byte bytes.now parts.0.now parts.1.now) }
@@ -26,7 +26,7 @@ pub(crate) fn cut_at(bytes: &[u8], byte: u8) -> Option<(&[u8], &[u8])>
     None
 }
 
-// Whether digits have a zero in front, or a sign.
+// Whether digits have a leading zero or a sign.
 fn is_padded(digits: &[u8]) -> bool
     ensures padded { result ≡ true → slice_index digits.now 0 ≢ 43 →
         (slice_index digits.now 0 ≡ 48) × (1 < length digits.now) }
@@ -45,7 +45,7 @@ fn is_padded(digits: &[u8]) -> bool
     digits.len() > 1
 }
 
-/// The number that the bytes write, with no sign and no zero in front.
+/// Parses a decimal number without sign or leading zeros.
 pub(crate) fn number_in(bytes: &[u8]) -> Option<u64>
     ensures { MatchOption result ((n : ℕ) → n < 2 ^ 64 → bytes.now ≢ decimal n)
         (λ n. (bytes.now ≡ decimal n) × (n < 2 ^ 64)) }
@@ -63,7 +63,7 @@ pub(crate) fn number_in(bytes: &[u8]) -> Option<u64>
     }
 }
 
-/// The number before the first such byte, which is no digit, and the bytes behind that.
+/// Parses the number before the first `byte`, which is no digit; returns the rest, too.
 pub(crate) fn number_before(bytes: &[u8], byte: u8) -> Option<(u64, &[u8])>
     requires { byte < 48 }
     ensures { MatchOption result ((n : ℕ) (rest : List ℕ) → n < 2 ^ 64 → bytes.now ≢ decimal n ++ byte ∷ rest)

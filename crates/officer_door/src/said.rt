@@ -1,4 +1,4 @@
-//! What one says over the door: that it wants the file, or an order.
+//! The wire format of messages to the control socket: `file`, or an order with its command line and record.
 
 ghost use Rattle.std.specs.Prelude.{◌≡◌, ◌++◌, ◌<◌, ℕ, List, IfOk, MatchOption, length};
 ghost use Rattle.officer_door.specs.Said.{IsLine, IsSaid, IsWithin, SaysOrder, order_said};
@@ -8,41 +8,42 @@ use crate::reading::{behind, cut_at, number_before, number_in};
 use clocks::Moment;
 use std::alloc::{AllocError, Global};
 
-// The most bytes that the words of an order may have, and the text of its record.
+// The most bytes of an order's command line.
 const MOST_WORDS: u64 = 65_536;
 
+// The most bytes of its record.
 const MOST_TEXT: u64 = 65_537;
 
-/// The most bytes that are heard of one: those of the longest order, or a few more.
+/// The most bytes read from one connection: at least those of the longest order.
 pub(crate) const MOST_SAID: usize = 131_201;
 
-/// What one says who wants the file.
+/// The message that requests a lease.
 pub(crate) const FILE: [u8; 5] = *b"file\n";
 
-/// An order as it is said.
+/// The parts of an order.
 #[derive(Clone, Copy)]
 pub(crate) struct Given<'a> {
     pub(crate) moment: Moment,
-    // One behind the other.
+    // The words of the command line, separated by NUL.
     pub(crate) words: &'a [u8],
-    // Of its record.
+    // The record that the order imports, or nothing.
     pub(crate) text: &'a [u8],
 }
 
-/// What the bytes that one has said amount to.
+/// The result of parsing a prefix of a message.
 #[derive(Clone, Copy)]
 pub(crate) enum Said<'a> {
-    /// More may come.
+    /// More bytes are needed.
     Part,
-    /// The file is wanted.
+    /// A request for a lease.
     File,
     /// An order.
     Order(Given<'a>),
-    /// Nothing, whatever comes.
+    /// The bytes are malformed, whatever follows.
     Nothing,
 }
 
-// The first line of an order: its moment, and how many bytes its words and the text of its record have.
+// The first line of an order: timestamp, and lengths of command line and record in bytes.
 #[derive(Clone, Copy)]
 struct Heading {
     moment: u64,
@@ -51,6 +52,10 @@ struct Heading {
 }
 
 /// The bytes of an order.
+///
+/// # Errors
+///
+/// `AllocError` if out of memory.
 pub(crate) fn order_said(
     alloc: Global,
     moment: Moment,
@@ -67,7 +72,6 @@ pub(crate) fn order_said(
     Ok(bytes)
 }
 
-// Reads the first line of an order.
 fn heading_of(line: &[u8]) -> Option<Heading>
     ensures { MatchOption result ((m w t : ℕ) → IsLine line.now m w t → ⊥)
         (λ heading. IsLine line.now heading.moment heading.words heading.text) }
@@ -94,14 +98,13 @@ fn heading_of(line: &[u8]) -> Option<Heading>
     }
 }
 
-// The moment of so many seconds.
 fn moment_at(seconds: u64) -> Option<Moment>
     ensures { MatchOption result (253402300799 < seconds) (λ moment. moment ≡ seconds) }
 {
     Moment::new(seconds)
 }
 
-// What the bytes that one has said amount to.
+// Parses a prefix of a message.
 fn said_by(said: &[u8]) -> Said<'_>
     ensures { IsSaid said.now result }
 {
@@ -141,7 +144,11 @@ fn said_by(said: &[u8]) -> Said<'_>
     })
 }
 
-/// What the bytes that one has said amount to. An order is read as it was said, and a part of it waited for.
+/// Parses a prefix of a message.
+///
+/// # Guarantees
+///
+/// `whole`: an encoded order is decoded to its parts. `part`: a proper prefix of one is `Part`.
 pub(crate) fn said_in(said: &[u8]) -> Said<'_>
     ensures is { IsSaid said.now result }
     ensures whole { (moment : ℕ) (words text : List ℕ) → IsWithin moment (length words) (length text) →

@@ -1,4 +1,4 @@
-//! Bytes that are written as far as a writer takes them.
+//! Writing all bytes to a writer, with interrupted calls repeated.
 
 ghost use Rattle.std.specs.Prelude.{◌≡◌, ℕ, take, IfErr, OnErr, OnOk};
 ghost use Rattle.std.specs.Io.KnownBytes.{Appends};
@@ -7,7 +7,11 @@ use http_desk::DeskFault;
 use http_head::is_interrupted;
 use std::io::Write;
 
-/// Writes a reply, or where the writer fails a beginning of it. Nothing is flushed.
+/// Writes all bytes, without a flush.
+///
+/// # Errors
+///
+/// `Write` if the writer fails: a prefix of the bytes was written.
 pub fn write_reply<W: Write>(writer: &mut W, bytes: &[u8]) -> Result<(), DeskFault>
     ensures ok { OnOk result (Appends (W.contents writer.old) (W.contents writer.new) bytes.now) }
     ensures beginning { OnErr result ((n : ℕ) ×

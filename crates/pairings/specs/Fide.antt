@@ -1,4 +1,4 @@
--- FIDE's table for six players: round, board, First, Second. The boards are numbered by the lower player.
+-- FIDE's Berger table for six players: round, board, First, Second. Boards are numbered by the lower player.
 use Rattle.std.specs.Prelude.{ℕ, List, [], ◌∷◌}
 use Rattle.pairings.specs.declared.table.Pairing.{Pairing}
 

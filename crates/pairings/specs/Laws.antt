@@ -1,13 +1,13 @@
--- What is counted among the games of a table.
+-- Counts over the games of a table.
 use Rattle.std.specs.Prelude.{ℕ, ◌&&◌, ◌||◌, nat_eq, List}
 use Rattle.std.specs.List.{count_by}
 use Rattle.pairings.specs.declared.table.Pairing.{Pairing}
 
--- how often one player had First against another
+-- How often one player plays First against another.
 abbrev pub times_first : ℕ → ℕ → List Pairing → ℕ
 times_first one other games = count_by (λ game. nat_eq game.first one && nat_eq game.second other) games
 
--- how many games a player has as First, as Second, and in all
+-- The number of a player's games: as First, as Second, and in all.
 abbrev pub games_as_first : ℕ → List Pairing → ℕ
 games_as_first player games = count_by (λ game. nat_eq game.first player) games
 

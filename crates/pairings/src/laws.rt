@@ -1,11 +1,11 @@
-//! The laws of the table, for the games that `round` and `rounds` give.
+//! Properties of the pairings that `round` and `rounds` return.
 
 ghost use Rattle.std.specs.Prelude.{◌≡◌, ◌≢◌, ◌≤◌, ◌+◌, true, false};
 ghost use Rattle.pairings.specs.Fide.{fide_of_six};
 ghost use Rattle.pairings.specs.Laws.{times_first, games_as_first, games_as_second, games_with};
 ghost use Rattle.pairings.specs.Table.{games, all_games, rounds_of};
 
-/// Two players meet once in all rounds, and in those of a double round robin once with each side.
+/// Lemma: two players meet exactly once in a single round robin, and once with each side in a double one.
 pub fn pairs_meet(players: u32, one: u32, other: u32)
     requires few { players ≤ 32 }
     requires two { 2 ≤ players }
@@ -19,7 +19,7 @@ pub fn pairs_meet(players: u32, one: u32, other: u32)
     ensures with_each_side { times_first one other (all_games players true) ≡ 1 }
 {}
 
-/// Nobody has two games in one round.
+/// Lemma: no player has two games in one round.
 pub fn nobody_plays_twice(players: u32, round: u32, player: u32)
     requires few { players ≤ 32 }
     requires two { 2 ≤ players }
@@ -30,7 +30,8 @@ pub fn nobody_plays_twice(players: u32, round: u32, player: u32)
     ensures { games_with player (games players round) ≤ 1 }
 {}
 
-/// A player's games as First and as Second differ by one at most, and not at all in a double round robin.
+/// Lemma: a player's games as First and as Second differ by at most one, and are equal in number in a double round
+/// robin.
 pub fn sides_are_even(players: u32, player: u32)
     requires few { players ≤ 32 }
     requires two { 2 ≤ players }
@@ -43,7 +44,7 @@ pub fn sides_are_even(players: u32, player: u32)
     ensures equal { games_as_first player (all_games players true) ≡ games_as_second player (all_games players true) }
 {}
 
-/// The games of six players are those of FIDE's table.
+/// Lemma: the pairings of six players are those of FIDE's table.
 #[tactic(auto, using(crate::proofs::OfSix::as_fide))]
 pub fn six_play_as_in_fide()
     ensures { all_games 6 false ≡ fide_of_six }

@@ -1,4 +1,6 @@
-//! The pairings of a round robin by the Berger table: who meets whom in which round, and who plays First.
+//! Round-robin pairings by the Berger tables: who plays whom in which round, and who plays First.
+//!
+//! The tables are those of the FIDE Handbook, C.05, Annex 1.
 #![tactic(auto)]
 
 pub mod laws;

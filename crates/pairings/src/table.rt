@@ -1,4 +1,4 @@
-//! The table: the pairings of a round, and of all rounds.
+//! The Berger tables: the pairings of one round, and of all rounds.
 
 ghost use Rattle.std.specs.Prelude.{◌≡◌, ◌≤◌, ◌+◌, ◌*◌, ◌++◌, suc, IfOk, OnOk, length, filter};
 ghost use Rattle.pairings.specs.Table.{seats, rounds_once, rounds_of, meet, is_lower_first, game_of, numbered};
@@ -6,7 +6,7 @@ ghost use Rattle.pairings.specs.Table.{row, games, all_games};
 
 use std::alloc::{AllocError, Global};
 
-/// A game of the table: who plays whom at which board of which round, the players, rounds and boards numbered from 1.
+/// A game of the table. Players, rounds and boards are numbered from 1.
 #[derive(Clone, Copy, Debug, PartialEq, Eq)]
 pub struct Pairing {
     pub round: u32,
@@ -15,7 +15,7 @@ pub struct Pairing {
     pub second: u32,
 }
 
-// The players, and the bye where their number is odd.
+// The number of players, plus one for the bye if it is odd.
 fn seats(players: u32) -> u32
     requires { players ≤ 32 }
     ensures { result ≡ seats players }
@@ -27,7 +27,7 @@ fn seats(players: u32) -> u32
     }
 }
 
-// The rounds in which each meets each once.
+// The number of rounds of a single round robin.
 fn rounds_once(players: u32) -> u32
     requires few { players ≤ 32 }
     requires two { 2 ≤ players }
@@ -36,7 +36,7 @@ fn rounds_once(players: u32) -> u32
     seats(players) - 1
 }
 
-/// How many rounds a round robin has, and a double one.
+/// The number of rounds of a single or double round robin.
 pub fn rounds_of(players: u32, is_double: bool) -> u32
     requires few { players ≤ 32 }
     requires two { 2 ≤ players }
@@ -49,7 +49,7 @@ pub fn rounds_of(players: u32, is_double: bool) -> u32
     }
 }
 
-// Whether the two players meet in the round.
+// Whether two players meet in the round.
 fn meet(players: u32, round: u32, lower: u32, higher: u32) -> bool
     requires few { players ≤ 32 }
     requires two { 2 ≤ players }
@@ -66,7 +66,7 @@ fn meet(players: u32, round: u32, lower: u32, higher: u32) -> bool
     sum % rounds_once(players) == (round + 1) % rounds_once(players)
 }
 
-// Whether the lower player plays First.
+// Whether the player with the lower number plays First.
 fn is_lower_first(players: u32, round: u32, lower: u32, higher: u32) -> bool
     requires few { players ≤ 32 }
     requires two { 2 ≤ players }
@@ -111,7 +111,7 @@ fn game_of(players: u32, round: u32, board: u32, lower: u32, higher: u32) -> Pai
     }
 }
 
-// Adds the games of a player with the higher ones.
+// Appends the games of a player against players with higher numbers.
 fn push_row(
     pairings: &mut Vec<Pairing>,
     players: u32,
@@ -136,7 +136,11 @@ fn push_row(
     Ok(())
 }
 
-/// The games of a round, by the lower player of each.
+/// The games of a round, ordered by the lower player number of each.
+///
+/// # Errors
+///
+/// `AllocError` if out of memory.
 pub fn round(alloc: Global, players: u32, round: u32) -> Result<Vec<Pairing>, AllocError>
     requires few { players ≤ 32 }
     requires two { 2 ≤ players }
@@ -150,7 +154,11 @@ pub fn round(alloc: Global, players: u32, round: u32) -> Result<Vec<Pairing>, Al
     Ok(pairings)
 }
 
-/// The games of all rounds, one round after the other.
+/// The games of all rounds, in the order of the rounds.
+///
+/// # Errors
+///
+/// `AllocError` if out of memory.
 pub fn rounds(alloc: Global, players: u32, is_double: bool) -> Result<Vec<Pairing>, AllocError>
     requires few { players ≤ 32 }
     requires two { 2 ≤ players }

@@ -1,4 +1,4 @@
--- The one of some moves that fits, if there is one.
+-- The choice of the only matching move.
 use Rattle.std.specs.Prelude.{◌≡◌, ◌≢◌, ◌==◌, ◌&&◌, Bool, Option, Some, None, List}
 use Rattle.squares.specs.declared.draughts.moves.DMove.{DMove}
 use Rattle.squares.specs.DraughtsSets.{same_squares}
@@ -9,23 +9,23 @@ use Rattle.pdn.specs.declared.faults.MoveFault.TheVariants as fault
 abbrev pub same_move : DMove → DMove → Bool
 same_move a b = (a.from == b.from) && ((a.to == b.to) && same_squares a.taken b.taken)
 
--- none fits, or this one and no other
+-- no move matches, or this one and no other
 abbrev pub IsChoice : (DMove → Type 0) → List DMove → Option DMove → Type 0
 IsChoice F moves None = (n : DMove) → In n moves → F n → ⊥
 IsChoice F moves (Some m) = In m moves × F m × ((n : DMove) → In n moves → F n → n ≡ m)
 
--- two different moves fit
+-- two different moves match
 abbrev pub IsTie : (DMove → Type 0) → List DMove → Type 0
 IsTie F moves = (m : DMove) × (n : DMove) × In m moves × F m × In n moves × F n × (m ≢ n)
 
--- why there is no choice
+-- the fault if there is no unique choice
 abbrev pub IsChoiceFault : (DMove → Type 0) → List DMove → MoveFault → Type 0
 IsChoiceFault F moves fault.Memory = Unit {0}
 IsChoiceFault F moves (fault.BadText offset) = ⊥
 IsChoiceFault F moves fault.Ambiguous = IsTie F moves
 IsChoiceFault F moves (fault.Illegal cause) = ⊥
 
--- a move that fits beside the choice so far: it is the same or the first, or there are two
+-- the choice after one more matching move: it is the first or the same one, else there is a tie
 abbrev pub Joins : Option DMove → DMove → DMove → Type 0
 Joins None n m = m ≡ n
 Joins (Some other) n m = (m ≡ n) × (m ≡ other)

@@ -1,5 +1,5 @@
--- The form of a position's text (FEN): the side to move, and two lists in either order, one of White's pieces and one
--- of Black's, parted by colons, with a dot at the end or none.
+-- Parser of the form of a FEN text: the side to move, White's list and Black's list in either order, separated by
+-- colons, and an optional dot.
 use Rattle.std.specs.Prelude.{◌≡◌, ℕ, ◌-◌, ◌==◌, List, [], ◌∷◌, length, Option, Some, None, Result, Ok, Err}
 use Rattle.std.specs.Prelude.{if◌then◌else◌}
 use Rattle.squares.specs.declared.sides.Side.{Side}
@@ -8,7 +8,7 @@ use Rattle.squares.specs.Sides.{other, same_side}
 use Rattle.pdn.specs.declared.items.Item.{Item}
 use Rattle.pdn.specs.FenItems.{past_byte, Items, ReadsList}
 
--- a side read from the front of a text, with what follows it
+-- a side read from the front of a text, with the rest of the text
 pub record SideFront : Type 0 where
   pub side : Side
   pub rest : List ℕ
@@ -18,7 +18,7 @@ read_side [] = None
 read_side (c ∷ rest) = if c == 87 then Some (record { side = First; rest = rest }) else if c == 66 then Some
     (record { side = Second; rest = rest }) else None
 
--- the side to move, and that of the first list
+-- the side to move, and the side of the first list
 pub record Header : Type 0 where
   pub turn : Side
   pub first : Side
@@ -45,7 +45,7 @@ read_header text = header_turn (read_side text)
 abbrev pub RestReading : Type 0
 RestReading = Result (List ℕ) ℕ
 
--- the letter of the second list, which is the other side's, where so many bytes stand before it
+-- the letter of the second list, which must be that of the other side; `before` is its offset
 abbrev pub other_list : ℕ → Side → Option SideFront → RestReading
 other_list before listed None = Err before
 other_list before listed (Some front) = if same_side front.side listed then Err before else Ok front.rest
@@ -54,11 +54,11 @@ abbrev pub after_colon : ℕ → Side → List ℕ → Option (List ℕ) → Res
 after_colon total listed text None = Err (total - length text)
 after_colon total listed text (Some rest) = other_list (total - length rest) listed (read_side rest)
 
--- what stands between the lists: a colon and a letter
+-- between the lists: a colon and a letter
 abbrev pub read_between : ℕ → Side → List ℕ → RestReading
 read_between total listed text = after_colon total listed text (past_byte 58 text)
 
--- what follows the second list where a text should end
+-- the offset of the rest of the text, if it is not empty
 abbrev pub left_over : ℕ → List ℕ → Option ℕ
 left_over total [] = None
 left_over total (c ∷ rest) = Some (total - length (c ∷ rest))
@@ -67,16 +67,16 @@ abbrev pub after_dot : ℕ → List ℕ → Option (List ℕ) → Option ℕ
 after_dot total text None = left_over total text
 after_dot total text (Some rest) = left_over total rest
 
--- where a text goes on past its end, after one dot or none
+-- the offset of the first byte after the end of the text, which is one optional dot
 abbrev pub past_end : ℕ → List ℕ → Option ℕ
 past_end total text = after_dot total text (past_byte 46 text)
 
--- the side to move and the items of both lists, in the order of the text
+-- the side to move, and the items of both lists in textual order
 pub record FenForm : Type 0 where
   pub turn : Side
   pub items : List Item
 
--- A reading of a whole text gives its form, or the length of its longest beginning that begins a position's text.
+-- The result of parsing a whole text: its form, or the length of its longest prefix that can begin a FEN text.
 abbrev pub FenReading : Type 0
 FenReading = Result FenForm ℕ
 
@@ -89,7 +89,7 @@ pub data ReadsRest (total : ℕ) (turn second : Side) (before : List Item) (text
   ended : (list : Items) → ReadsList total second before text (Ok list) → past_end total list.rest ≡ None
       → ReadsRest total turn second before text (Ok (record { turn = turn; items = list.items }))
 
--- the lists
+-- both lists
 pub data ReadsLists (total : ℕ) (header : Header) : FenReading → Type 0 where
   bad_first : (offset : ℕ) → ReadsList total header.first [] header.rest (Err offset)
       → ReadsLists total header (Err offset)

@@ -1,4 +1,4 @@
--- Which texts have the form of a position's text (FEN), by their parts.
+-- The grammar of FEN texts.
 use Rattle.std.specs.Prelude.{◌≡◌, ◌⊎◌, ◌↔◌, ◌+◌, ◌≤◌, ℕ, List, [], ◌∷◌, ◌++◌, length, Ok}
 use Rattle.squares.specs.declared.sides.Side.{Side}
 use Rattle.squares.specs.Sides.{other}
@@ -17,7 +17,7 @@ abbrev pub IsKingText : Side → Item → List ℕ → Type 0
 IsKingText side i text = (square : List ℕ) × IsSquareText i.from square × (i.to ≡ i.from) × (i.piece ≡ king side)
     × (text ≡ 75 ∷ square)
 
--- men on the squares from one to another that is not below it: the two squares parted by a hyphen
+-- a range of men: its first and last square, separated by a hyphen
 abbrev pub AreMenText : Side → Item → List ℕ → Type 0
 AreMenText side i text = (first : List ℕ) × (last : List ℕ) × IsSquareText i.from first × IsSquareText i.to last
     × (i.from ≤ i.to) × (i.piece ≡ man side) × (text ≡ first ++ 45 ∷ last)
@@ -25,8 +25,8 @@ AreMenText side i text = (first : List ℕ) × (last : List ℕ) × IsSquareText
 abbrev pub IsItemText : Side → Item → List ℕ → Type 0
 IsItemText side i text = IsManText side i text ⊎ (IsKingText side i text ⊎ AreMenText side i text)
 
--- The items of a side's list, parted by commas, where so many bytes stand before them. Each item is named by how many
--- stand before it.
+-- The items of a side's list, separated by commas; `before` is the offset of the list. Each item records its own
+-- offset.
 abbrev pub AreItemsText : Side → ℕ → List Item → List ℕ → Type 0
 AreItemsText side before [] text = text ≡ []
 AreItemsText side before (i ∷ []) text = (i.at ≡ before) × IsItemText side i text
@@ -34,8 +34,8 @@ AreItemsText side before (i ∷ j ∷ items) text = (first : List ℕ) × (rest 
     × IsItemText side i first × AreItemsText side (before + length first + 1) (j ∷ items) rest
     × (text ≡ first ++ 44 ∷ rest)
 
--- The side to move, a side's list, and the other side's list, each after its letter, parted by colons, and a dot or
--- none.
+-- The side to move, one side's list and the other side's list, each after its letter and separated by colons, with an
+-- optional dot.
 pub record HasFenForm (text : List ℕ) (form : FenForm) : Type 0 where
   pub listed : Side
   pub first : List Item
@@ -50,6 +50,6 @@ pub record HasFenForm (text : List ℕ) (form : FenForm) : Type 0 where
   pub text_is : text ≡ side_letter form.turn
       ++ (58 ∷ (side_letter listed ++ (first_text ++ (58 ∷ (side_letter (other listed) ++ (second_text ++ dot))))))
 
--- What the reader of forms reads are these texts, each as its form.
+-- The parser accepts exactly the texts of the grammar, with the same forms.
 abbrev pub FenFormsAreTexts : Type 0
 FenFormsAreTexts = (text : List ℕ) (form : FenForm) → ReadsForm text (Ok form) ↔ HasFenForm text form

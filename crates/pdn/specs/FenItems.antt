@@ -1,5 +1,5 @@
--- The items of a position's text (FEN): a square for a man, `K` and a square for a king, or `a-b` for men on the
--- squares from a to b.
+-- Parser of the items of a FEN text: a square for a man, `K` and a square for a king, or `a-b` for men on the range of
+-- squares.
 use Rattle.std.specs.Prelude.{◌≡◌, ℕ, ◌+◌, ◌-◌, ◌*◌, ◌==◌, ◌&&◌, ◌||◌, nat_le, List, [], ◌∷◌, ◌++◌, length, Bool, true}
 use Rattle.std.specs.Prelude.{false, Option, Some, None, Result, Ok, Err, if◌then◌else◌}
 use Rattle.squares.specs.declared.sides.Side.{Side}
@@ -7,13 +7,13 @@ use Rattle.squares.specs.declared.draughts.piece.DPiece.{DPiece}
 use Rattle.pdn.specs.declared.items.Item.{Item}
 use Rattle.pdn.specs.SquareText.{Front, FrontReading, is_digit, after_zero, read_square}
 
--- what follows a byte, if the text begins with it
+-- the rest of the text after a byte, if it begins with that byte
 abbrev pub past_byte : ℕ → List ℕ → Option (List ℕ)
 past_byte byte [] = None
 past_byte byte (c ∷ rest) = if c == byte then Some rest else None
 
--- The last square of a range is not below the first. So a digit is read as the first of two where the number that it
--- begins can still be as great.
+-- The last square of a range is not below the first one, `low`. So a digit is accepted as the first of two if the
+-- number can still reach `low`.
 abbrev pub read_end_second : ℕ → ℕ → List ℕ → FrontReading
 read_end_second low first [] = if nat_le low first then Ok (record { square = first; rest = [] }) else Err 1
 read_end_second low first (c ∷ rest) =
@@ -21,7 +21,7 @@ read_end_second low first (c ∷ rest) =
     then Ok (record { square = 10 * first + (c - 48); rest = rest })
     else if nat_le low first then Ok (record { square = first; rest = c ∷ rest }) else Err 1
 
--- whether a number that begins with this digit can be as great
+-- whether a number that begins with this digit can be at least `low`
 abbrev pub can_begin : ℕ → ℕ → Bool
 can_begin low digit = nat_le low digit || (nat_le digit 5 && nat_le low (10 * digit + 9))
 
@@ -35,13 +35,13 @@ abbrev pub read_end : ℕ → List ℕ → FrontReading
 read_end low [] = Err 0
 read_end low (c ∷ rest) = if c == 48 then after_zero (read_end_number low rest) else read_end_number low (c ∷ rest)
 
--- an item read from the front of a text, with what follows it
+-- an item read from the front of a text, with the rest of the text
 pub record ItemFront : Type 0 where
   pub item : Item
   pub rest : List ℕ
 
--- An item, or the length of the longest beginning of the whole text that begins a position's text. The whole text has
--- so many bytes, and an item is named by how many stand before it.
+-- The result of reading an item: the item with its offset, or an error. The error is the length of the longest prefix
+-- of the whole text, of `total` bytes, that can begin a FEN text.
 abbrev pub ItemReading : Type 0
 ItemReading = Result ItemFront ℕ
 
@@ -51,20 +51,20 @@ man side = record { side = side; king = false }
 abbrev pub king : Side → DPiece
 king side = record { side = side; king = true }
 
--- a king, where so many bytes stand before the item and before its square
+-- a king; `at` is the offset of the item, `before` that of its square
 abbrev pub king_of : ℕ → ℕ → Side → FrontReading → ItemReading
 king_of at before side (Err bytes) = Err (before + bytes)
 king_of at before side (Ok front) =
     Ok
     (record { item = record { at = at; from = front.square; to = front.square; piece = king side }; rest = front.rest })
 
--- men up to a square, where so many bytes stand before the item and before that square
+-- a range of men; `at` is the offset of the item, `before` that of its last square
 abbrev pub range_of : ℕ → ℕ → Side → ℕ → FrontReading → ItemReading
 range_of at before side from (Err bytes) = Err (before + bytes)
 range_of at before side from (Ok front) =
     Ok (record { item = record { at = at; from = from; to = front.square; piece = man side }; rest = front.rest })
 
--- a man, or men up to a square after a hyphen
+-- a man, or a range of men after a hyphen
 abbrev pub after_man : ℕ → ℕ → Side → Front → Option (List ℕ) → ItemReading
 after_man total at side front None =
     Ok
@@ -83,7 +83,7 @@ read_kind total side text None = men_of total (total - length text) side (read_s
 unfoldable pub read_item : ℕ → Side → List ℕ → ItemReading
 read_item total side text = read_kind total side text (past_byte 75 text)
 
--- items with what follows them
+-- items with the rest of the text
 pub record Items : Type 0 where
   pub items : List Item
   pub rest : List ℕ
@@ -91,7 +91,7 @@ pub record Items : Type 0 where
 abbrev pub ItemsReading : Type 0
 ItemsReading = Result Items ℕ
 
--- Items parted by commas, after those that were read before.
+-- Items separated by commas, appended to the items read before.
 pub data ReadsItems (total : ℕ) (side : Side) : List Item → List ℕ → ItemsReading → Type 0 where
   bad_item : (before : List Item) (text : List ℕ) (offset : ℕ)
       → ◌≡◌ {A = ItemReading} (read_item total side text) (Err offset) → ReadsItems total side before text (Err offset)
@@ -104,12 +104,12 @@ pub data ReadsItems (total : ℕ) (side : Side) : List Item → List ℕ → Ite
       → past_byte 44 rest ≡ Some more → ReadsItems total side (before ++ item ∷ []) more reading
       → ReadsItems total side before text reading
 
--- nothing, a colon or a dot ends a list that has no item
+-- the end of an empty list: the end of the text, a colon or a dot
 abbrev pub ends_list : List ℕ → Bool
 ends_list [] = true
 ends_list (c ∷ rest) = (c == 58) || (c == 46)
 
--- a list, which may have no item
+-- a list, which may be empty
 pub data ReadsList (total : ℕ) (side : Side) : List Item → List ℕ → ItemsReading → Type 0 where
   no_item : (before : List Item) (text : List ℕ) → ends_list text ≡ true
       → ReadsList total side before text (Ok (record { items = before; rest = text }))

@@ -1,5 +1,5 @@
--- A position of draughts as text (FEN): the side to move, then White's and Black's pieces by ascending squares, `K`
--- before a king.
+-- The written FEN of a position: the side to move, then White's and Black's pieces in ascending order of squares, with
+-- `K` before a king.
 use Rattle.std.specs.Prelude.{ℕ, List, ◌∷◌, ◌++◌, Bool, true, false, Option, Some, None, codes, if◌then◌else◌}
 use Rattle.std.specs.List.{filter_map, join_with_byte, range_with_len}
 use Rattle.std.specs.FinMap as map
@@ -14,26 +14,26 @@ abbrev pub side_letter : Side → List ℕ
 side_letter First = codes "W"
 side_letter Second = codes "B"
 
--- a piece on a square
+-- a piece and its square
 abbrev pub piece_text : ℕ → DPiece → List ℕ
 piece_text square piece = if piece.king then 75 ∷ square_text square else square_text square
 
--- a piece on a square, if it is that side's
+-- a piece and its square, if it belongs to the side
 abbrev pub piece_of : Side → ℕ → Option DPiece → Option (List ℕ)
 piece_of side square None = None
 piece_of side square (Some piece) = if same_side piece.side side then Some (piece_text square piece) else None
 
--- a piece's text in a list: after a comma, unless it is the first
+-- an item of a list: after a comma, unless it is the first
 abbrev pub next_text : Bool → List ℕ → List ℕ
 next_text true item = item
 next_text false item = 44 ∷ item
 
--- the pieces of a side on those squares, parted by commas
+-- the pieces of a side on these squares, separated by commas
 unfoldable pub pieces_on : Side → Board → List ℕ → List ℕ
 pieces_on side board squares = join_with_byte 44
     (filter_map (λ square. piece_of side square (map.get board square)) squares)
 
--- the squares of the board, ascending
+-- the squares of the board in ascending order
 unfoldable pub all_squares : List ℕ
 all_squares = range_with_len 1 50
 

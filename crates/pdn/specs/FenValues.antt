@@ -1,4 +1,4 @@
--- The form that the reader of positions answers.
+-- The mathematical value of the form that the FEN parser returns.
 use Rattle.pdn.specs.declared.fen_form.FenForm as answer
 use Rattle.pdn.specs.FenForm.{FenForm}
 

@@ -1,4 +1,4 @@
--- What ties the writing and the reading of texts.
+-- Properties of the writers and the readers.
 use Rattle.std.specs.Prelude.{◌≡◌, ◌≢◌, ◌↔◌, ℕ, List, Ok, Err, IsSome}
 use Rattle.std.specs.FinMap as map
 use Rattle.squares.specs.DraughtsGeometry.{OnBoard}
@@ -15,34 +15,34 @@ use Rattle.pdn.specs.FenText.{fen_text}
 use Rattle.pdn.specs.ReadFen.{IsFen, HasFenFault}
 use Rattle.pdn.specs.ReadMove.{IsRead, HasReadFault}
 
--- The written text of a legal move is read as that move.
+-- The text written for a legal move is read as that move.
 abbrev pub ReadsBack : Type 0
 ReadsBack = (p : Position) (m : DMove) (text : List ℕ) → Legal p m → IsMoveText p m text → IsRead p text m
 
--- A text that is read as a move is read as no other, and has no fault but that memory is refused.
+-- A text that is read as a move is read as no other, and its only possible fault is out of memory.
 abbrev pub ReadsOneMove : Type 0
 ReadsOneMove = (p : Position) (text : List ℕ) (m : DMove) → IsRead p text m → ((n : DMove) → IsRead p text n → n ≡ m)
     × ((e : MoveFault) → HasReadFault p text e → e ≡ fault.Memory)
 
--- The function that writes gives the one text of a legal move.
+-- The writing function returns the only text of a legal move.
 abbrev pub WritesOneText : Type 0
 WritesOneText = (p : Position) (m : DMove) → Legal p m → IsMoveText p m (move_text p m)
     × ((text : List ℕ) → IsMoveText p m text → text ≡ move_text p m)
 
--- The function that reads gives the move of a text, or its one fault beside that of memory.
+-- The reading function returns the move of a text, or its only fault except out of memory.
 abbrev pub ReadsByRules : Type 0
 ReadsByRules = (p : Position) (text : List ℕ) → ((m : DMove) → (move_reading p text ≡ Ok m) ↔ IsRead p text m)
     × ((e : MoveFault) → (move_reading p text ≡ Err e) ↔ (HasReadFault p text e × (e ≢ fault.Memory)))
 
--- A text that is read as a position is read as no other, and has no fault but that memory is refused.
+-- A text that is read as a position is read as no other, and its only possible fault is out of memory.
 abbrev pub ReadsOnePosition : Type 0
 ReadsOnePosition = (p : Position) (text : List ℕ) → IsFen text p → ((q : Position) → IsFen text q → q ≡ p)
     × ((e : FenFault) → HasFenFault text e → e ≡ fen_fault.Memory)
 
--- all pieces stand on squares of the board
+-- all pieces are on squares of the board
 abbrev pub IsOnBoard : Position → Type 0
 IsOnBoard p = (n : ℕ) → IsSome (map.get p.board n) → OnBoard n
 
--- The written text of a position is read as that position.
+-- The text written for a position is read as that position.
 abbrev pub ReadsPositionBack : Type 0
 ReadsPositionBack = (p : Position) → IsOnBoard p → IsFen (fen_text p) p

@@ -1,5 +1,5 @@
--- The text of a move (PDN): a quiet move by a hyphen between its squares, a capture by `x` before each landing square
--- that is named.
+-- The written text of a move: a quiet move has a hyphen between its squares, a capture an `x` before each landing
+-- square that is named.
 use Rattle.std.specs.Prelude.{◌≡◌, ◌≢◌, ◌==◌, ◌&&◌, not, Bool, ℕ, List, [], ◌∷◌, ◌++◌}
 use Rattle.std.specs.FinSet as set
 use Rattle.std.specs.declared.cmp.Ordering.TheVariants.{Greater}
@@ -25,11 +25,11 @@ landings_text (n ∷ ns) = landing_text n ++ landings_text ns
 abbrev pub capture_text : ℕ → List ℕ → List ℕ
 capture_text from landings = square_text from ++ landings_text landings
 
--- whether a move leaves and comes to the same squares, and takes others
+-- whether a move has the same origin and destination, but captures other pieces
 abbrev pub is_like : DMove → DMove → Bool
 is_like m other = (other.from == m.from) && ((other.to == m.to) && not (same_squares other.taken m.taken))
 
--- another legal move that leaves and comes to the same squares
+-- another legal move with the same origin and destination
 pub record IsRival (p : Position) (m other : DMove) : Type 0 where
   pub legal : Legal p other
   pub from : other.from ≡ m.from
@@ -39,13 +39,13 @@ pub record IsRival (p : Position) (m other : DMove) : Type 0 where
 abbrev pub HasRival : Position → DMove → Type 0
 HasRival p m = (other : DMove) × IsRival p m other
 
--- the route of a capture that stands first in a dictionary
+-- the lexicographically first route of a capture
 pub record IsFirstRoute (p : Position) (m : DMove) (landings : List ℕ) : Type 0 where
   pub route : Capture p m.from landings m.taken m.to
   pub first : (others : List ℕ) → Capture p m.from others m.taken m.to → route_cmp landings others ≢ Greater
 
--- The written text of a legal move. A capture is short where no other legal move has its from and to; otherwise it has
--- all landing squares of its first route.
+-- The written text of a legal move. A capture is written short if no other legal move has its origin and destination;
+-- otherwise it has all landing squares of its first route.
 pub data IsMoveText (p : Position) (m : DMove) (text : List ℕ) : Type 0 where
   quiet : m.taken ≡ set.empty → text ≡ quiet_text m.from m.to → IsMoveText p m text
   short : m.taken ≢ set.empty → (HasRival p m → ⊥) → text ≡ capture_text m.from (m.to ∷ []) → IsMoveText p m text

@@ -1,4 +1,4 @@
--- The written text of a move, and the reading of one, as functions of the position.
+-- The writer and the reader of moves as functions of the position.
 use Rattle.std.specs.Prelude.{ℕ, ◌==◌, ◌&&◌, ◌||◌, not, Bool, List, [], ◌∷◌, Option, Some, None, Result, Ok, Err}
 use Rattle.std.specs.Prelude.{if◌then◌else◌}
 use Rattle.std.specs.List.{list_any, list_all, range_with_len}
@@ -21,7 +21,7 @@ use Rattle.pdn.specs.Passing.{passes}
 use Rattle.pdn.specs.Choice.{same_move}
 use Rattle.pdn.specs.MoveText.{is_like, quiet_text, capture_text}
 
--- the legal moves, some of them perhaps twice
+-- the legal moves, possibly with duplicates
 unfoldable pub legal_moves : Position → List DMove
 legal_moves p = moves p (most p)
 
@@ -43,21 +43,21 @@ named p m = if list_any (is_like m) (legal_moves p) then first_of (put_all route
 unfoldable pub move_text : Position → DMove → List ℕ
 move_text p m = if set.len m.taken == 0 then quiet_text m.from m.to else capture_text m.from (named p m)
 
--- whether the text of a capture fits a move
+-- whether the squares of a capture's text match a move
 unfoldable pub does_fit : Position → ℕ → List ℕ → ℕ → DMove → Bool
 does_fit p from middle to m = (m.from == from) && ((m.to == to) && list_any (passes middle) (routes_in p m))
 
 abbrev pub Choosing : Type 0
 Choosing = Result (Option DMove) MoveFault
 
--- the one of the moves that fits, if there is one
+-- the only matching move, if any matches
 abbrev pub choose : (DMove → Bool) → List DMove → Choosing
 choose fits [] = Ok None
 choose fits (m ∷ moves) =
     if fits m then if list_all (λ n. not (fits n) || same_move m n) moves then Ok (Some m) else Err
     fault.Ambiguous else choose fits moves
 
--- whether any capture fits
+-- whether any capture matches, legal or not
 unfoldable pub some_fit : Position → ℕ → List ℕ → ℕ → Bool
 some_fit p from middle to = list_any (λ n. list_any (does_fit p from middle to) (captures_at p n from))
     (range_with_len 0 51)
@@ -86,6 +86,6 @@ abbrev pub with_form : Position → FormReading → Reading
 with_form p (Err offset) = Err (fault.BadText offset)
 with_form p (Ok form) = form_reading p form
 
--- the move that a text stands for, or what is wrong with the text
+-- the move that a text denotes, or its fault
 unfoldable pub move_reading : Position → List ℕ → Reading
 move_reading p text = with_form p (read_form text)

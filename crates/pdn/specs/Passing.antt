@@ -1,4 +1,4 @@
--- Whether a route passes squares before its last one.
+-- Whether a route contains given squares before its last one.
 use Rattle.std.specs.Prelude.{ℕ, ◌-◌, ◌&&◌, nat_lt, List, length, take, Bool}
 use Rattle.pdn.specs.Subsequence.{is_subsequence}
 

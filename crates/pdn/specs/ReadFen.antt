@@ -1,4 +1,4 @@
--- The position that a text (FEN) stands for.
+-- The position that a FEN text denotes.
 use Rattle.std.specs.Prelude.{◌≡◌, ◌⊎◌, ℕ, ◌&&◌, nat_le, List, [], ◌∷◌, ◌++◌, fold, Bool, Option, Some, None, Ok, Err}
 use Rattle.std.specs.Prelude.{if◌then◌else◌}
 use Rattle.std.specs.List.{list_any, range_with_len}
@@ -9,11 +9,11 @@ use Rattle.pdn.specs.declared.faults.FenFault.{FenFault}
 use Rattle.pdn.specs.declared.faults.FenFault.TheVariants as fault
 use Rattle.pdn.specs.FenForm.{FenForm, ReadsForm}
 
--- whether two items give one square
+-- whether two items share a square
 abbrev pub shares : Item → Item → Bool
 shares i j = nat_le i.from j.to && nat_le j.from i.to
 
--- the place of the first item that gives a square which an earlier one gives
+-- the offset of the first item that names a square of an earlier item
 abbrev pub repeated_after : List Item → List Item → Option ℕ
 repeated_after before [] = None
 repeated_after before (i ∷ items) = if list_any (shares i) before then Some i.at else repeated_after (before ++ i ∷ [])
@@ -22,7 +22,7 @@ repeated_after before (i ∷ items) = if list_any (shares i) before then Some i.
 abbrev pub repeated : List Item → Option ℕ
 repeated items = repeated_after [] items
 
--- the board, with the item's piece on a square if the item gives that
+-- the board with the item's piece on a square, if the item covers it
 abbrev pub put_on : Item → Board → ℕ → Board
 put_on i board n = if nat_le i.from n && nat_le n i.to then map.insert board n i.piece else board
 
@@ -33,17 +33,17 @@ put_item board i = fold (put_on i) board (range_with_len 1 50)
 abbrev pub position_of : FenForm → Position
 position_of form = record { board = fold put_item map.empty form.items; turn = form.turn }
 
--- a text that stands for a position: no square is given twice
+-- the text denotes the position: it has a form, and no square is named twice
 abbrev pub IsFen : List ℕ → Position → Type 0
 IsFen text p = (form : FenForm) × ReadsForm text (Ok form) × (repeated form.items ≡ None) × (p ≡ position_of form)
 
--- What is wrong with a text: it has not the form, or it has, and an item gives a square again.
+-- The faults of a text: it has no form, or an item names a square of an earlier item.
 abbrev pub HasFenFault : List ℕ → FenFault → Type 0
 HasFenFault text fault.Memory = Unit {0}
 HasFenFault text (fault.BadText offset) = ReadsForm text (Err offset)
     ⊎ ((form : FenForm) × ReadsForm text (Ok form) × (repeated form.items ≡ Some offset))
 
--- a fault of the form alone, by what offsets it may have
+-- a syntax error, by its possible offsets
 abbrev pub IsBadAt : (ℕ → Type 0) → FenFault → Type 0
 IsBadAt at fault.Memory = Unit {0}
 IsBadAt at (fault.BadText offset) = at offset

@@ -1,4 +1,4 @@
--- What the reader of forms answers.
+-- The mathematical value of the form that the parser of moves returns.
 use Rattle.std.specs.Prelude.{◌≡◌, Err}
 use Rattle.pdn.specs.declared.faults.MoveFault.{MoveFault}
 use Rattle.pdn.specs.declared.faults.MoveFault.TheVariants as fault
@@ -10,7 +10,7 @@ abbrev pub form_of : answer.Form → Form
 form_of (named.Quiet from to) = quiet from to
 form_of (named.Capture from middle to) = capture from middle.items to
 
--- a fault of a text that has none of the forms
+-- the fault of a text without a form
 abbrev pub IsBadForm : FormReading → MoveFault → Type 0
 IsBadForm reading fault.Memory = Unit {0}
 IsBadForm reading (fault.BadText offset) = reading ≡ Err offset

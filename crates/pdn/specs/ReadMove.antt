@@ -1,4 +1,4 @@
--- The move that a text stands for in a position.
+-- The move that a text denotes in a position.
 use Rattle.std.specs.Prelude.{◌≡◌, ◌≢◌, ℕ, List, [], ◌∷◌, ◌++◌, Ok, Err}
 use Rattle.squares.specs.declared.draughts.moves.DMove.{DMove}
 use Rattle.squares.specs.DraughtsBoard.{Position}
@@ -13,8 +13,8 @@ use Rattle.pdn.specs.declared.faults.MoveFault.TheVariants as fault
 use Rattle.pdn.specs.Forms.{Form, quiet, capture, read_form}
 use Rattle.pdn.specs.Subsequence.{IsSubsequence}
 
--- The text of a capture fits a move of the same from and to, where the squares between are, in their order, among those
--- on which the piece lands on one of its routes before it comes to the last.
+-- The text of a capture matches a move if both have the same origin and destination, and some route of the move lands
+-- on the squares in between, in order.
 pub record Fits (p : Position) (from : ℕ) (middle : List ℕ) (to : ℕ) (m : DMove) : Type 0 where
   pub leaves : m.from ≡ from
   pub comes : m.to ≡ to
@@ -22,49 +22,49 @@ pub record Fits (p : Position) (from : ℕ) (middle : List ℕ) (to : ℕ) (m : 
   pub route : Capture p m.from (before ++ to ∷ []) m.taken m.to
   pub passes : IsSubsequence middle before
 
--- no legal move fits
+-- no legal move matches
 abbrev pub NoneFits : Position → ℕ → List ℕ → ℕ → Type 0
 NoneFits p from middle to = (m : DMove) → Legal p m → Fits p from middle to m → ⊥
 
--- a capture fits, be it legal or not
+-- a capture matches, legal or not
 abbrev pub SomeFits : Position → ℕ → List ℕ → ℕ → Type 0
 SomeFits p from middle to = (m : DMove) × Fits p from middle to m
 
--- a capture fits that takes fewer pieces than another would
+-- a capture matches that takes fewer pieces than another would
 abbrev pub ShortFits : Position → ℕ → List ℕ → ℕ → Type 0
 ShortFits p from middle to = (m : DMove) × IsShortCapture p m × Fits p from middle to m
 
--- A quiet text means its move, with nothing taken. A capture's text means the one legal move that it fits.
+-- A quiet text denotes its move, which captures nothing. A capture's text denotes the only legal move that it matches.
 abbrev pub StandsFor : Position → Form → DMove → Type 0
 StandsFor p (quiet from to) m = (m ≡ step_to from to) × Legal p m
 StandsFor p (capture from middle to) m = Legal p m × Fits p from middle to m
     × ((n : DMove) → Legal p n → Fits p from middle to n → n ≡ m)
 
--- two legal moves fit
+-- two legal moves match
 abbrev pub IsAmbiguous : Position → Form → Type 0
 IsAmbiguous p (quiet from to) = ⊥
 IsAmbiguous p (capture from middle to) = (m : DMove) × (n : DMove) × Legal p m × Fits p from middle to m × Legal p n
     × Fits p from middle to n × (m ≢ n)
 
--- why a text stands for no legal move
+-- the reason why a text denotes no legal move
 abbrev pub IsRefused : Position → Form → Illegal → Type 0
 IsRefused p (quiet from to) cause = check_of p (step_to from to) ≡ Err cause
 IsRefused p (capture from middle to) NoSuchMove = NoneFits p from middle to × (ShortFits p from middle to → ⊥)
 IsRefused p (capture from middle to) MustCapture = ⊥
 IsRefused p (capture from middle to) NotLongest = NoneFits p from middle to × ShortFits p from middle to
 
--- what is wrong with a text of a form
+-- the faults of a text that has a form
 abbrev pub IsFormFault : Position → Form → MoveFault → Type 0
 IsFormFault p form fault.Memory = Unit {0}
 IsFormFault p form (fault.BadText offset) = ⊥
 IsFormFault p form fault.Ambiguous = IsAmbiguous p form
 IsFormFault p form (fault.Illegal cause) = IsRefused p form cause
 
--- a text that is read as a move
+-- the text is read as the move
 abbrev pub IsRead : Position → List ℕ → DMove → Type 0
 IsRead p text m = (form : Form) × (read_form text ≡ Ok form) × StandsFor p form m
 
--- What is wrong with a text. One without a form has its longest beginning that begins a move's text.
+-- The faults of a text. The offset of a syntax error is that of the parser.
 abbrev pub HasReadFault : Position → List ℕ → MoveFault → Type 0
 HasReadFault p text fault.Memory = Unit {0}
 HasReadFault p text (fault.BadText offset) = read_form text ≡ Err offset

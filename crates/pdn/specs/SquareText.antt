@@ -1,4 +1,4 @@
--- The text of a square: its number from 1 to 50 in decimal, as it is written with no 0 before it, and as it is read.
+-- The text of a square: its number from 1 to 50 in decimal, written without a leading 0, read with at most one.
 use Rattle.std.specs.Prelude.{ℕ, ◌+◌, ◌-◌, ◌*◌, ◌/◌, ◌%◌, ◌==◌, ◌&&◌, nat_lt, nat_le, List, [], ◌∷◌, Bool, Result, Ok}
 use Rattle.std.specs.Prelude.{Err, if◌then◌else◌}
 
@@ -8,17 +8,17 @@ square_text n = if nat_lt n 10 then (48 + n) ∷ [] else (48 + n / 10) ∷ (48 +
 abbrev pub is_digit : ℕ → Bool
 is_digit c = nat_le 48 c && nat_le c 57
 
--- a square read from the front of a text, with what follows it
+-- a square read from the front of a text, with the rest of the text
 pub record Front : Type 0 where
   pub square : ℕ
   pub rest : List ℕ
 
--- A reading of the front of a text gives a square and what follows it, or the number of bytes that still begin a
--- square's text. A reader also takes one 0 before the number.
+-- The result of reading a square: the square and the rest of the text, or the number of bytes that can begin a square's
+-- text.
 abbrev pub FrontReading : Type 0
 FrontReading = Result Front ℕ
 
--- the second digit, if one follows that keeps the number on the board
+-- the second digit, if one follows and the number stays on the board
 abbrev pub read_second : ℕ → List ℕ → FrontReading
 read_second first [] = Ok (record { square = first; rest = [] })
 read_second first (c ∷ rest) =
@@ -26,12 +26,12 @@ read_second first (c ∷ rest) =
     then Ok (record { square = 10 * first + (c - 48); rest = rest })
     else Ok (record { square = first; rest = c ∷ rest })
 
--- a number with no 0 before it
+-- a number without a leading 0
 abbrev pub read_number : List ℕ → FrontReading
 read_number [] = Err 0
 read_number (c ∷ rest) = if nat_le 49 c && nat_le c 57 then read_second (c - 48) rest else Err 0
 
--- the reading, after one byte more
+-- the result after one more byte
 abbrev pub after_zero : FrontReading → FrontReading
 after_zero (Ok front) = Ok front
 after_zero (Err bytes) = Err (bytes + 1)

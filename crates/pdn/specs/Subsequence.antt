@@ -1,18 +1,18 @@
--- Squares in their order among others.
+-- Subsequences of lists of squares.
 use Rattle.std.specs.Prelude.{◌≡◌, ℕ, ◌==◌, ◌⊎◌, List, [], ◌∷◌, length, Bool, if◌then◌else◌}
 
--- what is left of a list when some elements of the other are left out
+-- the first list is a subsequence of the second
 abbrev pub IsSubsequence : List ℕ → List ℕ → Type 0
 IsSubsequence [] ys = Unit {0}
 IsSubsequence (x ∷ xs) [] = ⊥
 IsSubsequence (x ∷ xs) (y ∷ ys) = ((x ≡ y) × IsSubsequence xs ys) ⊎ IsSubsequence (x ∷ xs) ys
 
--- the squares still to be found, once the piece has landed on a square
+-- the squares that are still unmatched after a landing on y
 abbrev pub past : List ℕ → ℕ → List ℕ
 past [] y = []
 past (x ∷ xs) y = if x == y then xs else x ∷ xs
 
--- whether the squares are found in their order
+-- whether the first list is a subsequence of the second
 abbrev pub is_subsequence : List ℕ → List ℕ → Bool
 is_subsequence xs [] = length xs == 0
 is_subsequence xs (y ∷ ys) = is_subsequence (past xs y) ys

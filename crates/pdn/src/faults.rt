@@ -1,20 +1,20 @@
-//! Why a text is refused.
+//! The errors of the readers.
 
 use draughts_moves::{Illegal, Memory};
 use std::alloc::AllocFailed;
 use std::error::Error;
 use std::fmt;
 
-/// Why the text of a move is refused.
+/// The reason why the text of a move is refused.
 #[derive(Clone, Copy, Debug, PartialEq, Eq)]
 pub enum MoveFault {
-    /// Memory was refused.
+    /// Out of memory.
     Memory,
-    /// The text has none of the forms. Its longest beginning that begins such a text has this many bytes.
+    /// Syntax error. The longest prefix that can begin a move's text has this many bytes.
     BadText(usize),
-    /// Two or more legal captures fit the text.
+    /// Two or more legal captures match the text.
     Ambiguous,
-    /// The text names no legal move, and why.
+    /// The text denotes no legal move, with the reason.
     Illegal(Illegal),
 }
 
@@ -53,13 +53,13 @@ impl<T: Drop> From<AllocFailed<T>> for MoveFault {
     }
 }
 
-/// Why the text of a position is refused.
+/// The reason why the text of a position is refused.
 #[derive(Clone, Copy, Debug, PartialEq, Eq)]
 pub enum FenFault {
-    /// Memory was refused.
+    /// Out of memory.
     Memory,
-    /// The text has not the form, and its longest beginning that begins such a text has this many bytes. Or it has the
-    /// form, and what begins at this byte gives a square again.
+    /// Syntax error, where the longest prefix that can begin a position's text has this many bytes; or the item that
+    /// begins at this byte names an occupied square.
     BadText(usize),
 }
 

@@ -1,4 +1,4 @@
-//! Positions as text: FEN.
+//! Writer of positions as FEN.
 
 ghost use Rattle.std.specs.Prelude.{◌≡◌, ◌++◌, OnOk, IfOk, string_bytes};
 ghost use Rattle.std.specs.Option.{option_map};
@@ -10,7 +10,7 @@ use draughts_moves::Memory;
 use squares::{DPiece, DPos, Dsq, Side};
 use std::alloc::Global;
 
-// Adds a piece on a square: `K` for a king, and the square's number.
+// Appends a piece and its square: `K` for a king, and the square's number.
 fn push_piece(text: &mut String, square: Dsq, piece: DPiece) -> Result<(), Memory>
     ensures { OnOk result
         (string_bytes text.new ≡ string_bytes text.old ++ piece_text square piece) }
@@ -22,7 +22,7 @@ fn push_piece(text: &mut String, square: Dsq, piece: DPiece) -> Result<(), Memor
     Ok(())
 }
 
-// Adds a piece that is not the first after a comma.
+// Appends a piece, after a comma unless it is the first.
 fn push_next(text: &mut String, is_first: bool, square: Dsq, piece: DPiece) -> Result<(), Memory>
     ensures { OnOk result
         (string_bytes text.new
@@ -35,7 +35,7 @@ fn push_next(text: &mut String, is_first: bool, square: Dsq, piece: DPiece) -> R
     Ok(())
 }
 
-// Adds the pieces of a side, parted by commas.
+// Appends the pieces of a side, separated by commas.
 fn push_pieces(text: &mut String, position: &DPos, side: Side) -> Result<(), Memory>
     ensures { OnOk result
         (string_bytes text.new ≡ string_bytes text.old ++ pieces_text side position.now.board) }
@@ -51,7 +51,7 @@ fn push_pieces(text: &mut String, position: &DPos, side: Side) -> Result<(), Mem
     Ok(())
 }
 
-// The piece on a square, if it is that side's.
+// The piece on a square, if it belongs to the side.
 fn own_piece(position: &DPos, side: Side, square: Dsq) -> Option<DPiece>
     ensures { option_map (piece_text square) result ≡ piece_of side square (map.get position.now.board square) }
 {
@@ -61,10 +61,15 @@ fn own_piece(position: &DPos, side: Side, square: Dsq) -> Option<DPiece>
     }
 }
 
-// The room for the text of a position, in bytes: the longest has 50 kings.
+// The initial capacity for the text of a position, in bytes; the longest text has 50 kings.
 const TEXT_ROOM: usize = 256;
 
-/// The position as FEN: the side to move, then White's pieces and Black's, each by ascending squares: `W:W28,K46:B7,8`.
+/// Writes a position as FEN: the side to move, then White's and Black's pieces in ascending order of squares, such as
+/// `W:W28,K46:B7,8`.
+///
+/// # Errors
+///
+/// `Memory` if out of memory.
 #[tactic(auto, unfolding(crate::specs::FenText::fen_text))]
 pub fn write_fen(alloc: Global, position: &DPos) -> Result<String, Memory>
     ensures { IfOk result (λ text. string_bytes text ≡ fen_text position.now) }

@@ -1,4 +1,4 @@
-//! The form of a position's text.
+//! Parser of the form of a FEN text: the side to move, and the items of both lists. Repeated squares pass here.
 ghost use Rattle.std.specs.Prelude.{◌≡◌, ◌-◌, ◌<◌, ◌≤◌, IfOk, IfErr, IfSome, MatchOption, Ok, Err, Some, None, length};
 ghost use Rattle.pdn.specs.FenItems.{ends_list, ReadsItems, ReadsList};
 ghost use Rattle.pdn.specs.FenForm.{read_side, read_header, read_between, left_over, past_end, ReadsRest, ReadsLists};
@@ -11,21 +11,21 @@ use crate::items::{Item, past_byte, read_item};
 use squares::Side;
 use std::alloc::Global;
 
-/// The side to move, and the items of both lists in the order of the text.
+/// The side to move, and the items of both lists in textual order.
 #[derive(Drop)]
 pub struct FenForm {
     pub turn: Side,
     pub items: Vec<Item>,
 }
 
-// A side read from the front of a text, with what follows it.
+// A side read from the front of a text, with the rest of the text.
 #[derive(Clone, Copy)]
 struct SideFront<'a> {
     side: Side,
     rest: &'a [u8],
 }
 
-// The side to move and that of the first list, with what follows.
+// The side to move and the side of the first list, with the rest of the text.
 #[derive(Clone, Copy)]
 struct Header<'a> {
     turn: Side,
@@ -86,7 +86,7 @@ fn ends_list(text: &[u8]) -> bool
     }
 }
 
-// Adds the items of a list that has some, and answers what follows them.
+// Appends the items of a non-empty list to `items`; returns the rest of the text.
 fn read_items<'a>(
     total: usize,
     side: Side,
@@ -116,7 +116,7 @@ fn read_items<'a>(
     }
 }
 
-// Adds the items of a list, and answers what follows them.
+// Appends the items of a list, which may be empty, to `items`; returns the rest of the text.
 fn read_list<'a>(
     total: usize,
     side: Side,
@@ -141,7 +141,7 @@ fn read_list<'a>(
     }
 }
 
-// What follows the colon and the letter between the lists.
+// The rest of the text after the colon and the letter of the second list, which is not the side `first`.
 fn read_between(total: usize, first: Side, text: &[u8]) -> Result<&[u8], usize>
     requires { length text.now ≤ total }
     ensures rest { IfOk result (λ rest. read_between total first text.now ≡ Ok rest.now) }
@@ -173,7 +173,7 @@ fn left_over(total: usize, text: &[u8]) -> Option<usize>
     Some(total - text.len())
 }
 
-// Where a text goes on past its end, after one dot or none.
+// The offset of the first byte after the end of the text, which is one optional dot.
 fn past_end(total: usize, text: &[u8]) -> Option<usize>
     requires { length text.now ≤ total }
     ensures { result ≡ past_end total text.now }
@@ -184,7 +184,7 @@ fn past_end(total: usize, text: &[u8]) -> Option<usize>
     }
 }
 
-// The second list and the end of the text.
+// Parses the second list and the end of the text.
 fn read_rest(
     total: usize,
     turn: Side,
@@ -210,7 +210,7 @@ fn read_rest(
     }
 }
 
-// Both lists and the end of the text.
+// Parses both lists and the end of the text.
 fn read_lists(
     alloc: Global,
     total: usize,
@@ -241,7 +241,11 @@ fn read_lists(
     }
 }
 
-/// The form of a position's text, or the fault that it has none.
+/// Parses the form of a FEN text.
+///
+/// # Errors
+///
+/// `FenFault::Memory` if out of memory; `FenFault::BadText` for a syntax error.
 pub fn read_fen_form(alloc: Global, text: &[u8]) -> Result<FenForm, FenFault>
     ensures form { IfOk result (λ form. ReadsForm text.now (Ok (form_value form))) }
     ensures fault { IfErr result

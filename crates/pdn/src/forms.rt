@@ -1,4 +1,4 @@
-//! The forms of a move's text.
+//! Parser of the form of a move's text, without regard to a position.
 ghost use Rattle.std.specs.Prelude.{◌≡◌, ◌-◌, ◌≤◌, IfOk, IfErr, MatchOption, Ok, Some, None, length};
 ghost use Rattle.pdn.specs.SquareText.{read_square};
 ghost use Rattle.pdn.specs.Forms.{past_hyphen, past_cross, read_landings, quiet_of, capture_of, read_form};
@@ -9,15 +9,15 @@ use crate::squares_text::read_square;
 use squares::Dsq;
 use std::alloc::Global;
 
-/// What the text of a move names.
+/// The squares that the text of a move names.
 #[derive(Drop)]
 pub enum Form {
-    /// The two squares of a move that takes nothing.
+    /// The two squares of a quiet move (one that captures nothing).
     Quiet {
         from: Dsq,
         to: Dsq,
     },
-    /// The first square of a capture, landing squares on its way, and the last.
+    /// The origin of a capture, landing squares on its way, and its destination.
     Capture {
         from: Dsq,
         middle: Vec<Dsq>,
@@ -25,7 +25,7 @@ pub enum Form {
     },
 }
 
-// The second square of a quiet move, of a text of `total` bytes.
+// Parses the second square of a quiet move; `total` is the length of the whole text in bytes.
 fn read_quiet(from: Dsq, total: usize, text: &[u8]) -> Result<Form, MoveFault>
     requires { length text.now ≤ total }
     ensures form { IfOk result
@@ -47,7 +47,7 @@ fn read_quiet(from: Dsq, total: usize, text: &[u8]) -> Result<Form, MoveFault>
     })
 }
 
-// What follows a hyphen, if the text begins with one.
+// The rest of the text after a hyphen, if it begins with one.
 fn past_hyphen(text: &[u8]) -> Option<&[u8]>
     ensures { MatchOption result
         (past_hyphen text.now ≡ None) (λ rest. past_hyphen text.now ≡ Some rest.now) }
@@ -58,7 +58,7 @@ fn past_hyphen(text: &[u8]) -> Option<&[u8]>
     }
 }
 
-// What follows an `x` or a `:`, if the text begins with one.
+// The rest of the text after an `x` or a `:`, if it begins with one.
 fn past_cross(text: &[u8]) -> Option<&[u8]>
     ensures { MatchOption result
         (past_cross text.now ≡ None) (λ rest. past_cross text.now ≡ Some rest.now) }
@@ -70,7 +70,7 @@ fn past_cross(text: &[u8]) -> Option<&[u8]>
     }
 }
 
-// The landing squares of a capture, of a text of `total` bytes.
+// Parses the landing squares of a capture; `total` is the length of the whole text in bytes.
 fn read_capture(alloc: Global, from: Dsq, total: usize, text: &[u8]) -> Result<Form, MoveFault>
     requires { length text.now ≤ total }
     ensures form { IfOk result
@@ -103,7 +103,11 @@ fn read_capture(alloc: Global, from: Dsq, total: usize, text: &[u8]) -> Result<F
     }
 }
 
-/// The form of a text, or the fault that it has none.
+/// Parses the form of a move's text.
+///
+/// # Errors
+///
+/// `MoveFault::Memory` if out of memory; `MoveFault::BadText` for a syntax error.
 pub fn read_form(alloc: Global, text: &[u8]) -> Result<Form, MoveFault>
     ensures form { IfOk result (λ form. read_form text.now ≡ Ok (form_of form)) }
     ensures fault { IfErr result (λ fault. IsBadForm (read_form text.now) fault) }

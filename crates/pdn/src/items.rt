@@ -1,4 +1,4 @@
-//! The items of a position's text.
+//! Parser of the items in the lists of a FEN text: `28`, `K46` or `1-20`.
 ghost use Rattle.std.specs.Prelude.{◌≡◌, ◌+◌, ◌-◌, ◌<◌, ◌≤◌, IfOk, IfErr, IfSome, MatchOption, Ok, Err, Some, None};
 ghost use Rattle.std.specs.Prelude.{length};
 ghost use Rattle.pdn.specs.SquareText.{read_square};
@@ -8,7 +8,7 @@ ghost use Rattle.pdn.specs.FenItems.{king_of, range_of, men_of, read_item};
 use crate::squares_text::{Front, read_square};
 use squares::{DPiece, Dsq, Side};
 
-/// Equal pieces on the squares from one to another, and how many bytes of the text stand before them.
+/// Equal pieces on the squares `from` to `to`; `at` is the offset of the item in the text, in bytes.
 #[derive(Clone, Copy, Debug, PartialEq, Eq)]
 pub struct Item {
     pub at: usize,
@@ -17,14 +17,14 @@ pub struct Item {
     pub piece: DPiece,
 }
 
-/// An item read from the front of a text, with what follows it.
+/// An item read from the front of a text, with the rest of the text.
 #[derive(Clone, Copy)]
 pub struct ItemFront<'a> {
     pub item: Item,
     pub rest: &'a [u8],
 }
 
-/// What follows a byte, if the text begins with it.
+/// The rest of the text after a byte, if the text begins with that byte.
 pub fn past_byte(byte: u8, text: &[u8]) -> Option<&[u8]>
     ensures past { MatchOption result
         (past_byte byte text.now ≡ None) (λ rest. past_byte byte text.now ≡ Some rest.now) }
@@ -36,7 +36,7 @@ pub fn past_byte(byte: u8, text: &[u8]) -> Option<&[u8]>
     }
 }
 
-// The second digit of the last square of a range from `low`, if one follows.
+// Reads the optional second digit of the last square of a range that begins at `low`.
 fn read_end_second(low: u8, first: u8, text: &[u8]) -> Result<(u8, &[u8]), usize>
     requires low { low ≤ 50 }
     requires first { (1 ≤ first) × (first ≤ 9) }
@@ -62,7 +62,7 @@ fn read_end_second(low: u8, first: u8, text: &[u8]) -> Result<(u8, &[u8]), usize
     }
 }
 
-// Whether a number that begins with a digit can be as great as `low`.
+// Whether a number of one or two digits that begins with `digit` can be at least `low` and at most 50.
 fn can_begin(low: u8, digit: u8) -> bool
     requires { digit ≤ 9 }
     ensures { result ≡ can_begin low digit }
@@ -70,7 +70,7 @@ fn can_begin(low: u8, digit: u8) -> bool
     low <= digit || (digit <= 5 && low <= 10 * digit + 9)
 }
 
-// The last square of a range from `low`, with no 0 before its number.
+// Reads the last square of a range that begins at `low`, without a leading 0.
 fn read_end_number(low: Dsq, text: &[u8]) -> Result<Front<'_>, usize>
     ensures front { IfOk result
         (λ front. read_end_number low text.now ≡ Ok
@@ -94,7 +94,7 @@ fn read_end_number(low: Dsq, text: &[u8]) -> Result<Front<'_>, usize>
     }
 }
 
-// The last square of a range from `low`, with one 0 before its number or none.
+// Reads the last square of a range that begins at `low`, with at most one leading 0.
 fn read_end(low: Dsq, text: &[u8]) -> Result<Front<'_>, usize>
     ensures front { IfOk result
         (λ front. read_end low text.now ≡ Ok
@@ -124,7 +124,7 @@ fn king(side: Side) -> DPiece
     DPiece { side, king: true }
 }
 
-// A king, where `at` bytes stand before the item, and `text` is what follows its `K`.
+// Reads the king of an item at the offset `at`; `text` follows the `K`.
 fn read_king(total: usize, at: usize, side: Side, text: &[u8]) -> Result<ItemFront<'_>, usize>
     requires { length text.now ≤ total }
     ensures front { IfOk result
@@ -148,7 +148,7 @@ fn read_king(total: usize, at: usize, side: Side, text: &[u8]) -> Result<ItemFro
     }
 }
 
-// Men up to a square, where `at` bytes stand before the item, and `text` is what follows its hyphen.
+// Reads the range of men of an item at the offset `at`; `text` follows the hyphen.
 fn read_range(
     total: usize,
     at: usize,
@@ -179,7 +179,7 @@ fn read_range(
     }
 }
 
-// A man, or men up to a square, where `at` bytes stand before the item.
+// Reads a man, or a range of men, of an item at the offset `at`.
 fn read_men(total: usize, at: usize, side: Side, text: &[u8]) -> Result<ItemFront<'_>, usize>
     requires { at + length text.now ≤ total }
     ensures front { IfOk result
@@ -207,8 +207,11 @@ fn read_men(total: usize, at: usize, side: Side, text: &[u8]) -> Result<ItemFron
     }
 }
 
-/// An item from the front of what is left of a text of `total` bytes, or how many bytes of the
-/// whole text begin a position's text.
+/// Reads an item from the front of `text`, the rest of a text of `total` bytes.
+///
+/// # Errors
+///
+/// For a syntax error, the number of bytes of the whole text that can begin a FEN text.
 #[tactic(auto, unfolding(crate::specs::FenItems::read_item))]
 pub fn read_item(total: usize, side: Side, text: &[u8]) -> Result<ItemFront<'_>, usize>
     requires { length text.now ≤ total }

@@ -1,4 +1,4 @@
-//! What ties the writing and the reading of texts.
+//! Theorems about the writers and readers of this crate, for use by other crates.
 ghost use Rattle.pdn.specs.Beginnings.{OffsetsAreLongestBeginnings, SaysLongestBeginning};
 ghost use Rattle.pdn.specs.FenBeginnings.{FenOffsetsAreLongestBeginnings};
 ghost use Rattle.pdn.specs.FenGrammar.{FenFormsAreTexts};
@@ -6,60 +6,59 @@ ghost use Rattle.pdn.specs.Grammar.{FormsAreTexts};
 ghost use Rattle.pdn.specs.Laws.{ReadsBack, ReadsOneMove, WritesOneText, ReadsByRules, ReadsOnePosition};
 ghost use Rattle.pdn.specs.Laws.{ReadsPositionBack};
 
-/// What is written for a legal move is read as that move.
+/// The text written for a legal move is read as that move.
 pub fn reads_back()
     ensures { ReadsBack }
 {}
 
-/// A text is read as one move at most, and a text that is read has no fault.
+/// A text is read as at most one move, and a text that is read has no fault.
 pub fn reads_one_move()
     ensures { ReadsOneMove }
 {}
 
-/// The function of position and move that gives the written text gives its only one.
+/// The written text of a move is unique, and equals the result of a function of the position and the move.
 pub fn writes_one_text()
     ensures { WritesOneText }
 {}
 
-/// The function of position and text that gives the reading answers as the rules say.
+/// The reader's result is a function of the position and the text, and it meets the specification of reading.
 pub fn reads_by_rules()
     ensures { ReadsByRules }
 {}
 
-/// A text is read as one position at most, and a text that is read has no fault.
+/// A text is read as at most one position, and a text that is read has no fault.
 pub fn reads_one_position()
     ensures { ReadsOnePosition }
 {}
 
-/// What is written for a position is read as that position.
+/// The text written for a position is read as that position.
 pub fn reads_position_back()
     ensures { ReadsPositionBack }
 {}
 
-/// Of a text that is no move's, the reader says how long its longest beginning is that begins a
-/// move's text.
+/// The offset of a syntax error is the length of the longest prefix that can begin a move's text.
 pub fn says_longest_beginning()
     ensures { SaysLongestBeginning }
 {}
 
-/// The texts that are read as a form are those that the grammar of moves' texts gives it.
+/// A text has a form exactly if the grammar of moves gives it that form.
 pub fn forms_are_texts()
     ensures { FormsAreTexts }
 {}
 
-/// A text is refused at an offset when it has no form, and so long is its longest beginning that
-/// begins a move's text.
+/// The parser of moves refuses exactly the texts without a form. Its offset is the length of the text's longest prefix
+/// that can begin a move's text.
 pub fn offsets_are_longest_beginnings()
     ensures { OffsetsAreLongestBeginnings }
 {}
 
-/// The texts that are read as a position's form are those that the grammar gives it.
+/// A text has a form as FEN exactly if the grammar gives it that form.
 pub fn fen_forms_are_texts()
     ensures { FenFormsAreTexts }
 {}
 
-/// A text is refused as a position's at an offset when it has no such form, and so long is its
-/// longest beginning that begins a position's text.
+/// The parser of FEN refuses exactly the texts without a form. Its offset is the length of the text's longest prefix
+/// that can begin a FEN text.
 pub fn fen_offsets_are_longest_beginnings()
     ensures { FenOffsetsAreLongestBeginnings }
 {}

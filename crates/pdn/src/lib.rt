@@ -1,4 +1,6 @@
-//! The texts of international draughts in Portable Draughts Notation (PDN): positions as FEN, and moves.
+//! Reader and writer of the draughts texts of Portable Draughts Notation (PDN): positions as FEN, and moves.
+//!
+//! Follows PDN 3.0: <https://pdn.fmjd.org/>. Texts of whole games are in `pdn_games`.
 #![tactic(auto)]
 
 pub mod faults;

@@ -1,4 +1,4 @@
-//! Moves as texts.
+//! Writer of moves.
 ghost use Rattle.std.specs.Prelude.{◌≡◌, ◌++◌, OnOk, IfOk, string_bytes, IsTrue, ◌↔◌};
 ghost use Rattle.std.specs.List.{list_any};
 ghost use Rattle.draughts_moves.specs.Legal.{Legal};
@@ -10,7 +10,7 @@ use draughts_moves::{Memory, legal, routes};
 use squares::{DMove, DPos, Dsq};
 use std::alloc::{AllocError, Global};
 
-// The text of a move that takes nothing.
+// The text of a quiet move.
 fn write_quiet(alloc: Global, from: Dsq, to: Dsq) -> Result<String, AllocError>
     ensures { IfOk result (λ text. string_bytes text ≡ quiet_text from to) }
 {
@@ -21,7 +21,7 @@ fn write_quiet(alloc: Global, from: Dsq, to: Dsq) -> Result<String, AllocError>
     Ok(text)
 }
 
-// Adds a landing square after an `x`.
+// Appends an `x` and a landing square.
 fn push_landing(text: &mut String, to: Dsq) -> Result<(), AllocError>
     ensures { OnOk result (string_bytes text.new ≡ string_bytes text.old ++ landing_text to) }
 {
@@ -30,7 +30,7 @@ fn push_landing(text: &mut String, to: Dsq) -> Result<(), AllocError>
     Ok(())
 }
 
-// Adds landing squares, each after an `x`.
+// Appends landing squares, each after an `x`.
 fn push_landings(text: &mut String, landings: &[Dsq]) -> Result<(), AllocError>
     ensures { OnOk result
         (string_bytes text.new ≡ string_bytes text.old ++ landings_text landings.now) }
@@ -41,7 +41,7 @@ fn push_landings(text: &mut String, landings: &[Dsq]) -> Result<(), AllocError>
     Ok(())
 }
 
-// The text of a capture that names these landing squares.
+// The text of a capture with these landing squares.
 fn write_capture(alloc: Global, from: Dsq, landings: &[Dsq]) -> Result<String, AllocError>
     ensures { IfOk result (λ text. string_bytes text ≡ capture_text from landings.now) }
 {
@@ -51,7 +51,7 @@ fn write_capture(alloc: Global, from: Dsq, landings: &[Dsq]) -> Result<String, A
     Ok(text)
 }
 
-// Whether a move has the same from and to, and takes other pieces.
+// Whether another move has the same origin and destination, but captures other pieces.
 fn is_like(played: &DMove, other: &DMove) -> bool
     ensures { result ≡ is_like played.now other.now }
 {
@@ -64,7 +64,7 @@ fn has_like(played: &DMove, moves: &[DMove]) -> bool
     moves.iter().any(|other| is_like(played, other))
 }
 
-// Whether another legal move has the same from and to.
+// Whether another legal move has the same origin and destination.
 fn has_rival(alloc: Global, position: &DPos, played: &DMove) -> Result<bool, Memory>
     ensures { IfOk result (λ found. IsTrue found ↔ HasRival position.now played.now) }
 {
@@ -72,11 +72,12 @@ fn has_rival(alloc: Global, position: &DPos, played: &DMove) -> Result<bool, Mem
     Ok(has_like(played, moves.as_slice()))
 }
 
-/// The text of a legal move: `32-28` for one that takes nothing, `28x19` for a capture, and where
-/// another legal move has the same from and to, with all squares on which the piece lands, on the
-/// route that comes first in a dictionary.
+/// Writes a legal move: `32-28` for a quiet move, `28x19` for a capture. If another legal move has the same origin and
+/// destination, all landing squares are written, those of the lexicographically first route.
 ///
-/// It fails where memory is refused, and then alone.
+/// # Errors
+///
+/// `Memory` if out of memory.
 pub fn write_move(alloc: Global, position: &DPos, played: &DMove) -> Result<String, Memory>
     requires { Legal position.now played.now }
     ensures { IfOk result (λ text. IsMoveText position.now played.now (string_bytes text)) }

@@ -1,4 +1,4 @@
-//! Whether a route passes the squares that a text names.
+//! Matching of the landing squares that a text names with the routes of a capture.
 ghost use Rattle.std.specs.Prelude.{◌≡◌};
 ghost use Rattle.std.specs.List.{list_any};
 ghost use Rattle.pdn.specs.Subsequence.{past, is_subsequence};
@@ -6,7 +6,7 @@ ghost use Rattle.pdn.specs.Passing.{passes};
 
 use squares::Dsq;
 
-/// The squares still to be found, once the piece has landed on a square.
+/// The named squares that are still unmatched after a landing on `square`.
 pub fn past<'a>(left: &'a [Dsq], square: Dsq) -> &'a [Dsq]
     ensures { result.now ≡ past left.now square }
 {
@@ -26,7 +26,7 @@ fn is_subsequence(middle: &[Dsq], squares: &[Dsq]) -> bool
     left.is_empty()
 }
 
-/// Whether squares are, in their order, among those of a route before its last.
+// Whether the named squares occur, in order, among the squares of a route before its last.
 fn passes(middle: &[Dsq], route: &[Dsq]) -> bool
     ensures { result ≡ passes middle.now route.now }
 {
@@ -36,7 +36,7 @@ fn passes(middle: &[Dsq], route: &[Dsq]) -> bool
     is_subsequence(middle, &route[..route.len() - 1])
 }
 
-/// Whether some route passes the squares.
+/// Whether some route contains the named squares in order.
 pub fn some_passes(middle: &[Dsq], routes: &[Vec<Dsq>]) -> bool
     ensures { result ≡ list_any (λ route. passes middle.now route.items) routes.now }
 {

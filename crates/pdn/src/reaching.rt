@@ -1,4 +1,4 @@
-//! Whether any capture passes the squares that a text names.
+//! Search for a capture that matches a text, legal or not.
 ghost use Rattle.std.specs.Prelude.{◌≡◌, ◌↔◌, [], IsTrue};
 ghost use Rattle.draughts_moves.specs.Capture.{without};
 ghost use Rattle.pdn.specs.Reaching.{GoesTo};
@@ -14,7 +14,7 @@ fn ends_here(middle: &[Dsq], to: Dsq, landing: Dsq) -> bool
     middle.is_empty() && landing == to
 }
 
-// Whether more jumps lead to a square, with landings on the others before it in their order.
+// Whether further jumps lead to `to` and land on the squares of `middle` in order before it.
 fn goes_to(position: &DPos, mover: &Mover, middle: &[Dsq], to: Dsq) -> bool
     ensures { IsTrue result
         ↔ GoesTo (without position.now.board mover.now.origin) mover.now.piece
@@ -33,7 +33,7 @@ fn goes_to(position: &DPos, mover: &Mover, middle: &[Dsq], to: Dsq) -> bool
     false
 }
 
-/// Whether the text of a capture fits any, be it legal or not.
+/// Whether the squares that a text names match any sequence of jumps, even one that is not a legal move.
 pub fn some_fits(position: &DPos, from: Dsq, middle: &[Dsq], to: Dsq) -> bool
     ensures { IsTrue result ↔ SomeFits position.now from middle.now to }
 {

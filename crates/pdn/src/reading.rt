@@ -1,4 +1,4 @@
-//! Texts as moves.
+//! Reader of moves.
 ghost use Rattle.std.specs.Prelude.{◌≡◌, ◌↔◌, IfOk, IfErr, IsTrue};
 ghost use Rattle.pdn.specs.Forms.{quiet, capture};
 ghost use Rattle.pdn.specs.Choice.{IsChoice, IsChoiceFault, Joins, Parts, same_move};
@@ -12,7 +12,7 @@ use draughts_moves::{Illegal, Memory, check, legal, routes};
 use squares::{DMove, DPos, DSet, Dsq};
 use std::alloc::Global;
 
-// The move of a quiet text.
+// The legal quiet move between two squares.
 fn read_quiet(position: &DPos, from: Dsq, to: Dsq) -> Result<DMove, MoveFault>
     ensures read { IfOk result (λ m. StandsFor position.now (quiet from to) m) }
     ensures fault { IfErr result (λ fault. IsFormFault position.now (quiet from to) fault) }
@@ -28,7 +28,7 @@ fn read_quiet(position: &DPos, from: Dsq, to: Dsq) -> Result<DMove, MoveFault>
     }
 }
 
-// Whether the text of a capture fits a move.
+// Whether a move matches the squares that a text names.
 fn fits(
     alloc: Global,
     position: &DPos,
@@ -55,7 +55,7 @@ fn is_same(a: &DMove, b: &DMove) -> bool
     a == b
 }
 
-// The choice, once one more move fits.
+// The choice after one more matching move; `Ambiguous` if it differs from the choice so far.
 fn joined(choice: Option<DMove>, played: &DMove) -> Result<DMove, MoveFault>
     ensures ok { IfOk result (λ m. Joins choice played.now m) }
     ensures err { IfErr result (λ fault. Parts choice played.now fault) }
@@ -71,7 +71,7 @@ fn joined(choice: Option<DMove>, played: &DMove) -> Result<DMove, MoveFault>
     }
 }
 
-// The one of the moves that the text of a capture fits, if there is one.
+// The only one of the moves that matches the squares of a text, if any matches.
 fn choose(
     alloc: Global,
     position: &DPos,
@@ -97,7 +97,7 @@ fn choose(
     Ok(choice)
 }
 
-// Why the text of a capture stands for no legal move, where it fits none.
+// The reason for the refusal of a capture that matches no legal move.
 fn cause_of(position: &DPos, from: Dsq, middle: &[Dsq], to: Dsq) -> Illegal
     requires { NoneFits position.now from middle.now to }
     ensures { IsRefused position.now (capture from middle.now to) result }
@@ -108,7 +108,7 @@ fn cause_of(position: &DPos, from: Dsq, middle: &[Dsq], to: Dsq) -> Illegal
     Illegal::NoSuchMove
 }
 
-// The move of a capture's text.
+// The legal capture that matches the squares of a text.
 fn read_capture(
     alloc: Global,
     position: &DPos,
@@ -131,9 +131,15 @@ fn read_capture(
     }
 }
 
-/// The legal move that a text stands for in a position: `32-28` for one that takes nothing, and
-/// for a capture `28x19`, with any further squares on which the piece lands between. One `0` may
-/// stand before a square, and `:` for an `x`.
+/// Reads the legal move that a text denotes in a position: `32-28` for a quiet move, `28x19` for a capture, with any
+/// further landing squares in between. A square may have one leading `0`; `:` may stand for `x`.
+///
+/// # Errors
+///
+/// - `MoveFault::BadText` for a syntax error.
+/// - `MoveFault::Ambiguous` if two or more legal captures match.
+/// - `MoveFault::Illegal` if no legal move matches.
+/// - `MoveFault::Memory` if out of memory.
 pub fn read_move(alloc: Global, position: &DPos, text: &str) -> Result<DMove, MoveFault>
     ensures read { IfOk result (λ m. IsRead position.now text.now m) }
     ensures fault { IfErr result (λ fault. HasReadFault position.now text.now fault) }

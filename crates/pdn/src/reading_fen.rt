@@ -1,4 +1,4 @@
-//! Texts as positions.
+//! Reader of positions as FEN.
 ghost use Rattle.std.specs.Prelude.{◌≡◌, IfOk, IfErr, fold};
 ghost use Rattle.std.specs.List.{list_any};
 ghost use Rattle.pdn.specs.ReadFen.{shares, repeated, put_on, put_item, IsFen, HasFenFault};
@@ -9,7 +9,7 @@ use crate::items::Item;
 use squares::{DPos, Dsq};
 use std::alloc::Global;
 
-// Whether two items give one square.
+// Whether two items share a square.
 fn shares(item: &Item, other: &Item) -> bool
     ensures { result ≡ shares item.now other.now }
 {
@@ -22,7 +22,7 @@ fn shares_any(item: &Item, before: &[Item]) -> bool
     before.iter().any(|other| shares(item, other))
 }
 
-// The place of the first item that gives a square again.
+// The offset of the first item that names an occupied square.
 fn repeated(items: &[Item]) -> Option<usize>
     ensures { result ≡ repeated items.now }
 {
@@ -34,7 +34,7 @@ fn repeated(items: &[Item]) -> Option<usize>
     None
 }
 
-// Puts the item's piece on a square, if the item gives that.
+// Puts the item's piece on a square, if the item covers it.
 fn put_on(item: &Item, position: &mut DPos, square: Dsq)
     ensures { position.new ≡ record position.old { board = put_on item.now position.old.board square } }
 {
@@ -43,7 +43,7 @@ fn put_on(item: &Item, position: &mut DPos, square: Dsq)
     }
 }
 
-// Puts the item's pieces.
+// Puts the item's pieces on the board.
 fn put_item(position: &mut DPos, item: &Item)
     ensures { position.new ≡ record position.old { board = put_item position.old.board item.now } }
 {
@@ -52,7 +52,7 @@ fn put_item(position: &mut DPos, item: &Item)
     }
 }
 
-// Puts the pieces of all items.
+// Puts the pieces of all items on the board.
 fn put_items(position: &mut DPos, items: &[Item])
     ensures { position.new ≡ record position.old { board = fold put_item position.old.board items.now } }
 {
@@ -61,8 +61,13 @@ fn put_items(position: &mut DPos, items: &[Item])
     }
 }
 
-/// The position of a text: the side to move, and a list of White's pieces and one of Black's, in
-/// either order, as `W:W28,K46:B7,8` or `B:B1-20:W31-50.`
+/// Reads a position from a FEN text: the side to move, and the lists of White's and Black's pieces in either order,
+/// such as `W:W28,K46:B7,8` or `B:B1-20:W31-50.`
+///
+/// # Errors
+///
+/// - `FenFault::BadText` for a syntax error, or for a square that is named twice.
+/// - `FenFault::Memory` if out of memory.
 pub fn read_fen(alloc: Global, text: &str) -> Result<DPos, FenFault>
     ensures read { IfOk result (λ position. IsFen text.now position) }
     ensures fault { IfErr result (λ fault. HasFenFault text.now fault) }

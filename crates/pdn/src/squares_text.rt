@@ -1,11 +1,15 @@
-//! The text of a square.
+//! The texts of squares.
 ghost use Rattle.std.specs.Prelude.{◌≡◌, ◌+◌, ◌-◌, ◌<◌, ◌≤◌, ◌++◌, IfOk, IfErr, OnOk, Ok, Err, length, string_bytes};
 ghost use Rattle.pdn.specs.SquareText.{square_text, read_second, read_number, read_square};
 
 use squares::Dsq;
 use std::alloc::AllocError;
 
-/// Adds a square's number in decimal.
+/// Appends a square's number in decimal.
+///
+/// # Errors
+///
+/// `AllocError` if out of memory.
 pub fn push_square(text: &mut String, square: Dsq) -> Result<(), AllocError>
     ensures { OnOk result (string_bytes text.new ≡ string_bytes text.old ++ square_text square) }
 {
@@ -17,14 +21,14 @@ pub fn push_square(text: &mut String, square: Dsq) -> Result<(), AllocError>
     Ok(())
 }
 
-/// A square read from the front of a text, with what follows it.
+/// A square read from the front of a text, with the rest of the text.
 #[derive(Clone, Copy)]
 pub struct Front<'a> {
     pub square: Dsq,
     pub rest: &'a [u8],
 }
 
-// The second digit of a square's number, if one follows that keeps the number on the board.
+// Reads the optional second digit of a square's number, which must not exceed 50.
 fn read_second(first: u8, text: &[u8]) -> (u8, &[u8])
     requires { (1 ≤ first) × (first ≤ 9) }
     ensures value { read_second first text.now ≡ Ok (record { square = result.0; rest = result.1.now }) }
@@ -38,7 +42,7 @@ fn read_second(first: u8, text: &[u8]) -> (u8, &[u8])
     }
 }
 
-// A number from 1 to 50 with no 0 before it, or how many bytes begin one.
+// Reads a number from 1 to 50 without a leading 0; the error is the number of bytes that can begin one.
 fn read_number(text: &[u8]) -> Result<Front<'_>, usize>
     ensures front { IfOk result
         (λ front. read_number text.now ≡ Ok
@@ -59,7 +63,11 @@ fn read_number(text: &[u8]) -> Result<Front<'_>, usize>
     }
 }
 
-/// A square, with one 0 before its number or none; or how many bytes begin one.
+/// Reads a square's number with at most one leading 0.
+///
+/// # Errors
+///
+/// The number of bytes, 0 or 1, that can begin a square's number.
 pub fn read_square(text: &[u8]) -> Result<Front<'_>, usize>
     ensures front { IfOk result
         (λ front. read_square text.now ≡ Ok

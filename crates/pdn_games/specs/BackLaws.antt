@@ -1,4 +1,4 @@
--- What is written of an ended game is read as that game.
+-- The text written for a finished game is read as that game.
 use Rattle.std.specs.Prelude.{◌≡◌, ◌≢◌, ℕ, true, Some, List, [], ◌∷◌, length}
 use Rattle.clocks.specs.declared.dates.CivilTime.{CivilTime}
 use Rattle.squares.specs.declared.sides.Score.{Score}
@@ -11,12 +11,12 @@ use Rattle.pdn_games.specs.declared.game.PdnGame.{PdnGame}
 use Rattle.pdn_games.specs.Reading.{agrees, ruled, IsTextOf}
 use Rattle.pdn_games.specs.Writing.{game_text}
 
--- a text with neither quotes nor backslashes
+-- a text without quotes and backslashes
 abbrev pub IsPlain : List ℕ → Type 0
 IsPlain [] = Unit {0}
 IsPlain (c ∷ text) = (c ≢ 34) × (c ≢ 92) × IsPlain text
 
--- a game that a text keeps whole: plain names, moves by the rules, and the score of the rules where they ended the game
+-- a game that its text preserves: plain names, a legal line, and the score of the rules if they ended the game
 pub record IsKept (event white black : List ℕ) (score : Score) (ms : List DMove) : Type 0 where
   pub event_plain : IsPlain event
   pub white_plain : IsPlain white
@@ -24,7 +24,7 @@ pub record IsKept (event white black : List ℕ) (score : Score) (ms : List DMov
   pub played : IsPlayed opening ms (length ms)
   pub agreed : agrees score (ruled (end_of opening ms) (last_position opening ms).turn) ≡ true
 
--- the text of such a game is that of its moves and its score
+-- the text of such a game is the text of its moves and its score
 abbrev pub WrittenIsRead : Type 0
 WrittenIsRead =
     (event white black : List ℕ) (date : CivilTime) (score : Score) (ms : List DMove) (g : PdnGame) →

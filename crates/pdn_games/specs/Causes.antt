@@ -1,4 +1,4 @@
--- The numbers of the causes for which a move is refused.
+-- The numbers of the reasons why a move is illegal.
 use Rattle.std.specs.Prelude.{ℕ}
 use Rattle.draughts_moves.specs.declared.checking.Illegal.{Illegal}
 use Rattle.draughts_moves.specs.declared.checking.Illegal.TheVariants.{NoSuchMove, MustCapture, NotLongest}

@@ -1,4 +1,4 @@
--- What the tokens of a game's text say.
+-- Tags, moves and results among the tokens of a game's text.
 use Rattle.std.specs.Prelude.{ℕ, ◌||◌, not, nat_eq, Bool, false, Option, Some, None, List, [], ◌∷◌, codes}
 use Rattle.std.specs.Prelude.{if◌then◌else◌}
 use Rattle.std.specs.List.{starts_with}
@@ -18,7 +18,7 @@ abbrev pub value_or : Option (List ℕ) → Option (List ℕ) → Option (List �
 value_or (Some value) other = Some value
 value_or None other = other
 
--- the value of the first tag of that name
+-- the value of the first tag of this name
 abbrev pub first_tag : List ℕ → List Placed → Option (List ℕ)
 first_tag name [] = None
 first_tag name (placed ∷ more) = value_or (value_in name placed.token) (first_tag name more)
@@ -40,7 +40,7 @@ word_or number more = more
 word_or (move_by text) more = more
 word_or (result w) more = Some w
 
--- the result, if there is one
+-- the first result, if any
 abbrev pub result_in : List Placed → Option ResultWord
 result_in [] = None
 result_in (placed ∷ more) = word_or placed.token (result_in more)
@@ -53,7 +53,7 @@ is_other (Some kind) = not (bytes_eq kind (codes "20") || starts_with nat_eq kin
 abbrev pub is_other_type : List Placed → Bool
 is_other_type tokens = is_other (first_tag (codes "GameType") tokens)
 
--- a position from which the game begins, if one is given, is the opening
+-- the FEN tag, if any, denotes the initial position
 abbrev pub BeginsEven : Option (List ℕ) → Type 0
 BeginsEven None = Unit {0}
 BeginsEven (Some text) = IsFen text opening

@@ -1,4 +1,4 @@
--- The moves that the texts of a game mean, each in its position.
+-- The moves that the texts of a game denote, each in its position.
 use Rattle.std.specs.Prelude.{◌≡◌, ◌⊎◌, ℕ, ◌+◌, List, [], ◌∷◌, ◌++◌, length, None, IsSome}
 use Rattle.squares.specs.declared.draughts.moves.DMove.{DMove}
 use Rattle.squares.specs.DraughtsBoard.{Position}
@@ -12,20 +12,20 @@ use Rattle.pdn.specs.ReadMove.{IsRead, HasReadFault}
 use Rattle.pdn_games.specs.declared.faults.PdnFault.{PdnFault}
 use Rattle.pdn_games.specs.declared.faults.PdnFault.TheVariants as fault
 
--- texts mean moves, each in its position
+-- the texts denote the moves, each in its position
 abbrev pub MeanAll : Position → List (List ℕ) → List DMove → Type 0
 MeanAll p [] [] = Unit {0}
 MeanAll p [] (m ∷ ms) = ⊥
 MeanAll p (text ∷ texts) [] = ⊥
 MeanAll p (text ∷ texts) (m ∷ ms) = IsRead p text m × MeanAll (play p m) texts ms
 
--- The texts mean these moves of a game from the opening: each is legal in its position, and none comes after the end.
+-- The texts denote these moves of a game from the initial position: each is legal, and none follows the end of the
+-- game.
 pub record AreMoves (texts : List (List ℕ)) (ms : List DMove) : Type 0 where
   pub mean : MeanAll opening texts ms
   pub played : IsPlayed opening ms (length ms)
 
--- After texts that mean these moves, the next is refused: the game has ended, whatever the text is, or the text fits
--- two captures or names no legal move.
+-- The next text after these moves is refused: the game has ended, or the text is ambiguous or denotes no legal move.
 abbrev pub RefusesNext : List DMove → List ℕ → PdnFault → Type 0
 RefusesNext ms text (fault.AfterEnd ply) = (ply ≡ length ms + 1) × IsSome (end_of opening ms)
 RefusesNext ms text (fault.Ambiguous ply) = (ply ≡ length ms + 1) × (end_of opening ms ≡ None)
@@ -34,7 +34,7 @@ RefusesNext ms text (fault.Illegal ply cause) = (ply ≡ length ms + 1) × (end_
     × HasReadFault (last_position opening ms) text (move_fault.Illegal cause)
 RefusesNext ms text _ = ⊥
 
--- one of the texts is refused, and those before it mean moves of a game
+-- one of the texts is refused, and those before it denote moves of a game
 pub record RefusesMove (texts : List (List ℕ)) (f : PdnFault) : Type 0 where
   pub before : List (List ℕ)
   pub refused : List ℕ
@@ -44,6 +44,6 @@ pub record RefusesMove (texts : List (List ℕ)) (f : PdnFault) : Type 0 where
   pub played : AreMoves before moves
   pub refuses : RefusesNext moves refused f
 
--- memory was refused, or one of the texts is
+-- out of memory, or one of the texts is refused
 abbrev pub RefusesMoves : List (List ℕ) → PdnFault → Type 0
 RefusesMoves texts f = (f ≡ fault.Memory) ⊎ RefusesMove texts f

@@ -1,4 +1,4 @@
--- The game of a text, and why a text is refused.
+-- The game of a text, and the refusals of texts.
 use Rattle.std.specs.Prelude.{◌≡◌, ◌&&◌, ℕ, Bool, true, false, Option, Some, None, List, Result, Ok, Err, codes}
 use Rattle.std.specs.Prelude.{if◌then◌else◌}
 use Rattle.squares.specs.declared.sides.Side.{Side}
@@ -19,28 +19,28 @@ use Rattle.pdn_games.specs.Order.{bad_at}
 use Rattle.pdn_games.specs.Contents.{first_tag, move_texts, result_in, is_other_type, HasOpening}
 use Rattle.pdn_games.specs.Moves.{AreMoves, RefusesMove}
 
--- what a result says of the score, if there is one
+-- the score of a result, if any
 abbrev pub said : Option ResultWord → Option Score
 said None = None
 said (Some w) = score_of w
 
--- what a tag says of the score: nothing, where it is none of the results of an ended game
+-- the score of a `Result` tag: none, unless it is the result of a finished game
 abbrev pub told : Option (List ℕ) → Option Score
 told None = None
 told (Some value) = said (result_word value)
 
--- a score differs from none, or from the same
+-- a score agrees with another one that is unknown or equal
 abbrev pub agrees : Score → Option Score → Bool
 agrees claim None = true
 agrees claim (Some other) = same_score claim other
 
--- the score that the rules give, by the side to move, where they ended the game
+-- the score by the rules if they ended the game; `turn` is the side to move
 abbrev pub ruled : Option DEnd → Side → Option Score
 ruled None turn = None
 ruled (Some end) turn = Some (outcome_of end turn)
 
--- The score of a text's result, which is that of the rules, where they ended the game, and that of its own tag, if this
--- tells one.
+-- The score of a text's result, which must agree with the rules, if they ended the game, and with the text's own
+-- `Result` tag, if that states a score.
 abbrev pub settled : Option Score → Option Score → Option Score → Result Score PdnFault
 settled None by_rule by_tag = Err fault.Unfinished
 settled (Some claim) by_rule by_tag = if agrees claim by_rule && agrees claim by_tag then Ok claim else Err
@@ -50,27 +50,27 @@ abbrev pub score_in : List Placed → List DMove → Result Score PdnFault
 score_in tokens ms = settled (said (result_in tokens)) (ruled (end_of opening ms) (last_position opening ms).turn)
     (told (first_tag (codes "Result") tokens))
 
--- the tokens of a text that has the form of a game's text
+-- the tokens of a well-formed text
 pub record AreTokens (text : List ℕ) (tokens : List Placed) : Type 0 where
   pub whole : TextTokens text tokens None
   pub form : bad_at tokens None ≡ None
 
--- the kind of draughts and the opening are those of the club
+-- international draughts from the initial position
 pub record IsOfClub (tokens : List Placed) : Type 0 where
   pub kind : is_other_type tokens ≡ false
   pub opening : HasOpening tokens
 
--- tokens of a game of the club with these moves
+-- the tokens of a game of the club with these moves
 pub record Plays (tokens : List Placed) (ms : List DMove) : Type 0 where
   pub of_club : IsOfClub tokens
   pub moves : AreMoves (move_texts tokens) ms
 
--- tokens of the game
+-- the tokens of the game
 pub record IsGameOf (tokens : List Placed) (game : PdnGame) : Type 0 where
   pub plays : Plays tokens game.moves.items
   pub score : score_in tokens game.moves.items ≡ Ok game.score
 
--- all moves are played by the rules, and the end has the fault
+-- all moves are legal, and the result has the fault
 pub record EndFails (tokens : List Placed) (f : PdnFault) : Type 0 where
   pub moves : List DMove
   pub plays : Plays tokens moves
@@ -81,7 +81,7 @@ pub record MoveFails (tokens : List Placed) (f : PdnFault) : Type 0 where
   pub of_club : IsOfClub tokens
   pub refused : RefusesMove (move_texts tokens) f
 
--- The faults of a text of the form: another kind of draughts, then another opening, then a move, then the end.
+-- The faults of a well-formed text: another kind of draughts, another initial position, a move, or the result.
 abbrev pub Fails : List Placed → PdnFault → Type 0
 Fails tokens fault.Memory = Unit {0}
 Fails tokens (fault.BadText offset) = ⊥
@@ -93,15 +93,15 @@ Fails tokens fault.Unfinished = EndFails tokens fault.Unfinished
 Fails tokens (fault.AfterEnd ply) = MoveFails tokens (fault.AfterEnd ply)
 Fails tokens fault.ResultDiffers = EndFails tokens fault.ResultDiffers
 
--- the text is that of the game
+-- the text is the text of the game
 abbrev pub IsTextOf : List ℕ → PdnGame → Type 0
 IsTextOf text game = (tokens : List Placed) × AreTokens text tokens × IsGameOf tokens game
 
--- a text of the form, whose tokens fail
+-- a well-formed text whose tokens have the fault
 abbrev pub TextFails : List ℕ → PdnFault → Type 0
 TextFails text f = (tokens : List Placed) × AreTokens text tokens × Fails tokens f
 
--- why a text is refused: it has not the form, and then the rest
+-- the faults of a text: a syntax error, or a fault of its tokens
 abbrev pub IsRefused : List ℕ → PdnFault → Type 0
 IsRefused text fault.Memory = Unit {0}
 IsRefused text (fault.BadText offset) = (tokens : List Placed) × (stop : Option ℕ) × TextTokens text tokens stop

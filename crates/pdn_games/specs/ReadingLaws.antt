@@ -1,4 +1,4 @@
--- What is proved of reading as a whole.
+-- Properties of the reader.
 use Rattle.std.specs.Prelude.{◌≡◌, ℕ, List}
 use Rattle.pdn_games.specs.declared.faults.PdnFault.{PdnFault}
 use Rattle.pdn_games.specs.declared.faults.PdnFault.TheVariants as fault
@@ -9,11 +9,11 @@ use Rattle.pdn_games.specs.Reading.{IsTextOf, IsRefused}
 abbrev pub SameGame : PdnGame → PdnGame → Type 0
 SameGame g h = (g.moves.items ≡ h.moves.items) × (g.score ≡ h.score)
 
--- a text is that of one game
+-- a text is the text of at most one game
 abbrev pub TextsAreOfOne : Type 0
 TextsAreOfOne = (text : List ℕ) (g h : PdnGame) → IsTextOf text g → IsTextOf text h → SameGame g h
 
--- a text of a game is refused for want of memory alone
+-- the only fault of the text of a game is out of memory
 abbrev pub TextsOfGamesAreRead : Type 0
 TextsOfGamesAreRead = (text : List ℕ) (g : PdnGame) (f : PdnFault) → IsTextOf text g → IsRefused text f
     → f ≡ fault.Memory

@@ -1,4 +1,4 @@
--- A replay of the texts of moves.
+-- The state of a replay.
 use Rattle.std.specs.Prelude.{◌≡◌, ◌⊎◌, ℕ, List, [], ◌∷◌, ◌++◌}
 use Rattle.squares.specs.declared.draughts.moves.DMove.{DMove}
 use Rattle.squares.specs.DraughtsOpening.{opening}
@@ -19,11 +19,11 @@ use Rattle.pdn_games.specs.Tokens.{Token, tag, number, move_by, result, Placed}
 use Rattle.pdn_games.specs.Contents.{texts_in}
 use Rattle.pdn_games.specs.Moves.{MeanAll, RefusesNext}
 
--- a text of a move's form
+-- a text with the form of a move
 abbrev pub IsMoveForm : List ℕ → Type 0
 IsMoveForm text = (form : Form) × HasForm text form
 
--- a token that is a move has a move's form
+-- a move token has the form of a move
 abbrev pub HasItsForm : Token → Type 0
 HasItsForm (tag name value) = Unit {0}
 HasItsForm number = Unit {0}
@@ -34,30 +34,30 @@ abbrev pub HaveForms : List Placed → Type 0
 HaveForms [] = Unit {0}
 HaveForms (placed ∷ more) = HasItsForm placed.token × HaveForms more
 
--- The position and the counts of a replay are those of its moves.
+-- The position and the repetition counts of a replay are those of its moves.
 pub record IsConsistent (replay : Replay) : Type 0 where
   pub follows : Follows opening replay.moves.items replay.counts
   pub position : replay.position ≡ last_position opening replay.moves.items
 
--- the moves grew by one that the text means
+-- the moves are extended by one that the text denotes
 pub record GrowsBy (text : List ℕ) (old new : List DMove) : Type 0 where
   pub made : DMove
   pub grown : new ≡ old ++ made ∷ []
   pub means : IsRead (last_position opening old) text made
 
--- whatever the moves so far were written as, they are now written with this token more
+-- if texts denote the old moves, then those texts with this token denote the new ones
 abbrev pub GrowsWith : Token → List DMove → List DMove → Type 0
 GrowsWith t old new = (texts : List (List ℕ)) → MeanAll opening texts old → MeanAll opening (texts ++ texts_in t []) new
 
--- memory was refused, or the text is
+-- out of memory, or the text is refused
 abbrev pub RefusesText : List DMove → List ℕ → PdnFault → Type 0
 RefusesText ms text f = (f ≡ fault.Memory) ⊎ RefusesNext ms text f
 
--- memory was refused, or the text of the token is
+-- out of memory, or the text of the token is refused
 abbrev pub RefusesIn : List DMove → Token → PdnFault → Type 0
 RefusesIn ms t f = (f ≡ fault.Memory) ⊎ ((text : List ℕ) × (texts_in t [] ≡ text ∷ []) × RefusesNext ms text f)
 
--- the fault of the text of a move, at its ply
+-- the fault of a move's text, with its ply
 abbrev pub at_ply : ℕ → MoveFault → PdnFault
 at_ply ply move_fault.Memory = fault.Memory
 at_ply ply (move_fault.BadText offset) = fault.BadText offset

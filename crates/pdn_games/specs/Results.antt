@@ -16,7 +16,7 @@ word_text word.Halves = codes "1/2-1/2"
 word_text word.NilOne = codes "0-1"
 word_text word.Star = codes "*"
 
--- what a result says of the score: a star leaves the game unfinished
+-- the score of a result; a star has none
 abbrev pub score_of : ResultWord → Option Score
 score_of word.TwoNil = Some FirstWins
 score_of word.OneOne = Some Draw
@@ -32,10 +32,10 @@ words = word.TwoNil ∷ word.OneOne ∷ word.NilTwo ∷ word.OneNil ∷ word.Hal
 abbrev pub begins_with : List ℕ → ResultWord → Bool
 begins_with text w = starts_with nat_eq text (word_text w)
 
--- the result that a text begins with; no two begin one text
+-- the result at the front of a text, which is unique
 unfoldable pub result_at : List ℕ → Option ResultWord
 result_at text = find (begins_with text) words
 
--- the result that a text is
+-- the result that a whole text denotes
 unfoldable pub result_word : List ℕ → Option ResultWord
 result_word text = find (λ w. bytes_eq text (word_text w)) words

@@ -1,16 +1,16 @@
--- A tag's text, by its parts.
+-- The grammar of a tag.
 use Rattle.std.specs.Prelude.{◌≡◌, ◌≢◌, ◌↔◌, ◌<◌, ℕ, List, [], ◌∷◌, ◌++◌, length, Some}
 use Rattle.pdn_games.specs.SkipGrammar.{All}
 use Rattle.pdn_games.specs.Tags.{is_name_byte, is_space, tag_front}
 
--- A value as it is written: no quote stands in it but after a backslash, which the byte after it belongs to.
+-- A raw value: a backslash escapes the byte after it, and a quote occurs only escaped.
 pub data IsValue : List ℕ → Type 0 where
   nothing : IsValue []
   byte : (c : ℕ) (text : List ℕ) → c ≢ 34 → c ≢ 92 → IsValue text → IsValue (c ∷ text)
   escaped : (c : ℕ) (text : List ℕ) → IsValue text → IsValue (92 ∷ c ∷ text)
 
--- What follows the bracket that begins a tag: a name of letters, digits and `_`, a value in quotes, and a bracket, with
--- blanks before each of them.
+-- A tag after its opening bracket: a name of letters, digits and `_`, a quoted value, and a closing bracket, each after
+-- any number of spaces.
 pub record IsTag (text name value rest : List ℕ) : Type 0 where
   pub first : List ℕ
   pub second : List ℕ
@@ -23,7 +23,7 @@ pub record IsTag (text name value rest : List ℕ) : Type 0 where
   pub value_is : IsValue value
   pub text_is : text ≡ first ++ (name ++ (second ++ (34 ∷ value ++ (34 ∷ third ++ 93 ∷ rest))))
 
--- Such are the tags that are read.
+-- The parser reads exactly these tags.
 abbrev pub TagsAreSuch : Type 0
 TagsAreSuch = (text name value rest : List ℕ)
     → (tag_front text ≡ Some (record { name = name; value = value; rest = rest })) ↔ IsTag text name value rest

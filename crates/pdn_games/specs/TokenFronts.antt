@@ -1,4 +1,4 @@
--- Fronts of a text as the reader has them.
+-- The mathematical value of the fronts that the lexer returns.
 use Rattle.std.specs.Prelude.{◌<◌, ℕ, List, length}
 use Rattle.pdn_games.specs.declared.tokens.Front as answer
 use Rattle.pdn_games.specs.declared.tokens.Front.TheVariants as named
@@ -11,7 +11,7 @@ front_of (named.Skipped rest) = skipped rest.now
 front_of (named.Found token rest) = found (token_of token) rest.now
 front_of named.Stuck = stuck
 
--- what follows the front of a text is shorter than the text
+-- the rest of the text is shorter than the text
 abbrev pub IsShorter : List ℕ → answer.Front → Type 0
 IsShorter text named.Ended = Unit {0}
 IsShorter text (named.Skipped rest) = length rest.now < length text

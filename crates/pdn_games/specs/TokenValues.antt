@@ -1,4 +1,4 @@
--- Tokens as the reader has them.
+-- The mathematical value of the tokens that the lexer returns.
 use Rattle.std.specs.Prelude.{List, map}
 use Rattle.pdn_games.specs.declared.tokens.Token as answer
 use Rattle.pdn_games.specs.declared.tokens.Token.TheVariants as named

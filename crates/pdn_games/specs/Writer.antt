@@ -14,7 +14,7 @@ use Rattle.pdn_games.specs.Writing.{head_text, plies_text, game_text}
 unfoldable pub tags_text : PdnHead → List ℕ
 tags_text head = head_text head.event.now head.date head.white.now head.black.now head.score
 
--- the text of a game up to the last of these moves, with no end
+-- the text of a game up to the last of these moves, without an end
 abbrev pub text_up_to : PdnHead → List DMove → List ℕ
 text_up_to head ms = tags_text head ++ plies_text opening 0 ms
 
@@ -22,7 +22,7 @@ text_up_to head ms = tags_text head ++ plies_text opening 0 ms
 unfoldable pub whole_text : PdnHead → List DMove → List ℕ
 whole_text head ms = game_text head.event.now head.date head.white.now head.black.now head.score ms
 
--- To the bytes from before the head and these moves were added, which a writer has now; and the game stands after them.
+-- Since `before` the writer has received the head and these moves, and the state of the game is the one after them.
 pub record HasWritten (head : PdnHead) (ms : List DMove) (before now : Option (List ℕ)) (game : GameWriter) : Type 0
   where
     pub written : Appends before now (text_up_to head ms)
@@ -30,47 +30,47 @@ pub record HasWritten (head : PdnHead) (ms : List DMove) (before now : Option (L
     pub plies : game.plies ≡ length ms
     pub score : game.score ≡ head.score
 
--- the move is legal after those that are written, whose number still grows
+-- the move is legal after the written ones, and the number of plies does not overflow
 abbrev pub MayFollow : GameWriter → DMove → Type 0
 MayFollow game m = Legal game.position m × (game.plies + 1 < 2 ^ 64)
 
--- whatever was written, one move more is
+-- whatever was written before, one more move is written now
 abbrev pub AddsMove : DMove → GameWriter → GameWriter → Option (List ℕ) → Option (List ℕ) → Type 0
 AddsMove m old new held now =
     (head : PdnHead) (before : Option (List ℕ)) (ms : List DMove) → HasWritten head ms before held old →
     HasWritten head (ms ++ m ∷ []) before now new
 
--- whatever was written, now it is a beginning of the text up to one move more
+-- whatever was written before, a prefix of the text with one more move is written now
 abbrev pub BeginsMove : DMove → GameWriter → Option (List ℕ) → Option (List ℕ) → Type 0
 BeginsMove m game held now =
     (head : PdnHead) (before : Option (List ℕ)) (ms : List DMove) → HasWritten head ms before held game →
     AppendsSome before now (text_up_to head (ms ++ m ∷ []))
 
--- whatever was written, the game stands where it stood
+-- whatever was written before, the state of the game is unchanged
 abbrev pub StandsStill : GameWriter → GameWriter → Type 0
 StandsStill old new =
     (head : PdnHead) (before held : Option (List ℕ)) (ms : List DMove) → HasWritten head ms before held old →
     HasWritten head ms before held new
 
--- whatever was written, with the end it is the one text of the game
+-- whatever was written before, the whole text of the game is written now
 abbrev pub Finishes : GameWriter → Option (List ℕ) → Option (List ℕ) → Type 0
 Finishes game held now =
     (head : PdnHead) (before : Option (List ℕ)) (ms : List DMove) → HasWritten head ms before held game →
     Appends before now (whole_text head ms)
 
--- whatever was written, now it is a beginning of the one text of the game
+-- whatever was written before, a prefix of the whole text of the game is written now
 abbrev pub BeginsEnd : GameWriter → Option (List ℕ) → Option (List ℕ) → Type 0
 BeginsEnd game held now =
     (head : PdnHead) (before : Option (List ℕ)) (ms : List DMove) → HasWritten head ms before held game →
     AppendsSome before now (whole_text head ms)
 
--- a beginning of the tags begins the whole text of each game with them
+-- a prefix of the tags is a prefix of the whole text of each game with these tags
 abbrev pub TagsBeginGames : Type 0
 TagsBeginGames =
     (head : PdnHead) (ms : List DMove) (before now : Option (List ℕ)) → AppendsSome before now (tags_text head) →
     AppendsSome before now (whole_text head ms)
 
--- a beginning of the text up to some moves begins the whole text of each game that goes on from them
+-- a prefix of the text up to some moves is a prefix of the whole text of each game that continues them
 abbrev pub MovesBeginGames : Type 0
 MovesBeginGames =
     (head : PdnHead) (ms more : List DMove) (before now : Option (List ℕ)) → AppendsSome before now (text_up_to head ms)

@@ -1,4 +1,4 @@
--- The one text of a game.
+-- The unique text of a game.
 use Rattle.std.specs.Prelude.{ℕ, ◌+◌, ◌/◌, ◌%◌, ◌==◌, Option, Some, None, List, [], ◌∷◌, ◌++◌, length, codes}
 use Rattle.std.specs.Prelude.{unsigned_abs, if◌then◌else◌}
 use Rattle.std.specs.Fmt.{decimal}
@@ -11,11 +11,11 @@ use Rattle.squares.specs.Sides.{score_text}
 use Rattle.draughts_moves.specs.Legal.{play}
 use Rattle.pdn.specs.MoveValue.{move_text}
 
--- a tag on a line: `[Name "value"]`
+-- a tag on its line: `[Name "value"]`
 abbrev pub tag_line : List ℕ → List ℕ → List ℕ
 tag_line name value = 91 ∷ name ++ (32 ∷ 34 ∷ value ++ (34 ∷ 93 ∷ 10 ∷ []))
 
--- the last two digits of a number
+-- the last two decimal digits of a number
 abbrev pub two_digits : ℕ → List ℕ
 two_digits n = (48 + n / 10 % 10) ∷ (48 + n % 10) ∷ []
 
@@ -24,7 +24,7 @@ abbrev pub date_text : CivilTime → List ℕ
 date_text at = two_digits (unsigned_abs at.year / 100)
     ++ (two_digits (unsigned_abs at.year) ++ (46 ∷ two_digits at.month ++ 46 ∷ two_digits at.day))
 
--- the score as it is written, or `*` for a game that goes on
+-- the text of a score, or `*` for a running game
 abbrev pub result_text : Option Score → List ℕ
 result_text None = codes "*"
 result_text (Some score) = score_text score
@@ -38,17 +38,16 @@ head_text event date white black score =
     ++ (tag_line (codes "White") white ++ (tag_line (codes "Black") black ++
     (tag_line (codes "Result") (result_text score) ++ (tag_line (codes "GameType") (codes "20") ++ 10 ∷ [])))))
 
--- A move, after so many plies: one of White's stands after its number, `1. 32-28`, and one of Black's after a blank at
--- the line's end.
+-- A move after `plies` plies: White's after its number, as `1. 32-28`; Black's after a space, with the line's end.
 abbrev pub ply_text : ℕ → List ℕ → List ℕ
 ply_text plies text = if plies % 2 == 0 then decimal (plies / 2 + 1) ++ (46 ∷ 32 ∷ text) else 32 ∷ text ++ 10 ∷ []
 
--- moves from a position on, after so many plies
+-- moves from a position on, after `plies` plies
 abbrev pub plies_text : Position → ℕ → List DMove → List ℕ
 plies_text p plies [] = []
 plies_text p plies (m ∷ ms) = ply_text plies (move_text p m) ++ plies_text (play p m) (plies + 1) ms
 
--- the end of the last line of moves, where White made the last, and the score
+-- the end of the last line of moves if White moved last, and the result
 abbrev pub end_text : ℕ → Option Score → List ℕ
 end_text plies score = if plies % 2 == 0 then result_text score ++ 10 ∷ [] else 10 ∷ result_text score ++ 10 ∷ []
 

@@ -1,4 +1,4 @@
-//! What the tokens of a game's text say.
+//! Lookup of tags and results among the tokens of a text.
 ghost use Rattle.std.specs.Prelude.{◌≡◌, MatchOption, Some, None};
 ghost use Rattle.pdn_games.specs.Contents.{value_in, first_tag, word_or, result_in, is_other, is_other_type};
 ghost use Rattle.pdn_games.specs.TokenValues.{token_of, all_placed};
@@ -6,7 +6,7 @@ ghost use Rattle.pdn_games.specs.TokenValues.{token_of, all_placed};
 use crate::results::ResultWord;
 use crate::tokens::{Placed, Token};
 
-// The value of a token that is a tag of that name.
+// The value of a token, if it is a tag of this name.
 fn value_in<'a>(name: &str, token: Token<'a>) -> Option<&'a [u8]>
     ensures { MatchOption result
         (value_in name.now (token_of token.entry) ≡ None)
@@ -23,7 +23,7 @@ fn value_in<'a>(name: &str, token: Token<'a>) -> Option<&'a [u8]>
     }
 }
 
-/// The value of the first tag of that name.
+/// The value of the first tag of this name.
 pub fn first_tag<'a>(name: &str, placed: &[Placed<'a>]) -> Option<&'a [u8]>
     ensures { MatchOption result
         (first_tag name.now (all_placed placed.now) ≡ None)
@@ -38,7 +38,7 @@ pub fn first_tag<'a>(name: &str, placed: &[Placed<'a>]) -> Option<&'a [u8]>
     None
 }
 
-// The result that a token is.
+// The result of a token, if it is one.
 fn word_in(token: Token<'_>) -> Option<ResultWord>
     ensures { result ≡ word_or (token_of token.entry) None }
 {
@@ -48,7 +48,7 @@ fn word_in(token: Token<'_>) -> Option<ResultWord>
     }
 }
 
-/// The result, if there is one.
+/// The first result among the tokens.
 pub fn result_in(placed: &[Placed<'_>]) -> Option<ResultWord>
     ensures { result ≡ result_in (all_placed placed.now) }
 {
@@ -61,7 +61,7 @@ pub fn result_in(placed: &[Placed<'_>]) -> Option<ResultWord>
     None
 }
 
-// Whether a kind of draughts is another than the international one.
+// Whether a `GameType` value names a kind of draughts other than the international one (type 20).
 fn is_other(kind: &[u8]) -> bool
     ensures { result ≡ is_other (Some kind.now) }
 {
@@ -71,7 +71,7 @@ fn is_other(kind: &[u8]) -> bool
     !kind.starts_with("20,".as_bytes())
 }
 
-/// Whether the tags name a kind of draughts other than the international one.
+/// Whether the `GameType` tag names a kind of draughts other than the international one. Without the tag, it does not.
 pub fn is_other_type(placed: &[Placed<'_>]) -> bool
     ensures { result ≡ is_other_type (all_placed placed.now) }
 {

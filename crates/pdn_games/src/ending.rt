@@ -1,4 +1,4 @@
-//! What the end of a text says of the score.
+//! The score of a game by its text and by the rules.
 ghost use Rattle.std.specs.Prelude.{◌≡◌};
 ghost use Rattle.pdn_games.specs.Results as results;
 ghost use Rattle.pdn_games.specs.Reading.{said, agrees, ruled, settled};
@@ -8,7 +8,7 @@ use crate::results::{ResultWord, result_word};
 use draughts_draws::DEnd;
 use squares::{Score, Side};
 
-/// What a result says of the score, if there is one.
+/// The score of a result, if there is one and it is not `*`.
 pub fn said(word: Option<ResultWord>) -> Option<Score>
     ensures { result ≡ said word }
 {
@@ -18,14 +18,14 @@ pub fn said(word: Option<ResultWord>) -> Option<Score>
     }
 }
 
-/// What the value of a tag says of the score.
+/// The score that the value of a `Result` tag states.
 pub fn score_told(value: &[u8]) -> Option<Score>
     ensures { result ≡ said (results.result_word value.now) }
 {
     said(result_word(value))
 }
 
-// Whether a score differs from no other.
+// Whether a score equals another one, if that is known.
 fn agrees(score: Score, other: Option<Score>) -> bool
     ensures { result ≡ agrees score other }
 {
@@ -35,7 +35,7 @@ fn agrees(score: Score, other: Option<Score>) -> bool
     }
 }
 
-/// The score that the rules give, by the side to move, where they ended the game.
+/// The score by the rules if they ended the game; `turn` is the side to move after the last move.
 pub fn ruled(end: Option<DEnd>, turn: Side) -> Option<Score>
     ensures { result ≡ ruled end turn }
 {
@@ -45,7 +45,11 @@ pub fn ruled(end: Option<DEnd>, turn: Side) -> Option<Score>
     }
 }
 
-/// The score of a text's result, if it differs from nothing that the rules and the text's own tag say.
+/// The score of the text's result, if it agrees with the rules and with the text's own `Result` tag.
+///
+/// # Errors
+///
+/// `PdnFault::Unfinished` without a score; `PdnFault::ResultDiffers` if it disagrees.
 pub fn settle(
     claim: Option<Score>,
     by_rule: Option<Score>,

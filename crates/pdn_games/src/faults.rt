@@ -1,4 +1,4 @@
-//! Why a text is refused.
+//! The errors of the reader of games.
 
 ghost use Rattle.std.specs.Prelude.{◌≡◌};
 ghost use Rattle.pdn_games.specs.Causes.{cause_number};
@@ -8,30 +8,30 @@ use std::alloc::{AllocError, AllocFailed};
 use std::error::Error;
 use std::fmt;
 
-/// Why the text of a game is refused. Offsets count bytes from 0, plies count from 1.
+/// The reason why the text of a game is refused. Offsets count bytes from 0, plies count from 1.
 #[derive(Clone, Copy, Debug, PartialEq, Eq)]
 pub enum PdnFault {
-    /// Memory was refused.
+    /// Out of memory.
     Memory,
-    /// The text has no token, or the first byte at which it has not the form of a game's text is this one.
+    /// The text has no token (offset 0), or its first syntax error is at this byte.
     BadText(usize),
-    /// Two or more legal captures fit the text of this ply.
+    /// Two or more legal captures match the text of this ply.
     Ambiguous(usize),
-    /// The text of this ply names no legal move, and why.
+    /// The text of this ply denotes no legal move, with the reason.
     Illegal { ply: usize, cause: Illegal },
-    /// The game is of another kind of draughts.
+    /// The `GameType` tag names another kind of draughts.
     OtherType,
-    /// The game begins otherwise than a game of the club.
+    /// The `FEN` tag does not denote the initial position.
     OtherOpening,
-    /// The text does not say how the game ended.
+    /// The text does not state how the game ended.
     Unfinished,
-    /// The game had ended before this ply.
+    /// The rules had ended the game before this ply.
     AfterEnd(usize),
-    /// The text ends otherwise than the rules or its own tag say.
+    /// The result differs from the rules' result or from the text's own `Result` tag.
     ResultDiffers,
 }
 
-// The number of a cause.
+// The club's number of the reason why a move is illegal.
 fn cause_number(cause: Illegal) -> u8
     ensures { result ≡ cause_number cause }
 {

@@ -1,8 +1,8 @@
-//! A game as a text keeps it.
+//! A recorded game.
 
 use squares::{DMove, Score};
 
-/// A game from the opening: its moves, and its score.
+/// A game from the initial position: its moves and its score.
 #[derive(Drop)]
 pub struct PdnGame {
     pub moves: Vec<DMove>,

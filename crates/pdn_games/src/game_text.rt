@@ -1,4 +1,4 @@
-//! Games as texts.
+//! Writer of a whole game.
 ghost use Rattle.std.specs.Prelude.{◌≡◌, ◌++◌, IfOk, OnOk, length, string_bytes};
 ghost use Rattle.squares.specs.DraughtsOpening.{opening};
 ghost use Rattle.draughts_draws.specs.Faults.{IsPlayed};
@@ -10,7 +10,7 @@ use draughts_moves::{Memory, play};
 use squares::{DMove, DPos};
 use std::alloc::Global;
 
-// Adds the moves of a game from the opening.
+// Appends the moves of a game from the initial position.
 fn push_plies(alloc: Global, text: &mut String, moves: &[DMove]) -> Result<(), Memory>
     requires { IsPlayed opening moves.now (length moves.now) }
     ensures { OnOk result (string_bytes text.new ≡ string_bytes text.old ++ plies_text opening 0 moves.now) }
@@ -24,9 +24,11 @@ fn push_plies(alloc: Global, text: &mut String, moves: &[DMove]) -> Result<(), M
     Ok(())
 }
 
-/// The text of a game in Portable Draughts Notation, a line for each pair of moves.
+/// Writes a game as PDN, one line for each pair of moves.
 ///
-/// It fails where memory is refused, and then alone.
+/// # Errors
+///
+/// `Memory` if out of memory.
 pub fn write_game(alloc: Global, head: &PdnHead, moves: &[DMove]) -> Result<String, Memory>
     requires { IsPlayed opening moves.now (length moves.now) }
     ensures { IfOk result (λ text. string_bytes text

@@ -1,4 +1,4 @@
-//! Games written move by move.
+//! Incremental writer of a game, move by move.
 
 ghost use Rattle.std.specs.Prelude.{◌≡◌, [], IfOk, OnOk, OnErr};
 ghost use Rattle.record_writer.specs.Pieces.{AppendsSome};
@@ -11,9 +11,10 @@ use squares::{DMove, DPos, Score};
 use std::alloc::Global;
 use std::io::Write;
 
-/// A game on its way to a writer, in Portable Draughts Notation: the tags and so many of the moves are written. It
-/// holds the text of one move at a time. The writer is lent to each call, so that its owner has it also where a call
-/// fails; what was written then is a beginning of the game's text.
+/// A game that is being written as PDN: its tags and some of its moves are written.
+///
+/// It holds the text of one move at a time. Each call borrows the writer, so its owner keeps it if a call fails; the
+/// writer then holds a prefix of the game's text.
 #[derive(Drop)]
 pub struct GameWriter {
     alloc: Global,
@@ -27,7 +28,15 @@ impl GameWriter {
     ghost use Rattle.pdn_games.specs.Writer.{tags_text, HasWritten, MayFollow, AddsMove, BeginsMove, StandsStill};
     ghost use Rattle.pdn_games.specs.Writer.{Finishes, BeginsEnd};
 
-    /// Writes what stands before the moves.
+    /// Writes the tags of a game.
+    ///
+    /// # Errors
+    ///
+    /// `WriteFault::Memory` if out of memory, with nothing written; `WriteFault::Writer` if the writer fails.
+    ///
+    /// # Guarantees
+    ///
+    /// `begun`: after any failure the writer holds a prefix of the tags.
     pub fn start<W: Write>(
         alloc: Global,
         head: &PdnHead,
@@ -49,8 +58,15 @@ impl GameWriter {
         })
     }
 
-    /// Writes the next move, which is legal after those before it. Where it fails, the game stands where it stood: on
-    /// a writer that is put back to what it held, the move can be written again.
+    /// Writes the next move, which is legal after the moves before it.
+    ///
+    /// # Errors
+    ///
+    /// `WriteFault::Memory` if out of memory, with nothing written; `WriteFault::Writer` if the writer fails.
+    ///
+    /// # Guarantees
+    ///
+    /// `still`: after a failure the game is unchanged, so the move can be written again once the writer is rewound.
     pub fn push<W: Write>(&mut self, writer: &mut W, played: &DMove) -> Result<(), WriteFault>
         requires { MayFollow self.old played.now }
         ensures written { OnOk result
@@ -73,7 +89,11 @@ impl GameWriter {
         Ok(())
     }
 
-    /// Writes the end: what was written is the one text of the game.
+    /// Writes the end of the game, which completes its text.
+    ///
+    /// # Errors
+    ///
+    /// `WriteFault::Memory` if out of memory, with nothing written; `WriteFault::Writer` if the writer fails.
     pub fn finish<W: Write>(self, writer: &mut W) -> Result<(), WriteFault>
         ensures written { OnOk result (Finishes self (W.contents writer.old) (W.contents writer.new)) }
         ensures begun { BeginsEnd self (W.contents writer.old) (W.contents writer.new) }

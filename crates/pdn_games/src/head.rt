@@ -1,10 +1,9 @@
-//! What a record says beside the moves.
+//! The tags of a record.
 
 use clocks::CivilTime;
 use squares::Score;
 
-/// What a record says beside the moves: the event, the date of the start, the players, and the score, or none where the
-/// game goes on.
+/// The content of a record's tags: event, start date, players, and score (`None` while the game is running).
 #[derive(Clone, Copy)]
 pub struct PdnHead<'a> {
     pub event: &'a str,

@@ -1,4 +1,4 @@
-//! What is proved of reading as a whole.
+//! Theorems about the reader and the writers of this crate, for use by other crates.
 ghost use Rattle.pdn_games.specs.BackLaws.{WrittenIsRead};
 ghost use Rattle.pdn_games.specs.Longest.{MovesAreLongest};
 ghost use Rattle.pdn_games.specs.ReadingLaws.{TextsAreOfOne, TextsOfGamesAreRead};
@@ -8,7 +8,7 @@ ghost use Rattle.pdn_games.specs.Writer.{TagsBeginGames, MovesBeginGames};
 
 use pdn::laws::reads_one_move;
 
-/// A text is that of one game, and a text of a game is refused for want of memory alone.
+/// A text is the text of at most one game, and the text of a game is read unless the reader is out of memory.
 pub fn texts_are_read_in_one_way()
     ensures one { TextsAreOfOne }
     ensures read { TextsOfGamesAreRead }
@@ -16,29 +16,28 @@ pub fn texts_are_read_in_one_way()
     reads_one_move();
 }
 
-/// What is written of an ended game is the text of its moves and its score, and so it is read as these.
+/// The text written for a finished game is read as its moves and its score, if its names have no quotes or backslashes.
 pub fn written_games_are_read()
     ensures { WrittenIsRead }
 {}
 
-/// The move that a text begins with is its longest beginning that is a move's text.
+/// The lexer takes the longest prefix that is a move's text.
 pub fn moves_are_longest()
     ensures { MovesAreLongest }
 {}
 
-/// What is skipped between tokens is what the grammar says: blanks, comments, notes, brackets, marks, and lines of
-/// comment.
+/// The lexer skips exactly what the grammar allows between tokens: blanks, comments, annotation glyphs, variations,
+/// marks and comment lines.
 pub fn skips_are_such()
     ensures { SkipsAreSuch }
 {}
 
-/// What is read as a tag is what the grammar says, part by part.
+/// The lexer reads a tag exactly if the grammar does, part by part.
 pub fn tags_are_such()
     ensures { TagsAreSuch }
 {}
 
-/// What a writer has of a game that is written move by move is a beginning of the whole text of that game, wherever the
-/// writing stopped.
+/// Incremental writing yields a prefix of the game's whole text, wherever it stops.
 pub fn written_moves_begin_games()
     ensures tags { TagsBeginGames }
     ensures moves { MovesBeginGames }

@@ -1,10 +1,10 @@
-//! How many bytes of a text's beginning are a square, a move, or a move's number.
+//! The lengths in bytes of the square, move or move number at the front of a text; 0 if there is none.
 ghost use Rattle.std.specs.Prelude.{◌≡◌, ◌+◌, ◌≤◌, ◌<◌, ◌^◌, length, drop};
 ghost use Rattle.pdn.specs.SquareText as square_text;
 ghost use Rattle.pdn_games.specs.Lengths.{both, either, with_second, plain_len, square_len, step_len, landing_len};
 ghost use Rattle.pdn_games.specs.Lengths.{landings_len, tail_len, move_len, is_dot, digits_len, dots_len, number_len};
 
-/// What follows so many bytes of a text.
+/// The text without its first `bytes` bytes.
 pub fn after(text: &[u8], bytes: usize) -> &[u8]
     requires { bytes ≤ length text.now }
     ensures { result.now ≡ drop bytes text.now }
@@ -12,7 +12,7 @@ pub fn after(text: &[u8], bytes: usize) -> &[u8]
     &text[bytes..]
 }
 
-// The length of two parts, one after another, where both are there.
+// The length of two consecutive parts if both are present, else 0.
 fn both(first: usize, second: usize) -> usize
     requires { first + second < 2 ^ 64 }
     ensures value { result ≡ both first second }
@@ -27,7 +27,7 @@ fn both(first: usize, second: usize) -> usize
     first + second
 }
 
-// The length of the first of two parts that is there.
+// The length of the first of two alternatives that is present.
 fn either(first: usize, second: usize) -> usize
     ensures { result ≡ either first second }
 {
@@ -37,14 +37,14 @@ fn either(first: usize, second: usize) -> usize
     first
 }
 
-/// Whether a byte is a digit.
+/// Whether a byte is a decimal digit.
 pub fn is_digit(byte: u8) -> bool
     ensures { result ≡ square_text.is_digit byte }
 {
     byte >= b'0' && byte <= b'9'
 }
 
-// What a square's digits take, the first of which is known.
+// The length, 1 or 2, of a square's number whose first digit is `first`.
 fn with_second(first: u8, text: &[u8]) -> usize
     requires { first ≤ 9 }
     ensures value { result ≡ with_second first text.now }
@@ -56,7 +56,7 @@ fn with_second(first: u8, text: &[u8]) -> usize
     }
 }
 
-// A number from 1 to 50.
+// The length of a number from 1 to 50 without a leading 0.
 fn plain_len(text: &[u8]) -> usize
     ensures value { result ≡ plain_len text.now }
     ensures within { result ≤ length text.now }
@@ -67,7 +67,7 @@ fn plain_len(text: &[u8]) -> usize
     }
 }
 
-// A square, with one 0 before its number or none.
+// The length of a square with at most one leading 0.
 fn square_len(text: &[u8]) -> usize
     ensures value { result ≡ square_len text.now }
     ensures within { result ≤ length text.now }
@@ -78,7 +78,7 @@ fn square_len(text: &[u8]) -> usize
     }
 }
 
-// A hyphen and a square.
+// The length of a hyphen and a square.
 fn step_len(text: &[u8]) -> usize
     ensures value { result ≡ step_len text.now }
     ensures within { result ≤ length text.now }
@@ -89,7 +89,7 @@ fn step_len(text: &[u8]) -> usize
     }
 }
 
-// A cross and a square.
+// The length of an `x` or `:` and a square.
 fn landing_len(text: &[u8]) -> usize
     ensures value { result ≡ landing_len text.now }
     ensures within { result ≤ length text.now }
@@ -100,7 +100,7 @@ fn landing_len(text: &[u8]) -> usize
     }
 }
 
-// Landings one after another.
+// The length of consecutive landings.
 fn landings_len(text: &[u8]) -> usize
     ensures value { result ≡ landings_len text.now }
     ensures within { result ≤ length text.now }
@@ -116,7 +116,7 @@ fn landings_len(text: &[u8]) -> usize
     passed
 }
 
-// What follows a move's first square.
+// The length of the rest of a move after its first square.
 fn tail_len(text: &[u8]) -> usize
     ensures value { result ≡ tail_len text.now }
     ensures within { result ≤ length text.now }
@@ -124,7 +124,7 @@ fn tail_len(text: &[u8]) -> usize
     either(step_len(text), landings_len(text))
 }
 
-/// A move: two squares parted by a hyphen, or a square and landings.
+/// The length of a move: two squares separated by a hyphen, or a square and landings.
 #[tactic(auto, unfolding(crate::specs::Lengths::move_len))]
 pub fn move_len(text: &[u8]) -> usize
     ensures value { result ≡ move_len text.now }
@@ -140,7 +140,7 @@ fn is_dot(byte: u8) -> bool
     byte == b'.'
 }
 
-/// The digits that a text begins with.
+/// The number of digits at the front of a text.
 pub fn digits_len(text: &[u8]) -> usize
     ensures value { result ≡ digits_len text.now }
     ensures within { result ≤ length text.now }
@@ -155,7 +155,7 @@ fn dots_len(text: &[u8]) -> usize
     text.iter().take_while(|c| is_dot(**c)).count()
 }
 
-/// A move's number: digits, and one dot or more.
+/// The length of a move number: digits, and one or more dots.
 #[tactic(auto, unfolding(crate::specs::Lengths::number_len))]
 pub fn number_len(text: &[u8]) -> usize
     ensures value { result ≡ number_len text.now }

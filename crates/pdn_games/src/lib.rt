@@ -1,4 +1,6 @@
-//! Games of international draughts as records in Portable Draughts Notation (PDN).
+//! Reader and writer of records of draughts games in Portable Draughts Notation (PDN).
+//!
+//! Follows PDN 3.0: <https://pdn.fmjd.org/>. Texts of single moves and positions are in `pdn`.
 #![tactic(auto)]
 
 mod contents;

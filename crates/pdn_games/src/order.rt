@@ -1,4 +1,4 @@
-//! The order in which the tokens of a game's text stand.
+//! The order of the tokens in a game's text: tags, then move numbers and moves, then one result.
 ghost use Rattle.std.specs.Prelude.{◌≡◌};
 ghost use Rattle.pdn_games.specs.declared.order.Part.TheVariants as part;
 ghost use Rattle.pdn_games.specs.Order.{after_tag, after_move, after_result, next, first_stray, or_else, missing};
@@ -7,18 +7,18 @@ ghost use Rattle.pdn_games.specs.TokenValues.{token_of, all_placed};
 
 use crate::tokens::{Placed, Token};
 
-/// How far a text has come.
+/// The state of the order check after some tokens.
 #[derive(Clone, Copy, Debug, PartialEq, Eq)]
 pub enum Part {
-    /// No token but tags stands before.
+    /// Only tags so far.
     Tags,
-    /// Past a number or a move.
+    /// After a move number or a move.
     Moves,
-    /// Past the result.
+    /// After the result.
     Over,
 }
 
-// Where a tag leaves a text: tags stand before all else.
+// The state after a tag; tags come before all other tokens.
 fn after_tag(part: Part) -> Option<Part>
     ensures { result ≡ after_tag part }
 {
@@ -28,7 +28,7 @@ fn after_tag(part: Part) -> Option<Part>
     }
 }
 
-// Where a number or a move leaves a text: they stand before the result.
+// The state after a move number or a move, which come before the result.
 fn after_move(part: Part) -> Option<Part>
     ensures { result ≡ after_move part }
 {
@@ -38,7 +38,7 @@ fn after_move(part: Part) -> Option<Part>
     }
 }
 
-// Where a result leaves a text: nothing stands after it.
+// The state after the result, which is the last token.
 fn after_result(part: Part) -> Option<Part>
     ensures { result ≡ after_result part }
 {
@@ -48,7 +48,7 @@ fn after_result(part: Part) -> Option<Part>
     }
 }
 
-// Where a token leaves a text, or none where it stands out of order.
+// The state after a token, or `None` if it is out of order.
 fn next(part: Part, token: Token<'_>) -> Option<Part>
     ensures { result ≡ next part (token_of token.entry) }
 {
@@ -59,7 +59,7 @@ fn next(part: Part, token: Token<'_>) -> Option<Part>
     }
 }
 
-// The offset of the first token that stands out of order.
+// The offset of the first token that is out of order.
 fn first_stray(placed: &[Placed<'_>]) -> Option<usize>
     ensures { result ≡ first_stray part.Tags (all_placed placed.now) }
 {
@@ -83,7 +83,7 @@ fn or_else(first: Option<usize>, other: Option<usize>) -> Option<usize>
     }
 }
 
-// The fault of a text without a token.
+// The offset 0 if a text has no tokens.
 fn missing(placed: &[Placed<'_>]) -> Option<usize>
     ensures { result ≡ missing (all_placed placed.now) }
 {
@@ -93,7 +93,8 @@ fn missing(placed: &[Placed<'_>]) -> Option<usize>
     }
 }
 
-/// The least offset at which a text has not the form of a game's text, by its tokens and by where they stop.
+/// The offset of the first error: a token out of order, else the offset at which the lexer stopped, else 0 without
+/// tokens.
 pub fn bad_at(placed: &[Placed<'_>], stop: Option<usize>) -> Option<usize>
     ensures { result ≡ bad_at (all_placed placed.now) stop }
 {

@@ -1,4 +1,4 @@
-//! Texts as games.
+//! Reader of a whole game.
 ghost use Rattle.std.specs.Prelude.{◌≡◌, ◌↔◌, None, true, false, IfOk, IfErr, OnOk, IsTrue, codes};
 ghost use Rattle.squares.specs.DraughtsOpening.{opening};
 ghost use Rattle.squares.specs.DraughtsSamePosition.{same_position};
@@ -22,7 +22,7 @@ use pdn::{FenFault, read_fen};
 use squares::{DPos, Score};
 use std::alloc::Global;
 
-// What the text's own tag says of the score.
+// The score that the text's own `Result` tag states.
 fn told(placed: &[Placed<'_>]) -> Option<Score>
     ensures { result ≡ told (first_tag (codes "Result") (all_placed placed.now)) }
 {
@@ -44,7 +44,7 @@ fn is_opening(position: &DPos) -> bool
     is_same(position, &DPos::opening())
 }
 
-// Whether a text is that of the opening.
+// Whether a FEN text denotes the initial position.
 fn is_opening_text(alloc: Global, text: &[u8]) -> Result<bool, Memory>
     ensures { IfOk result (λ even. IsTrue even ↔ IsFen text.now opening) }
 {
@@ -61,7 +61,7 @@ fn is_opening_text(alloc: Global, text: &[u8]) -> Result<bool, Memory>
     }
 }
 
-// Whether the game begins with the opening.
+// Whether the game begins from the initial position: without a `FEN` tag, or with that of the initial position.
 fn has_opening(alloc: Global, placed: &[Placed<'_>]) -> Result<bool, Memory>
     ensures { IfOk result (λ even. IsTrue even ↔ HasOpening (all_placed placed.now)) }
 {
@@ -71,7 +71,7 @@ fn has_opening(alloc: Global, placed: &[Placed<'_>]) -> Result<bool, Memory>
     }
 }
 
-// Whether the game is one of the club, by its kind and its opening.
+// Checks that the game is international draughts from the initial position.
 fn check_kind(alloc: Global, placed: &[Placed<'_>]) -> Result<(), PdnFault>
     ensures of_club { OnOk result (IsOfClub (all_placed placed.now)) }
     ensures fault { IfErr result (Fails (all_placed placed.now)) }
@@ -85,7 +85,7 @@ fn check_kind(alloc: Global, placed: &[Placed<'_>]) -> Result<(), PdnFault>
     Ok(())
 }
 
-// The game of a text whose moves are played by the rules.
+// The game of a text whose moves are replayed, if its result agrees.
 fn game_of(placed: &[Placed<'_>], replay: Replay) -> Result<PdnGame, PdnFault>
     requires stands { IsConsistent replay }
     requires of_club { IsOfClub (all_placed placed.now) }
@@ -104,7 +104,7 @@ fn game_of(placed: &[Placed<'_>], replay: Replay) -> Result<PdnGame, PdnFault>
     }
 }
 
-// The game of a text of the form.
+// Reads the game of well-formed tokens.
 fn read_tokens(alloc: Global, placed: &[Placed<'_>]) -> Result<PdnGame, PdnFault>
     requires { HaveForms (all_placed placed.now) }
     ensures game { IfOk result (IsGameOf (all_placed placed.now)) }
@@ -115,12 +115,19 @@ fn read_tokens(alloc: Global, placed: &[Placed<'_>]) -> Result<PdnGame, PdnFault
     game_of(placed, replay)
 }
 
-/// The game of a text in Portable Draughts Notation.
+/// Reads a game from a PDN text.
 ///
-/// It refuses, in this order: a text that has not the form of a game's text, at the first byte where it has not;
-/// another kind of draughts; another opening; ply by ply a move after the end of the game, one whose text fits two
-/// captures, and one that is not legal; a text that does not say how the game ended; and an end that is not that of the
-/// rules, or not that of the text's own tag. It also fails where memory is refused, and then alone.
+/// # Errors
+///
+/// The first that applies of:
+///
+/// - `PdnFault::BadText` for a syntax error.
+/// - `PdnFault::OtherType` for another kind of draughts, `PdnFault::OtherOpening` for another initial position.
+/// - ply by ply, `PdnFault::AfterEnd`, `PdnFault::Ambiguous` or `PdnFault::Illegal`.
+/// - `PdnFault::Unfinished` without a score, `PdnFault::ResultDiffers` if the score disagrees with the rules or the
+///   `Result` tag.
+///
+/// `PdnFault::Memory` if out of memory.
 pub fn read_game(alloc: Global, text: &[u8]) -> Result<PdnGame, PdnFault>
     ensures game { IfOk result (IsTextOf text.now) }
     ensures fault { IfErr result (IsRefused text.now) }

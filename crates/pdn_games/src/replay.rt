@@ -1,4 +1,4 @@
-//! The moves of a game's text, ply by ply.
+//! Replay of the moves of a game's text, ply by ply.
 ghost use Rattle.std.specs.Prelude.{[], ◌∷◌, ◌++◌, ◌≡◌, None, IfOk, IfErr, OnOk};
 ghost use Rattle.squares.specs.DraughtsOpening.{opening};
 ghost use Rattle.draughts_moves.specs.Legal.{Legal};
@@ -21,7 +21,7 @@ use pdn::{MoveFault, read_move};
 use squares::{DMove, DPos};
 use std::alloc::Global;
 
-/// The moves of a text so far, in a game from the opening.
+/// The moves of a text so far, played from the initial position.
 #[derive(Drop)]
 pub struct Replay {
     pub position: DPos,
@@ -29,7 +29,7 @@ pub struct Replay {
     pub moves: Vec<DMove>,
 }
 
-// The replay of no move.
+// A replay without moves.
 fn beginning(alloc: Global) -> Result<Replay, PdnFault>
     ensures stands { IfOk result IsConsistent }
     ensures bare { IfOk result (λ replay. replay.moves.items ≡ []) }
@@ -46,7 +46,7 @@ fn beginning(alloc: Global) -> Result<Replay, PdnFault>
     }
 }
 
-// The fault of the text of a move, at its ply.
+// The error of a move's text, with its ply.
 fn at_ply(ply: usize, fault: MoveFault) -> PdnFault
     ensures { result ≡ at_ply ply fault }
 {
@@ -58,7 +58,7 @@ fn at_ply(ply: usize, fault: MoveFault) -> PdnFault
     }
 }
 
-// The fault of a text, where the counts refuse its next move.
+// The error for a move that the repetition and draw counts refuse.
 fn fault_of(fault: DLineFault) -> PdnFault
     ensures { result ≡ fault_of fault }
 {
@@ -69,7 +69,7 @@ fn fault_of(fault: DLineFault) -> PdnFault
     }
 }
 
-// The move that a text means.
+// The legal move that a text denotes.
 fn read_text(alloc: Global, position: &DPos, text: &[u8]) -> Result<DMove, MoveFault>
     requires { IsMoveForm text.now }
     ensures read { IfOk result (λ m. IsRead position.now text.now m) }
@@ -81,7 +81,7 @@ fn read_text(alloc: Global, position: &DPos, text: &[u8]) -> Result<DMove, MoveF
     }
 }
 
-// One legal move more of a game that goes on.
+// Plays a legal move of a game that has not ended.
 fn push_move(replay: &mut Replay, played: DMove) -> Result<(), PdnFault>
     requires stands { IsConsistent replay.old }
     requires unended { end_of opening replay.old.moves.items ≡ None }
@@ -101,7 +101,7 @@ fn push_move(replay: &mut Replay, played: DMove) -> Result<(), PdnFault>
     Ok(())
 }
 
-// One text more. It is refused where the game has ended, or where it means no legal move.
+// Reads and plays one move. It fails if the game has ended, or if the text denotes no legal move.
 fn push(alloc: Global, replay: &mut Replay, text: &[u8]) -> Result<(), PdnFault>
     requires stands { IsConsistent replay.old }
     requires form { IsMoveForm text.now }
@@ -121,7 +121,7 @@ fn push(alloc: Global, replay: &mut Replay, text: &[u8]) -> Result<(), PdnFault>
     }
 }
 
-// One token more, which may be a move.
+// Plays the move of a token, if it is one.
 fn push_token(alloc: Global, replay: &mut Replay, token: Token<'_>) -> Result<(), PdnFault>
     requires stands { IsConsistent replay.old }
     requires form { HasItsForm (token_of token) }
@@ -136,7 +136,11 @@ fn push_token(alloc: Global, replay: &mut Replay, token: Token<'_>) -> Result<()
     }
 }
 
-/// The moves of a text. It fails at the first of them that the rules refuse.
+/// Replays the moves of a text.
+///
+/// # Errors
+///
+/// The fault of the first move that is refused; `PdnFault::Memory` if out of memory.
 pub fn replay_of(alloc: Global, placed: &[Placed<'_>]) -> Result<Replay, PdnFault>
     requires { HaveForms (all_placed placed.now) }
     ensures stands { IfOk result IsConsistent }

@@ -5,8 +5,7 @@ ghost use Rattle.pdn_games.specs.Results.{word_text, score_of, begins_with, resu
 
 use squares::Score;
 
-/// A result as a text says it: White's score first, by the numbers of draughts or by those of chess, or a star for a
-/// game that goes on.
+/// A result: White's score first, in draughts points or in chess points, or a star for an unfinished game.
 #[derive(Clone, Copy, Debug, PartialEq, Eq)]
 pub enum ResultWord {
     TwoNil,
@@ -19,7 +18,7 @@ pub enum ResultWord {
 }
 
 impl ResultWord {
-    /// All of them.
+    /// All results.
     pub const ALL: [ResultWord; 7] = [
         ResultWord::TwoNil,
         ResultWord::OneOne,
@@ -30,7 +29,7 @@ impl ResultWord {
         ResultWord::Star,
     ];
 
-    /// The result as it is written.
+    /// The text of the result.
     pub fn text(self) -> &'static str
         ensures value { result.now ≡ word_text self }
         ensures some { 0 < length result.now }
@@ -46,7 +45,7 @@ impl ResultWord {
         }
     }
 
-    /// What the result says of the score: a star leaves the game unfinished.
+    /// The score of the result; `None` for a star.
     pub fn score(self) -> Option<Score>
         ensures { result ≡ score_of self }
     {
@@ -59,21 +58,21 @@ impl ResultWord {
     }
 }
 
-// Whether a text begins with a result.
+// Whether a text begins with the text of a result.
 fn begins_with(text: &[u8], word: ResultWord) -> bool
     ensures { result ≡ begins_with text.now word }
 {
     text.starts_with(word.text().as_bytes())
 }
 
-// Whether a text is a result.
+// Whether a text is exactly the text of a result.
 fn is_written(text: &[u8], word: ResultWord) -> bool
     ensures { result ≡ bytes_eq text.now (word_text word) }
 {
     text == word.text().as_bytes()
 }
 
-/// The result that a text begins with.
+/// The result at the front of a text.
 #[tactic(auto, unfolding(crate::specs::Results::result_at))]
 pub fn result_at(text: &[u8]) -> Option<ResultWord>
     ensures { result ≡ result_at text.now }
@@ -84,7 +83,7 @@ pub fn result_at(text: &[u8]) -> Option<ResultWord>
         .find(|word| begins_with(text, *word))
 }
 
-/// The result that a text is.
+/// The result that a whole text denotes.
 #[tactic(auto, unfolding(crate::specs::Results::result_word))]
 pub fn result_word(text: &[u8]) -> Option<ResultWord>
     ensures { result ≡ result_word text.now }

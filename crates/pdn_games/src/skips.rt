@@ -1,4 +1,4 @@
-//! What is skipped between the tokens of a game's text.
+//! The blanks, comments, annotations and variations between tokens, which the lexer skips.
 ghost use Rattle.std.specs.Prelude.{◌≡◌, ◌+◌, ◌<◌, ◌≤◌, false, IfSome, MatchOption, Some, None, length};
 ghost use Rattle.std.specs.List.{prefix_len};
 ghost use Rattle.pdn_games.specs.Skips.{is_blank, is_mark, is_in_line, past_first, step, past_brackets, past_digits};
@@ -24,7 +24,7 @@ fn is_in_line(byte: u8) -> bool
     byte != b'\n'
 }
 
-// What follows the first such byte.
+// The rest of the text after the first occurrence of a byte.
 fn past_first(byte: u8, text: &[u8]) -> Option<&[u8]>
     ensures past { MatchOption result
         (past_first byte text.now ≡ None) (λ rest. past_first byte text.now ≡ Some rest.now) }
@@ -38,14 +38,14 @@ fn past_first(byte: u8, text: &[u8]) -> Option<&[u8]>
     None
 }
 
-/// How deep in brackets a byte stands, beside the outermost, and whether in a comment in braces.
+/// The parser state in a variation: the depth of brackets inside the outermost pair, and whether in a brace comment.
 #[derive(Clone, Copy, Debug, PartialEq, Eq)]
 pub struct Nesting {
     pub depth: usize,
     pub braced: bool,
 }
 
-// Brackets, after a byte more; none is left once the outermost closes.
+// The state after one more byte; `None` once the outermost bracket closes.
 fn step(nesting: Nesting, byte: u8) -> Option<Nesting>
     requires { nesting.depth < 18446744073709551615 }
     ensures value { result ≡ step nesting byte }
@@ -79,7 +79,7 @@ fn step(nesting: Nesting, byte: u8) -> Option<Nesting>
     })
 }
 
-// What follows the bracket that closes the outermost.
+// The rest of the text after the bracket that closes the outermost pair.
 fn past_brackets(text: &[u8]) -> Option<&[u8]>
     ensures past { MatchOption result
         (past_brackets (record { depth = 0; braced = false }) text.now ≡ None)
@@ -99,7 +99,7 @@ fn past_brackets(text: &[u8]) -> Option<&[u8]>
     None
 }
 
-// What follows digits.
+// The rest of the text after one or more digits.
 fn past_digits(text: &[u8]) -> Option<&[u8]>
     ensures past { MatchOption result
         (past_digits text.now ≡ None) (λ rest. past_digits text.now ≡ Some rest.now) }
@@ -133,7 +133,7 @@ fn past_marks(text: &[u8]) -> &[u8]
     after(text, marks_len(text))
 }
 
-// What follows the rest of a line, its end apart.
+// The rest of the text from the line's end on.
 fn past_line(text: &[u8]) -> &[u8]
     ensures past { result.now ≡ past_line text.now }
     ensures shorter { length result.now ≤ length text.now }
@@ -141,7 +141,8 @@ fn past_line(text: &[u8]) -> &[u8]
     after(text, line_len(text))
 }
 
-/// What follows what is skipped, if a text begins with such; the text may begin a line.
+/// The rest of the text after one skipped part at its front, if there is one; `begins_line` says whether the text is at
+/// the beginning of a line.
 #[tactic(auto, unfolding(crate::specs::Skips::past_skipped))]
 pub fn past_skipped(begins_line: bool, text: &[u8]) -> Option<&[u8]>
     ensures past { MatchOption result

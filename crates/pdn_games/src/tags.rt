@@ -1,4 +1,4 @@
-//! Tags at the front of a text.
+//! Parser of tags: `[Name "value"]`.
 ghost use Rattle.std.specs.Prelude.{◌≡◌, ◌+◌, ◌<◌, ◌≤◌, false, IfSome, MatchOption, Some, None, length};
 ghost use Rattle.std.specs.List.{prefix_len};
 ghost use Rattle.pdn.specs.FenItems.{past_byte};
@@ -42,7 +42,7 @@ fn past_spaces(text: &[u8]) -> &[u8]
     after(text, spaces_len(text))
 }
 
-// What follows a byte, if the text begins with it.
+// The rest of the text after a byte, if the text begins with that byte.
 fn past_byte(byte: u8, text: &[u8]) -> Option<&[u8]>
     ensures past { MatchOption result
         (past_byte byte text.now ≡ None) (λ rest. past_byte byte text.now ≡ Some rest.now) }
@@ -54,14 +54,14 @@ fn past_byte(byte: u8, text: &[u8]) -> Option<&[u8]>
     }
 }
 
-// A part read from the front of a text, with what follows it.
+// A part read from the front of a text, with the rest of the text.
 #[derive(Clone, Copy)]
 struct Part<'a> {
     value: &'a [u8],
     rest: &'a [u8],
 }
 
-// The name of a tag.
+// Reads the name of a tag.
 fn name_front(text: &[u8]) -> Option<Part<'_>>
     ensures front { MatchOption result
         (name_front text.now ≡ None)
@@ -78,7 +78,7 @@ fn name_front(text: &[u8]) -> Option<Part<'_>>
     })
 }
 
-// Whether the byte after this one is escaped, or none where this one closes a value.
+// Whether the byte after `byte` is escaped; `None` if `byte` is the closing quote.
 fn quote_step(escaped: bool, byte: u8) -> Option<bool>
     ensures { result ≡ quote_step escaped byte }
 {
@@ -91,7 +91,7 @@ fn quote_step(escaped: bool, byte: u8) -> Option<bool>
     Some(byte == b'\\')
 }
 
-// The place of the quote that closes a value.
+// The index of the closing quote of a value.
 fn quote_at(text: &[u8]) -> Option<usize>
     ensures value { result ≡ quote_at 0 false text.now }
     ensures within { IfSome result (λ at. at < length text.now) }
@@ -106,7 +106,7 @@ fn quote_at(text: &[u8]) -> Option<usize>
     None
 }
 
-// The value of a tag, as it is written, before the quote that closes it.
+// Reads the raw value of a tag (escapes kept) up to its closing quote.
 fn value_front(text: &[u8]) -> Option<Part<'_>>
     ensures front { MatchOption result
         (value_front text.now ≡ None)
@@ -122,7 +122,7 @@ fn value_front(text: &[u8]) -> Option<Part<'_>>
     }
 }
 
-/// A tag read from the front of a text, with what follows it. The value is as it is written.
+/// A tag read from the front of a text, with the rest of the text. The value is raw: its escapes are kept.
 #[derive(Clone, Copy)]
 pub struct TagFront<'a> {
     pub name: &'a [u8],
@@ -130,7 +130,7 @@ pub struct TagFront<'a> {
     pub rest: &'a [u8],
 }
 
-// A value and the end of a tag, after its name.
+// Reads the value and the end of a tag, after its name.
 fn with_name(name: Part<'_>) -> Option<TagFront<'_>>
     ensures front { MatchOption result
         (with_name (Some (record { value = name.entry.value.now; rest = name.entry.rest.now })) ≡ None)
@@ -156,7 +156,7 @@ fn with_name(name: Part<'_>) -> Option<TagFront<'_>>
     }
 }
 
-/// What stands after the bracket that begins a tag.
+/// Reads a tag; `text` follows its opening bracket.
 #[tactic(auto, unfolding(crate::specs::Tags::tag_front))]
 pub fn tag_front(text: &[u8]) -> Option<TagFront<'_>>
     ensures front { MatchOption result

@@ -1,4 +1,4 @@
-//! The tokens of a game's text.
+//! Lexer of a game's text.
 ghost use Rattle.std.specs.Prelude.{◌≡◌, ◌≤◌, ◌<◌, IfOk, IfSome, MatchOption, Some, None, length};
 ghost use Rattle.pdn_games.specs.Results as results;
 ghost use Rattle.pdn_games.specs.Tokens.{word_len, longest, token_front, front_with, front_at, begins_feed};
@@ -15,37 +15,37 @@ use std::alloc::{AllocError, Global};
 /// A token of a game's text.
 #[derive(Clone, Copy)]
 pub enum Token<'a> {
-    /// A tag by its name and its value as it is written.
+    /// A tag with its name and raw value.
     Tag { name: &'a [u8], value: &'a [u8] },
-    /// A move's number.
+    /// A move number.
     Number,
-    /// A move, by its text.
+    /// The text of a move.
     Move(&'a [u8]),
     /// A result.
     Result(ResultWord),
 }
 
-/// A token, and how many bytes of the text stand before it.
+/// A token and its offset in the text, in bytes.
 #[derive(Clone, Copy)]
 pub struct Placed<'a> {
     pub at: usize,
     pub token: Token<'a>,
 }
 
-/// What a text begins with, and what follows it.
+/// The part at the front of a text, with the rest of the text.
 #[derive(Clone, Copy)]
 pub enum Front<'a> {
-    /// Nothing more.
+    /// The end of the text.
     Ended,
-    /// Something that is skipped.
+    /// A skipped part.
     Skipped(&'a [u8]),
     /// A token.
     Found(Token<'a>, &'a [u8]),
-    /// Neither.
+    /// A syntax error.
     Stuck,
 }
 
-// A token read from the front of a text, with what follows it.
+// A token read from the front of a text, with the rest of the text.
 #[derive(Clone, Copy)]
 struct TokenFront<'a> {
     token: Token<'a>,
@@ -61,7 +61,7 @@ fn word_len(word: Option<ResultWord>) -> usize
     }
 }
 
-// The longest of a move's number, a move and a result; a result before a move of the same length.
+// The longest of a move number, a move and a result; a result wins over a move of the same length.
 fn longest(
     text: &[u8],
     numbered: usize,
@@ -98,7 +98,7 @@ fn longest(
     }
 }
 
-// The result that a text begins with, whose length is no more than the text's.
+// The result at the front of a text; the contract bounds its length.
 fn result_within(text: &[u8]) -> Option<ResultWord>
     ensures value { result ≡ results.result_at text.now }
     ensures within { word_len result ≤ length text.now }
@@ -109,7 +109,7 @@ fn result_within(text: &[u8]) -> Option<ResultWord>
     }
 }
 
-// The token that a text begins with.
+// The token at the front of a text.
 #[tactic(auto, unfolding(crate::specs::Tokens::token_front))]
 fn token_front(text: &[u8]) -> Option<TokenFront<'_>>
     ensures front { MatchOption result
@@ -133,7 +133,7 @@ fn token_front(text: &[u8]) -> Option<TokenFront<'_>>
     }
 }
 
-// A token at the front of a text, where one may stand.
+// The token at the front of a text, if a token is allowed here.
 fn free_front(free: bool, text: &[u8]) -> Front<'_>
     ensures value { front_of result ≡ front_with free text.now None }
     ensures shorter { IsShorter text.now result }
@@ -147,7 +147,7 @@ fn free_front(free: bool, text: &[u8]) -> Front<'_>
     }
 }
 
-// The front of a text, which may begin a line, and at which a token may stand where it is free.
+// The front of a text. `begins_line`: the text is at the beginning of a line; `free`: a token is allowed here.
 #[tactic(auto, unfolding(crate::specs::Tokens::front_at))]
 fn front_at(begins_line: bool, free: bool, text: &[u8]) -> Front<'_>
     ensures value { front_of result ≡ front_at begins_line free text.now }
@@ -171,7 +171,7 @@ fn begins_feed(text: &[u8]) -> bool
     }
 }
 
-// Whether any token may follow a token at once.
+// Whether a token may be followed by another without a skipped part between them.
 fn lets_follow(token: Token<'_>) -> bool
     ensures { result ≡ lets_follow (token_of token.entry) }
 {
@@ -183,15 +183,18 @@ fn lets_follow(token: Token<'_>) -> bool
     }
 }
 
-/// The tokens of a text, and where they stop, if not at its end.
+/// The tokens of a text, and the offset at which the lexer stopped, unless that is the end.
 #[derive(Drop)]
 pub struct Lexed<'a> {
     pub tokens: Vec<Placed<'a>>,
     pub stop: Option<usize>,
 }
 
-/// The tokens of a text, up to the first byte at which neither a token may stand and begins, nor something that is
-/// skipped.
+/// Splits a text into tokens, up to the first syntax error.
+///
+/// # Errors
+///
+/// `AllocError` if out of memory.
 pub fn tokens_of(alloc: Global, text: &[u8]) -> Result<Lexed<'_>, AllocError>
     ensures { IfOk result (λ lexed. TextTokens text.now (all_placed lexed.tokens.items) lexed.stop) }
 {

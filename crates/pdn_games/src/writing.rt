@@ -1,4 +1,4 @@
-//! The parts of a written game.
+//! Writers of the parts of a game's text.
 ghost use Rattle.std.specs.Prelude.{◌≡◌, ◌<◌, ◌+◌, ◌++◌, OnOk, IfOk, string_bytes};
 ghost use Rattle.draughts_moves.specs.Legal.{Legal};
 ghost use Rattle.pdn.specs.MoveValue.{move_text};
@@ -13,7 +13,7 @@ use pdn::write_move;
 use squares::{DMove, DPos, Score};
 use std::alloc::Global;
 
-// Adds a tag on a line.
+// Appends a tag on a line of its own.
 fn push_tag(text: &mut String, name: &str, value: &str) -> Result<(), Memory>
     ensures { OnOk result (string_bytes text.new ≡ string_bytes text.old ++ tag_line name.now value.now) }
 {
@@ -25,7 +25,7 @@ fn push_tag(text: &mut String, name: &str, value: &str) -> Result<(), Memory>
     Ok(())
 }
 
-// Adds the last two digits of a number.
+// Appends the last two decimal digits of a number.
 fn push_two(text: &mut String, number: u16) -> Result<(), Memory>
     ensures { OnOk result (string_bytes text.new ≡ string_bytes text.old ++ two_digits number) }
 {
@@ -34,7 +34,7 @@ fn push_two(text: &mut String, number: u16) -> Result<(), Memory>
     Ok(())
 }
 
-// The date of a day.
+// The text of a date: `YYYY.MM.DD`.
 fn date_of(alloc: Global, date: &CivilTime) -> Result<String, Memory>
     ensures { IfOk result (λ text. string_bytes text ≡ date_text date.now) }
 {
@@ -49,7 +49,7 @@ fn date_of(alloc: Global, date: &CivilTime) -> Result<String, Memory>
     Ok(text)
 }
 
-// The score as it is written, or a star for a game that goes on.
+// The text of a score, or a star for a running game.
 fn result_text(score: Option<Score>) -> &'static str
     ensures { result.now ≡ result_text score }
 {
@@ -59,7 +59,11 @@ fn result_text(score: Option<Score>) -> &'static str
     }
 }
 
-/// Adds the tags of a game, and the empty line after them.
+/// Appends the tags of a game and the empty line after them.
+///
+/// # Errors
+///
+/// `Memory` if out of memory.
 pub fn push_head(alloc: Global, text: &mut String, head: &PdnHead) -> Result<(), Memory>
     ensures { OnOk result (string_bytes text.new ≡ string_bytes text.old ++ tags_text head.now) }
 {
@@ -84,7 +88,7 @@ fn text_of(alloc: Global, position: &DPos, played: &DMove) -> Result<String, Mem
     Ok(text)
 }
 
-// Adds the text of a move, after so many plies.
+// Appends the text of a move after `plies` plies: with its number if White moves, else with the line's end.
 fn push_ply_text(text: &mut String, plies: usize, written: &str) -> Result<(), Memory>
     ensures { OnOk result (string_bytes text.new ≡ string_bytes text.old ++ ply_text plies written.now) }
 {
@@ -101,7 +105,11 @@ fn push_ply_text(text: &mut String, plies: usize, written: &str) -> Result<(), M
     Ok(())
 }
 
-/// Adds a move, after so many plies.
+/// Appends a legal move after `plies` plies.
+///
+/// # Errors
+///
+/// `Memory` if out of memory.
 pub fn push_ply(
     alloc: Global,
     text: &mut String,
@@ -117,7 +125,11 @@ pub fn push_ply(
     push_ply_text(text, plies, written.as_str())
 }
 
-/// Adds the end of a game of so many plies.
+/// Appends the end of a game of `plies` plies: its result.
+///
+/// # Errors
+///
+/// `Memory` if out of memory.
 pub fn push_end(text: &mut String, plies: usize, score: Option<Score>) -> Result<(), Memory>
     ensures { OnOk result (string_bytes text.new ≡ string_bytes text.old ++ end_text plies score) }
 {

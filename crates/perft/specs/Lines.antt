@@ -1,5 +1,4 @@
--- How many lines of legal moves a position has, for any game: by which moves are legal, in which order they are listed,
--- and what a move leaves.
+-- Leaf counts of a position's move tree, for any game with legal moves, a move order and a successor position.
 use Rattle.std.specs.Prelude.{◌≡◌, ◌↔◌, ℕ, ◌+◌, ◌-◌, ◌++◌, zero, suc, List, [], ◌∷◌, Option, Contains, codes}
 use Rattle.std.specs.Prelude.{decimal, length}
 use Rattle.std.specs.Io.KnownBytes.{Appends}
@@ -12,35 +11,35 @@ pub record AreTheMoves {P M : Type 0} (legal : P → M → Type 0) (order : M �
   pub once : IsStrictlySortedBy order moves
   pub members : (m : M) → Contains moves m ↔ legal p m
 
--- how many legal moves a position has
+-- the number of legal moves of a position
 pub record IsTheCount {P M : Type 0} (legal : P → M → Type 0) (order : M → M → Ordering) (p : P)
     (count : ℕ) : Type 0 where
   pub moves : List M
   pub are_moves : AreTheMoves legal order p moves
   pub counted : count ≡ length moves
 
--- each of the moves has a count, and these add up to the total
+-- each move has a count, and the counts add up to the total
 abbrev pub AddUp : {M : Type 0} → (M → ℕ → Type 0) → List M → ℕ → Type 0
 AddUp counted [] total = total ≡ 0
 AddUp counted (m ∷ moves) total = (count : ℕ) × (rest : ℕ) × counted m count × AddUp counted moves rest
     × (total ≡ count + rest)
 
--- There is one line of no moves. A longer line begins with a legal move, and goes on from the position after it.
+-- The leaf count is 1 at depth 0; at a greater depth it is the sum of the leaf counts after each legal move.
 abbrev pub HasLines : {P M : Type 0} → (P → M → Type 0) → (M → M → Ordering) → (P → M → P) → ℕ → P → ℕ → Type 0
 HasLines legal order play zero p count = count ≡ 1
 HasLines {M = M} legal order play (suc depth) p count = (moves : List M) × AreTheMoves legal order p moves
     × AddUp (λ m lines. HasLines legal order play depth (play p m) lines) moves count
 
--- ---- what is printed
+-- ---- output
 
--- a move's text and the number of its lines
+-- the line of a move and its leaf count
 abbrev pub count_line : List ℕ → ℕ → List ℕ
 count_line name count = name ++ (codes " " ++ (decimal count ++ codes "\n"))
 
 abbrev pub total_line : ℕ → List ℕ
 total_line total = codes "total " ++ (decimal total ++ codes "\n")
 
--- a line for each of the moves with its count, and these counts add up to the total
+-- one line for each move with its count, and the counts add up to the total
 abbrev pub AreLines : {M : Type 0} → (M → List ℕ → Type 0) → (M → ℕ → Type 0) → List M → List ℕ → ℕ → Type 0
 AreLines writes counted [] text total = (text ≡ []) × (total ≡ 0)
 AreLines writes counted (m ∷ moves) text total =
@@ -48,7 +47,7 @@ AreLines writes counted (m ∷ moves) text total =
     × writes m name × counted m count × AreLines writes counted moves more rest
     × (text ≡ count_line name count ++ more) × (total ≡ count + rest)
 
--- the legal moves in their order, a line each with the number of lines that begin with it, and the total
+-- the legal moves in order, one line each with its leaf count, and the total
 pub record IsPrinted {P M : Type 0} (legal : P → M → Type 0) (order : M → M → Ordering) (play : P → M → P)
     (writes : P → M → List ℕ → Type 0) (depth : ℕ) (p : P) (before after : Option (List ℕ)) : Type 0 where
   pub moves : List M

@@ -1,4 +1,4 @@
-//! Counting lines of legal moves.
+//! Counting of leaf nodes.
 
 ghost use Rattle.std.specs.Prelude.{◌≡◌, ◌+◌, IfOk, OnOk};
 ghost use Rattle.std.specs.Io.KnownBytes.{Appends};
@@ -9,7 +9,7 @@ use crate::game::Game;
 use std::alloc::Global;
 use std::io::Write;
 
-// The sum, if 64 bits hold it.
+// The sum, unless it overflows 64 bits.
 fn plus(a: u64, b: u64) -> Result<u64, PerftFault>
     ensures { IfOk result (λ sum. sum ≡ a + b) }
 {
@@ -19,7 +19,11 @@ fn plus(a: u64, b: u64) -> Result<u64, PerftFault>
     }
 }
 
-/// How many lines of so many legal moves a position has.
+/// The number of leaf nodes of the position's move tree at a depth, in plies; 1 at depth 0.
+///
+/// # Errors
+///
+/// `PerftFault::TooMany` if the count overflows 64 bits; `PerftFault::Memory` if out of memory.
 pub fn leaves<G: Game>(alloc: Global, position: &G::Position, depth: u32) -> Result<u64, PerftFault>
     ensures { IfOk result (λ count. HasLines G.Legal G.order G.after depth position.now count) }
 {
@@ -39,7 +43,7 @@ pub fn leaves<G: Game>(alloc: Global, position: &G::Position, depth: u32) -> Res
     Ok(count)
 }
 
-// Prints a move's text and the number of its lines.
+// Prints a move and its leaf count.
 fn print_count<W: Write>(
     alloc: Global,
     text: &str,
@@ -53,7 +57,7 @@ fn print_count<W: Write>(
     Ok(())
 }
 
-// Prints the number of all lines.
+// Prints the total leaf count.
 fn print_total<W: Write>(alloc: Global, total: u64, out: &mut W) -> Result<(), PerftFault>
     ensures { OnOk result (Appends (W.contents out.old) (W.contents out.new) (total_line total)) }
 {
@@ -62,8 +66,13 @@ fn print_total<W: Write>(alloc: Global, total: u64, out: &mut W) -> Result<(), P
     Ok(())
 }
 
-/// Prints the number of lines under each legal move, in the order of the list of legal moves, and then in all. The
-/// depth counts that move, and is at least 1.
+/// Prints the leaf count under each legal move, in move order, and then the total. `depth` includes that move and is at
+/// least 1.
+///
+/// # Errors
+///
+/// `PerftFault::TooMany` if a count overflows 64 bits; `PerftFault::Memory` if out of memory; `PerftFault::Output` if
+/// the output fails.
 pub fn print_counts<G: Game, W: Write>(
     alloc: Global,
     position: &G::Position,

@@ -1,4 +1,4 @@
-//! Lines of draughts.
+//! The rules of draughts for `perft`.
 
 use crate::fault::PerftFault;
 use crate::game::Game;

@@ -1,14 +1,14 @@
-//! Why lines are not counted.
+//! The errors of counting and printing.
 
 use memory::Memory;
 use std::alloc::AllocError;
 
-/// Why lines are not counted, or the counts not printed to their end.
+/// The reason why counting or printing failed.
 #[derive(Clone, Copy, Debug, PartialEq, Eq)]
 pub enum PerftFault {
-    /// Memory was refused.
+    /// Out of memory.
     Memory,
-    /// There are more lines than 64 bits count.
+    /// A count overflows 64 bits.
     TooMany,
     /// The output failed.
     Output,

@@ -1,4 +1,4 @@
-//! What a game is to the counting of its lines.
+//! The trait of the games that `perft` supports.
 
 ghost use Rattle.std.specs.Prelude.{◌≡◌, List, ℕ, IfOk, string_bytes};
 ghost use Rattle.std.specs.declared.cmp.Ordering.{Ordering};
@@ -7,7 +7,11 @@ ghost use Rattle.perft.specs.Lines.{AreTheMoves, IsTheCount};
 use crate::fault::PerftFault;
 use std::alloc::Global;
 
-/// A game whose lines of moves are counted.
+/// A game whose leaf nodes can be counted.
+///
+/// # Errors
+///
+/// A method that takes an allocator returns `PerftFault::Memory` if out of memory.
 pub trait Game {
     type Position: Drop;
 
@@ -21,11 +25,11 @@ pub trait Game {
 
     ghost Writes: { Self.Position → Self.Move → List ℕ → Type 0 };
 
-    /// The legal moves, each once, in the order of the game.
+    /// The legal moves, each once, in move order.
     fn legal(alloc: Global, position: &Self::Position) -> Result<Vec<Self::Move>, PerftFault>
         ensures { IfOk result (λ moves. AreTheMoves Legal order position.now moves.items) };
 
-    /// How many legal moves there are.
+    /// The number of legal moves.
     fn count(alloc: Global, position: &Self::Position) -> Result<u64, PerftFault>
         ensures { IfOk result (λ count. IsTheCount Legal order position.now count) };
 

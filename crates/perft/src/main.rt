@@ -1,4 +1,5 @@
-//! The program `perft`: how many lines of so many legal moves a position has, under each of its legal moves.
+//! The program `perft`: counts the leaf nodes of a position's move tree at a given depth, for each legal move and in
+//! total.
 #![tactic(auto)]
 
 mod count;
@@ -25,13 +26,13 @@ const BAD_WORDS: u8 = 2;
 
 const FAULT: u8 = 3;
 
-// Says why the program stops.
+// Prints the reason for a failure and returns the exit status.
 fn stop<E: Write>(err: &mut E, text: &str, status: u8) -> u8 {
     let _ = writeln!(err, "{text}");
     status
 }
 
-// The program's words after its own name.
+// The command-line arguments without the program's name; `None` if out of memory.
 fn given_words(rt: &HostRuntime) -> Option<Vec<String>> {
     let words = match std::env::args(rt) {
         Ok(words) => words,
@@ -47,7 +48,7 @@ fn texts<'a>(rt: &HostRuntime, words: &'a [String]) -> Result<Vec<&'a str>, Allo
     words.iter().map(|word| word.as_str()).collect(rt.alloc())
 }
 
-// Prints what is asked for.
+// Prints the counts that the command line requests.
 fn print_asked<W: Write>(rt: &HostRuntime, asked: &Asked, out: &mut W) -> Result<(), PerftFault> {
     match &asked.start {
         Start::Draughts(position) => {
@@ -57,7 +58,7 @@ fn print_asked<W: Write>(rt: &HostRuntime, asked: &Asked, out: &mut W) -> Result
     }
 }
 
-// Reads the words and prints the counts that they ask for.
+// Parses the command line, prints the counts and returns the exit status.
 fn status_of(rt: &HostRuntime, words: &[String]) -> u8 {
     let mut err = rt.stderr();
     let Ok(words) = texts(rt, words) else {

@@ -1,11 +1,11 @@
-//! Lines of shogi.
+//! The rules of shogi for `perft`.
 
 use crate::fault::PerftFault;
 use crate::game::Game;
 use squares::{SMove, SPos};
 use std::alloc::Global;
 
-/// The position in which a game begins.
+/// The initial position, as SFEN.
 pub const OPENING: &str = "lnsgkgsnl/1r5b1/ppppppppp/9/9/9/PPPPPPPPP/1B5R1/LNSGKGSNL b - 1";
 
 /// Shogi.

@@ -1,36 +1,36 @@
-//! The program's words: a game, a depth, and a position if it is not the opening.
+//! Parser of the command line: a game, a depth, and an optional position.
 
 use crate::shogi::OPENING;
 use pdn::{FenFault, read_fen};
 use squares::{DPos, SPos};
 use std::alloc::Global;
 
-/// The greatest depth that is asked for.
+/// The greatest depth, in plies.
 pub const MOST_DEPTH: u32 = 99;
 
-/// The position, of one of the games, whose lines are counted.
+/// A position of either game.
 #[derive(Drop)]
 pub enum Start {
     Draughts(DPos),
     Shogi(SPos),
 }
 
-/// What is to be counted: the lines of so many moves, at least one, from a position.
+/// A parsed command line: the depth in plies, at least 1, and the position.
 #[derive(Drop)]
 pub struct Asked {
     pub depth: u32,
     pub start: Start,
 }
 
-/// Words that ask for nothing.
+/// The reason why the command line is refused.
 #[derive(Clone, Copy, Debug, PartialEq, Eq)]
 pub enum BadWords {
     Usage,
-    /// Memory was refused.
+    /// Out of memory.
     Memory,
 }
 
-// A depth from 1 to the greatest.
+// Parses a depth from 1 to `MOST_DEPTH`.
 fn depth_of(word: &str) -> Option<u32> {
     match word.parse::<u32>() {
         Ok(depth) if 1 <= depth && depth <= MOST_DEPTH => Some(depth),
@@ -38,7 +38,7 @@ fn depth_of(word: &str) -> Option<u32> {
     }
 }
 
-// The position that a word gives as FEN.
+// Parses a FEN text.
 fn draughts_position(alloc: Global, word: &str) -> Result<DPos, BadWords> {
     match read_fen(alloc, word) {
         Ok(position) => Ok(position),
@@ -47,7 +47,7 @@ fn draughts_position(alloc: Global, word: &str) -> Result<DPos, BadWords> {
     }
 }
 
-// The position that a word gives as SFEN. The number of the next move counts for nothing.
+// Parses an SFEN text; its move number is ignored.
 fn shogi_position(word: &str) -> Result<SPos, BadWords> {
     match sfen::read(word) {
         Ok((position, _)) => Ok(position),
@@ -55,7 +55,7 @@ fn shogi_position(word: &str) -> Result<SPos, BadWords> {
     }
 }
 
-// The position of a game that a word gives, or the opening.
+// The position that the command line gives, or the initial position.
 fn start_of(alloc: Global, game: &str, position: Option<&str>) -> Result<Start, BadWords> {
     match (game, position) {
         ("draughts", None) => Ok(Start::Draughts(DPos::opening())),
@@ -66,8 +66,11 @@ fn start_of(alloc: Global, game: &str, position: Option<&str>) -> Result<Start, 
     }
 }
 
-/// What the words ask for: `draughts` or `shogi`, a depth of 1 to 99, and a position, as FEN or SFEN, where it is not
-/// the opening.
+/// Parses the command line: `draughts` or `shogi`, a depth from 1 to 99, and an optional position as FEN or SFEN.
+///
+/// # Errors
+///
+/// `BadWords::Usage` for an invalid command line; `BadWords::Memory` if out of memory.
 pub fn read_words(alloc: Global, words: &[&str]) -> Result<Asked, BadWords> {
     let (game, depth, position) = match words {
         [game, depth] => (*game, *depth, None),

@@ -1,20 +1,20 @@
--- How pieces join: what was written piece by piece is a beginning of the whole.
+-- Lemmas about consecutive pieces: what was written so far is a prefix of the whole.
 use Rattle.std.specs.Prelude.{ℕ, Option, List, [], ◌++◌}
 use Rattle.std.specs.Io.KnownBytes.{Appends}
 use Rattle.std.proofs.Common.{append_assoc, append-nil, refl, ap, ◌∙◌, sym}
 use Rattle.std.proofs.KnownBytes.{Appends-nil, Appends-trans}
 use Rattle.record_writer.specs.Pieces.{AppendsSome}
 
--- where nothing was written
+-- Nothing was written.
 pub begun-nothing : (known : Option (List ℕ)) (text : List ℕ) → AppendsSome known known text
 begun-nothing known text = record { done = []; left = text; parts = refl; appended = Appends-nil known }
 
--- the whole text is a beginning of it
+-- The whole text was written.
 pub begun-whole : (before after : Option (List ℕ)) (text : List ℕ) → Appends before after text →
     AppendsSome before after text
 begun-whole before after text h = record { done = text; left = []; parts = append-nil text; appended = h }
 
--- a text, and then a beginning of the next
+-- A text was written completely, then a prefix of the next one.
 pub begun-next : (before mid after : Option (List ℕ)) (text next : List ℕ) → Appends before mid text
     → AppendsSome mid after next →
     AppendsSome before after (text ++ next)
@@ -25,7 +25,7 @@ begun-next before mid after text next h some = record {
   appended = Appends-trans before mid after text some.done h some.appended;
 }
 
--- a beginning of a text is one of each text that goes on from it
+-- A prefix of a text is a prefix of every longer text.
 pub begun-longer : (before after : Option (List ℕ)) (text more : List ℕ) → AppendsSome before after text →
     AppendsSome before after (text ++ more)
 begun-longer before after text more some = record {

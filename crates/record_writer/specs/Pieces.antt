@@ -1,8 +1,8 @@
--- What a writer holds after a piece of a record was written to it, or a part of that piece.
+-- The contents of a writer after a piece, or a part of it, was written.
 use Rattle.std.specs.Prelude.{◌≡◌, ℕ, Option, List, ◌++◌}
 use Rattle.std.specs.Io.KnownBytes.{Appends}
 
--- A beginning of the text was appended: nothing, a part of it, or all.
+-- A prefix of the text was appended, possibly empty or the whole text.
 pub record AppendsSome (before after : Option (List ℕ)) (text : List ℕ) : Type 0 where
   pub done : List ℕ
   pub left : List ℕ

@@ -1,15 +1,15 @@
-//! Why a record was not written to its end.
+//! Faults of writing a record.
 
 use memory::Memory;
 use std::io::Error;
 use std::{error, fmt};
 
-/// Why a record was not written to its end.
+/// Why a record was not written completely.
 #[derive(Debug, Drop)]
 pub enum WriteFault {
-    /// Memory was refused.
+    /// An allocation failed.
     Memory,
-    /// The writer failed.
+    /// The writer returned an error.
     Writer(Error),
 }
 

@@ -1,4 +1,4 @@
-//! Records that are written piece by piece, where also a failure leaves a beginning of the record.
+//! Writes a game record piece by piece; after a failure the output holds a prefix of the record.
 #![tactic(auto)]
 
 pub mod fault;

@@ -1,4 +1,4 @@
-//! A piece of a record, and what of it is written.
+//! Writing one piece of a record.
 
 ghost use Rattle.std.specs.Prelude.{◌≢◌, OnOk};
 ghost use Rattle.std.specs.Io.KnownBytes.{Appends};
@@ -7,8 +7,17 @@ ghost use Rattle.record_writer.specs.Pieces.{AppendsSome};
 use crate::fault::WriteFault;
 use std::io::{Error, ErrorKind, Write};
 
-/// Writes a piece of a record to its end, or, where the writer fails, a beginning of it. A write that is interrupted is
-/// tried again; a writer that takes none of the bytes that are left has failed.
+/// Writes a piece of a record.
+///
+/// An interrupted write is retried.
+///
+/// # Errors
+///
+/// `Writer` if the writer fails, or accepts none of the remaining bytes (`WriteZero`).
+///
+/// # Guarantees
+///
+/// `begun`: even after an error the output has grown by a prefix of the piece. `no_memory`: never returns `Memory`.
 pub fn write_piece<W: Write>(writer: &mut W, bytes: &[u8]) -> Result<(), WriteFault>
     ensures whole { OnOk result (Appends (W.contents writer.old) (W.contents writer.new) bytes.now) }
     ensures begun { AppendsSome (W.contents writer.old) (W.contents writer.new) bytes.now }

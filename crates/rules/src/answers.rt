@@ -1,4 +1,4 @@
-//! Questions by what they are about.
+//! Dispatch of a question to its subject.
 
 use crate::unanswered::Unanswered;
 use crate::words::{first_word, parts_of};
@@ -9,8 +9,8 @@ use crate::{
 use club_games::{Draughts, Shogi};
 use std::alloc::Global;
 
-/// The answer to a question: its first word says what it is about, the second what is asked, and its parts, between
-/// which a `|` stands, about which values.
+/// Answers a question: its first word is the subject, its second word the query, and the rest its arguments, separated
+/// by `|`.
 pub fn answer(alloc: Global, question: &str) -> Result<String, Unanswered> {
     let (subject, rest) = first_word(question);
     let (asked, rest) = first_word(rest);

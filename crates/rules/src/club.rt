@@ -1,4 +1,4 @@
-//! Questions about the two games as the club sees them.
+//! Questions about the two games through the club's traits `Rules` and `Records`.
 
 use crate::unanswered::Unanswered;
 use crate::words::{said, told_score, yes};
@@ -6,7 +6,7 @@ use club_rules::{Memory, RecordFormat, RecordReading, Records, Rules};
 use squares::Side;
 use std::alloc::Global;
 
-// The position that the move of a text leads to, and the track of the line with this move more.
+// The position after the move of a text, and the track of the line extended by that move.
 fn step<R: Rules>(
     alloc: Global,
     position: &R::Position,
@@ -31,7 +31,7 @@ fn step<R: Rules>(
     Ok((after, track))
 }
 
-// The last position of a line that is given by the texts of its moves, and the line's track.
+// The last position and the track of a line that is given by the texts of its moves.
 fn follow<R: Rules>(
     alloc: Global,
     start: &str,
@@ -47,7 +47,7 @@ fn follow<R: Rules>(
     Ok((position, track))
 }
 
-// How many lines of `depth` legal moves there are.
+// The number of leaf nodes at a depth of `depth` plies; a depth of 0 is treated as 1.
 fn leaves<R: Rules>(alloc: Global, position: &R::Position, depth: u32) -> Result<u64, Memory> {
     let moves = R::legal(alloc, position)?;
     if depth <= 1 {
@@ -66,7 +66,7 @@ fn leaves<R: Rules>(alloc: Global, position: &R::Position, depth: u32) -> Result
     Ok(count)
 }
 
-// What is written for the move of a text, or why it is refused.
+// The text written for the move that a text denotes, or the refusal.
 fn rewritten<R: Rules>(
     alloc: Global,
     position: &R::Position,
@@ -85,7 +85,7 @@ fn rewritten<R: Rules>(
     }
 }
 
-// An end's name, and the score where it is that side's turn.
+// An end's name and its score; the side is the one to move.
 fn told_end<R: Rules>(
     alloc: Global,
     end: Option<R::End>,
@@ -100,8 +100,7 @@ fn told_end<R: Rules>(
     }
 }
 
-// The end of a line with a track, whose last position stood so often after so many plies, and first after the ply
-// `first`.
+// The end of a line by its track; the arguments are its plies, repetition count and first occurrence.
 fn tracked<R: Rules>(
     alloc: Global,
     track: R::Track,
@@ -118,7 +117,7 @@ fn tracked<R: Rules>(
     }
 }
 
-// The answer to a question about the last position of a line and the line's track.
+// Answers a question about the last position of a line and the line's track.
 fn of_line<R: Rules>(
     alloc: Global,
     asked: &str,
@@ -145,7 +144,7 @@ fn of_line<R: Rules>(
     }
 }
 
-// The position of a text, or that in which a game begins for `opening`.
+// The position that a text denotes; `opening` is the initial position.
 fn position<R: Rules>(alloc: Global, text: &str) -> Result<R::Position, Unanswered> {
     if text == "opening" {
         return Ok(R::start());
@@ -153,7 +152,7 @@ fn position<R: Rules>(alloc: Global, text: &str) -> Result<R::Position, Unanswer
     Ok(R::read_position(alloc, text)?.ok_or(Unanswered::Position)?)
 }
 
-// What is written for the position of a text, if it is one's.
+// The text written for the position that a text denotes, if any.
 fn reread<R: Rules>(alloc: Global, text: &str) -> Result<String, Unanswered> {
     match R::read_position(alloc, text)? {
         Some(position) => Ok(R::write_position(alloc, &position)?),
@@ -161,13 +160,13 @@ fn reread<R: Rules>(alloc: Global, text: &str) -> Result<String, Unanswered> {
     }
 }
 
-// How many lines of so many legal moves a position has.
+// The number of leaf nodes at a depth.
 fn lines<R: Rules>(alloc: Global, start: &str, depth: &str) -> Result<String, Unanswered> {
     let count = leaves::<R>(alloc, &position::<R>(alloc, start)?, depth.parse()?)?;
     Ok(format!(in alloc; "{count}")?)
 }
 
-// The plies and the score of a part's game, or why the text is refused.
+// The plies and the score of one game of a text of records, or the refusal.
 fn recorded<R: Records>(alloc: Global, part: &str, text: &str) -> Result<String, Unanswered> {
     match R::read_record(alloc, text.as_bytes(), part.parse()?)? {
         RecordReading::Game(game) => {
@@ -186,7 +185,7 @@ fn told_format(format: RecordFormat) -> &'static str {
     }
 }
 
-// The answer to a question about the game.
+// Answers a question about the game.
 fn of_game<R: Records>(alloc: Global, asked: &str, value: &str) -> Result<String, Unanswered> {
     match asked {
         "draw-offers" => said(alloc, yes(R::has_draw_offers())),
@@ -196,7 +195,7 @@ fn of_game<R: Records>(alloc: Global, asked: &str, value: &str) -> Result<String
     }
 }
 
-// The answer to a question about a line from a position, whose track may be given by its numbers.
+// Answers a question about a line; its track may be given by its numbers.
 fn of_track<R: Rules>(
     alloc: Global,
     asked: &str,
@@ -217,7 +216,7 @@ fn of_track<R: Rules>(
     }
 }
 
-/// The answer to a question about the game, its records, or the line of some moves from a position.
+/// Answers a question about the game, its records, or a line of moves from a position.
 pub fn answer<R: Records>(
     alloc: Global,
     asked: &str,

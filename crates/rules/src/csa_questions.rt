@@ -1,4 +1,4 @@
-//! Questions about records of shogi.
+//! Questions about records of shogi games.
 
 use crate::csa_written::written;
 use crate::shogi_told::told_move;
@@ -7,8 +7,7 @@ use crate::words::{push_word, told_score};
 use csa::read_games;
 use std::alloc::Global;
 
-// The scores and the moves of a text's games, with a `/` between them, or why it is refused. After the score stands
-// whether the game ended with a declaration.
+// The scores, the declared wins and the moves of a text's games, separated by `/`, or the refusal.
 fn told(alloc: Global, text: &str) -> Result<String, Unanswered> {
     let games = match read_games(alloc, text.as_bytes()) {
         Ok(games) => games,
@@ -30,7 +29,7 @@ fn told(alloc: Global, text: &str) -> Result<String, Unanswered> {
     Ok(told)
 }
 
-/// The answer to a question about a text of games that is read, or about a game that is written.
+/// Answers a question about a text that is read, or about a game that is written.
 pub fn answer(alloc: Global, asked: &str, parts: &[String]) -> Result<String, Unanswered> {
     match (asked, parts) {
         ("read", [text]) => told(alloc, text.as_str()),

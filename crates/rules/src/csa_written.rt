@@ -1,4 +1,4 @@
-//! Games of shogi that are written.
+//! Writing of shogi games.
 ghost use Rattle.std.specs.Prelude.{◌≡◌, IfOk, Some, length, map};
 ghost use Rattle.squares.specs.ShogiOpening.{opening};
 ghost use Rattle.shogi_repetition.specs.Faults.{IsPlayed};
@@ -13,7 +13,7 @@ use squares::{SMove, SPos};
 use std::alloc::Global;
 use std::io::Write;
 
-// A game, each move with its seconds, after which the side to move resigned.
+// A game whose side to move resigned, with the time of each move in seconds.
 #[derive(Drop)]
 struct Game<'a> {
     event: &'a str,
@@ -24,7 +24,7 @@ struct Game<'a> {
 }
 
 impl<'a> Game<'a> {
-    // What stands round the moves.
+    // The head of the record.
     fn head(&self) -> CsaHead<'a>
         ensures { result.end ≡ Some CsaEnd.Resigned }
     {
@@ -38,14 +38,14 @@ impl<'a> Game<'a> {
     }
 }
 
-// The moves of entries.
+// The moves of the entries.
 fn moves_of(alloc: Global, entries: &[(SMove, u64)]) -> Result<Vec<SMove>, Unanswered>
     ensures { IfOk result (λ moves. moves.items ≡ map (λ e. e.0) entries.now) }
 {
     Ok(entries.iter().map(|entry| entry.0).collect(alloc)?)
 }
 
-// The entries of a text: moves in USI, each with its seconds after a colon.
+// Parses entries: moves in USI notation, each with its seconds after a colon.
 fn entries(alloc: Global, text: &str) -> Result<Vec<(SMove, u64)>, Unanswered> {
     let mut entries = Vec::new(alloc);
     for entry in text.split_whitespace() {
@@ -56,7 +56,7 @@ fn entries(alloc: Global, text: &str) -> Result<Vec<(SMove, u64)>, Unanswered> {
     Ok(entries)
 }
 
-// Writes a game by the rules move by move.
+// Writes a legal game move by move.
 fn write_entries<W: Write>(
     alloc: Global,
     head: &CsaHead,
@@ -99,8 +99,8 @@ impl<'a> Recorded for Game<'a> {
     }
 }
 
-/// The record of a game of an event from that second on, between Black and White, of those moves and their seconds,
-/// after which the side to move resigned.
+/// The record of a game: event, start (Unix seconds), Black, White, and moves with their seconds. The side to move
+/// resigns.
 pub fn written(alloc: Global, parts: &[String]) -> Result<String, Unanswered> {
     match parts {
         [event, seconds, black, white, moves] => {

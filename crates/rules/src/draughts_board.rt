@@ -1,4 +1,4 @@
-//! Questions about squares of draughts and sets of them.
+//! Questions about squares of draughts and sets of squares.
 
 use crate::unanswered::Unanswered;
 use crate::words::{push_word, said, yes};
@@ -6,12 +6,12 @@ use squares::{DSet, Direction, Dsq, Numbers};
 use std::alloc::Global;
 use std::cmp::Ordering;
 
-/// The square of a number.
+/// Parses the number of a square.
 pub fn square(number: &str) -> Result<Dsq, Unanswered> {
     Ok(Dsq::new(number.parse()?).ok_or(Unanswered::Square)?)
 }
 
-// The set of squares by their numbers.
+// Parses a set of squares.
 fn set(numbers: &str) -> Result<DSet, Unanswered> {
     let mut squares = DSet::new();
     for number in numbers.split_whitespace() {
@@ -20,7 +20,7 @@ fn set(numbers: &str) -> Result<DSet, Unanswered> {
     Ok(squares)
 }
 
-/// The numbers of the squares of a set, with blanks between them.
+/// The numbers of the squares of a set, separated by spaces.
 pub fn told_set(alloc: Global, squares: DSet) -> Result<String, Unanswered> {
     if squares.is_empty() {
         return said(alloc, "none");
@@ -32,7 +32,7 @@ pub fn told_set(alloc: Global, squares: DSet) -> Result<String, Unanswered> {
     Ok(text)
 }
 
-// The number of a square, if there is one.
+// The number of a square, or `none`.
 fn told(alloc: Global, square: Option<Dsq>) -> Result<String, Unanswered> {
     match square {
         Some(square) => Ok(format!(in alloc; "{}", square.number())?),
@@ -50,7 +50,7 @@ fn direction(name: &str) -> Result<Direction, Unanswered> {
     }
 }
 
-// The row and the column of the square of a number.
+// The row and the column of a square.
 fn place(alloc: Global, number: &str) -> Result<String, Unanswered> {
     match Dsq::new(number.parse()?) {
         Some(square) => Ok(format!(in alloc; "{} {}", square.row(), square.column())?),
@@ -58,7 +58,7 @@ fn place(alloc: Global, number: &str) -> Result<String, Unanswered> {
     }
 }
 
-// The square of a row and a column.
+// The square with a row and a column.
 fn at(alloc: Global, row_and_column: &str) -> Result<String, Unanswered> {
     let (row, column) = row_and_column.split_once(' ').ok_or(Unanswered::Number)?;
     told(alloc, Dsq::at(row.parse()?, column.parse()?))
@@ -76,7 +76,7 @@ fn all(alloc: Global) -> Result<String, Unanswered> {
     Ok(text)
 }
 
-// How many squares a set has.
+// The number of squares in a set.
 fn size(alloc: Global, squares: DSet) -> Result<String, Unanswered> {
     if squares.is_empty() {
         return said(alloc, "none");
@@ -84,7 +84,7 @@ fn size(alloc: Global, squares: DSet) -> Result<String, Unanswered> {
     Ok(format!(in alloc; "{}", squares.len())?)
 }
 
-// How a set stands to another.
+// The relation of two sets.
 fn compared(one: DSet, other: DSet) -> &'static str {
     if one == other {
         return "the same";
@@ -120,7 +120,7 @@ fn of_two(alloc: Global, asked: &str, one: &str, other: &str) -> Result<String, 
     }
 }
 
-/// The answer to a question about squares or sets of squares.
+/// Answers a question about squares or sets of squares.
 pub fn answer(alloc: Global, asked: &str, parts: &[String]) -> Result<String, Unanswered> {
     match parts {
         [value] => of_one(alloc, asked, value.as_str()),

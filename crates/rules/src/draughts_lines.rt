@@ -1,4 +1,4 @@
-//! Questions about lines of moves of draughts.
+//! Questions about lines of draughts moves.
 
 use crate::draughts_questions::{made, position};
 use crate::unanswered::Unanswered;
@@ -7,7 +7,7 @@ use draughts_draws::{DEnd, DLineFault, DrawCounts, judge};
 use squares::{DMove, DPos};
 use std::alloc::Global;
 
-/// The moves of texts that are parted by blanks.
+/// Parses moves that are separated by spaces.
 pub fn line(alloc: Global, texts: &str) -> Result<Vec<DMove>, Unanswered> {
     let mut moves = Vec::new(alloc);
     for text in texts.split_whitespace() {
@@ -47,7 +47,7 @@ fn told(alloc: Global, judged: Result<Option<DEnd>, DLineFault>) -> Result<Strin
     }
 }
 
-// What the line has come to by its counts, which are kept move by move.
+// The end of a line by its draw counts, updated move by move.
 fn counted(alloc: Global, start: &DPos, moves: &[DMove]) -> Result<Option<DEnd>, DLineFault> {
     let mut counts = DrawCounts::start(alloc, start)?;
     for made in moves {
@@ -56,7 +56,7 @@ fn counted(alloc: Global, start: &DPos, moves: &[DMove]) -> Result<Option<DEnd>,
     Ok(counts.end())
 }
 
-// What the line has come to, both as a whole and move by move.
+// The end of a line; reports whether whole and incremental judging differ.
 fn judged(alloc: Global, start: &str, moves: &[DMove]) -> Result<String, Unanswered> {
     let start = position(alloc, start)?;
     let whole = told(alloc, judge(alloc, &start, moves))?;
@@ -67,7 +67,7 @@ fn judged(alloc: Global, start: &str, moves: &[DMove]) -> Result<String, Unanswe
     Ok(format!(in alloc; "{whole}, but move by move {stepwise}")?)
 }
 
-// The same of a line of whose moves so many are taken.
+// The end of the first `plies` moves of a line.
 fn judged_so_far(
     alloc: Global,
     start: &str,
@@ -81,7 +81,7 @@ fn judged_so_far(
     }
 }
 
-// What becomes of each move that is added to the line, where one that is refused changes nothing.
+// The result of adding each move to the draw counts; a refused move changes nothing.
 fn pushed(alloc: Global, start: &str, texts: &str) -> Result<String, Unanswered> {
     let Ok(mut counts) = DrawCounts::start(alloc, &position(alloc, start)?) else {
         return Err(Unanswered::Memory);
@@ -97,13 +97,12 @@ fn pushed(alloc: Global, start: &str, texts: &str) -> Result<String, Unanswered>
     Ok(text)
 }
 
-// The score of an end after which it is that side's turn.
+// The score of an end; `turn` is the side to move.
 fn score(name: &str, turn: &str) -> Result<&'static str, Unanswered> {
     Ok(told_score(end(name)?.outcome(side(turn, "w")?)))
 }
 
-/// The answer to a question about a line of moves from a position, of which so many may be taken, about the score of an
-/// end, or about two moves.
+/// Answers a question about a line of moves, the score of an end, or two moves.
 pub fn answer(alloc: Global, asked: &str, parts: &[String]) -> Result<String, Unanswered> {
     match (asked, parts) {
         ("judge", [start, texts]) => {

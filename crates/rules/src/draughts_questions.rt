@@ -13,7 +13,7 @@ fn man(side: Side) -> DPiece {
     DPiece { side, king: false }
 }
 
-// Changes a position by a step: `pass`, a man that is put as `w:31` or `b:1`, or a square that is cleared.
+// Applies a step to a position: `pass`, a man such as `w:31` or `b:1`, or a square to clear.
 fn change(position: &mut DPos, step: &str) -> Result<(), Unanswered> {
     if step == "pass" {
         position.pass();
@@ -31,7 +31,7 @@ fn change(position: &mut DPos, step: &str) -> Result<(), Unanswered> {
     Ok(())
 }
 
-/// The position of a text: a FEN, `opening`, or `new` and the steps that make it of an empty board.
+/// Parses a position: a FEN, `opening`, or `new` and steps from an empty board.
 pub fn position(alloc: Global, text: &str) -> Result<DPos, Unanswered> {
     if text == "opening" {
         return Ok(DPos::opening());
@@ -48,8 +48,7 @@ pub fn position(alloc: Global, text: &str) -> Result<DPos, Unanswered> {
     }
 }
 
-/// A move by the numbers of the squares that it leaves and comes to, and of those whose pieces it takes: `47-42`,
-/// `28-19-23`.
+/// Parses a move: the numbers of its origin, its destination and the captured squares, such as `47-42` or `28-19-23`.
 pub fn made(alloc: Global, text: &str) -> Result<DMove, Unanswered> {
     let mut squares = Vec::new(alloc);
     for number in text.split('-') {
@@ -67,7 +66,7 @@ pub fn made(alloc: Global, text: &str) -> Result<DMove, Unanswered> {
     }
 }
 
-/// A move as `made` reads it.
+/// A move in the notation that `made` parses.
 pub fn told_move(alloc: Global, made: &DMove) -> Result<String, Unanswered> {
     let mut text = format!(in alloc; "{}-{}", made.from.number(), made.to.number())?;
     for number in Numbers::of(made.taken).as_slice() {
@@ -76,7 +75,7 @@ pub fn told_move(alloc: Global, made: &DMove) -> Result<String, Unanswered> {
     Ok(text)
 }
 
-/// The moves, with blanks between them.
+/// Moves, separated by spaces.
 pub fn told_moves(alloc: Global, moves: &[DMove]) -> Result<String, Unanswered> {
     let mut text = String::new(alloc);
     for made in moves {
@@ -97,7 +96,7 @@ fn all_texts(alloc: Global, position: &DPos) -> Result<String, Unanswered> {
     Ok(texts)
 }
 
-// The letter of a man, or of a king.
+// The letter of a piece.
 fn letter(piece: DPiece) -> &'static str {
     match (piece.side, piece.king) {
         (Side::First, false) => "w",
@@ -107,7 +106,7 @@ fn letter(piece: DPiece) -> &'static str {
     }
 }
 
-// What stands on the squares in their order: men as `w` and `b`, kings as `W` and `B`.
+// The contents of the squares in order: men as `w` and `b`, kings as `W` and `B`.
 fn cells(alloc: Global, position: &DPos) -> Result<String, Unanswered> {
     let mut text = String::new(alloc);
     for square in &Dsq::all() {
@@ -119,7 +118,7 @@ fn cells(alloc: Global, position: &DPos) -> Result<String, Unanswered> {
     Ok(text)
 }
 
-// Whose turn it is, the squares of White's and of Black's pieces, and those of the kings.
+// The side to move, and the squares of White's pieces, of Black's pieces and of the kings.
 fn told(alloc: Global, position: &DPos) -> Result<String, Unanswered> {
     let first = told_set(alloc, position.squares_of(Side::First))?;
     let second = told_set(alloc, position.squares_of(Side::Second))?;
@@ -131,7 +130,7 @@ fn told(alloc: Global, position: &DPos) -> Result<String, Unanswered> {
     Ok(format!(in alloc; "{turn}, {first}, {second}, {kings}")?)
 }
 
-// The text that is written for the position of a FEN, or why the FEN is refused.
+// The text written for the position of a FEN, or the fault.
 fn rewritten(alloc: Global, text: &str) -> Result<String, Unanswered> {
     match read_fen(alloc, text) {
         Ok(position) => Ok(write_fen(alloc, &position)?),
@@ -139,7 +138,7 @@ fn rewritten(alloc: Global, text: &str) -> Result<String, Unanswered> {
     }
 }
 
-// What a move's text is read as, or why it is refused.
+// The move that a text denotes, or the fault.
 fn read(alloc: Global, position: &DPos, text: &str) -> Result<String, Unanswered> {
     match read_move(alloc, position, text) {
         Ok(made) => told_move(alloc, &made),
@@ -147,7 +146,7 @@ fn read(alloc: Global, position: &DPos, text: &str) -> Result<String, Unanswered
     }
 }
 
-// The position that a move leaves, or why the move is refused.
+// The position after a move, or the reason why the move is illegal.
 fn outcome(alloc: Global, position: &DPos, made: &DMove) -> Result<String, Unanswered> {
     match check(position, made) {
         Ok(()) => Ok(write_fen(alloc, &play(position, made))?),
@@ -176,7 +175,7 @@ fn hash_of(position: &DPos) -> u64 {
     state.finish()
 }
 
-// Whether two positions are the same, and whether they are hashed alike.
+// Whether two positions are equal, and whether their hashes are.
 fn compared(one: &DPos, other: &DPos) -> &'static str {
     match (one == other, hash_of(one) == hash_of(other)) {
         (true, true) => "the same, hashed alike",
@@ -208,7 +207,7 @@ fn of_two(alloc: Global, asked: &str, position: &DPos, second: &str) -> Result<S
     }
 }
 
-/// The answer to a question about a position, or about a position and a move, a text or another position.
+/// Answers a question about a position, with or without a move, a text or another position.
 pub fn answer(alloc: Global, asked: &str, parts: &[String]) -> Result<String, Unanswered> {
     match parts {
         [text] if asked == "fen" => rewritten(alloc, text.as_str()),

@@ -1,4 +1,4 @@
-//! Questions about what faults are printed as.
+//! Questions about the texts of faults.
 
 use crate::unanswered::Unanswered;
 use csa::CsaFault;
@@ -28,7 +28,7 @@ fn cause(name: &str) -> Result<Illegal, Unanswered> {
     }
 }
 
-// What refused memory is printed as by that crate.
+// The text of a crate's fault for out of memory.
 fn memory(alloc: Global, crate_name: &str) -> Result<String, Unanswered> {
     match crate_name {
         "squares" => told(alloc, &Memory),
@@ -41,7 +41,7 @@ fn memory(alloc: Global, crate_name: &str) -> Result<String, Unanswered> {
     }
 }
 
-/// What a fault is printed as.
+/// The text of a fault.
 pub fn answer(alloc: Global, asked: &str, parts: &[String]) -> Result<String, Unanswered> {
     match (asked, parts) {
         ("memory", [name]) => memory(alloc, name.as_str()),

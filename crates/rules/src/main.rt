@@ -1,5 +1,6 @@
-//! The program `rules`: reads a script of questions about the rules, texts and records of the games, a line each with
-//! its answer, and says which answers differ.
+//! The test program `rules`: runs a script of questions about rules, texts and records, and reports wrong answers.
+//!
+//! It reads the script from standard input; each line is a question and its expected answer.
 #![tactic(auto)]
 
 mod answers;
@@ -33,7 +34,7 @@ const DIFFERS: u8 = 1;
 
 const FAULT: u8 = 3;
 
-// Prints the report on a script.
+// Prints the report of a script.
 fn print_report<W: Write>(report: &Report, out: &mut W) -> Result<u8, Unanswered> {
     let text = report.text()?;
     match out.write_all(text.as_bytes()) {
@@ -43,7 +44,7 @@ fn print_report<W: Write>(report: &Report, out: &mut W) -> Result<u8, Unanswered
     }
 }
 
-// The status of a script.
+// Runs a script and returns the exit status.
 fn status_of(rt: &HostRuntime, script: &str) -> Result<u8, Unanswered> {
     let report = report_of(rt.alloc(), script)?;
     print_report(&report, &mut rt.stdout())

@@ -1,4 +1,4 @@
-//! Questions about records of draughts.
+//! Questions about records of draughts games.
 
 use crate::draughts_questions::told_move;
 use crate::pdn_written::written;
@@ -7,7 +7,7 @@ use crate::words::{push_word, said, told_score};
 use pdn_games::read_game;
 use std::alloc::Global;
 
-// The plies, the score and the moves of a text's game, or why the text is refused.
+// The plies, the score and the moves of a text's game, or the fault.
 fn told(alloc: Global, text: &str) -> Result<String, Unanswered> {
     match read_game(alloc, text.as_bytes()) {
         Ok(game) => {
@@ -22,7 +22,7 @@ fn told(alloc: Global, text: &str) -> Result<String, Unanswered> {
     }
 }
 
-// What several texts are read as, if that is the same game.
+// The result of reading several texts, if it is the same for all.
 fn alike(alloc: Global, texts: &[String]) -> Result<String, Unanswered> {
     let mut first = String::new(alloc);
     for text in texts {
@@ -36,7 +36,7 @@ fn alike(alloc: Global, texts: &[String]) -> Result<String, Unanswered> {
     Ok(first)
 }
 
-// Whether every beginning of a text is refused.
+// Whether every proper prefix of a text is refused.
 fn beginnings(alloc: Global, text: &str) -> Result<String, Unanswered> {
     let whole = text.as_bytes();
     for count in 0..whole.len() {
@@ -47,7 +47,7 @@ fn beginnings(alloc: Global, text: &str) -> Result<String, Unanswered> {
     said(alloc, "refused")
 }
 
-/// The answer to a question about texts of games that are read, or about a game that is written.
+/// Answers a question about texts that are read, or about a game that is written.
 pub fn answer(alloc: Global, asked: &str, parts: &[String]) -> Result<String, Unanswered> {
     match (asked, parts) {
         ("read", texts) => alike(alloc, texts),

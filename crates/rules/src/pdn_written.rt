@@ -1,4 +1,4 @@
-//! Games of draughts that are written.
+//! Writing of draughts games.
 ghost use Rattle.std.specs.Prelude.{length};
 ghost use Rattle.squares.specs.DraughtsOpening.{opening};
 ghost use Rattle.draughts_draws.specs.Faults.{IsPlayed};
@@ -13,14 +13,14 @@ use squares::{DMove, DPos, Score};
 use std::alloc::Global;
 use std::io::Write;
 
-// A game and what its record says beside the moves.
+// A game and the tags of its record.
 #[derive(Drop)]
 struct Game<'a> {
     head: PdnHead<'a>,
     moves: Vec<DMove>,
 }
 
-// A score, or none for a star.
+// Parses a score; `None` for a star.
 fn score(text: &str) -> Result<Option<Score>, Unanswered> {
     match text {
         "2-0" => Ok(Some(Score::FirstWins)),
@@ -31,7 +31,7 @@ fn score(text: &str) -> Result<Option<Score>, Unanswered> {
     }
 }
 
-// Writes a game by the rules move by move.
+// Writes a legal game move by move.
 fn write_moves<W: Write>(
     alloc: Global,
     head: &PdnHead,
@@ -68,7 +68,7 @@ impl<'a> Recorded for Game<'a> {
     }
 }
 
-/// The record of a game of an event from that second on, between White and Black, of that score and those moves.
+/// The record of a game: event, start (Unix seconds), White, Black, score and moves.
 pub fn written(alloc: Global, parts: &[String]) -> Result<String, Unanswered> {
     match parts {
         [event, seconds, white, black, result, moves] => {

@@ -1,4 +1,4 @@
-//! A script of questions and answers, and what differs.
+//! Running of a script, and the report of its differences.
 
 use crate::answers::answer;
 use crate::texts::Texts;
@@ -6,7 +6,7 @@ use crate::unanswered::Unanswered;
 use crate::words::unescaped;
 use std::alloc::Global;
 
-/// What became of a script so far.
+/// The state of a run: the cases and the differences so far.
 #[derive(Drop)]
 pub struct Report {
     alloc: Global,
@@ -16,7 +16,7 @@ pub struct Report {
     differences: String,
 }
 
-// Whether an answer is the wanted one. A wanted answer whose last word is `..` says with what words the answer begins.
+// Whether an answer is the expected one. An expected answer that ends with ` ..` is a prefix.
 fn is_as_wanted(found: &str, wanted: &str) -> bool {
     match wanted.strip_suffix(" ..") {
         Some(beginning) => match found.strip_prefix(beginning) {
@@ -27,7 +27,7 @@ fn is_as_wanted(found: &str, wanted: &str) -> bool {
     }
 }
 
-// How the answer to a question, of which an empty one is `none`, differs from the wanted one, if it does.
+// The difference between the answer and the expected one, if any; an empty answer counts as `none`.
 fn difference(alloc: Global, question: &str, wanted: &str) -> Result<Option<String>, Unanswered> {
     let wanted = unescaped(alloc, wanted)?;
     let found = answer(alloc, question)?;
@@ -43,7 +43,7 @@ fn difference(alloc: Global, question: &str, wanted: &str) -> Result<Option<Stri
 }
 
 impl Report {
-    /// The report on a script of which nothing was read.
+    /// The report before the first line.
     pub fn new(alloc: Global) -> Report {
         Report {
             alloc,
@@ -54,7 +54,7 @@ impl Report {
         }
     }
 
-    // What is wrong with a line, if something is.
+    // Runs a line and returns its difference, if any.
     fn fault_of(&mut self, line: &str) -> Result<Option<String>, Unanswered> {
         let line = self.texts.expanded(line)?;
         let (question, wanted) = line.as_str().split_once(" = ").ok_or(Unanswered::Answer)?;
@@ -70,7 +70,7 @@ impl Report {
         }
     }
 
-    // Notes what is wrong with a line.
+    // Records the difference of a line.
     fn note(&mut self, number: usize, line: &str, fault: &str) -> Result<(), Unanswered> {
         self.differing = self.differing.saturating_add(1);
         let (question, _) = line.split_once(" = ").unwrap_or((line, ""));
@@ -79,7 +79,7 @@ impl Report {
         Ok(())
     }
 
-    /// Takes the line of that number: a text that is named, or a question and its answer.
+    /// Runs the line with this number, counted from 1: the definition of a text, or a question with its answer.
     pub fn take(&mut self, number: usize, line: &str) -> Result<(), Unanswered> {
         if line.is_empty() || line.starts_with('#') {
             return Ok(());
@@ -99,7 +99,7 @@ impl Report {
         self.cases > 0 && self.differing == 0
     }
 
-    /// What is printed of the script.
+    /// The text of the report.
     pub fn text(&self) -> Result<String, Unanswered> {
         let (cases, differing) = (self.cases, self.differing);
         if self.holds() {
@@ -110,7 +110,7 @@ impl Report {
     }
 }
 
-/// Takes each line of a script. A line that ends with a backslash goes on in the next one.
+/// Runs a script. A backslash at the end of a line continues it on the next one.
 pub fn report_of(alloc: Global, script: &str) -> Result<Report, Unanswered> {
     let mut report = Report::new(alloc);
     let mut line = String::new(alloc);

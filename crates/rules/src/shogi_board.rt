@@ -6,13 +6,13 @@ use crate::words::{said, side};
 use squares::{Hand, HandKind, Hands, Kind, SBoard, SPiece, SPos, Side, Ssq};
 use std::alloc::Global;
 
-// The square of a file and a rank, if there is one.
+// Parses a file and a rank; `None` if they are off the board.
 fn square_at(file_and_rank: &str) -> Result<Option<Ssq>, Unanswered> {
     let number: u8 = file_and_rank.parse()?;
     Ok(Ssq::new(number / 10, number % 10))
 }
 
-/// The square of a file and a rank, as `77`.
+/// Parses a file and a rank, such as `77`.
 pub fn square(file_and_rank: &str) -> Result<Ssq, Unanswered> {
     Ok(square_at(file_and_rank)?.ok_or(Unanswered::Square)?)
 }
@@ -31,12 +31,12 @@ fn kind(letter: &str) -> Result<Kind, Unanswered> {
     }
 }
 
-// A kind that a hand can have.
+// Parses the letter of a kind of piece that can be in hand.
 fn hand_kind(letter: &str) -> Result<HandKind, Unanswered> {
     Ok(kind(letter)?.in_hand().ok_or(Unanswered::Piece)?)
 }
 
-/// The piece of a name, as `bR` or `w+P`, if there is one.
+/// Parses a piece, such as `bR` or `w+P`, or `None`.
 pub fn piece(name: &str) -> Result<Option<SPiece>, Unanswered> {
     let (side, role) = match (name.strip_prefix('b'), name.strip_prefix('w')) {
         (Some(role), _) => (Side::First, role),
@@ -49,7 +49,7 @@ pub fn piece(name: &str) -> Result<Option<SPiece>, Unanswered> {
     }
 }
 
-// The board that steps make of an empty one: a piece that is put, as `bR:28`, or a square that is cleared.
+// Parses a board: steps from an empty board that put a piece (`bR:28`) or clear a square.
 fn board(steps: &str) -> Result<SBoard, Unanswered> {
     let mut board = SBoard::empty();
     for step in steps.split_whitespace() {
@@ -64,7 +64,7 @@ fn board(steps: &str) -> Result<SBoard, Unanswered> {
     Ok(board)
 }
 
-// A piece with the kind as which it comes into a hand.
+// A piece and the kind that it has in hand once captured.
 fn told_named(alloc: Global, named: Option<SPiece>) -> Result<String, Unanswered> {
     let Some(piece) = named else {
         return said(alloc, "none");
@@ -84,7 +84,7 @@ fn told_named(alloc: Global, named: Option<SPiece>) -> Result<String, Unanswered
     }
 }
 
-// The number of a square, counted from 0.
+// The index of a square, counted from 0.
 fn index(alloc: Global, square: Option<Ssq>) -> Result<String, Unanswered> {
     match square {
         Some(square) => Ok(format!(in alloc; "{}", square.index())?),
@@ -92,7 +92,7 @@ fn index(alloc: Global, square: Option<Ssq>) -> Result<String, Unanswered> {
     }
 }
 
-// The square of a number, if it is also the one of that place among all squares.
+// The square with an index, if it agrees with the list of all squares.
 fn numbered(alloc: Global, number: u8) -> Result<String, Unanswered> {
     let all = Ssq::all();
     let listed = (&all[..]).get(number as usize).copied();
@@ -103,7 +103,7 @@ fn numbered(alloc: Global, number: u8) -> Result<String, Unanswered> {
     said(alloc, "listed otherwise")
 }
 
-// The position of a board with so many pawns in First's hand, First to move.
+// The position of a board with `pawns` pawns in First's hand and First to move.
 fn set_up(alloc: Global, board: SBoard, pawns: u8) -> Result<String, Unanswered> {
     let hands = Hands {
         first: Hand::default().with_count(HandKind::Pawn, pawns),
@@ -115,7 +115,7 @@ fn set_up(alloc: Global, board: SBoard, pawns: u8) -> Result<String, Unanswered>
     }
 }
 
-/// The answer to a question about a square, a piece or a board.
+/// Answers a question about a square, a piece or a board.
 pub fn answer(alloc: Global, asked: &str, parts: &[String]) -> Result<String, Unanswered> {
     match (asked, parts) {
         ("index", [place]) => index(alloc, square_at(place.as_str())?),

@@ -1,4 +1,4 @@
-//! Questions about lines of moves of shogi.
+//! Questions about lines of shogi moves.
 
 use crate::shogi_questions::{made, position};
 use crate::unanswered::Unanswered;
@@ -7,7 +7,7 @@ use shogi_repetition::{Marks, SEnd, SLineFault, Tail, judge};
 use squares::{SMove, SPos, Side};
 use std::alloc::Global;
 
-/// The moves of texts that are parted by blanks.
+/// Parses moves that are separated by spaces.
 fn line(alloc: Global, texts: &str) -> Result<Vec<SMove>, Unanswered> {
     let mut moves = Vec::new(alloc);
     for text in texts.split_whitespace() {
@@ -45,7 +45,7 @@ fn told(alloc: Global, judged: Result<Option<SEnd>, SLineFault>) -> Result<Strin
     }
 }
 
-// What the line has come to by its marks, which are kept move by move.
+// The end of a line by its marks, updated move by move.
 fn marked(alloc: Global, start: &SPos, moves: &[SMove]) -> Result<Option<SEnd>, SLineFault> {
     let mut marks = Marks::start(alloc, start)?;
     for made in moves {
@@ -54,7 +54,7 @@ fn marked(alloc: Global, start: &SPos, moves: &[SMove]) -> Result<Option<SEnd>, 
     Ok(marks.end())
 }
 
-// What the line has come to, of whose moves so many are taken, both as a whole and move by move.
+// The end of the first `plies` moves of a line; reports whether whole and incremental judging differ.
 fn judged(alloc: Global, start: &str, texts: &str, plies: usize) -> Result<String, Unanswered> {
     let start = position(start)?;
     let line = line(alloc, texts)?;
@@ -70,8 +70,8 @@ fn judged(alloc: Global, start: &str, texts: &str, plies: usize) -> Result<Strin
     Ok(format!(in alloc; "{whole}, but move by move {stepwise}")?)
 }
 
-// How a line ends after so many plies in the opening, which stood so often and first after a ply of that number, where
-// so many of the last moves of each side gave check.
+// The end of a line whose last position is the initial one, by each side's count of successive checks and by its plies,
+// repetition count and first occurrence.
 fn weighed(checks: (&str, &str), stood: (&str, &str, &str)) -> Result<&'static str, Unanswered> {
     let tail = Tail {
         first_checks: checks.0.parse()?,
@@ -87,13 +87,12 @@ fn weighed(checks: (&str, &str), stood: (&str, &str, &str)) -> Result<&'static s
     Ok(told_end(end))
 }
 
-// The score of an end after which it is that side's turn.
+// The score of an end; `turn` is the side to move.
 fn score(name: &str, turn: &str) -> Result<&'static str, Unanswered> {
     Ok(told_score(end(name)?.outcome(side(turn, "b")?)))
 }
 
-/// The answer to a question about a line of moves from a position, of which so many are taken, about how checks are
-/// weighed, or about the score of an end.
+/// Answers a question about a line of moves, about perpetual check, or about the score of an end.
 pub fn answer(alloc: Global, asked: &str, parts: &[String]) -> Result<String, Unanswered> {
     match (asked, parts) {
         ("judge", [start, texts, plies]) => {

@@ -10,7 +10,7 @@ use squares::{SMove, SPos};
 use std::alloc::Global;
 use std::cmp::Ordering;
 
-/// The position of a text: an SFEN or `opening`.
+/// Parses a position: an SFEN or `opening`.
 pub fn position(text: &str) -> Result<SPos, Unanswered> {
     if text == "opening" {
         return Ok(SPos::opening());
@@ -21,12 +21,12 @@ pub fn position(text: &str) -> Result<SPos, Unanswered> {
     }
 }
 
-/// The move of a text in USI.
+/// Parses a move in USI notation.
 pub fn made(text: &str) -> Result<SMove, Unanswered> {
     Ok(read_usi(text).ok().ok_or(Unanswered::Move)?)
 }
 
-// The text of a position and its number, which are those of a text that was read.
+// The SFEN of a position and a move number.
 fn written(alloc: Global, position: &SPos, number: u16) -> Result<String, Unanswered> {
     if number < 1 {
         return Err(Unanswered::Number);
@@ -37,7 +37,7 @@ fn written(alloc: Global, position: &SPos, number: u16) -> Result<String, Unansw
     Ok(write(alloc, position, number)?)
 }
 
-// The text that is written for the position and the number of an SFEN, or why the SFEN is refused.
+// The text written for the position and the move number of an SFEN, or the fault.
 fn rewritten(alloc: Global, text: &str) -> Result<String, Unanswered> {
     match read(text) {
         Ok((position, number)) => written(alloc, &position, number),
@@ -45,7 +45,7 @@ fn rewritten(alloc: Global, text: &str) -> Result<String, Unanswered> {
     }
 }
 
-// What a move's text is read as, where the move is written as the text that it was read from.
+// The move that a text denotes, if the same text is written for it, or the fault.
 fn reread(alloc: Global, text: &str) -> Result<String, Unanswered> {
     match read_usi(text) {
         Ok(made) if write_usi(alloc, &made)?.as_str() == text => told_move(alloc, &made),
@@ -54,7 +54,7 @@ fn reread(alloc: Global, text: &str) -> Result<String, Unanswered> {
     }
 }
 
-// What a move comes to: why it is refused, or whether it mates.
+// The reason why a move is illegal, or whether it mates.
 fn outcome(position: &SPos, made: &SMove) -> &'static str {
     match check(position, made) {
         Ok(()) if mated(&play(position, made)) => "mates",
@@ -63,13 +63,13 @@ fn outcome(position: &SPos, made: &SMove) -> &'static str {
     }
 }
 
-// Whether the piece of a side, `b` or `w`, on a square could be taken.
+// Whether a square is attacked by the opponent of a side, `b` or `w`.
 fn threat(position: &SPos, letter_and_square: &str) -> Result<&'static str, Unanswered> {
     let (letter, place) = letter_and_square.split_once(' ').ok_or(Unanswered::Square)?;
     Ok(yes(attacked(position, side(letter, "b")?, square(place)?)))
 }
 
-// The numbers of the squares on which such a piece stands.
+// The indices of the squares with this piece.
 fn places(alloc: Global, position: &SPos, name: &str) -> Result<String, Unanswered> {
     let word = position.word(piece(name)?.ok_or(Unanswered::Piece)?);
     let mut text = String::new(alloc);
@@ -81,13 +81,13 @@ fn places(alloc: Global, position: &SPos, name: &str) -> Result<String, Unanswer
     Ok(text)
 }
 
-// How many pieces a side has on the board.
+// The number of pieces of a side on the board.
 fn army(alloc: Global, position: &SPos, letter: &str) -> Result<String, Unanswered> {
     let squares = position.board().squares_of_side(side(letter, "b")?);
     Ok(format!(in alloc; "{}", squares.len())?)
 }
 
-// Whether two positions, and whether their boards, are the same.
+// Whether two positions, and their boards, are equal.
 fn sameness(one: &SPos, other: &SPos) -> &'static str {
     match (
         one.copied() == *other,
@@ -100,7 +100,7 @@ fn sameness(one: &SPos, other: &SPos) -> &'static str {
     }
 }
 
-// Which of two positions comes first.
+// The order of two positions.
 fn order(one: &SPos, other: &SPos) -> &'static str {
     match (one < other, one.cmp(other)) {
         (true, Ordering::Less) => "before",
@@ -135,7 +135,7 @@ fn of_two(alloc: Global, asked: &str, position: &SPos, second: &str) -> Result<S
     }
 }
 
-/// The answer to a question about a text, about a position, or about a position and another value.
+/// Answers a question about a text or a position, with or without another value.
 pub fn answer(alloc: Global, asked: &str, parts: &[String]) -> Result<String, Unanswered> {
     match parts {
         [text] if asked == "sfen" => rewritten(alloc, text.as_str()),

@@ -1,4 +1,4 @@
-//! Pieces, moves and positions of shogi in words.
+//! Texts of pieces, moves and positions of shogi in answers.
 
 use crate::unanswered::Unanswered;
 use crate::words::{push_word, said};
@@ -16,7 +16,7 @@ const HAND_KINDS: [HandKind; 7] = [
     HandKind::Pawn,
 ];
 
-/// The letter of a role, after a plus where it is promoted.
+/// The letter of a role, after a plus if it is promoted.
 pub fn told_role(role: Role) -> &'static str {
     match role {
         Role::King => "K",
@@ -58,7 +58,7 @@ pub fn told_square(alloc: Global, square: Option<Ssq>) -> Result<String, Unanswe
     }
 }
 
-/// The pieces on a board, with blanks between them, each before its square.
+/// The pieces on a board, each before its square, separated by spaces.
 pub fn told_board(alloc: Global, board: &SBoard) -> Result<String, Unanswered> {
     let mut text = String::new(alloc);
     for square in &Ssq::all() {
@@ -73,7 +73,7 @@ pub fn told_board(alloc: Global, board: &SBoard) -> Result<String, Unanswered> {
     Ok(text)
 }
 
-// How many of each kind a hand has.
+// The count of each kind in a hand.
 fn told_hand(alloc: Global, hand: Hand) -> Result<String, Unanswered> {
     let mut text = String::new(alloc);
     for kind in HAND_KINDS {
@@ -85,8 +85,8 @@ fn told_hand(alloc: Global, hand: Hand) -> Result<String, Unanswered> {
     Ok(text)
 }
 
-/// Whose turn it is, the pieces, and how many rooks, bishops, golds, silvers, knights, lances and pawns are in the
-/// hands of First and of Second.
+/// The side to move, the pieces, and the counts of rooks, bishops, golds, silvers, knights, lances and pawns in First's
+/// hand and in Second's.
 pub fn told_position(alloc: Global, position: &SPos) -> Result<String, Unanswered> {
     let (turn, hands) = (told_side(position.turn()), position.hands());
     let board = told_board(alloc, position.board())?;
@@ -95,7 +95,7 @@ pub fn told_position(alloc: Global, position: &SPos) -> Result<String, Unanswere
     Ok(format!(in alloc; "{turn} {board}, {first}, {second}")?)
 }
 
-// The name of a kind that a hand can have.
+// The name of a kind that can be in hand.
 fn hand_name(kind: HandKind) -> &'static str {
     match kind {
         HandKind::Rook => "Rook",
@@ -108,8 +108,7 @@ fn hand_name(kind: HandKind) -> &'static str {
     }
 }
 
-/// A move by the files and ranks of its squares: a step as `77-76`, or `88-22+` with a promotion, and a drop as
-/// `Pawn*55`.
+/// A move by files and ranks: `77-76` or, with a promotion, `88-22+`; a drop is `Pawn*55`.
 pub fn told_move(alloc: Global, made: &SMove) -> Result<String, Unanswered> {
     match *made {
         SMove::Step { from, to, promote } => {
@@ -127,7 +126,7 @@ pub fn told_move(alloc: Global, made: &SMove) -> Result<String, Unanswered> {
     }
 }
 
-/// The moves, with blanks between them.
+/// Moves, separated by spaces.
 pub fn told_moves(alloc: Global, moves: &[SMove]) -> Result<String, Unanswered> {
     let mut text = String::new(alloc);
     for made in moves {
@@ -136,7 +135,7 @@ pub fn told_moves(alloc: Global, moves: &[SMove]) -> Result<String, Unanswered> 
     Ok(text)
 }
 
-/// The name of a cause.
+/// The name of the reason why a move is illegal.
 pub fn told_cause(cause: Illegal) -> &'static str {
     match cause {
         Illegal::NoSuchMove => "NoSuchMove",

@@ -1,4 +1,4 @@
-//! Texts that a script names, and uses in later lines.
+//! Named texts of a script, for use in later lines.
 
 use crate::unanswered::Unanswered;
 use std::alloc::Global;
@@ -9,7 +9,7 @@ struct Named {
     text: String,
 }
 
-/// The texts that were named.
+/// The named texts.
 #[derive(Drop)]
 pub struct Texts {
     alloc: Global,
@@ -17,7 +17,7 @@ pub struct Texts {
 }
 
 impl Texts {
-    /// No text.
+    /// No texts.
     pub fn new(alloc: Global) -> Texts {
         Texts {
             alloc,
@@ -34,7 +34,7 @@ impl Texts {
         None
     }
 
-    /// The line, where the text stands in place of each name between `<` and `>`.
+    /// The line with each name between `<` and `>` replaced by its text.
     pub fn expanded(&self, line: &str) -> Result<String, Unanswered> {
         let mut text = String::new(self.alloc);
         let mut is_first = true;
@@ -51,7 +51,7 @@ impl Texts {
         Ok(text)
     }
 
-    // Gives a text, so many times over, a name that no other has.
+    // Defines a text, repeated `times` times, under a new name.
     fn give_times(&mut self, name: &str, times: usize, text: &str) -> Result<(), Unanswered> {
         if self.find(name).is_some() {
             return Err(Unanswered::Name);
@@ -65,7 +65,7 @@ impl Texts {
         Ok(())
     }
 
-    /// Names a text: the heading is its name, or a name, a `|` and how often the text comes in it.
+    /// Defines a text; the heading is its name, or its name, a `|` and the number of repetitions.
     pub fn give(&mut self, heading: &str, text: &str) -> Result<(), Unanswered> {
         match heading.split_once('|') {
             Some((name, times)) => self.give_times(name.trim(), times.trim().parse()?, text),

@@ -1,35 +1,35 @@
-//! Why a question has no answer.
+//! The errors of questions.
 
 use memory::Memory;
 use std::alloc::{AllocError, AllocFailed};
 use std::fmt;
 use std::num::ParseIntError;
 
-/// Why a question has no answer: memory was refused, or the script has no such thing where one should stand.
+/// The reason why a question has no answer: out of memory, or a mistake in the script.
 #[derive(Clone, Copy)]
 pub enum Unanswered {
     Memory,
-    /// The input is no text.
+    /// The input is not UTF-8 text.
     Script,
-    /// Nothing of the kind is asked, or not of so many values.
+    /// No such question, or not with this number of arguments.
     Question,
-    /// A line has no ` = ` between a question and its answer.
+    /// A line has no ` = ` between the question and its answer.
     Answer,
-    /// No text has the name, or another one has it.
+    /// A text's name is unknown, or is defined twice.
     Name,
-    /// A word is none of those that can stand there.
+    /// A word is not allowed here.
     Word,
     Number,
     Square,
     Piece,
     Position,
     Move,
-    /// Moves are no game by the rules.
+    /// The moves are not a legal game.
     Game,
 }
 
 impl Unanswered {
-    // What is missing.
+    // The text of the error.
     fn text(self) -> &'static str {
         match self {
             Unanswered::Memory => "memory",

@@ -1,10 +1,10 @@
-//! What questions and answers are made of.
+//! The words and arguments of questions and answers.
 
 use crate::unanswered::Unanswered;
 use squares::{Score, Side};
 use std::alloc::Global;
 
-/// The first word of a text, and what follows it.
+/// The first word of a text, and the rest of the text.
 pub fn first_word(text: &str) -> (&str, &str) {
     match text.split_once(' ') {
         Some((word, rest)) => (word, rest),
@@ -12,7 +12,7 @@ pub fn first_word(text: &str) -> (&str, &str) {
     }
 }
 
-// What a sign after a backslash stands for.
+// The character that an escape sequence denotes.
 fn escaped(sign: char) -> char {
     match sign {
         'n' => '\n',
@@ -23,7 +23,7 @@ fn escaped(sign: char) -> char {
     }
 }
 
-/// The text that is written with `\n`, `\r`, `\t` for these signs, `\s` for a blank and `\\` for a backslash.
+/// Replaces the escapes `\n`, `\r`, `\t`, `\s` (a space) and `\\`.
 pub fn unescaped(alloc: Global, written: &str) -> Result<String, Unanswered> {
     let mut text = String::new(alloc);
     let mut after_backslash = false;
@@ -40,7 +40,7 @@ pub fn unescaped(alloc: Global, written: &str) -> Result<String, Unanswered> {
     Ok(text)
 }
 
-/// The parts of a question, between which a `|` stands.
+/// The arguments of a question, which are separated by `|`.
 pub fn parts_of(alloc: Global, question: &str) -> Result<Vec<String>, Unanswered> {
     let mut parts = Vec::new(alloc);
     for part in question.split('|') {
@@ -49,7 +49,7 @@ pub fn parts_of(alloc: Global, question: &str) -> Result<Vec<String>, Unanswered
     Ok(parts)
 }
 
-/// Adds a word to a text, after a blank where it is not the first.
+/// Appends a word, after a space unless it is the first.
 pub fn push_word(text: &mut String, word: &str) -> Result<(), Unanswered> {
     if !text.is_empty() {
         text.push(' ')?;
@@ -63,12 +63,12 @@ pub fn said(alloc: Global, word: &str) -> Result<String, Unanswered> {
     Ok(String::from_str(alloc, word)?)
 }
 
-/// The answer to whether something holds.
+/// `yes` or `no`.
 pub fn yes(holds: bool) -> &'static str {
     if holds { "yes" } else { "no" }
 }
 
-/// The side of a letter, `w` or `b`, of which the one that moves first is given.
+/// The side of a letter, `w` or `b`; `first` is the letter of the side that moves first.
 pub fn side(letter: &str, first: &str) -> Result<Side, Unanswered> {
     match letter {
         "w" | "b" if letter == first => Ok(Side::First),

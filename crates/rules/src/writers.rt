@@ -1,4 +1,4 @@
-//! Questions about writers that take little at a time, or get full.
+//! Questions about writers that accept few bytes at a time, or fill up.
 
 use crate::unanswered::Unanswered;
 use crate::words::said;
@@ -6,16 +6,16 @@ use record_writer::{WriteFault, write_piece};
 use std::alloc::Global;
 use std::io::{Error, ErrorKind, Result as WriteResult, Write};
 
-/// A game with what its record says beside the moves.
+/// A game with the head of its record.
 pub trait Recorded {
-    /// The record, written at once.
+    /// The record, written as a whole.
     fn text(&self, alloc: Global) -> Result<String, Unanswered>;
 
-    /// Writes the record move by move, and says whether the writer took it all.
+    /// Writes the record move by move; returns whether the writer accepted all of it.
     fn write_to<W: Write>(&self, alloc: Global, writer: &mut W) -> Result<bool, Unanswered>;
 }
 
-// Whether a writer that holds something gets the whole text after it.
+// Whether the record is appended in full to a writer that already holds a byte.
 fn is_appended<G: Recorded>(alloc: Global, game: &G, text: &[u8]) -> Result<bool, Unanswered> {
     let mut bytes = vec![in alloc; b'>']?;
     let is_whole = game.write_to(alloc, &mut bytes)?;
@@ -26,7 +26,7 @@ fn is_appended<G: Recorded>(alloc: Global, game: &G, text: &[u8]) -> Result<bool
     )
 }
 
-// Whether a writer with less room than the text holds a beginning of it in the end.
+// Whether a writer that is too small for the record ends up with a prefix of it.
 fn is_begun<G: Recorded>(alloc: Global, game: &G, beginning: &[u8]) -> Result<bool, Unanswered> {
     let mut bytes = vec![in alloc; 0u8; beginning.len()]?;
     let mut room: &mut [u8] = bytes.as_mut_slice();
@@ -34,8 +34,8 @@ fn is_begun<G: Recorded>(alloc: Global, game: &G, beginning: &[u8]) -> Result<bo
     Ok(!is_whole && bytes.as_slice() == beginning)
 }
 
-/// The record of a game, if it is the same written at once and move by move, and a writer of each smaller size holds a
-/// beginning of it.
+/// The record of a game, if writing it as a whole and move by move agree, and each smaller writer ends up with a
+/// prefix.
 pub fn written_in_each_way<G: Recorded>(alloc: Global, game: &G) -> Result<String, Unanswered> {
     let text = game.text(alloc)?;
     let bytes = text.as_bytes();
@@ -50,7 +50,7 @@ pub fn written_in_each_way<G: Recorded>(alloc: Global, game: &G) -> Result<Strin
     Ok(text)
 }
 
-// A writer that takes three bytes a call, is interrupted at each second call, and is full after so many bytes.
+// A writer that accepts three bytes a call, is interrupted on every other call, and has a limited capacity.
 #[derive(Drop)]
 struct Slow {
     bytes: Vec<u8>,
@@ -77,7 +77,7 @@ impl Write for Slow {
     }
 }
 
-// Why the writer stopped, if it did.
+// The reason why the writing stopped, if it did.
 fn stopped(written: Result<(), WriteFault>) -> &'static str {
     match written {
         Ok(()) => "all",
@@ -90,7 +90,7 @@ fn stopped(written: Result<(), WriteFault>) -> &'static str {
     }
 }
 
-// Why the writing stopped, and what was written.
+// The reason why the writing stopped, and the bytes written.
 fn told(alloc: Global, stop: &str, bytes: &[u8]) -> Result<String, Unanswered> {
     let mut text = String::from_str(alloc, stop)?;
     text.push(' ')?;
@@ -100,7 +100,7 @@ fn told(alloc: Global, stop: &str, bytes: &[u8]) -> Result<String, Unanswered> {
     Ok(text)
 }
 
-// Pieces that are written one after another.
+// Writes several pieces one after another.
 fn appended(alloc: Global, pieces: &[String]) -> Result<String, Unanswered> {
     let mut bytes = Vec::new(alloc);
     for piece in pieces {
@@ -112,7 +112,7 @@ fn appended(alloc: Global, pieces: &[String]) -> Result<String, Unanswered> {
     told(alloc, "all", bytes.as_slice())
 }
 
-// What a slow writer with so much room comes to hold.
+// The content of a slow writer of this capacity after a write.
 fn slowly(alloc: Global, room: usize, piece: &str) -> Result<String, Unanswered> {
     let mut writer = Slow {
         bytes: Vec::new(alloc),
@@ -123,7 +123,7 @@ fn slowly(alloc: Global, room: usize, piece: &str) -> Result<String, Unanswered>
     told(alloc, stop, writer.bytes.as_slice())
 }
 
-// What a slice of so many bytes comes to hold.
+// The content of a slice of this size after a write.
 fn fitted(alloc: Global, size: usize, piece: &str) -> Result<String, Unanswered> {
     let mut bytes = vec![in alloc; 0u8; size]?;
     let mut room: &mut [u8] = bytes.as_mut_slice();
@@ -131,7 +131,7 @@ fn fitted(alloc: Global, size: usize, piece: &str) -> Result<String, Unanswered>
     told(alloc, stop, bytes.as_slice())
 }
 
-/// The answer to a question about pieces that are written.
+/// Answers a question about pieces that are written.
 pub fn answer(alloc: Global, asked: &str, parts: &[String]) -> Result<String, Unanswered> {
     match (asked, parts) {
         ("append", pieces) => appended(alloc, pieces),

@@ -1,4 +1,6 @@
-//! From one session of a club to the next, over files.
+//! Serving sessions of a club over its files: open, execute the requests, close.
+//!
+//! Whatever a crash leaves of a session, the next opening finds a state that the club's history leads to.
 #![tactic(auto)]
 
 ghost use Rattle.std.specs.Prelude.{◌≡◌, ◌≤◌, ◌⊎◌, ◌++◌, ◌∷◌, [], false, None, IfOk, IfErr, IfSome, map, length, take};
@@ -20,8 +22,11 @@ use sqlite_trees::store::Store;
 use std::alloc::Global;
 use store::{Club, OpenFault, Run, StoreFault, Unopened, resume};
 
-/// Closes a connection, and gives the store back. Where the files hold what a stop leaves then, an opening finds one
-/// of the databases that a stop could leave of the connection.
+/// Closes a connection and returns its store, after a checkpoint of the log if it is long enough.
+///
+/// # Guarantees
+///
+/// `member`: after a crash, an opening finds one of the databases that a crash could leave of the connection.
 pub fn close<D: Disk + Drop>(conn: Connection<FileStore<D>>) -> FileStore<D>
     ensures clean { doubt (file_state conn).is_clean ≤ doubt (store_view result).is_clean }
     ensures member { IsClean (store_view result) → (left : _) → (store_state result).may_leave left → (found : _) →
@@ -29,16 +34,19 @@ pub fn close<D: Disk + Drop>(conn: Connection<FileStore<D>>) -> FileStore<D>
         ∥ (file_state conn).may_leave found ∥₁ }
 {
     let mut store = conn.into_store();
-    // A savepoint of nothing, and its commit, has the store copy its log into the database file, where that is as long
-    // as its options ask for, and append nothing.
+    // An empty savepoint and its commit make the store checkpoint the log if it has as many frames as
+    // `checkpoint_frames`, and write nothing.
     let _marked = store.savepoint();
     let _copied = store.commit();
     store
 }
 
-/// Ends a session over files, whether it was served to its end or stopped by a fault, and gives the store back. Where
-/// the files hold what a stop leaves of it then, an opening finds one of the databases that a stop could leave of the
-/// club; so if sessions led to all of those, they led to what the opening finds.
+/// Ends a session, complete or failed, and returns the store.
+///
+/// # Guarantees
+///
+/// `member`: after a crash, an opening finds one of the databases that a crash could leave of the club. `history`: a
+/// history that leads to all of these leads to what the opening finds.
 pub fn end<D: Disk + Drop>(club: Club<FileStore<D>>) -> FileStore<D>
     ensures clean { doubt (file_state club.connection).is_clean ≤ doubt (store_view result).is_clean }
     ensures member { IsClean (store_view result) → (left : _) → (store_state result).may_leave left → (found : _) →
@@ -53,10 +61,17 @@ pub fn end<D: Disk + Drop>(club: Club<FileStore<D>>) -> FileStore<D>
     close(conn)
 }
 
-/// A session on a connection that was just opened over files: takes the club, serves the requests in turn up to the
-/// first fault, and gives the store back. Where sessions led to what the opening found, then those and this one lead
-/// to what the next opening finds, of whatever a stop leaves. A connection over other tables, or a fault while they
-/// are examined, comes back; a stop then, or `close`, leaves what the earlier sessions led to.
+/// Runs one session over newly opened files: opens the club, executes the requests in turn up to the first fault, and
+/// closes it.
+///
+/// # Errors
+///
+/// The errors of `adopt`, with the connection; no request was executed. A fault during the session is in `Run::fault`.
+///
+/// # Guarantees
+///
+/// `history`: whatever a crash leaves, the next opening finds a state that the earlier sessions and this one lead to.
+/// `kept`: after an error, one that the earlier sessions lead to.
 pub fn serve<D: Disk + Drop>(
     alloc: Global,
     conn: Connection<FileStore<D>>,
@@ -64,7 +79,7 @@ pub fn serve<D: Disk + Drop>(
 ) -> Result<(Run, FileStore<D>), Unopened<FileStore<D>>>
     requires { conn.in_transaction ≡ false }
     ensures clean { IfOk result (λ lived. doubt (file_state conn).is_clean ≤ doubt (store_view lived.1).is_clean) }
-    // Never `Reopen`: the club has just been opened.
+    // Never `Reopen`: the club was opened just now.
     ensures named { IfOk result (λ lived. IfSome lived.0.fault (λ fault. (fault ≡ StoreFault.Store) ⊎ (fault ≡
         StoreFault.Memory))) }
     ensures within { IfOk result (λ lived. length lived.0.outcomes.items ≤ length requests.now) }
@@ -99,8 +114,7 @@ pub fn serve<D: Disk + Drop>(
     }
 }
 
-/// A law. Of new files, whose database file is empty or was left unfinished by its first opening, an opening finds no
-/// table.
+/// Property: an opening of new files finds no table, also if an earlier opening of them was interrupted.
 pub fn new_files_are_void()
     ensures { (files : Image) → IsNothing files → AreVoid files }
 {}

@@ -1,4 +1,4 @@
--- What is said of a text that is refused.
+-- The text of a fault.
 use Rattle.std.specs.Prelude.{ℕ, List, ◌++◌, codes}
 use Rattle.std.specs.Fmt.{decimal}
 use Rattle.sfen.specs.declared.faults.SfenFault.{SfenFault}

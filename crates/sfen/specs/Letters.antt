@@ -1,4 +1,4 @@
--- The letters of pieces and sides in the texts of shogi: capitals for First's pieces, small letters for Second's.
+-- The letters of pieces and sides in SFEN and USI: capitals for First's pieces, small letters for Second's.
 use Rattle.std.specs.Prelude.{ℕ, ◌+◌, List, [], ◌∷◌, if◌then◌else◌}
 use Rattle.squares.specs.declared.sides.Side.{Side}
 use Rattle.squares.specs.declared.sides.Side.TheVariants.{First, Second}
@@ -22,12 +22,12 @@ abbrev pub letter : Side → Kind → ℕ
 letter First kind = capital kind
 letter Second kind = capital kind + 32
 
--- the letter of its kind, after a `+` if it is promoted
+-- the letter of the piece's kind, after a `+` if the piece is promoted
 abbrev pub piece_text : SPiece → List ℕ
 piece_text piece = if is_promoted piece.role then 43 ∷ letter piece.side (kind_of piece.role)
     ∷ [] else letter piece.side (kind_of piece.role) ∷ []
 
--- b is First, who is Black, and w Second
+-- b for First (Black), w for Second (White)
 abbrev pub turn_letter : Side → ℕ
 turn_letter First = 98
 turn_letter Second = 119

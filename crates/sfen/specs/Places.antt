@@ -1,4 +1,4 @@
--- How the bytes of a position's text lead a reader from place to place, and what each adds to the position.
+-- The transitions of the SFEN reader, and their effects on the position.
 use Rattle.std.specs.Prelude.{◌≤◌, ℕ, ◌+◌, ◌-◌, ◌*◌, ◌==◌, ◌&&◌, nat_le, nat_lt, Bool, Option, Some, None}
 use Rattle.std.specs.Prelude.{if◌then◌else◌}
 use Rattle.squares.specs.declared.sides.Side.{Side}
@@ -122,7 +122,7 @@ number_at_end NoHands = Some 1
 number_at_end (Digits number) = Some number
 number_at_end _ = None
 
--- the numbers at a place keep to their bounds
+-- the numbers of a state are within their bounds
 abbrev pub IsSane : Place → Type 0
 IsSane (Rank rank left) = ((1 ≤ rank) × (rank ≤ 9)) × (left ≤ 9)
 IsSane (Promoted rank left) = ((1 ≤ rank) × (rank ≤ 9)) × ((1 ≤ left) × (left ≤ 9))

@@ -1,4 +1,4 @@
--- What a reader has of a position when it has read a beginning of the text.
+-- The state of the SFEN reader after a prefix of a text.
 use Rattle.std.specs.Prelude.{◌≡◌, ◌<◌, ℕ, ◌+◌, min, Bool, true, false, List, [], ◌∷◌, length, take, Option, Some, None}
 use Rattle.std.specs.FinMap as map
 use Rattle.squares.specs.declared.sides.Side.{Side}
@@ -14,7 +14,7 @@ use Rattle.sfen.specs.declared.reading.Reading.{Reading}
 use Rattle.sfen.specs.Signs.{sign_of}
 use Rattle.sfen.specs.Places.{Step, IsSane, next}
 
--- so many more of a kind, where 255 stand for any greater number
+-- the hand with more pieces of a kind; counts saturate at 255
 abbrev pub with_more : HandKind → ℕ → Hand → Hand
 with_more kind count hand = with_count kind (min (count_of kind hand + count) 255) hand
 
@@ -32,7 +32,7 @@ abbrev pub follow : Step → Reading → Option Reading
 follow None reading = None
 follow (Some step) reading = Some (record (act step.1 reading) { place = step.0 })
 
--- the reading after a byte more
+-- the state after one more byte
 abbrev pub take_byte : Reading → ℕ → Option Reading
 take_byte reading byte = follow (next reading.place (sign_of byte)) reading
 
@@ -40,7 +40,7 @@ abbrev pub if_some : {A : Type 0} → (A → Option A) → Option A → Option A
 if_some f None = None
 if_some f (Some x) = f x
 
--- steps along a text, where each leads on
+-- the state after all steps along a text, if each step succeeds
 abbrev pub run : {S : Type 0} → (S → ℕ → Option S) → S → List ℕ → Option S
 run step s [] = Some s
 run step s (c ∷ text) = if_some (λ t. run step t text) (step s c)
@@ -48,7 +48,7 @@ run step s (c ∷ text) = if_some (λ t. run step t text) (step s c)
 abbrev pub no_pieces : Hand
 no_pieces = record { rook = 0; bishop = 0; gold = 0; silver = 0; knight = 0; lance = 0; pawn = 0 }
 
--- before the first rank, with nothing on the board and in the hands
+-- the initial state: before the first rank, with an empty board and empty hands
 abbrev pub beginning : Reading
 beginning =
     record {
@@ -59,14 +59,14 @@ beginning =
           First;
     }
 
--- the reading goes on through so many bytes, and not through the next
+-- the reader accepts the first `bytes` bytes, but not the next one
 pub record StopsAt (text : List ℕ) (bytes : ℕ) : Type 0 where
   pub within : bytes < length text
   pub reading : Reading
   pub before : run take_byte beginning (take bytes text) ≡ Some reading
   pub none : run take_byte beginning (take (bytes + 1) text) ≡ None
 
--- what a reader answers to a byte: it is taken, and the place is one of the text; or nothing goes on so
+-- the result for one byte: the next state, whose numbers are within their bounds, or a refusal
 abbrev pub Takes : Bool → Reading → ℕ → Reading → Type 0
 Takes true reading byte after = (take_byte reading byte ≡ Some after) × IsSane after.place
 Takes false reading byte after = take_byte reading byte ≡ None

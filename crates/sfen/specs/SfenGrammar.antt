@@ -1,4 +1,4 @@
--- Which texts stand for positions of shogi (SFEN), by their parts.
+-- The grammar of SFEN texts.
 use Rattle.std.specs.Prelude.{◌≡◌, ◌⊎◌, ◌+◌, ◌*◌, ◌<◌, ◌≤◌, ℕ, zero, suc, ◌&&◌, Bool, true, false, List, [], ◌∷◌, ◌++◌}
 use Rattle.std.specs.Prelude.{length, take, Option, Some, None, if◌then◌else◌}
 use Rattle.std.specs.FinMap as map
@@ -18,7 +18,7 @@ use Rattle.sfen.specs.declared.faults.SfenFault.{SfenFault}
 use Rattle.sfen.specs.declared.faults.SfenFault.TheVariants.{BadText, TooManyPieces, Kings}
 use Rattle.sfen.specs.Letters.{letter, piece_text, turn_letter}
 
--- A rank is written as items: a digit for so many empty squares in a row, or a piece.
+-- A rank is a sequence of items: a digit for a run of empty squares, or a piece.
 pub data RankItem : Type 0 where
   Gap : ℕ → RankItem
   Stands : SPiece → RankItem
@@ -27,7 +27,7 @@ abbrev pub item_text : RankItem → List ℕ
 item_text (Gap n) = (48 + n) ∷ []
 item_text (Stands piece) = piece_text piece
 
--- so many empty squares
+-- n empty squares
 abbrev pub empty_cells : ℕ → List (Option SPiece)
 empty_cells zero = []
 empty_cells (suc n) = None ∷ empty_cells n
@@ -40,7 +40,7 @@ abbrev pub IsRankItem : RankItem → Type 0
 IsRankItem (Gap n) = (1 ≤ n) × (n ≤ 9)
 IsRankItem (Stands piece) = Unit {0}
 
--- items whose cells, joined, are the cells, and whose texts, joined, are the text
+-- items whose squares and texts concatenate to these squares and this text
 abbrev pub AreRankItems : List RankItem → List (Option SPiece) → List ℕ → Type 0
 AreRankItems [] cells text = (cells ≡ []) × (text ≡ [])
 AreRankItems (item ∷ items) cells text =
@@ -50,22 +50,22 @@ AreRankItems (item ∷ items) cells text =
 abbrev pub IsRankText : List (Option SPiece) → List ℕ → Type 0
 IsRankText cells text = (items : List RankItem) × AreRankItems items cells text
 
--- what stands on the squares of a rank from that file down to file 1
+-- the contents of the squares of a rank, from this file down to file 1
 abbrev pub cells_from : ShogiBoard → ℕ → ℕ → List (Option SPiece)
 cells_from board rank zero = []
 cells_from board rank (suc file) = map.get board (shogi_number (suc file) rank) ∷ cells_from board rank file
 
--- what stands on a rank, from file 9 to file 1
+-- the contents of a rank, from file 9 to file 1
 abbrev pub rank_cells : ShogiBoard → ℕ → List (Option SPiece)
 rank_cells board rank = cells_from board rank 9
 
--- a rank and so many more below it, parted by `/`
+-- a rank and `more` ranks below it, separated by `/`
 abbrev pub AreRanks : ShogiBoard → ℕ → ℕ → List ℕ → Type 0
 AreRanks board rank zero text = IsRankText (rank_cells board rank) text
 AreRanks board rank (suc more) text = (first : List ℕ) × (rest : List ℕ) × (text ≡ first ++ 47 ∷ rest)
     × IsRankText (rank_cells board rank) first × AreRanks board (suc rank) more rest
 
--- the board holds pieces on its squares alone
+-- the board has pieces only on its 81 squares
 abbrev pub IsOnSquares : ShogiBoard → Type 0
 IsOnSquares board = (n : ℕ) → 81 ≤ n → map.get board n ≡ None
 
@@ -73,13 +73,13 @@ IsOnSquares board = (n : ℕ) → 81 ≤ n → map.get board n ≡ None
 abbrev pub IsBoardText : ShogiBoard → List ℕ → Type 0
 IsBoardText board text = AreRanks board 1 8 text × IsOnSquares board
 
--- so many pieces of a kind in a side's hand
+-- pieces of a kind in a side's hand
 pub record HeldItem : Type 0 where
   pub side : Side
   pub kind : HandKind
   pub count : ℕ
 
--- A count before a letter: none for one piece, or one or two digits that are not zero.
+-- A count before a letter: none for one piece, or one or two digits with a positive value.
 pub data IsCountText (count : ℕ) (text : List ℕ) : Type 0 where
   unwritten : count ≡ 1 → text ≡ [] → IsCountText count text
   one_digit : 1 ≤ count → count ≤ 9 → text ≡ (48 + count) ∷ [] → IsCountText count text
@@ -95,7 +95,7 @@ AreHeldTexts [] text = text ≡ []
 AreHeldTexts (item ∷ items) text = (first : List ℕ) × (rest : List ℕ) × (text ≡ first ++ rest) × IsHeldText item first
     × AreHeldTexts items rest
 
--- the pieces in the hands, or `-` where there are none
+-- the pieces in the hands, or `-` if both are empty
 abbrev pub IsHandText : List HeldItem → List ℕ → Type 0
 IsHandText [] text = text ≡ 45 ∷ []
 IsHandText (item ∷ items) text = AreHeldTexts (item ∷ items) text
@@ -110,17 +110,17 @@ same_hand_kind in_hand.Lance in_hand.Lance = true
 same_hand_kind in_hand.Pawn in_hand.Pawn = true
 same_hand_kind _ _ = false
 
--- how many pieces of a side and a kind the items give together
+-- the total count of pieces of a side and a kind in the items
 abbrev pub held_total : Side → HandKind → List HeldItem → ℕ
 held_total side kind [] = 0
 held_total side kind (item ∷ items) =
     (if same_side item.side side && same_hand_kind item.kind kind then item.count else 0) + held_total side kind items
 
--- the items give what the hands hold
+-- the items denote the hands
 abbrev pub AreHands : Hands → List HeldItem → Type 0
 AreHands hands items = (side : Side) (kind : HandKind) → count_of kind (hand_of side hands) ≡ held_total side kind items
 
--- digits
+-- decimal digits
 abbrev pub AreDigits : List ℕ → Type 0
 AreDigits [] = Unit {0}
 AreDigits (digit ∷ digits) = (digit ≤ 9) × AreDigits digits
@@ -129,12 +129,12 @@ abbrev pub digit_texts : List ℕ → List ℕ
 digit_texts [] = []
 digit_texts (digit ∷ digits) = (48 + digit) ∷ digit_texts digits
 
--- the number that digits go on to, after those that gave a number
+-- the value of digits that follow a number
 abbrev pub value_after : ℕ → List ℕ → ℕ
 value_after number [] = number
 value_after number (digit ∷ digits) = value_after (10 * number + digit) digits
 
--- a number from 1 to 9999 in decimal: digits, of which the first is not zero
+-- a number from 1 to 9999 in decimal, without leading zeros
 pub record IsDecimalText (number : ℕ) (text : List ℕ) : Type 0 where
   pub first : ℕ
   pub more : List ℕ
@@ -145,20 +145,19 @@ pub record IsDecimalText (number : ℕ) (text : List ℕ) : Type 0 where
   pub within : number ≤ 9999
   pub text_is : text ≡ digit_texts (first ∷ more)
 
--- a blank and the number of the next move, which is 1 where it is left out
+-- a space and the move number; a missing move number is 1
 abbrev pub IsNumberText : ℕ → List ℕ → Type 0
 IsNumberText number text = ((text ≡ []) × (number ≡ 1))
     ⊎ ((decimal : List ℕ) × IsDecimalText number decimal × (text ≡ 32 ∷ decimal))
 
--- what a text gives: the pieces on the board, the side to move, the pieces in the hands as they are listed, and the
--- move's number
+-- the content of a text: the board, the side to move, the pieces in hand as listed, and the move number
 pub record SfenForm : Type 0 where
   pub board : ShogiBoard
   pub turn : Side
   pub held : List HeldItem
   pub number : ℕ
 
--- the board, the turn and the hands, parted by blanks, and the number
+-- the board, the side to move and the hands, separated by spaces, and the move number
 pub record HasSfenForm (text : List ℕ) (form : SfenForm) : Type 0 where
   pub board_text : List ℕ
   pub hand_text : List ℕ
@@ -171,39 +170,39 @@ pub record HasSfenForm (text : List ℕ) (form : SfenForm) : Type 0 where
 abbrev pub HasNoForm : List ℕ → Type 0
 HasNoForm text = (form : SfenForm) → HasSfenForm text form → ⊥
 
--- a text that some position's text begins with
+-- a prefix of some SFEN text
 abbrev pub BeginsSfen : List ℕ → Type 0
 BeginsSfen text = (rest : List ℕ) × (form : SfenForm) × HasSfenForm (text ++ rest) form
 
--- the longest beginning of a text that begins a position's text has so many bytes
+-- the length in bytes of the longest prefix that can begin an SFEN text
 pub record IsLongestBeginning (text : List ℕ) (bytes : ℕ) : Type 0 where
   pub within : bytes ≤ length text
   pub begins : BeginsSfen (take bytes text)
   pub longest : (n : ℕ) → bytes < n → n ≤ length text → BeginsSfen (take n text) → ⊥
 
--- a text that stands for a position and the number of the next move
+-- the text denotes the position and the move number
 abbrev pub IsSfenText : List ℕ → ShogiPosition → ℕ → Type 0
 IsSfenText text position number =
     (items : List HeldItem) × HasSfenForm text
     (record { board = position.board; turn = position.turn; held = items; number = number })
     × AreHands position.hands items × IsShogiPosition position.board position.hands
 
--- how many pieces of a kind the board and the hands have together
+-- the total count of pieces of a kind on the board and in the hands
 abbrev pub form_total : SfenForm → HandKind → ℕ
 form_total form kind = count_on (holds_kind kind) form.board + held_total First kind form.held + held_total Second kind
     form.held
 
--- more pieces of a kind than the set of a game has
+-- more pieces of a kind than a shogi set
 abbrev pub HasTooMany : SfenForm → Type 0
 HasTooMany form = (kind : HandKind) × (set_size kind < form_total form kind)
 
--- Why a text is refused: it has no form, and so long is its longest beginning that begins one; or it has one with more
--- pieces of a kind than a set has; or with no more, but not with one king on each side.
+-- The faults of a text: it has no form, with the length of its longest valid prefix; or its pieces exceed a shogi set.
+-- If they do not, a side may have no king or more than one.
 abbrev pub IsRefused : List ℕ → SfenFault → Type 0
 IsRefused text (BadText bytes) = HasNoForm text × IsLongestBeginning text bytes
 IsRefused text TooManyPieces = (form : SfenForm) × HasSfenForm text form × HasTooMany form
 IsRefused text Kings = (form : SfenForm) × HasSfenForm text form × (HasTooMany form → ⊥) × (HasKings form.board → ⊥)
 
--- A text has one form at most.
+-- The grammar is unambiguous: a text has at most one form.
 abbrev pub HasOneForm : Type 0
 HasOneForm = (text : List ℕ) (a b : SfenForm) → HasSfenForm text a → HasSfenForm text b → a ≡ b

@@ -1,4 +1,4 @@
--- What the bytes of a position's text are.
+-- Classification of the bytes of an SFEN text.
 use Rattle.std.specs.Prelude.{◌≤◌, ℕ, ◌-◌, ◌==◌, ◌&&◌, nat_le, Option, Some, None, if◌then◌else◌}
 use Rattle.squares.specs.declared.sides.Side.{Side}
 use Rattle.squares.specs.declared.sides.Side.TheVariants.{First, Second}
@@ -7,7 +7,7 @@ use Rattle.squares.specs.declared.shogi.piece.Kind.TheVariants as kind
 use Rattle.sfen.specs.declared.signs.Sign.{Sign}
 use Rattle.sfen.specs.declared.signs.Sign.TheVariants.{Zero, Digit, Piece, White, Plus, Minus, Slash, Blank, Other}
 
--- the kind that has a capital as its letter
+-- the kind of piece with this capital letter
 abbrev pub capital_kind : ℕ → Option Kind
 capital_kind c =
     if c == 75 then Some kind.King

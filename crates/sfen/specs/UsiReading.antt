@@ -1,4 +1,4 @@
--- Reading the text of a move: the move, and how far a text goes along with moves' texts.
+-- The USI reader: the move of a text, or the length of its longest valid prefix.
 use Rattle.std.specs.Prelude.{ℕ, ◌-◌, ◌==◌, ◌&&◌, nat_le, max, is_some, Bool, true, false, Option, Some, None, List, []}
 use Rattle.std.specs.Prelude.{◌∷◌, if◌then◌else◌}
 use Rattle.std.proofs.Common.{suc}
@@ -16,11 +16,11 @@ is_file c = nat_le 49 c && nat_le c 57
 abbrev pub is_rank : ℕ → Bool
 is_rank c = nat_le 97 c && nat_le c 105
 
--- the square of two bytes
+-- the square of a file digit and a rank letter
 abbrev pub square_reading : ℕ → ℕ → Option ℕ
 square_reading file rank = if is_file file && is_rank rank then Some (shogi_number (file - 48) (rank - 96)) else None
 
--- the kind of a capital letter
+-- the kind of piece with this capital letter
 abbrev pub kind_reading : ℕ → Option HandKind
 kind_reading c =
     if c == 82 then Some in_hand.Rook
@@ -42,7 +42,7 @@ drop_of (Some kind) (Some to) = Some (Drop kind to)
 drop_of (Some kind) None = None
 drop_of None to = None
 
--- the move of a text
+-- the move that a text denotes
 abbrev pub usi_reading : List ℕ → Option SMove
 usi_reading (a ∷ b ∷ c ∷ d ∷ []) =
     if b == 42 then drop_of (kind_reading a) (square_reading c d) else step_of (square_reading a b) (square_reading c d)
@@ -51,7 +51,7 @@ usi_reading (a ∷ b ∷ c ∷ d ∷ e ∷ []) =
     if e == 43 then step_of (square_reading a b) (square_reading c d) true else None
 usi_reading _ = None
 
--- whether a byte may stand in such a place of a move's text
+-- whether a byte is allowed at a place of a move's text
 abbrev pub fits : Place → ℕ → Bool
 fits place.File c = is_file c
 fits place.Rank c = is_rank c
@@ -59,19 +59,19 @@ fits place.Plus c = c == 43
 fits place.Piece c = is_some (kind_reading c)
 fits place.Star c = c == 42
 
--- how many bytes of a text fit the places, from the first on
+-- the number of leading bytes that match the places
 abbrev pub reach : List Place → List ℕ → ℕ
 reach [] text = 0
 reach (p ∷ places) [] = 0
 reach (p ∷ places) (c ∷ text) = if fits p c then suc (reach places text) else 0
 
--- the places of a step's text, and of a drop's
+-- the places of a board move's text and of a drop's text
 unfoldable pub step_places : List Place
 step_places = place.File ∷ place.Rank ∷ place.File ∷ place.Rank ∷ place.Plus ∷ []
 
 unfoldable pub drop_places : List Place
 drop_places = place.Piece ∷ place.Star ∷ place.File ∷ place.Rank ∷ []
 
--- how far a text goes along with the texts of moves
+-- the length of the longest prefix that can begin a move's text
 abbrev pub usi_reach : List ℕ → ℕ
 usi_reach text = max (reach step_places text) (reach drop_places text)

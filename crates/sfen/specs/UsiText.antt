@@ -1,5 +1,5 @@
--- The text of a move (USI): the squares of a step, with `+` where it promotes, or the letter of a dropped piece, `*`
--- and its square.
+-- The text of a move in USI notation: the squares of a board move, with `+` for a promotion; or the letter of a dropped
+-- piece, `*` and its square.
 use Rattle.std.specs.Prelude.{◌≡◌, ◌<◌, ◌≤◌, ℕ, ◌+◌, Bool, true, false, List, [], ◌∷◌, ◌++◌, length, take}
 use Rattle.squares.specs.declared.shogi.moves.SMove.{SMove}
 use Rattle.squares.specs.declared.shogi.moves.SMove.TheVariants.{Step, Drop}
@@ -9,11 +9,11 @@ use Rattle.sfen.specs.declared.faults.SfenFault.{SfenFault}
 use Rattle.sfen.specs.declared.faults.SfenFault.TheVariants.{BadText, TooManyPieces, Kings}
 use Rattle.sfen.specs.Letters.{capital}
 
--- a square: the digit of its file, and the small letter of its rank, `a` for the first
+-- a square: its file digit and its rank letter, `a` for the first rank
 abbrev pub square_text : ℕ → List ℕ
 square_text n = (48 + file_of n) ∷ (96 + rank_of n) ∷ []
 
--- a `+` where the piece promotes
+-- a `+` if the piece promotes
 abbrev pub promotion_text : Bool → List ℕ
 promotion_text true = 43 ∷ []
 promotion_text false = []
@@ -22,7 +22,7 @@ abbrev pub usi_text : SMove → List ℕ
 usi_text (Step from to promote) = square_text from ++ (square_text to ++ promotion_text promote)
 usi_text (Drop kind to) = capital (on_board kind) ∷ 42 ∷ square_text to
 
--- the squares of the move are squares of the board
+-- the squares of the move are on the board
 abbrev pub IsOnBoard : SMove → Type 0
 IsOnBoard (Step from to promote) = (from < 81) × (to < 81)
 IsOnBoard (Drop kind to) = to < 81
@@ -31,22 +31,22 @@ IsOnBoard (Drop kind to) = to < 81
 abbrev pub IsUsiText : List ℕ → SMove → Type 0
 IsUsiText text move = IsOnBoard move × (text ≡ usi_text move)
 
--- a text that some move's text begins with
+-- a prefix of the text of some move
 abbrev pub BeginsUsi : List ℕ → Type 0
 BeginsUsi text = (rest : List ℕ) × (move : SMove) × IsUsiText (text ++ rest) move
 
--- the longest beginning of a text that begins a move's text has so many bytes
+-- the length in bytes of the longest prefix that can begin a move's text
 pub record IsLongestUsiBeginning (text : List ℕ) (bytes : ℕ) : Type 0 where
   pub within : bytes ≤ length text
   pub begins : BeginsUsi (take bytes text)
   pub longest : (n : ℕ) → bytes < n → n ≤ length text → BeginsUsi (take n text) → ⊥
 
--- the text is no move's, and so long is its longest beginning that begins one
+-- the text denotes no move, with the length of its longest valid prefix
 pub record IsNoUsi (text : List ℕ) (bytes : ℕ) : Type 0 where
   pub none : (move : SMove) → IsUsiText text move → ⊥
   pub longest : IsLongestUsiBeginning text bytes
 
--- why a text is refused as a move's
+-- the fault of a text that denotes no move
 abbrev pub IsUsiRefused : List ℕ → SfenFault → Type 0
 IsUsiRefused text (BadText bytes) = IsNoUsi text bytes
 IsUsiRefused text TooManyPieces = ⊥

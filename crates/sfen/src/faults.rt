@@ -1,14 +1,14 @@
-//! Why a text is refused.
+//! The errors of the readers.
 
 use std::error::Error;
 use std::fmt;
 
-/// Why a text is refused.
+/// The reason why a text is refused.
 #[derive(Clone, Copy, Debug, PartialEq, Eq)]
 pub enum SfenFault {
-    /// The text has not the form. Its longest beginning that begins such a text has this many bytes.
+    /// Syntax error. The longest prefix that can begin such a text has this many bytes.
     BadText(usize),
-    /// The board and the hands have more pieces of a kind than the set of a game has.
+    /// The board and the hands have more pieces of a kind than a shogi set.
     TooManyPieces,
     /// A side has no king on the board, or more than one.
     Kings,

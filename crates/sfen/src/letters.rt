@@ -1,10 +1,10 @@
-//! The letters of pieces.
+//! The letters of pieces and sides.
 ghost use Rattle.std.specs.Prelude.{◌≡◌, ◌<◌};
 ghost use Rattle.sfen.specs.Letters.{capital, letter, turn_letter};
 
 use squares::{Kind, Side};
 
-/// The capital letter of a kind, which is that of First's pieces.
+/// The capital letter of a kind of piece, which denotes First's pieces.
 pub fn capital(kind: Kind) -> u8
     ensures value { result ≡ capital kind }
     ensures range { result < 91 }
@@ -21,7 +21,7 @@ pub fn capital(kind: Kind) -> u8
     }
 }
 
-/// The letter of a side's piece of a kind: a capital for First's, a small letter for Second's.
+/// The letter of a side's piece: a capital for First, a small letter for Second.
 pub fn letter(side: Side, kind: Kind) -> u8
     ensures value { result ≡ letter side kind }
     ensures range { result < 123 }
@@ -32,7 +32,7 @@ pub fn letter(side: Side, kind: Kind) -> u8
     }
 }
 
-/// The letter of the side to move: `b` for First, who is Black, and `w` for Second.
+/// The letter of the side to move: `b` for First (Black), `w` for Second (White).
 pub fn turn_letter(side: Side) -> u8
     ensures value { result ≡ turn_letter side }
     ensures range { result < 120 }

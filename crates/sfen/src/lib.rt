@@ -1,4 +1,6 @@
-//! The texts of shogi: positions (SFEN) and moves (USI).
+//! Reader and writer of shogi positions as SFEN and of shogi moves in USI notation.
+//!
+//! Follows USI: <http://hgm.nubati.net/usi.html>.
 #![tactic(auto)]
 
 pub mod faults;

@@ -1,4 +1,4 @@
-//! Where a reader stands in a position's text, and how each byte leads it on.
+//! The state machine of the SFEN reader: its states, and the transition for each byte.
 ghost use Rattle.std.specs.Prelude.{◌≡◌, ◌≤◌, IfSome};
 ghost use Rattle.sfen.specs.Signs.{IsSaneSign};
 ghost use Rattle.sfen.specs.Places as spec;
@@ -6,22 +6,22 @@ ghost use Rattle.sfen.specs.Places as spec;
 use crate::signs::Sign;
 use squares::{HandKind, Kind, Role, SPiece, Side, Ssq};
 
-/// Where a reader stands.
+/// A state of the reader.
 #[derive(Clone, Copy)]
 pub enum Place {
-    /// In a rank, 1 to 9, with so many of its files left.
+    /// In a rank, 1 to 9, with this many files left to fill.
     Rank { rank: u8, left: u8 },
-    /// The same, after a `+`.
+    /// In a rank, after a `+`.
     Promoted { rank: u8, left: u8 },
     /// Before the letter of the side to move.
     Turn,
-    /// After that letter.
+    /// After the letter of the side to move.
     AfterTurn,
     /// Before the hands.
     Hands,
     /// After a piece in the hands.
     Held,
-    /// After the first digit of a count, a zero.
+    /// After a leading zero of a count.
     AfterZero,
     /// After the first digit of a count, not a zero.
     OneDigit(u8),
@@ -29,13 +29,13 @@ pub enum Place {
     TwoDigits(u8),
     /// After the `-` of empty hands.
     NoHands,
-    /// Before the number.
+    /// Before the move number.
     Number,
-    /// After digits that give a number.
+    /// After the digits of a move number.
     Digits(u16),
 }
 
-/// What a byte adds to the position.
+/// The effect of a byte on the position.
 #[derive(Clone, Copy)]
 pub enum Action {
     Pass,
@@ -44,10 +44,10 @@ pub enum Action {
     Hold(Side, HandKind, u8),
 }
 
-/// Where a byte leads, and what it adds.
+/// A transition: the next state, and the effect on the position.
 pub type Step = (Place, Action);
 
-// The square of a file and a rank, if the board has it.
+// The square of a file and a rank, if it is on the board.
 fn square_at(file: u8, rank: u8) -> Option<Ssq>
     ensures value { result ≡ spec.square_at file rank }
     ensures file { IfSome result (λ _. 1 ≤ file) }
@@ -55,7 +55,7 @@ fn square_at(file: u8, rank: u8) -> Option<Ssq>
     Ssq::new(file, rank)
 }
 
-// A piece on the next square of a rank.
+// Puts a piece on the next square of a rank.
 fn placed(rank: u8, left: u8, piece: SPiece) -> Option<Step>
     ensures { result ≡ spec.placed rank left piece }
 {
@@ -133,7 +133,7 @@ fn at_turn(sign: Sign) -> Option<Step>
     }
 }
 
-// A blank, and what stands after it.
+// A space, followed by the state `next`.
 fn past_blank(next: Place, sign: Sign) -> Option<Step>
     ensures { result ≡ spec.past_blank next sign }
 {
@@ -152,7 +152,7 @@ fn hold(count: u8, side: Side, kind: Option<HandKind>) -> Option<Step>
     }
 }
 
-// The first byte of pieces in a hand.
+// The first byte of an item of the hands.
 fn at_item(sign: Sign) -> Option<Step>
     ensures { result ≡ spec.at_item sign }
 {
@@ -222,7 +222,7 @@ fn at_number(sign: Sign) -> Option<Step>
     }
 }
 
-// One digit more of a number, which has four at most.
+// One more digit of a move number, which has at most four.
 fn one_more(number: u16, digit: u8) -> Option<Step>
     ensures { result ≡ spec.one_more number digit }
 {
@@ -242,7 +242,7 @@ fn in_number(number: u16, sign: Sign) -> Option<Step>
     }
 }
 
-/// Where a byte leads from a place, or none where no position's text goes on so.
+/// The transition for a byte, or `None` if no SFEN text continues with it.
 pub fn next(place: Place, sign: Sign) -> Option<Step>
     requires place { spec.IsSane place }
     requires sign { IsSaneSign sign }
@@ -264,7 +264,7 @@ pub fn next(place: Place, sign: Sign) -> Option<Step>
     }
 }
 
-/// The number of the next move, if a text may end here. It is 1 where it is left out.
+/// The move number if a text may end in this state; 1 if the text has none.
 pub fn number_at_end(place: Place) -> Option<u16>
     ensures { result ≡ spec.number_at_end place }
 {

@@ -1,4 +1,4 @@
-//! Texts as positions.
+//! Reader of positions as SFEN.
 ghost use Rattle.std.specs.Prelude.{◌≡◌, ◌↔◌, ◌<◌, ◌+◌, IsTrue, IfOk, IfErr, Some, None, true, false};
 ghost use Rattle.sfen.specs.Places.{IsSane};
 ghost use Rattle.sfen.specs.Reading.{holding, act, take_byte, run, beginning, StopsAt, Takes};
@@ -10,7 +10,7 @@ use crate::places::{Action, Place, next, number_at_end};
 use crate::signs::sign_of;
 use squares::{Hand, HandKind, Hands, SBoard, SPos, Side};
 
-// What a reader has when it has read a beginning of a text.
+// The state of the reader after a prefix of a text.
 #[derive(Drop)]
 struct Reading {
     place: Place,
@@ -19,7 +19,7 @@ struct Reading {
     turn: Side,
 }
 
-// The hands with so many more of a kind. 255 stand for any greater number.
+// Adds pieces to a hand; counts saturate at 255.
 fn holding(hands: Hands, side: Side, kind: HandKind, count: u8) -> Hands
     ensures { result ≡ holding side kind count hands }
 {
@@ -38,7 +38,7 @@ fn holding(hands: Hands, side: Side, kind: HandKind, count: u8) -> Hands
 }
 
 impl Reading {
-    // Nothing is read yet.
+    // The state before the first byte.
     fn new() -> Reading
         ensures { result ≡ beginning }
     {
@@ -53,7 +53,7 @@ impl Reading {
         }
     }
 
-    // Adds what a byte says.
+    // Applies the effect of a byte.
     fn act(&mut self, action: Action)
         ensures { self.new ≡ act action self.old }
     {
@@ -67,7 +67,7 @@ impl Reading {
         }
     }
 
-    // Reads one byte more, if a text goes on so.
+    // Reads one more byte; returns whether a text may continue with it.
     fn take(&mut self, byte: u8) -> bool
         requires { IsSane self.old.place }
         ensures { Takes result self.old byte self.new }
@@ -83,7 +83,7 @@ impl Reading {
     }
 }
 
-// What is read of a whole text, or how many bytes begin one.
+// Reads a whole text; the error is the offset of the first byte that cannot follow.
 fn read_through(bytes: &[u8]) -> Result<Reading, usize>
     ensures read { IfOk result (λ reading. run take_byte beginning bytes.now ≡ Some reading) }
     ensures stopped { IfErr result (λ offset. StopsAt bytes.now offset) }
@@ -97,7 +97,7 @@ fn read_through(bytes: &[u8]) -> Result<Reading, usize>
     Ok(reading)
 }
 
-// Whether the board and the hands have more pieces of a kind than its set has.
+// Whether the board and the hands have more pieces of a kind than a shogi set.
 fn exceeds_set(board: &SBoard, hands: Hands, kind: HandKind) -> bool
     ensures { IsTrue result ↔ (set_size kind < in_play kind board.now hands) }
 {
@@ -110,7 +110,7 @@ fn exceeds_set(board: &SBoard, hands: Hands, kind: HandKind) -> bool
     size < board.count_kind(kind) + held
 }
 
-// Whether the board and the hands have more pieces of any kind than its set has.
+// Whether the board and the hands have more pieces of any kind than a shogi set.
 fn exceeds_sets(board: &SBoard, hands: Hands) -> bool
     ensures { IsTrue result ↔ ((kind : HandKind) × (set_size kind < in_play kind board.now hands)) }
 {
@@ -122,8 +122,14 @@ fn exceeds_sets(board: &SBoard, hands: Hands) -> bool
     false
 }
 
-/// The position of a text (SFEN), and the number of the next move, which is 1 where it is left out:
-/// `k8/9/9/9/9/9/9/9/K8 b 2P 1`. A hand may list its pieces in any order, and a kind more than once.
+/// Reads a position and the move number from an SFEN text, such as `k8/9/9/9/9/9/9/9/K8 b 2P 1`. A missing move number
+/// is 1. A hand may list its pieces in any order, and a kind more than once.
+///
+/// # Errors
+///
+/// - `SfenFault::BadText` for a syntax error.
+/// - `SfenFault::TooManyPieces` if the pieces exceed a shogi set.
+/// - `SfenFault::Kings` if a side has not exactly one king.
 pub fn read(text: &str) -> Result<(SPos, u16), SfenFault>
     ensures read { IfOk result (λ made. IsSfenText text.now made.0 made.1) }
     ensures fault { IfErr result (λ fault. IsRefused text.now fault) }

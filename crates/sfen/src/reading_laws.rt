@@ -1,18 +1,18 @@
-//! What ties the texts of positions to their grammar.
+//! Theorems about the SFEN reader, for use by other crates.
 ghost use Rattle.sfen.specs.ReadingLaws.{IsRefusedOnce, StandsForOne};
 ghost use Rattle.sfen.specs.SfenGrammar.{HasOneForm};
 
-/// A text has one form at most: one board, one side to move, one list of pieces in the hands, and one number.
+/// The grammar of SFEN is unambiguous: a text has at most one board, side to move, list of pieces in hand and number.
 pub fn has_one_form()
     ensures { HasOneForm }
 {}
 
-/// A text stands for one position and one number at most.
+/// A text denotes at most one position and move number.
 pub fn stands_for_one()
     ensures { StandsForOne }
 {}
 
-/// A text that is refused stands for no position, and is refused for one reason.
+/// A text that is refused denotes no position, and its fault is unique.
 pub fn is_refused_once()
     ensures { IsRefusedOnce }
 {}

@@ -1,28 +1,28 @@
-//! What the bytes of a position's text are.
+//! Classification of the bytes of an SFEN text.
 ghost use Rattle.std.specs.Prelude.{◌≡◌};
 ghost use Rattle.sfen.specs.Signs.{capital_kind, piece_sign, sign_of, IsSaneSign};
 
 use squares::{Kind, Side};
 
-/// What a byte is. A `b` is Second's bishop here, and before the hands it says that First is to move.
+/// The class of a byte. `b` is classified as Second's bishop; as the side to move it denotes First.
 #[derive(Clone, Copy)]
 pub enum Sign {
     Zero,
     /// A digit from 1 to 9.
     Digit(u8),
-    /// The letter of a kind of piece, and whose it is.
+    /// The letter of a kind of piece, and its side.
     Piece(Side, Kind),
-    /// `w`: Second, who is White, is to move.
+    /// `w`: Second (White) is to move.
     White,
     Plus,
     Minus,
     Slash,
     Blank,
-    /// A byte that no text has.
+    /// A byte that occurs in no SFEN text.
     Other,
 }
 
-// The kind that has a capital as its letter.
+// The kind of piece with this capital letter.
 fn capital_kind(byte: u8) -> Option<Kind>
     ensures { result ≡ capital_kind byte }
 {
@@ -48,7 +48,7 @@ fn piece_sign(side: Side, kind: Option<Kind>) -> Sign
     }
 }
 
-/// What a byte is.
+/// The class of a byte.
 pub fn sign_of(byte: u8) -> Sign
     ensures value { result ≡ sign_of byte }
     ensures sane { IsSaneSign result }

@@ -1,4 +1,4 @@
-//! USI texts as moves.
+//! Reader of moves in USI notation.
 ghost use Rattle.std.specs.Prelude.{◌≡◌, ◌≤◌, IfOk, IfErr, length};
 ghost use Rattle.sfen.specs.UsiText.{IsUsiText, IsUsiRefused};
 ghost use Rattle.sfen.specs.UsiReading.{square_reading, kind_reading, step_of, drop_of, usi_reading, fits, reach};
@@ -7,7 +7,7 @@ ghost use Rattle.sfen.specs.UsiReading.{usi_reach};
 use crate::faults::SfenFault;
 use squares::{HandKind, SMove, Ssq};
 
-/// What stands in a place of a move's text.
+/// The kind of character that is expected at a place of a move's text.
 #[derive(Clone, Copy)]
 pub enum Place {
     File,
@@ -17,7 +17,7 @@ pub enum Place {
     Star,
 }
 
-// The places of a step's text, the last of which may be left out.
+// The places of a board move's text; the last is optional.
 const STEP: [Place; 5] = [
     Place::File,
     Place::Rank,
@@ -29,7 +29,7 @@ const STEP: [Place; 5] = [
 // The places of a drop's text.
 const DROP: [Place; 4] = [Place::Piece, Place::Star, Place::File, Place::Rank];
 
-// The square of a file's digit and a rank's letter.
+// The square with this file digit and rank letter.
 fn square_of(file: u8, rank: u8) -> Option<Ssq>
     ensures { result ≡ square_reading file rank }
 {
@@ -39,7 +39,7 @@ fn square_of(file: u8, rank: u8) -> Option<Ssq>
     }
 }
 
-// The kind of a capital letter.
+// The kind of piece in hand with this capital letter.
 fn kind_of(letter: u8) -> Option<HandKind>
     ensures { result ≡ kind_reading letter }
 {
@@ -55,7 +55,7 @@ fn kind_of(letter: u8) -> Option<HandKind>
     }
 }
 
-// The step between two squares, if both are on the board.
+// The board move between two squares, if both are on the board.
 fn step_of(from: Option<Ssq>, to: Option<Ssq>, promote: bool) -> Option<SMove>
     ensures { result ≡ step_of from to promote }
 {
@@ -66,7 +66,7 @@ fn step_of(from: Option<Ssq>, to: Option<Ssq>, promote: bool) -> Option<SMove>
     })
 }
 
-// The drop of a kind on a square, if both are there.
+// The drop of a piece, if its kind and its square are valid.
 fn drop_of(kind: Option<HandKind>, to: Option<Ssq>) -> Option<SMove>
     ensures { result ≡ drop_of kind to }
 {
@@ -76,7 +76,7 @@ fn drop_of(kind: Option<HandKind>, to: Option<Ssq>) -> Option<SMove>
     })
 }
 
-// The move of a text.
+// The move that a text denotes.
 fn move_of(text: &[u8]) -> Option<SMove>
     ensures { result ≡ usi_reading text.now }
 {
@@ -96,7 +96,7 @@ fn move_of(text: &[u8]) -> Option<SMove>
     }
 }
 
-// Whether a byte may stand in such a place.
+// Whether a byte is allowed at a place.
 fn fits(place: Place, byte: u8) -> bool
     ensures { result ≡ fits place byte }
 {
@@ -109,7 +109,7 @@ fn fits(place: Place, byte: u8) -> bool
     }
 }
 
-// How many bytes fit the places, from the first on.
+// The number of leading bytes that match the places.
 fn reach(places: &[Place], text: &[u8]) -> usize
     ensures value { result ≡ reach places.now text.now }
     ensures within { result ≤ length text.now }
@@ -124,18 +124,19 @@ fn reach(places: &[Place], text: &[u8]) -> usize
     text.len() - rest.len()
 }
 
-// How many bytes go along with the texts of moves.
+// The length of the longest prefix that can begin a move's text.
 fn usi_reach(text: &[u8]) -> usize
     ensures { result ≡ usi_reach text.now }
 {
     reach(&STEP, text).max(reach(&DROP, text))
 }
 
-/// The move of a text: `7g7f` for a step, `8h2b+` for one that promotes, `P*5e` for a drop. The move may
-/// be illegal.
+/// Reads a move in USI notation: `7g7f` on the board, `8h2b+` with a promotion, `P*5e` for a drop. The move may be
+/// illegal.
 ///
-/// A text that is no move's is refused as `BadText`, with the length of its longest beginning that begins
-/// a move's text.
+/// # Errors
+///
+/// `SfenFault::BadText` for a syntax error, with the length of the longest prefix that can begin a move's text.
 pub fn read_usi(text: &str) -> Result<SMove, SfenFault>
     ensures played { IfOk result (λ played. IsUsiText text.now played) }
     ensures fault { IfErr result (λ fault. IsUsiRefused text.now fault) }

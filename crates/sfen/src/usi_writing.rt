@@ -1,4 +1,4 @@
-//! Moves as USI texts.
+//! Writer of moves in USI notation.
 ghost use Rattle.std.specs.Prelude.{◌≡◌, ◌++◌, OnOk, IfOk, string_bytes};
 ghost use Rattle.sfen.specs.UsiText.{square_text, promotion_text, usi_text};
 
@@ -7,7 +7,7 @@ use memory::Memory;
 use squares::{SMove, Ssq};
 use std::alloc::Global;
 
-// Adds a square: the digit of its file and the letter of its rank.
+// Appends a square: its file digit and its rank letter.
 fn push_square(text: &mut String, square: Ssq) -> Result<(), Memory>
     ensures { OnOk result (string_bytes text.new ≡ string_bytes text.old ++ square_text square) }
 {
@@ -16,7 +16,7 @@ fn push_square(text: &mut String, square: Ssq) -> Result<(), Memory>
     Ok(())
 }
 
-// Adds a `+` where the piece promotes.
+// Appends a `+` if the piece promotes.
 fn push_promotion(text: &mut String, promote: bool) -> Result<(), Memory>
     ensures { OnOk result (string_bytes text.new ≡ string_bytes text.old ++ promotion_text promote) }
 {
@@ -26,10 +26,12 @@ fn push_promotion(text: &mut String, promote: bool) -> Result<(), Memory>
     Ok(())
 }
 
-/// The text of a move: `7g7f` for a step, `8h2b+` for one that promotes, `P*5e` for a drop. The move may
-/// be illegal.
+/// Writes a move in USI notation: `7g7f` on the board, `8h2b+` with a promotion, `P*5e` for a drop. The move may be
+/// illegal.
 ///
-/// It fails where memory is refused, and then alone.
+/// # Errors
+///
+/// `Memory` if out of memory.
 pub fn write_usi(alloc: Global, played: &SMove) -> Result<String, Memory>
     ensures { IfOk result (λ text. string_bytes text ≡ usi_text played.now) }
 {

@@ -1,4 +1,4 @@
-//! Positions as SFEN texts.
+//! Writer of positions as SFEN.
 ghost use Rattle.std.specs.Prelude.{◌≡◌, ◌++◌, ◌≤◌, OnOk, IfOk, string_bytes};
 ghost use Rattle.std.specs.FinMap as map;
 ghost use Rattle.squares.specs.ShogiGeometry.{OnShogiBoard, shogi_number};
@@ -12,7 +12,7 @@ use memory::Memory;
 use squares::{Hand, HandKind, Hands, SBoard, SPiece, SPos, Side, Ssq};
 use std::alloc::Global;
 
-// Adds a piece on the board: a `+` if it is promoted, and the letter of its kind.
+// Appends a piece on the board: a `+` if it is promoted, and its letter.
 fn push_piece(text: &mut String, piece: SPiece) -> Result<(), Memory>
     ensures { OnOk result (string_bytes text.new ≡ string_bytes text.old ++ piece_text piece) }
 {
@@ -23,7 +23,7 @@ fn push_piece(text: &mut String, piece: SPiece) -> Result<(), Memory>
     Ok(())
 }
 
-// Adds how many squares in a row are empty, if there are some.
+// Appends the length of a run of empty squares, unless it is 0.
 fn push_gap(text: &mut String, gap: u8) -> Result<(), Memory>
     requires { gap ≤ 9 }
     ensures { OnOk result (string_bytes text.new ≡ string_bytes text.old ++ gap_text gap) }
@@ -34,7 +34,7 @@ fn push_gap(text: &mut String, gap: u8) -> Result<(), Memory>
     Ok(())
 }
 
-// What stands on a square.
+// The content of a square.
 fn piece_at(board: &SBoard, file: u8, rank: u8) -> Option<SPiece>
     requires { OnShogiBoard file rank }
     ensures { result ≡ map.get board.now (shogi_number file rank) }
@@ -45,7 +45,7 @@ fn piece_at(board: &SBoard, file: u8, rank: u8) -> Option<SPiece>
     }
 }
 
-// Adds a rank, from file 9 to file 1.
+// Appends a rank, from file 9 to file 1.
 fn push_rank(text: &mut String, board: &SBoard, rank: u8) -> Result<(), Memory>
     requires low { 1 ≤ rank }
     requires high { rank ≤ 9 }
@@ -67,7 +67,7 @@ fn push_rank(text: &mut String, board: &SBoard, rank: u8) -> Result<(), Memory>
     Ok(())
 }
 
-// Adds the nine ranks, parted by `/`.
+// Appends the nine ranks, separated by `/`.
 fn push_board(text: &mut String, board: &SBoard) -> Result<(), Memory>
     ensures { OnOk result (string_bytes text.new ≡ string_bytes text.old ++ board_text board.now) }
 {
@@ -79,7 +79,7 @@ fn push_board(text: &mut String, board: &SBoard) -> Result<(), Memory>
     Ok(())
 }
 
-// Adds the pieces of a kind in a side's hand: their count, if it is above 1, and the letter.
+// Appends the pieces of a kind in a side's hand: their count if it exceeds 1, and the letter.
 fn push_held(text: &mut String, side: Side, kind: HandKind, count: u8) -> Result<(), Memory>
     ensures { OnOk result
         (string_bytes text.new ≡ string_bytes text.old ++ held_text side kind count) }
@@ -94,7 +94,7 @@ fn push_held(text: &mut String, side: Side, kind: HandKind, count: u8) -> Result
     Ok(())
 }
 
-// Adds the pieces in a side's hand.
+// Appends the pieces in a side's hand.
 fn push_hand(text: &mut String, side: Side, hand: Hand) -> Result<(), Memory>
     ensures { OnOk result
         (string_bytes text.new ≡ string_bytes text.old ++ kinds_text side hand hand_kinds) }
@@ -105,7 +105,7 @@ fn push_hand(text: &mut String, side: Side, hand: Hand) -> Result<(), Memory>
     Ok(())
 }
 
-// Adds the pieces in both hands, or a `-` where there are none.
+// Appends the pieces in both hands, or a `-` if both are empty.
 fn push_hands(text: &mut String, hands: Hands) -> Result<(), Memory>
     ensures { OnOk result (string_bytes text.new ≡ string_bytes text.old ++ hands_text hands) }
 {
@@ -118,15 +118,19 @@ fn push_hands(text: &mut String, hands: Hands) -> Result<(), Memory>
     Ok(())
 }
 
-// The room for the text of a position, in bytes: few are longer.
+// The initial capacity for the text of a position, in bytes; few texts are longer.
 const TEXT_ROOM: usize = 128;
 
-/// The text of a position without the number of the next move: the ranks from the first on, each from file 9 to
-/// file 1, the side to move, and the pieces in the hands, as
-/// `lnsgkgsnl/1r5b1/ppppppppp/9/9/9/PPPPPPPPP/1B5R1/LNSGKGSNL b -`. It stands for that position, with the number 1
-/// left out.
+/// Writes a position as SFEN without a move number: the ranks from the first, the side to move, and the hands, such as
+/// `lnsgkgsnl/1r5b1/ppppppppp/9/9/9/PPPPPPPPP/1B5R1/LNSGKGSNL b -`.
 ///
-/// It fails where memory is refused, and then alone.
+/// # Errors
+///
+/// `Memory` if out of memory.
+///
+/// # Guarantees
+///
+/// `stands_for`: the text denotes the position with the move number 1.
 pub fn write_position(alloc: Global, position: &SPos) -> Result<String, Memory>
     ensures text { IfOk result (λ text. string_bytes text ≡ position_text position.now) }
     ensures stands_for { IfOk result (λ text. IsSfenText (string_bytes text) position.now 1) }
@@ -140,11 +144,16 @@ pub fn write_position(alloc: Global, position: &SPos) -> Result<String, Memory>
     Ok(text)
 }
 
-/// The text of a position (SFEN), where `number`, 1 to 9999, is that of the next move: the ranks, the side to move, the
-/// pieces in the hands, and the number, as
+/// Writes a position as SFEN with a move number from 1 to 9999, such as
 /// `lnsgkgsnl/1r5b1/ppppppppp/9/9/9/PPPPPPPPP/1B5R1/LNSGKGSNL b - 1`.
 ///
-/// It fails where memory is refused, and then alone.
+/// # Errors
+///
+/// `Memory` if out of memory.
+///
+/// # Guarantees
+///
+/// `stands_for`: the text denotes the position and the move number.
 pub fn write(alloc: Global, position: &SPos, number: u16) -> Result<String, Memory>
     requires low { 1 ≤ number }
     requires high { number ≤ 9999 }

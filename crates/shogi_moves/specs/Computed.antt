@@ -1,4 +1,4 @@
--- The tests of the rules, computed.
+-- The rules as computable tests.
 use Rattle.std.specs.Prelude.{ℕ, Bool, true, false, not, ◌&&◌, ◌||◌, ◌==◌, nat_lt, is_none, Option, Some, None, Result}
 use Rattle.std.specs.Prelude.{Ok, Err, List, [], ◌∷◌, if◌then◌else◌}
 use Rattle.std.specs.Option.{option_map_or}
@@ -22,14 +22,14 @@ use Rattle.shogi_moves.specs.Search.{all_squares, piece_reaches, king_attacked}
 use Rattle.shogi_moves.specs.Rules.{may_promote, is_stuck, may_land, held, dropped_role, target, board_after, play}
 use Rattle.shogi_moves.specs.Rules.{rules_in_order}
 
--- whether the piece on `from` goes to `to`
+-- Whether the piece on `from` can step to `to`.
 unfoldable pub goes : ShogiPosition → ℕ → ℕ → Bool → Bool
 goes p from to promote =
     option_map_or
     (λ piece. same_side piece.side p.turn && may_land p.turn (map.get p.board to) &&
     (not promote || may_promote piece from to) && piece_reaches p.board piece from to) (map.get p.board from) false
 
--- whether the square is on the board, and empty
+-- Whether the square is on the board and empty.
 unfoldable pub is_free : ShogiBoard → ℕ → Bool
 is_free board square = nat_lt square 81 && is_none (map.get board square)
 
@@ -56,7 +56,7 @@ abbrev pub is_pawn : Role → Bool
 is_pawn role.Pawn = true
 is_pawn _ = false
 
--- whether the cell holds an unpromoted pawn of the side
+-- Whether the cell holds an unpromoted pawn of the side.
 abbrev pub holds_pawn : Side → Option SPiece → Bool
 holds_pawn side None = false
 holds_pawn side (Some piece) = is_pawn piece.role && same_side piece.side side
@@ -79,7 +79,7 @@ unfoldable pub is_pseudo : ShogiPosition → SMove → Bool
 is_pseudo p m = is_movement p m && not (lacks p m) && not (stays p m) && not (drops_dead p m) && not
     (drops_second_pawn p m)
 
--- a piece from the hand
+-- Whether the move is a drop.
 abbrev pub is_drop : SMove → Bool
 is_drop (Step from to promote) = false
 is_drop (Drop kind to) = true
@@ -87,7 +87,7 @@ is_drop (Drop kind to) = true
 unfoldable pub leaves_king : ShogiPosition → SMove → Bool
 leaves_king p m = king_attacked (board_after p m) p.turn
 
--- whether the move leaves the own king safe
+-- Whether the move leaves its own king safe.
 unfoldable pub escapes : ShogiPosition → SMove → Bool
 escapes p m = is_pseudo p m && not (leaves_king p m)
 
@@ -95,7 +95,7 @@ abbrev pub all_kinds : List HandKind
 all_kinds = in_hand.Rook ∷ in_hand.Bishop ∷ in_hand.Gold ∷ in_hand.Silver ∷ in_hand.Knight ∷ in_hand.Lance
     ∷ in_hand.Pawn ∷ []
 
--- whether some step or drop passes the test
+-- Whether some step or drop passes the test.
 abbrev pub some_step_between : (SMove → Bool) → ℕ → ℕ → Bool
 some_step_between test from to = test (Step from to false) || test (Step from to true)
 
@@ -126,7 +126,7 @@ is_legal p m = escapes p m && not (mates_by_pawn p m)
 unfoldable pub has_move : ShogiPosition → Bool
 has_move p = some_move (is_legal p)
 
--- whether the move breaks the rule
+-- Whether the move breaks the rule.
 abbrev pub broken : ShogiPosition → SMove → Illegal → Bool
 broken p m illegal.NoSuchMove = not (is_movement p m)
 broken p m illegal.NotInHand = lacks p m
@@ -139,11 +139,11 @@ broken p m illegal.DropMate = mates_by_pawn p m
 abbrev pub Answer : Type 0
 Answer = Result (Unit {0}) Illegal
 
--- the first of the rules that fails the test
+-- The first of the rules that fails the test.
 abbrev pub first_of : (Illegal → Bool) → List Illegal → Answer
 first_of fails [] = Ok tt
 first_of fails (rule ∷ rules) = if fails rule then Err rule else first_of fails rules
 
--- the answer of a check
+-- The computed answer of a move check.
 unfoldable pub check_of : ShogiPosition → SMove → Answer
 check_of p m = first_of (broken p m) rules_in_order

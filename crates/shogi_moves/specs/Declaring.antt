@@ -1,4 +1,4 @@
--- When the side to move may declare that its king has entered the enemy's camp: the rule of 27 points.
+-- The entering-king declaration by the 27-point rule.
 use Rattle.std.specs.Prelude.{◌≡◌, ◌≤◌, ◌<◌, ◌↔◌, ℕ, ◌+◌, ◌*◌, ◌&&◌, not, nat_le, Bool, true, false, Option, Some, None}
 use Rattle.std.specs.Prelude.{IsTrue, count_by, sum_by, if◌then◌else◌}
 use Rattle.std.specs.List.{list_any}
@@ -19,41 +19,41 @@ use Rattle.shogi_moves.specs.Search.{all_squares, king_attacked}
 use Rattle.shogi_moves.specs.Computed.{all_kinds}
 use Rattle.shogi_moves.specs.Rules.{far_rank}
 
--- the enemy's camp is the far three ranks
+-- The enemy's camp is the three farthest ranks.
 abbrev pub in_camp : Side → ℕ → Bool
 in_camp side square = nat_le (far_rank side square) 3
 
--- what a piece counts, promoted or not: a rook and a bishop five, every other piece one
+-- The points of a piece, promoted or not: five for a rook or a bishop, one for any other piece.
 abbrev pub worth : Kind → ℕ
 worth kind.Rook = 5
 worth kind.Bishop = 5
 worth _ = 1
 
--- a piece of the side, other than its king, stands there in the enemy's camp
+-- The cell holds a piece of the side, other than its king, in the enemy's camp.
 abbrev pub has_entered : Side → ℕ → Option SPiece → Bool
 has_entered side square None = false
 has_entered side square (Some piece) =
     (same_side piece.side side && not (is_king piece.role)) && in_camp side square
 
--- what stands on a square counts so much
+-- The points of a square.
 abbrev pub cell_points : Side → ℕ → Option SPiece → ℕ
 cell_points side square None = 0
 cell_points side square (Some piece) =
     if has_entered side square (Some piece) then worth (kind_of piece.role) else 0
 
--- how many pieces have entered the camp besides the king
+-- The number of the side's pieces in the enemy's camp, without the king.
 unfoldable pub entered : ShogiBoard → Side → ℕ
 entered board side = count_by (λ n. has_entered side n (map.get board n)) all_squares
 
--- what these pieces count
+-- The points of these pieces.
 unfoldable pub camp_points : ShogiBoard → Side → ℕ
 camp_points board side = sum_by (λ n. cell_points side n (map.get board n)) all_squares
 
--- what a hand counts, each kind as often as it is held
+-- The points of a hand.
 abbrev pub hand_points : Hand → ℕ
 hand_points hand = sum_by (λ k. worth (on_board k) * count_of k hand) all_kinds
 
--- what the pieces in the camp and those in hand count for the side to move
+-- The points of the side to move, in the camp and in hand.
 abbrev pub points : ShogiPosition → ℕ
 points p = camp_points p.board p.turn + hand_points (hand_of p.turn p.hands)
 
@@ -64,22 +64,22 @@ points_needed Second = 27
 abbrev pub pieces_needed : ℕ
 pieces_needed = 10
 
--- the side's king stands in the enemy's camp
+-- The side's king is in the enemy's camp.
 pub record KingEntered (board : ShogiBoard) (side : Side) : Type 0 where
   pub square : ℕ
   pub on_board : square < 81
   pub stands : map.get board square ≡ Some (king side)
   pub entered : in_camp side square ≡ true
 
--- The side to move may declare that it has won: its king stands in the enemy's camp and is not attacked, ten of its
--- pieces or more besides the king stand there, and these and its hand count what its side needs.
+-- The side to move may declare a win. Its king is in the enemy's camp and not in check, with at least ten other own
+-- pieces. These and the hand have the points that its side needs.
 pub record CanDeclare (p : ShogiPosition) : Type 0 where
   pub king : KingEntered p.board p.turn
   pub safe : KingAttacked p.board p.turn → ⊥
   pub pieces : pieces_needed ≤ entered p.board p.turn
   pub enough : points_needed p.turn ≤ points p
 
--- the same, computed
+-- The computed test.
 abbrev pub king_entered_at : ShogiBoard → Side → ℕ → Bool
 king_entered_at board side square = holds_king side (map.get board square) && in_camp side square
 
@@ -96,6 +96,6 @@ can_declare p =
     (king_entered p.board p.turn && not (king_attacked p.board p.turn))
     && has_enough p.board (hand_of p.turn p.hands) p.turn
 
--- The computed answer is the one by the rule.
+-- The computed test agrees with the rule.
 abbrev pub CanDeclareIs : Type 0
 CanDeclareIs = (p : ShogiPosition) → IsTrue (can_declare p) ↔ CanDeclare p

@@ -1,4 +1,4 @@
--- What attacks a square, looked for from the square outward.
+-- Attacks on a square, found by looking outward from it.
 use Rattle.std.specs.Prelude.{ℕ, ◌+◌, Bool, false, not, ◌&&◌, nat_lt, Option, Some, None, List, [], ◌∷◌}
 use Rattle.std.specs.List.{list_any}
 use Rattle.std.specs.FinMap as map
@@ -12,14 +12,13 @@ use Rattle.shogi_moves.specs.declared.heading.Heading.TheVariants.{Back, BackLef
 use Rattle.shogi_moves.specs.Reach.{line, range}
 use Rattle.shogi_moves.specs.Search.{all_headings}
 
--- how far along a heading a piece may come from
+-- The greatest distance at which a piece can attack along a heading.
 abbrev pub farthest : Heading → ℕ
 farthest JumpLeft = 1
 farthest JumpRight = 1
 farthest _ = 8
 
--- the heading of an enemy that comes from where a heading leads: forward is forward for both, and left for one is right
--- for the other
+-- The heading by which an enemy approaches along a heading: forward stays forward, and left becomes right.
 abbrev pub facing : Heading → Heading
 facing Forward = Forward
 facing ForwardLeft = ForwardRight
@@ -32,13 +31,14 @@ facing BackRight = BackLeft
 facing JumpLeft = JumpRight
 facing JumpRight = JumpLeft
 
--- whether the piece there, so many squares behind the first, is an enemy that comes so far, or else the rest is so
+-- Whether the piece, with `distance` empty squares before it, is an enemy whose range reaches the square; without a
+-- piece, the rest decides.
 abbrev pub faced_by : Side → Heading → ℕ → Bool → Option SPiece → Bool
 faced_by side heading distance rest None = rest
 faced_by side heading distance rest (Some piece) =
     not (same_side piece.side side) && nat_lt distance (range piece.role (facing heading))
 
--- whether the first piece on the squares is an enemy that comes so far
+-- Whether the first piece on the squares is an enemy whose range reaches the square.
 abbrev pub faced : ShogiBoard → Side → Heading → ℕ → List ℕ → Bool
 faced board side heading distance [] = false
 faced board side heading distance (n ∷ ns) =

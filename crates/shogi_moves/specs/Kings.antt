@@ -1,4 +1,4 @@
--- Sets of the squares on which kings stand.
+-- Sets of the squares of kings.
 use Rattle.std.specs.Prelude.{◌≡◌, ℕ}
 use Rattle.std.specs.FinMap as map
 use Rattle.std.specs.FinSet as set
@@ -7,6 +7,6 @@ use Rattle.squares.specs.declared.sides.Side.{Side}
 use Rattle.squares.specs.ShogiBoard.{ShogiBoard}
 use Rattle.squares.specs.ShogiSets.{holds_king}
 
--- the squares are those on which a king of the side stands
+-- The set holds exactly the squares of the side's kings.
 abbrev pub AreKings : ShogiBoard → Side → Numbers → Type 0
 AreKings board side kings = (q : ℕ) → set.contains kings q ≡ holds_king side (map.get board q)

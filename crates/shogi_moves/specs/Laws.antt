@@ -1,4 +1,4 @@
--- What is proved of the rules as a whole.
+-- Properties of the rules as a whole.
 use Rattle.std.specs.Prelude.{◌≡◌, ◌↔◌, ◌<◌, ℕ, ◌+◌, ◌*◌, length, IsTrue, IsOk, Err}
 use Rattle.std.specs.List.{slice_index}
 use Rattle.squares.specs.declared.sides.Side.{Side}
@@ -15,21 +15,21 @@ use Rattle.shogi_moves.specs.Reach.{line}
 use Rattle.shogi_moves.specs.Rules.{Legal, HasMove, FirstBroken, play}
 use Rattle.shogi_moves.specs.Computed.{check_of, has_move}
 
--- The computed answer of a check is the one by the rules: it passes the legal moves, and names the first rule that a
--- move breaks.
+-- The computed check agrees with the rules: it accepts the legal moves, and names the first rule that any other move
+-- breaks.
 abbrev pub CheckIs : Type 0
 CheckIs = (p : ShogiPosition) (m : SMove) → (IsOk (check_of p m) ↔ Legal p m)
     × ((rule : Illegal) → (check_of p m ≡ Err rule) ↔ FirstBroken p m rule)
 
--- The computed answer whether there is a move is the one by the rules.
+-- The computed `has_move` agrees with the rules.
 abbrev pub HasMoveIs : Type 0
 HasMoveIs = (p : ShogiPosition) → IsTrue (has_move p) ↔ HasMove p
 
--- After a legal move the other side is to move.
+-- A legal move passes the turn.
 abbrev pub TurnPasses : Type 0
 TurnPasses = (p : ShogiPosition) (m : SMove) → Legal p m → (play p m).turn ≡ other p.turn
 
--- k times on in a heading, from a file to another
+-- The file after k steps along a heading.
 abbrev pub FileMoved : Heading → ℕ → ℕ → ℕ → Type 0
 FileMoved Forward k from to = to ≡ from
 FileMoved ForwardLeft k from to = to ≡ from + k
@@ -42,12 +42,12 @@ FileMoved BackRight k from to = to + k ≡ from
 FileMoved JumpLeft k from to = to ≡ from + k
 FileMoved JumpRight k from to = to + k ≡ from
 
--- a rank is so many ranks nearer to the enemy of the side than another
+-- A rank is `ranks` ranks nearer to the enemy than another.
 abbrev pub IsAhead : Side → ℕ → ℕ → ℕ → Type 0
 IsAhead First ranks from to = to + ranks ≡ from
 IsAhead Second ranks from to = to ≡ from + ranks
 
--- k times on in a heading, from a rank to another
+-- The rank after k steps along a heading.
 abbrev pub RankMoved : Side → Heading → ℕ → ℕ → ℕ → Type 0
 RankMoved side Forward k from to = IsAhead side k from to
 RankMoved side ForwardLeft k from to = IsAhead side k from to
@@ -60,13 +60,13 @@ RankMoved side BackRight k from to = IsAhead (other side) k from to
 RankMoved side JumpLeft k from to = IsAhead side (2 * k) from to
 RankMoved side JumpRight k from to = IsAhead side (2 * k) from to
 
--- m stands k times on from n, for a piece of the side
+-- Square m is k steps from n along a heading, for a piece of the side.
 abbrev pub IsMoved : Side → Heading → ℕ → ℕ → ℕ → Type 0
 IsMoved side heading k n m = FileMoved heading k (file_of n) (file_of m)
     × RankMoved side heading k (rank_of n) (rank_of m)
 
--- The line of at most so many squares from n has m at place k, counted from 0, exactly where m is the square of the
--- board that stands k + 1 times on from n. So it ends where files or ranks leave the board.
+-- The line from n has m at index k, from 0, exactly if m is the square k + 1 steps from n and k is within the distance.
+-- It ends at the edge of the board.
 abbrev pub LinesFollowCoordinates : Type 0
 LinesFollowCoordinates =
     (distance : ℕ) (side : Side) (heading : Heading) (n k m : ℕ) → n < 81 →

@@ -1,4 +1,4 @@
--- A layout is what the rules look at: a board, hands and a turn, as in a position.
+-- The position of a layout: its board, hands and side to move.
 use Rattle.squares.specs.ShogiSets.{ShogiPosition}
 use Rattle.shogi_moves.specs.declared.layout.Layout.{Layout}
 

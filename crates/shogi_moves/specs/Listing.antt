@@ -1,4 +1,4 @@
--- Moves in order: steps by from, to, not promoting first; then drops by kind and square.
+-- The move list: steps by start, end and not promoting first; then drops by kind and square.
 use Rattle.std.specs.Prelude.{ℕ, Bool, true, false, if◌then◌else◌, List, [], ◌∷◌, ◌++◌}
 use Rattle.std.specs.Ordering.{nat_cmp}
 use Rattle.std.specs.List.{flat_map}
@@ -11,7 +11,7 @@ use Rattle.squares.specs.declared.shogi.moves.SMove.TheVariants.{Step, Drop}
 use Rattle.shogi_moves.specs.Search.{all_squares}
 use Rattle.shogi_moves.specs.Computed.{all_kinds}
 
--- the order in which drops are listed
+-- The order of the kinds in which drops are listed.
 abbrev pub place : HandKind → ℕ
 place in_hand.Rook = 0
 place in_hand.Bishop = 1
@@ -21,7 +21,7 @@ place in_hand.Knight = 4
 place in_hand.Lance = 5
 place in_hand.Pawn = 6
 
--- what moves are ordered by
+-- The sort key of a move.
 abbrev pub key_of : SMove → List ℕ
 key_of (Step from to promote) = 0 ∷ from ∷ to ∷ (if promote then 1 else 0) ∷ []
 key_of (Drop kind to) = 1 ∷ place kind ∷ to ∷ []
@@ -29,11 +29,11 @@ key_of (Drop kind to) = 1 ∷ place kind ∷ to ∷ []
 abbrev pub move_cmp : SMove → SMove → Ordering
 move_cmp a b = slice_cmp nat_cmp (key_of a) (key_of b)
 
--- the move, if it passes the test
+-- The move alone, if it passes the test.
 unfoldable pub if_passes : (SMove → Bool) → SMove → List SMove
 if_passes test m = if test m then m ∷ [] else []
 
--- the moves that pass a test, in order
+-- The moves that pass a test, in order.
 unfoldable pub steps_between : (SMove → Bool) → ℕ → ℕ → List SMove
 steps_between test from to = if_passes test (Step from to false) ++ if_passes test (Step from to true)
 

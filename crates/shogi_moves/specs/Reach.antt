@@ -1,4 +1,4 @@
--- Which squares the pieces of shogi reach, and which squares are attacked.
+-- The squares that pieces attack, and attacked squares.
 use Rattle.std.specs.Prelude.{◌≡◌, ℕ, ◌+◌, ◌-◌, nat_lt, nat_le, ◌&&◌, Option, Some, None, List, [], ◌∷◌, ◌++◌}
 use Rattle.std.specs.Prelude.{if◌then◌else◌}
 use Rattle.std.specs.Option.{option_map_or}
@@ -16,7 +16,7 @@ use Rattle.shogi_moves.specs.declared.heading.Heading.{Heading}
 use Rattle.shogi_moves.specs.declared.heading.Heading.TheVariants.{Forward, ForwardLeft, ForwardRight, Left, Right}
 use Rattle.shogi_moves.specs.declared.heading.Heading.TheVariants.{Back, BackLeft, BackRight, JumpLeft, JumpRight}
 
--- Files run from 1 at the right to 9 at the left, as First sees the board.
+-- Files count from 1 at the right to 9 at the left, as First sees the board.
 abbrev pub next_file : Heading → ℕ → ℕ
 next_file ForwardLeft file = file + 1
 next_file Left file = file + 1
@@ -29,7 +29,7 @@ next_file JumpRight file = file - 1
 next_file Forward file = file
 next_file Back file = file
 
--- Ranks run from 1 at the top to 9 at the bottom. First's pieces go forward to the top, Second's to the bottom.
+-- Ranks count from 1 at the top to 9 at the bottom. First's pieces move forward to the top, Second's to the bottom.
 abbrev pub ranks_forward : Side → ℕ → ℕ → ℕ
 ranks_forward First ranks rank = rank - ranks
 ranks_forward Second ranks rank = rank + ranks
@@ -46,17 +46,17 @@ next_rank side BackRight rank = ranks_forward (other side) 1 rank
 next_rank side JumpLeft rank = ranks_forward side 2 rank
 next_rank side JumpRight rank = ranks_forward side 2 rank
 
--- the square of a file and a rank, if they are on the board
+-- The square at a file and a rank, if they are on the board.
 abbrev pub square_at : ℕ → ℕ → Option ℕ
 square_at file rank = if (nat_le 1 file && nat_le file 9) && (nat_le 1 rank && nat_le rank 9) then Some
     (shogi_number file rank) else None
 
--- the next square for a piece of that side, if there is one; from a number that is no square there is none
+-- The next square for a piece of the side, if there is one; `None` for a number that is no square.
 unfoldable pub step : Side → Heading → ℕ → Option ℕ
 step side heading n = if nat_lt n 81 then square_at (next_file heading (file_of n))
     (next_rank side heading (rank_of n)) else None
 
--- at most k squares from n on, the nearest first, up to the board's edge
+-- At most k squares from n up to the edge of the board, nearest first, without n.
 unfoldable pub line : ℕ → Side → Heading → ℕ → List ℕ
 line zero side heading n = []
 line (suc k) side heading n = option_map_or (λ m. m ∷ line k side heading m) (step side heading n) []
@@ -93,7 +93,7 @@ abbrev pub ahead : ℕ → Heading → ℕ
 ahead k Forward = k
 ahead k _ = 0
 
--- how many squares a piece goes at most; eight is any distance
+-- The greatest distance, in squares, that a piece moves along a heading; 8 means any distance.
 abbrev pub range : Role → Heading → ℕ
 range role.King heading = straight 1 heading + diagonal 1 heading
 range role.Rook heading = straight 8 heading
@@ -110,12 +110,13 @@ range role.PromotedKnight heading = gold heading
 range role.PromotedLance heading = gold heading
 range role.PromotedPawn heading = gold heading
 
--- no piece stands on any of the squares
+-- All these squares are empty.
 abbrev pub AllClear : ShogiBoard → List ℕ → Type 0
 AllClear board [] = Unit {0}
 AllClear board (n ∷ ns) = (map.get board n ≡ None) × AllClear board ns
 
--- The piece on x goes in some heading, within its range and over empty squares, as far as y. Nothing is asked of y.
+-- The piece on x attacks y: along some heading, within its range and over empty squares. The content of y does not
+-- matter.
 pub record Reach (board : ShogiBoard) (piece : SPiece) (x y : ℕ) : Type 0 where
   pub stands : map.get board x ≡ Some piece
   pub heading : Heading
@@ -124,7 +125,7 @@ pub record Reach (board : ShogiBoard) (piece : SPiece) (x y : ℕ) : Type 0 wher
   pub along : line (range piece.role heading) piece.side heading x ≡ before ++ y ∷ after
   pub clear : AllClear board before
 
--- some enemy of the side reaches the square
+-- An enemy of the side attacks the square.
 pub record Attacked (board : ShogiBoard) (side : Side) (square : ℕ) : Type 0 where
   pub from : ℕ
   pub piece : SPiece
@@ -134,7 +135,7 @@ pub record Attacked (board : ShogiBoard) (side : Side) (square : ℕ) : Type 0 w
 abbrev pub king : Side → SPiece
 king side = record { side = side; role = role.King }
 
--- a king of the side stands on an attacked square
+-- A king of the side is on an attacked square.
 pub record KingAttacked (board : ShogiBoard) (side : Side) : Type 0 where
   pub square : ℕ
   pub stands : map.get board square ≡ Some (king side)

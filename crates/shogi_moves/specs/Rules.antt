@@ -1,4 +1,4 @@
--- The moves of shogi: which are legal, and the position that a move leaves.
+-- The rules of shogi: legal moves, and the position after a move.
 use Rattle.std.specs.Prelude.{◌≡◌, ◌<◌, ℕ, ◌+◌, ◌-◌, Bool, true, false, not, ◌&&◌, ◌||◌, nat_le, Option, Some, None}
 use Rattle.std.specs.Prelude.{List, [], ◌∷◌, ◌++◌, option_and_then, if◌then◌else◌}
 use Rattle.std.specs.Option.{option_map_or}
@@ -23,7 +23,7 @@ use Rattle.shogi_moves.specs.declared.checking.Illegal.{Illegal}
 use Rattle.shogi_moves.specs.declared.checking.Illegal.TheVariants as illegal
 use Rattle.shogi_moves.specs.Reach.{Reach, KingAttacked}
 
--- how far a square is from the enemy's edge, as the side sees it: 1 is the last rank
+-- The rank as the side counts it from the enemy's edge: 1 is the farthest rank.
 abbrev pub far_rank : Side → ℕ → ℕ
 far_rank First square = rank_of square
 far_rank Second square = 10 - rank_of square
@@ -37,12 +37,12 @@ can_promote role.Lance = true
 can_promote role.Pawn = true
 can_promote _ = false
 
--- a step that begins or ends in the far three ranks may promote
+-- A step that starts or ends in the three farthest ranks may promote.
 abbrev pub may_promote : SPiece → ℕ → ℕ → Bool
 may_promote piece from to = can_promote piece.role &&
     (nat_le (far_rank piece.side from) 3 || nat_le (far_rank piece.side to) 3)
 
--- on how many of the last ranks the piece could never move again
+-- The number of farthest ranks on which an unpromoted piece could never move again.
 abbrev pub last_ranks : Role → ℕ
 last_ranks role.Pawn = 1
 last_ranks role.Lance = 1
@@ -52,12 +52,12 @@ last_ranks _ = 0
 abbrev pub is_stuck : Side → Role → ℕ → Bool
 is_stuck side r square = nat_le (far_rank side square) (last_ranks r)
 
--- a step of the side may end on an empty square, or on an enemy that is no king
+-- A step may end on an empty square, or on an enemy other than the king.
 abbrev pub may_land : Side → Option SPiece → Bool
 may_land side None = true
 may_land side (Some piece) = not (same_side piece.side side) && not (is_king piece.role)
 
--- An own piece goes to a square that it reaches, and promotes only where it may.
+-- A piece of the side to move steps to a square that it attacks, and promotes only where it may.
 pub record Goes (p : ShogiPosition) (from to : ℕ) (promote : Bool) : Type 0 where
   pub piece : SPiece
   pub own : piece.side ≡ p.turn
@@ -65,40 +65,40 @@ pub record Goes (p : ShogiPosition) (from to : ℕ) (promote : Bool) : Type 0 wh
   pub lands : may_land p.turn (map.get p.board to) ≡ true
   pub may : promote ≡ true → may_promote piece from to ≡ true
 
--- a piece goes so, or is dropped on an empty square
+-- The move is a possible step of a piece, or a drop on an empty square.
 abbrev pub Movement : ShogiPosition → SMove → Type 0
 Movement p (Step from to promote) = Goes p from to promote
 Movement p (Drop kind to) = (to < 81) × (map.get p.board to ≡ None)
 
--- how many pieces of the kind the side holds
+-- The number of pieces of a kind in the side's hand.
 abbrev pub held : Hands → Side → HandKind → ℕ
 held hands side kind = count_of kind (hand_of side hands)
 
--- the hands where the side holds that many pieces of the kind
+-- The hands in which the side holds `count` pieces of a kind.
 abbrev pub with_held : Hands → Side → HandKind → ℕ → Hands
 with_held hands First kind count = record hands { first = with_count kind count hands.first }
 with_held hands Second kind count = record hands { second = with_count kind count hands.second }
 
--- the role of a piece that is dropped
+-- The role of a dropped piece.
 abbrev pub dropped_role : HandKind → Role
 dropped_role kind = demoted (on_board kind)
 
--- a drop of what the side does not hold
+-- A drop of a piece that the hand does not hold.
 abbrev pub Lacks : ShogiPosition → SMove → Type 0
 Lacks p (Step from to promote) = ⊥
 Lacks p (Drop kind to) = held p.hands p.turn kind ≡ 0
 
--- the piece that stands on the square could never move again on the other
+-- The piece on `from`, unpromoted, could never move from `to`.
 abbrev pub StuckAfter : ShogiPosition → ℕ → ℕ → Type 0
 StuckAfter p from to = (piece : SPiece) × (map.get p.board from ≡ Some piece)
     × (is_stuck piece.side piece.role to ≡ true)
 
--- a step that does not promote, to where the piece could never move again
+-- A step without promotion to a square from which the piece could never move again.
 abbrev pub Stays : ShogiPosition → SMove → Type 0
 Stays p (Step from to promote) = (promote ≡ false) × StuckAfter p from to
 Stays p (Drop kind to) = ⊥
 
--- a drop to where the piece could never move
+-- A drop on a square from which the piece could never move.
 abbrev pub DropsDead : ShogiPosition → SMove → Type 0
 DropsDead p (Step from to promote) = ⊥
 DropsDead p (Drop kind to) = is_stuck p.turn (dropped_role kind) to ≡ true
@@ -106,29 +106,29 @@ DropsDead p (Drop kind to) = is_stuck p.turn (dropped_role kind) to ≡ true
 abbrev pub pawn : Side → SPiece
 pawn side = record { side = side; role = role.Pawn }
 
--- an unpromoted pawn of the side stands on the file of the square
+-- The file of the square has an unpromoted pawn of the side.
 pub record PawnOnFile (board : ShogiBoard) (side : Side) (square : ℕ) : Type 0 where
   pub there : ℕ
   pub on_board : there < 81
   pub stands : map.get board there ≡ Some (pawn side)
   pub same_file : file_of there ≡ file_of square
 
--- a pawn is dropped
+-- The move drops a pawn.
 abbrev pub DropsPawn : SMove → Type 0
 DropsPawn (Step from to promote) = ⊥
 DropsPawn (Drop in_hand.Pawn to) = Unit {0}
 DropsPawn (Drop kind to) = ⊥
 
--- the square that a move ends on
+-- The target square of a move.
 abbrev pub target : SMove → ℕ
 target (Step from to promote) = to
 target (Drop kind to) = to
 
--- a pawn is dropped beside an own unpromoted pawn of the file
+-- A pawn is dropped on a file that already has an unpromoted pawn of the side (nifu).
 abbrev pub DropsSecondPawn : ShogiPosition → SMove → Type 0
 DropsSecondPawn p m = DropsPawn m × PawnOnFile p.board p.turn (target m)
 
--- what the moved piece is after the step
+-- The moved piece after the step.
 abbrev pub arrived : SPiece → Bool → SPiece
 arrived piece promote =
     record {
@@ -142,7 +142,7 @@ board_after p (Step from to promote) = option_map_or
     (λ piece. map.insert (map.remove p.board from) to (arrived piece promote)) (map.get p.board from) p.board
 board_after p (Drop kind to) = map.insert p.board to (record { side = p.turn; role = dropped_role kind })
 
--- the kind of a taken piece, in the hand: it goes there unpromoted
+-- The kind of a captured piece in the hand, where it is unpromoted.
 abbrev pub taken_kind : Option SPiece → Option HandKind
 taken_kind cell = option_and_then (λ piece. hand_kind (kind_of piece.role)) cell
 
@@ -151,12 +151,12 @@ hands_after p (Step from to promote) = option_map_or
     (λ kind. with_held p.hands p.turn kind (held p.hands p.turn kind + 1)) (taken_kind (map.get p.board to)) p.hands
 hands_after p (Drop kind to) = with_held p.hands p.turn kind (held p.hands p.turn kind - 1)
 
--- The position after a move: the piece stands on its square, promoted or not; what it took is in the hand, unpromoted,
--- and what was dropped is out of it; the turn passes.
+-- The position after a move. A step moves the piece, promotes it or not, and puts a captured piece unpromoted into the
+-- hand. A drop takes the piece from the hand. The turn passes.
 abbrev pub play : ShogiPosition → SMove → ShogiPosition
 play p m = record { board = board_after p m; hands = hands_after p m; turn = other p.turn }
 
--- a move but for what it does to the own king, and to the enemy's by a pawn's drop
+-- A pseudo-legal move: legal except for attacks on kings and mate by a dropped pawn.
 pub record Pseudo (p : ShogiPosition) (m : SMove) : Type 0 where
   pub moves : Movement p m
   pub holds : Lacks p m → ⊥
@@ -164,16 +164,17 @@ pub record Pseudo (p : ShogiPosition) (m : SMove) : Type 0 where
   pub alive : DropsDead p m → ⊥
   pub one_pawn : DropsSecondPawn p m → ⊥
 
--- the move leaves the mover's king where it is not attacked
+-- The moving side's king is not attacked after the move.
 abbrev pub Safe : ShogiPosition → SMove → Type 0
 Safe p m = KingAttacked (board_after p m) p.turn → ⊥
 
--- The king of the side to move is attacked, and nothing leaves it safe, be it a pawn's drop that would mate.
+-- Mate: the king of the side to move is attacked and no pseudo-legal move, not even a pawn drop that mates, leaves it
+-- safe.
 pub record Mate (p : ShogiPosition) : Type 0 where
   pub attacked : KingAttacked p.board p.turn
   pub no_escape : (m : SMove) → Pseudo p m → Safe p m → ⊥
 
--- a dropped pawn mates at once
+-- A dropped pawn gives mate (uchifuzume).
 abbrev pub MatesByPawn : ShogiPosition → SMove → Type 0
 MatesByPawn p m = DropsPawn m × Mate (play p m)
 
@@ -185,7 +186,7 @@ pub record Legal (p : ShogiPosition) (m : SMove) : Type 0 where
 abbrev pub HasMove : ShogiPosition → Type 0
 HasMove p = (m : SMove) × Legal p m
 
--- the move breaks the rule that the refusal names
+-- The move breaks the rule that the refusal names.
 abbrev pub Breaks : ShogiPosition → SMove → Illegal → Type 0
 Breaks p m illegal.NoSuchMove = Movement p m → ⊥
 Breaks p m illegal.NotInHand = Lacks p m
@@ -195,7 +196,7 @@ Breaks p m illegal.TwoPawns = DropsSecondPawn p m
 Breaks p m illegal.KingAttacked = KingAttacked (board_after p m) p.turn
 Breaks p m illegal.DropMate = MatesByPawn p m
 
--- the rules in the order in which a refusal names them
+-- The rules in the order in which they are checked.
 abbrev pub rules_in_order : List Illegal
 rules_in_order = illegal.NoSuchMove ∷ illegal.NotInHand ∷ illegal.MustPromote ∷ illegal.DeadDrop ∷ illegal.TwoPawns
     ∷ illegal.KingAttacked ∷ illegal.DropMate ∷ []
@@ -204,7 +205,7 @@ abbrev pub KeepsAll : ShogiPosition → SMove → List Illegal → Type 0
 KeepsAll p m [] = Unit {0}
 KeepsAll p m (rule ∷ rules) = (Breaks p m rule → ⊥) × KeepsAll p m rules
 
--- the move breaks the rule, and none before it
+-- The move breaks this rule and none before it.
 pub record FirstBroken (p : ShogiPosition) (m : SMove) (rule : Illegal) : Type 0 where
   pub before : List Illegal
   pub after : List Illegal

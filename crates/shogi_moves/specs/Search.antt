@@ -1,4 +1,4 @@
--- What pieces reach and what is attacked, computed.
+-- The computed attacks of pieces.
 use Rattle.std.specs.Prelude.{ℕ, Bool, false, ◌&&◌, ◌||◌, ◌==◌, is_none, List, [], ◌∷◌}
 use Rattle.std.specs.List.{list_any, range_with_len}
 use Rattle.std.specs.Option.{option_map_or}
@@ -13,7 +13,7 @@ use Rattle.shogi_moves.specs.declared.heading.Heading.TheVariants.{Forward, Forw
 use Rattle.shogi_moves.specs.declared.heading.Heading.TheVariants.{Back, BackLeft, BackRight, JumpLeft, JumpRight}
 use Rattle.shogi_moves.specs.Reach.{line, range}
 
--- the squares of the board
+-- The squares of the board in order.
 unfoldable pub all_squares : List ℕ
 all_squares = range_with_len 0 81
 
@@ -21,17 +21,17 @@ abbrev pub all_headings : List Heading
 all_headings = Forward ∷ ForwardLeft ∷ ForwardRight ∷ Left ∷ Right ∷ Back ∷ BackLeft ∷ BackRight ∷ JumpLeft ∷ JumpRight
     ∷ []
 
--- whether a walk along the squares comes to y before it meets a piece on an earlier one
+-- Whether a walk along the squares reaches y before a piece blocks it.
 abbrev pub comes_to : ShogiBoard → ℕ → List ℕ → Bool
 comes_to board y [] = false
 comes_to board y (n ∷ ns) = n == y || (is_none (map.get board n) && comes_to board y ns)
 
--- whether the piece, standing on x, reaches y
+-- Whether the piece on x attacks y.
 unfoldable pub piece_reaches : ShogiBoard → SPiece → ℕ → ℕ → Bool
 piece_reaches board piece x y = list_any
     (λ heading. comes_to board y (line (range piece.role heading) piece.side heading x)) all_headings
 
--- whether a piece of the side on x reaches y
+-- Whether a piece of the side on x attacks y.
 unfoldable pub side_reaches : ShogiBoard → Side → ℕ → ℕ → Bool
 side_reaches board side y x = option_map_or (λ piece. same_side piece.side side && piece_reaches board piece x y)
     (map.get board x) false

@@ -1,4 +1,4 @@
--- What is found on a walk over moves.
+-- Results of a visitor over moves.
 use Rattle.std.proofs.Common.{◌≡◌, Bool, true, false, ◌&&◌, ◌||◌, List, [], ◌∷◌, ◌++◌, refl, sym, ap}
 use Rattle.std.specs.Prelude.{not}
 use Rattle.std.proofs.lemmas.List.{append_assoc, append-nil}
@@ -6,12 +6,12 @@ use Rattle.squares.specs.declared.shogi.moves.SMove.{SMove}
 use Rattle.squares.specs.ShogiSets.{ShogiPosition}
 use Rattle.shogi_moves.specs.Computed.{is_pseudo, leaves_king, escapes, mates_by_pawn, is_legal}
 
--- a list with something in it
+-- The list is not empty.
 abbrev pub is_any : List SMove → Bool
 is_any [] = false
 is_any (m ∷ ms) = true
 
--- what passes may be played but for the kings
+-- Only pseudo-legal moves pass these tests.
 pub escapes-only : (p : ShogiPosition) (m : SMove) → is_pseudo p m ≡ false → escapes p m ≡ false
 unfolding escapes
 escapes-only p m e = ap (λ b. b && not (leaves_king p m)) e
@@ -20,7 +20,7 @@ pub is_legal-only : (p : ShogiPosition) (m : SMove) → is_pseudo p m ≡ false 
 unfolding is_legal
 is_legal-only p m e = ap (λ b. b && not (mates_by_pawn p m)) (escapes-only p m e)
 
--- a move found is found whatever follows
+-- A move once found stays found.
 pub found_none : (b : Bool) → (b || is_any []) ≡ b
 found_none true = refl
 found_none false = refl
@@ -30,7 +30,7 @@ found_more true xs ys = refl
 found_more false [] ys = refl
 found_more false (x ∷ xs) ys = refl
 
--- moves are listed one after another
+-- Moves are listed one after another.
 pub listed_none : (xs : List SMove) → xs ++ [] ≡ xs
 listed_none xs = append-nil xs
 

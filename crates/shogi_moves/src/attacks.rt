@@ -1,4 +1,4 @@
-//! Which squares are attacked, and whether a king is.
+//! Attacked squares and check.
 ghost use Rattle.std.specs.Prelude.{◌≡◌, ◌↔◌, ◌&&◌, not, nat_lt, IsTrue};
 ghost use Rattle.squares.specs.Sides.{same_side};
 ghost use Rattle.shogi_moves.specs.Reach.{Attacked, KingAttacked, range};
@@ -9,21 +9,25 @@ use crate::heading::{Heading, range, step};
 use crate::kings::is_king_attacked;
 use squares::{SBoard, SPiece, SPos, Side, Ssq};
 
-/// Whether some enemy of the side reaches the square. It takes no memory.
+/// Whether a piece of the opponent of `side` attacks a square.
+///
+/// Allocates nothing.
 pub fn attacked(position: &SPos, side: Side, square: Ssq) -> bool
     ensures { IsTrue result ↔ Attacked position.now.board side square }
 {
     is_attacked(position.board(), side, square)
 }
 
-/// Whether the king of the side to move is attacked. It takes no memory.
+/// Whether the king of the side to move is in check.
+///
+/// Allocates nothing.
 pub fn in_check(position: &SPos) -> bool
     ensures { IsTrue result ↔ KingAttacked position.now.board position.now.turn }
 {
     is_king_attacked(position.board(), position.turn())
 }
 
-// How far along a heading a piece may come from.
+// The greatest distance in squares at which a piece can attack along a heading.
 fn farthest(heading: Heading) -> u8
     ensures { result ≡ farthest heading }
 {
@@ -33,7 +37,7 @@ fn farthest(heading: Heading) -> u8
     }
 }
 
-// The heading of an enemy that comes from where a heading leads.
+// The heading by which an enemy moves toward the square from which `heading` leads to it.
 fn facing(heading: Heading) -> Heading
     ensures { result ≡ facing heading }
 {
@@ -51,7 +55,7 @@ fn facing(heading: Heading) -> Heading
     }
 }
 
-// Whether the piece, so many squares behind the first along a heading, is an enemy that comes so far.
+// Whether the piece, with `distance` empty squares before it, is an enemy whose range reaches the square.
 fn comes_here(piece: SPiece, side: Side, distance: u8, heading: Heading) -> bool
     ensures { result ≡ (not (same_side piece.side side)
         && nat_lt distance (range piece.role (facing heading))) }
@@ -59,7 +63,7 @@ fn comes_here(piece: SPiece, side: Side, distance: u8, heading: Heading) -> bool
     !(piece.side == side) && distance < range(piece.role, facing(heading))
 }
 
-// Whether the first piece along a heading is an enemy that comes as far as the square.
+// Whether the first piece along a heading is an enemy that attacks the square.
 fn is_faced(board: &SBoard, side: Side, heading: Heading, square: Ssq) -> bool
     ensures { result ≡ faced_along board.now side square heading }
 {
@@ -76,7 +80,7 @@ fn is_faced(board: &SBoard, side: Side, heading: Heading, square: Ssq) -> bool
     false
 }
 
-// Whether a look outward from the square meets an enemy that comes so far.
+// Whether an enemy attacks the square, found by looking outward from it.
 #[tactic(auto, unfolding(crate::specs::Facing::seen))]
 fn is_seen(board: &SBoard, side: Side, square: Ssq) -> bool
     ensures { result ≡ seen board.now side square }
@@ -86,7 +90,7 @@ fn is_seen(board: &SBoard, side: Side, square: Ssq) -> bool
         .any(|heading| is_faced(board, side, *heading, square))
 }
 
-/// Whether some enemy of the side reaches the square.
+/// Whether a piece of the opponent of `side` attacks a square.
 pub fn is_attacked(board: &SBoard, side: Side, square: Ssq) -> bool
     ensures { result ≡ attacked board.now side square }
 {

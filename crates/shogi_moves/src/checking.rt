@@ -1,4 +1,4 @@
-//! Which moves are legal.
+//! The check of a single move.
 ghost use Rattle.std.specs.Prelude.{◌≡◌, ◌↔◌, true, IsTrue, IsOk, Err};
 ghost use Rattle.shogi_moves.specs.Layouts.{position_of};
 ghost use Rattle.shogi_moves.specs.declared.checking.Illegal.{Illegal};
@@ -13,22 +13,22 @@ use squares::{SMove, SPos};
 use std::convert::Infallible;
 use std::fmt;
 
-/// Why a move is refused.
+/// Why a move is illegal.
 #[derive(Clone, Copy, Debug, PartialEq, Eq)]
 pub enum Illegal {
-    /// No piece of the side to move can move so, promote so, or be dropped there.
+    /// No piece of the side to move can make this step, promote this way, or be dropped there.
     NoSuchMove,
-    /// The hand has no such piece.
+    /// The hand holds no piece of this kind.
     NotInHand,
-    /// The piece could never move again, and does not promote.
+    /// Without promotion the piece could never move again.
     MustPromote,
     /// The dropped piece could never move.
     DeadDrop,
-    /// A pawn is dropped on a file with an own unpromoted pawn.
+    /// A pawn is dropped on a file that already has an unpromoted pawn of the side (nifu).
     TwoPawns,
-    /// The own king would be attacked.
+    /// The side's own king would be attacked after the move.
     KingAttacked,
-    /// A dropped pawn would mate.
+    /// A dropped pawn would give mate (uchifuzume).
     DropMate,
 }
 
@@ -47,7 +47,6 @@ impl Illegal {
     ghost use Rattle.std.specs.Prelude.{◌≡◌};
     ghost use Rattle.shogi_moves.specs.RuleTexts.{rule_text};
 
-    // The rule that the move breaks.
     fn rule(self) -> &'static str
         ensures { result.now ≡ rule_text self }
     {
@@ -63,7 +62,25 @@ impl Illegal {
     }
 }
 
-/// Whether a move is legal, and if it is not, the first rule that it breaks. It takes no memory.
+/// Checks whether a move is legal, and if not, finds the first rule that it breaks.
+///
+/// Allocates nothing.
+///
+/// # Errors
+///
+/// The first of these, in this order, that holds:
+///
+/// - `NoSuchMove`: no piece can make this step, promote this way, or be dropped there.
+/// - `NotInHand`: the hand holds no piece of the dropped kind.
+/// - `MustPromote`: without promotion the piece could never move again.
+/// - `DeadDrop`: the dropped piece could never move.
+/// - `TwoPawns`: the file already has an unpromoted pawn of the side.
+/// - `KingAttacked`: the side's own king would be attacked.
+/// - `DropMate`: the dropped pawn would give mate.
+///
+/// # Guarantees
+///
+/// `legal`: returns `Ok` for the legal moves and for no others. `refused`: the error is the first broken rule.
 pub fn check(position: &SPos, played: &SMove) -> Result<(), Illegal>
     ensures legal { IsOk result ↔ Legal position.now played.now }
     ensures refused { (rule : Illegal)
@@ -72,7 +89,7 @@ pub fn check(position: &SPos, played: &SMove) -> Result<(), Illegal>
     check_layout(&Layout::of(position), played)
 }
 
-// The check of a move on a layout.
+// Checks a move on a layout.
 #[tactic(auto, unfolding(crate::specs::Computed::check_of))]
 fn check_layout(layout: &Layout, played: &SMove) -> Result<(), Illegal>
     ensures { result ≡ check_of (position_of layout.now) played.now }
@@ -101,7 +118,7 @@ fn check_layout(layout: &Layout, played: &SMove) -> Result<(), Illegal>
     Ok(())
 }
 
-/// Whether a move that may be played but for what it does to the kings is legal.
+/// Whether a pseudo-legal move is legal: its own king is safe afterwards, and it is no mate by a dropped pawn.
 pub fn is_legal(layout: &Layout, played: &SMove) -> bool
     requires { is_pseudo (position_of layout.now) played.now ≡ true }
     ensures { result ≡ is_legal (position_of layout.now) played.now }
@@ -109,7 +126,7 @@ pub fn is_legal(layout: &Layout, played: &SMove) -> bool
     !leaves_king(layout, played) && !mates_by_pawn(layout, played)
 }
 
-// Whether a walk has come to a legal move.
+// A seeker that stops at the first legal move.
 #[derive(Drop)]
 struct AnyLegal {
     found: bool,
@@ -144,7 +161,9 @@ impl Seeker for AnyLegal {
     ghost plus_more = { λ x xs ys i. record { found = found_more x.found xs ys i } };
 }
 
-/// Whether the side to move has a legal move. It takes no memory.
+/// Whether the side to move has a legal move.
+///
+/// Allocates nothing.
 pub fn has_move(position: &SPos) -> bool
     ensures { IsTrue result ↔ HasMove position.now }
 {

@@ -1,4 +1,4 @@
-//! Whether the side to move may declare that its king has entered the enemy's camp.
+//! The entering-king declaration.
 ghost use Rattle.std.specs.Prelude.{◌≡◌, ◌↔◌, ◌+◌, ◌<◌, ◌≤◌, ◌*◌, IsTrue, Some, if◌then◌else◌};
 ghost use Rattle.shogi_moves.specs.Declaring.{in_camp, worth, has_entered, cell_points, entered, camp_points};
 ghost use Rattle.shogi_moves.specs.Declaring.{hand_points, points_needed, has_enough, king_entered};
@@ -8,7 +8,7 @@ use crate::kings::{is_king_attacked, kings_of};
 use crate::zones::{far_rank, is_king};
 use squares::{Hand, Kind, SBoard, SPiece, SPos, Side, Ssq};
 
-/// So many pieces besides the king must have entered.
+/// The number of pieces, besides the king, that must be in the enemy's camp.
 const PIECES_NEEDED: u32 = 10;
 
 fn in_camp(side: Side, square: Ssq) -> bool
@@ -17,7 +17,7 @@ fn in_camp(side: Side, square: Ssq) -> bool
     far_rank(side, square) <= 3
 }
 
-// What a piece counts.
+// The points of a piece.
 fn worth(kind: Kind) -> u32
     ensures value { result ≡ worth kind }
     ensures range { result ≤ 5 }
@@ -28,14 +28,14 @@ fn worth(kind: Kind) -> u32
     }
 }
 
-// Whether a piece of the side, other than its king, stands there in the enemy's camp.
+// Whether a piece of the side, other than its king, is in the enemy's camp.
 fn has_entered(side: Side, square: Ssq, piece: SPiece) -> bool
     ensures { result ≡ has_entered side square (Some piece) }
 {
     piece.side == side && !is_king(piece.role) && in_camp(side, square)
 }
 
-// The pieces that have entered, and what they count.
+// The number and the points of the pieces in the enemy's camp.
 #[derive(Clone, Copy)]
 struct Camp {
     pieces: u32,
@@ -43,7 +43,7 @@ struct Camp {
 }
 
 impl Camp {
-    // With what stands on one square more.
+    // Adds one square's piece, if it counts.
     fn with(self, side: Side, square: Ssq, cell: Option<SPiece>) -> Camp
         requires pieces { self.pieces < 1000 }
         requires points { self.points < 10000 }
@@ -61,7 +61,7 @@ impl Camp {
     }
 }
 
-// The pieces of the side that have entered the enemy's camp.
+// Counts the pieces of the side in the enemy's camp.
 fn entered(board: &SBoard, side: Side) -> Camp
     ensures pieces { result.pieces ≡ entered board.now side }
     ensures points { result.points ≡ camp_points board.now side }
@@ -79,7 +79,7 @@ fn entered(board: &SBoard, side: Side) -> Camp
     found
 }
 
-// What a hand counts.
+// The points of a hand.
 fn hand_points(hand: Hand) -> u32
     ensures { result ≡ hand_points hand }
 {
@@ -101,7 +101,7 @@ fn points_needed(side: Side) -> u32
     }
 }
 
-// Whether a king of the side stands in the enemy's camp.
+// Whether the side's king is in the enemy's camp.
 fn king_entered(board: &SBoard, side: Side) -> bool
     ensures { result ≡ king_entered board.now side }
 {
@@ -114,7 +114,7 @@ fn king_entered(board: &SBoard, side: Side) -> bool
     false
 }
 
-// Whether so many pieces have entered, and they and the hand count so much.
+// Whether the side has enough pieces in the enemy's camp and enough points with its hand.
 fn has_enough(board: &SBoard, hand: Hand, side: Side) -> bool
     ensures { result ≡ has_enough board.now hand side }
 {
@@ -122,7 +122,7 @@ fn has_enough(board: &SBoard, hand: Hand, side: Side) -> bool
     found.pieces >= PIECES_NEEDED && found.points + hand_points(hand) >= points_needed(side)
 }
 
-// The answer as a function of the position.
+// The test as a function of the position.
 #[tactic(auto, unfolding(crate::specs::Declaring::can_declare))]
 fn declares(position: &SPos) -> bool
     ensures { result ≡ can_declare position.now }
@@ -134,13 +134,15 @@ fn declares(position: &SPos) -> bool
         && has_enough(board, position.hands().of(side), side)
 }
 
-/// Whether the side to move may declare that its king has entered, and so win: its king is not attacked and stands in
-/// the far three ranks with ten own pieces or more besides it, and these and the hand count at least 28 for First, 27
-/// for Second. A rook and a bishop count five, promoted too, and every other piece one. It takes no memory.
+/// Whether the side to move may make the entering-king declaration, which wins the game.
+///
+/// Its king is not in check and is in the three farthest ranks with at least ten other own pieces. These and the hand
+/// are worth at least 28 points for First, or 27 for Second. A rook and a bishop, promoted or not, count five points,
+/// any other piece one. Allocates nothing.
 pub fn can_declare(position: &SPos) -> bool
     ensures rule { IsTrue result ↔ CanDeclare position.now }
 
-    // The answer as a function of the position.
+    // The result as a function of the position.
     ensures value { result ≡ can_declare position.now }
 {
     declares(position)

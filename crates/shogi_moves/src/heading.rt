@@ -1,12 +1,13 @@
-//! The ways that pieces go, and how far.
+//! The directions in which pieces move, and their ranges.
 ghost use Rattle.std.specs.Prelude.{◌≡◌, ◌≤◌};
 ghost use Rattle.shogi_moves.specs.Reach.{next_file, ranks_forward, next_rank, straight, diagonal, gold, silver};
 ghost use Rattle.shogi_moves.specs.Reach.{knight, ahead, range, step};
 
 use squares::{Role, Side, Ssq};
 
-/// A way that a piece goes. Forward is towards the enemy; left and right are as First sees the
-/// board. A jump goes two ranks forward and one file aside.
+/// A direction of movement, as the moving side sees it, except that left and right are as First sees the board.
+///
+/// Forward is toward the enemy. A jump goes two ranks forward and one file aside.
 #[derive(Clone, Copy, Debug, PartialEq, Eq)]
 pub enum Heading {
     Forward,
@@ -22,7 +23,9 @@ pub enum Heading {
 }
 
 impl Heading {
-    /// All headings.
+    /// A direction of movement. Forward is toward the enemy; left and right are as First sees the board.
+    ///
+    /// A jump goes two ranks forward and one file aside.
     pub const ALL: [Heading; 10] = [
         Heading::Forward,
         Heading::ForwardLeft,
@@ -37,7 +40,7 @@ impl Heading {
     ];
 }
 
-// The file of the next square, or 0 or 10 off the board.
+// The file of the next square; 0 or 10 if it is off the board.
 fn next_file(heading: Heading, file: u8) -> u8
     requires { file ≤ 9 }
     ensures { result ≡ next_file heading file }
@@ -51,7 +54,7 @@ fn next_file(heading: Heading, file: u8) -> u8
     }
 }
 
-// The rank so many ranks nearer to the enemy, or 0 or above 9 off the board.
+// The rank `ranks` ranks nearer to the enemy; 0 or above 9 if it is off the board.
 fn ranks_forward(side: Side, ranks: u8, rank: u8) -> u8
     requires rank { rank ≤ 9 }
     requires ranks { ranks ≤ 2 }
@@ -63,7 +66,7 @@ fn ranks_forward(side: Side, ranks: u8, rank: u8) -> u8
     }
 }
 
-// The rank of the next square.
+// The rank of the next square; 0 or above 9 if it is off the board.
 fn next_rank(side: Side, heading: Heading, rank: u8) -> u8
     requires { rank ≤ 9 }
     ensures { result ≡ next_rank side heading rank }
@@ -80,7 +83,7 @@ fn next_rank(side: Side, heading: Heading, rank: u8) -> u8
     }
 }
 
-/// The next square for a piece of that side, or None at the edge of the board.
+/// The next square along a heading for a piece of the side, or `None` at the edge of the board.
 pub fn step(side: Side, heading: Heading, from: Ssq) -> Option<Ssq>
     ensures { result ≡ step side heading from }
 {
@@ -145,7 +148,7 @@ fn ahead(distance: u8, heading: Heading) -> u8
     }
 }
 
-/// How many squares a piece goes at most. Eight is any distance.
+/// The greatest distance, in squares, that a piece moves along a heading; 8 means any distance.
 pub fn range(role: Role, heading: Heading) -> u8
     ensures { result ≡ range role heading }
 {

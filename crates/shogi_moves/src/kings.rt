@@ -1,4 +1,4 @@
-//! The squares on which kings stand, and whether one of them is attacked.
+//! The squares of the kings, and whether a king is attacked.
 ghost use Rattle.std.specs.Prelude.{◌≡◌};
 ghost use Rattle.shogi_moves.specs.Kings.{AreKings};
 ghost use Rattle.shogi_moves.specs.Search.{king_attacked};
@@ -7,7 +7,7 @@ use crate::attacks::is_attacked;
 use masks::Word81;
 use squares::{Role, SBoard, SPiece, Side, Ssq};
 
-// The squares on which a king of the side stands.
+// The squares of the side's kings.
 pub(crate) fn kings_of(board: &SBoard, side: Side) -> Word81
     ensures { AreKings board.now side result }
 {
@@ -17,7 +17,7 @@ pub(crate) fn kings_of(board: &SBoard, side: Side) -> Word81
     })
 }
 
-/// Whether a king of the side stands on an attacked square.
+/// Whether a king of the side is attacked.
 pub fn is_king_attacked(board: &SBoard, side: Side) -> bool
     ensures { result ≡ king_attacked board.now side }
 {

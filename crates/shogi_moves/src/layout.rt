@@ -1,4 +1,4 @@
-//! What the rules look at, and what a move makes of it.
+//! The parts of a position on which move generation works, and the effect of a move on them.
 ghost use Rattle.std.specs.Prelude.{◌≡◌, ◌&&◌, not};
 ghost use Rattle.squares.specs.ShogiSets.{IsShogiPosition};
 ghost use Rattle.shogi_moves.specs.Rules.{held, with_held, dropped_role, arrived, board_after};
@@ -10,7 +10,7 @@ ghost use Rattle.shogi_moves.specs.Computed.{is_drop};
 use crate::kings::is_king_attacked;
 use squares::{Hand, HandKind, Hands, Role, SBoard, SMove, SPiece, SPos, Side, Ssq};
 
-/// A board, hands and a turn, as in a position.
+/// The board, the hands and the side to move, with a cached flag for check.
 #[derive(Drop)]
 pub struct Layout {
     pub board: SBoard,
@@ -39,14 +39,14 @@ impl Layout {
         }
     }
 
-    /// How many pieces of the kind the side to move holds.
+    /// The number of pieces of a kind in the hand of the side to move.
     pub fn held(&self, kind: HandKind) -> u8
         ensures { result ≡ held self.now.hands self.now.turn kind }
     {
         self.hands.of(self.turn).count(kind)
     }
 
-    // Makes a step on the board of the layout.
+    // Applies a step to a copy of the layout's board.
     fn make_step(&self, board: &mut SBoard, from: Ssq, to: Ssq, promote: bool)
         requires { board.old ≡ self.now.board }
         ensures { board.new ≡ board_after (position_of self.now) (Step from to promote) }
@@ -60,7 +60,7 @@ impl Layout {
         }
     }
 
-    // Makes a drop on the board of the layout.
+    // Applies a drop to a copy of the layout's board.
     fn make_drop(&self, board: &mut SBoard, kind: HandKind, to: Ssq)
         requires { board.old ≡ self.now.board }
         ensures { board.new ≡ board_after (position_of self.now) (Drop kind to) }
@@ -74,7 +74,7 @@ impl Layout {
         );
     }
 
-    // Makes a move on the board of the layout.
+    // Applies a move to a copy of the layout's board.
     fn make(&self, board: &mut SBoard, played: &SMove)
         requires { board.old ≡ self.now.board }
         ensures { board.new ≡ board_after (position_of self.now) played.now }
@@ -94,21 +94,21 @@ impl Layout {
         board
     }
 
-    /// Whether the king of the side to move is attacked.
+    /// Whether the side to move is in check.
     pub fn is_checked(&self) -> bool
         ensures { result ≡ king_attacked self.now.board self.now.turn }
     {
         self.checked
     }
 
-    // Whether the move is a drop while the king of the side to move is not attacked.
+    // Whether the move is a drop by a side that is not in check; such a move cannot expose its king.
     fn uncovers_nothing(&self, played: &SMove) -> bool
         ensures { result ≡ (is_drop played.now && not self.now.checked) }
     {
         is_drop(played) && !self.checked
     }
 
-    /// Whether the king of the side to move is attacked after a move. A drop uncovers no king.
+    /// Whether the moving side's king is attacked after a move.
     pub fn is_checked_after(&self, played: &SMove) -> bool
         ensures { result ≡ king_attacked (board_after (position_of self.now) played.now) self.now.turn }
     {
@@ -138,7 +138,6 @@ impl Layout {
     }
 }
 
-// Whether the move drops a piece.
 fn is_drop(played: &SMove) -> bool
     ensures { result ≡ is_drop played.now }
 {
@@ -148,7 +147,7 @@ fn is_drop(played: &SMove) -> bool
     }
 }
 
-/// The hands where the side holds that many pieces of the kind.
+/// The hands in which the side holds `count` pieces of a kind.
 pub fn with_held(hands: Hands, side: Side, kind: HandKind, count: u8) -> Hands
     ensures { result ≡ with_held hands side kind count }
 {
@@ -164,14 +163,14 @@ pub fn with_held(hands: Hands, side: Side, kind: HandKind, count: u8) -> Hands
     }
 }
 
-/// The role of a piece that is dropped.
+/// The role of a dropped piece of a kind.
 pub fn dropped_role(kind: HandKind) -> Role
     ensures { result ≡ dropped_role kind }
 {
     kind.kind().role()
 }
 
-// What the moved piece is after the step.
+// The moved piece after the step, promoted if `promote` is true and the piece can be.
 fn arrived(piece: SPiece, promote: bool) -> SPiece
     ensures { result ≡ arrived piece promote }
 {

@@ -1,4 +1,7 @@
-//! The moves of shogi: which are legal, and what they leave.
+//! The rules of shogi: legal moves, check and mate, the position after a move, and the entering-king declaration.
+//!
+//! The declaration is the 27-point rule, recorded as `%KACHI` in CSA V2.2
+//! (http://www2.computer-shogi.org/protocol/record_v22.html).
 #![tactic(auto)]
 
 mod attacks;

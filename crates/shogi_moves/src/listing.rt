@@ -1,4 +1,4 @@
-//! The legal moves in order.
+//! The list of legal moves.
 ghost use Rattle.std.specs.Prelude.{◌↔◌, IfOk, Contains};
 ghost use Rattle.std.specs.List.Sorted.{IsStrictlySortedBy};
 ghost use Rattle.squares.specs.declared.shogi.moves.SMove.{SMove};
@@ -13,7 +13,7 @@ use squares::{SMove, SPos};
 use std::alloc::{AllocError, Global};
 use std::marker::Model;
 
-// The legal moves that a walk has come to.
+// A seeker that collects the legal moves.
 #[derive(Drop)]
 struct Listed {
     moves: Vec<SMove>,
@@ -57,10 +57,18 @@ impl Seeker for Listed {
     ghost plus_more = { listed_more };
 }
 
-/// The legal moves, each once: steps by from, to, not promoting first; then drops by kind (rook,
-/// bishop, gold, silver, knight, lance, pawn) and square. Squares are ordered by file, then rank.
+/// The legal moves, each once and in order.
 ///
-/// It fails where memory is refused, and then alone.
+/// Steps come first, by start, end and not promoting first. Drops follow, by kind (rook, bishop, gold, silver, knight,
+/// lance, pawn) and square. Squares are ordered by file, then rank.
+///
+/// # Errors
+///
+/// `Memory` if out of memory.
+///
+/// # Guarantees
+///
+/// `members`: the list holds the legal moves and no others. `in_order`: it is strictly sorted.
 pub fn legal(alloc: Global, position: &SPos) -> Result<Vec<SMove>, Memory>
     ensures in_order { IfOk result (λ moves. IsStrictlySortedBy move_cmp moves.items) }
     ensures members { IfOk result (λ moves. (m : SMove)

@@ -1,4 +1,4 @@
-//! Whether a king is mated.
+//! Mate.
 ghost use Rattle.std.specs.Prelude.{◌≡◌, ◌↔◌, IsTrue};
 ghost use Rattle.shogi_moves.specs.Layouts.{position_of};
 ghost use Rattle.shogi_moves.specs.Rules.{Mate};
@@ -10,15 +10,16 @@ use crate::seeking::{Seeker, seek};
 use squares::{SMove, SPos};
 use std::convert::Infallible;
 
-/// Whether the side to move is mated: its king is attacked, and none of its moves or drops leaves
-/// the king safe. It takes no memory.
+/// Whether the side to move is mated: its king is in check and no move or drop removes the check.
+///
+/// Allocates nothing.
 pub fn mated(position: &SPos) -> bool
     ensures { IsTrue result ↔ Mate position.now }
 {
     is_mate(&Layout::of(position))
 }
 
-/// Whether the mover's king is attacked after the move.
+/// Whether the moving side's king is attacked after the move.
 #[tactic(auto, unfolding(crate::specs::Computed::leaves_king))]
 pub fn leaves_king(layout: &Layout, played: &SMove) -> bool
     ensures { result ≡ leaves_king (position_of layout.now) played.now }
@@ -26,7 +27,7 @@ pub fn leaves_king(layout: &Layout, played: &SMove) -> bool
     layout.is_checked_after(played)
 }
 
-// Whether a walk has come to a move that leaves the king safe.
+// A seeker that stops at the first move that leaves the king safe.
 #[derive(Drop)]
 struct AnyEscape {
     found: bool,
@@ -82,7 +83,7 @@ pub fn is_mate(layout: &Layout) -> bool
     !has_escape(layout)
 }
 
-/// Whether the move drops a pawn that mates.
+/// Whether the move drops a pawn that gives mate.
 #[tactic(auto, unfolding(crate::specs::Computed::mates_by_pawn))]
 pub fn mates_by_pawn(layout: &Layout, played: &SMove) -> bool
     ensures { result ≡ mates_by_pawn (position_of layout.now) played.now }

@@ -1,4 +1,4 @@
-//! The position that a move leaves.
+//! The position after a move.
 ghost use Rattle.std.specs.Prelude.{◌≡◌, ◌+◌};
 ghost use Rattle.squares.specs.ShogiSets.{IsShogiPosition};
 ghost use Rattle.shogi_moves.specs.Layouts.{position_of};
@@ -7,9 +7,10 @@ ghost use Rattle.shogi_moves.specs.Rules.{Legal, held, taken_kind, hands_after, 
 use crate::layout::{Layout, with_held};
 use squares::{HandKind, Hands, SMove, SPiece, SPos};
 
-/// The position after a legal move: the piece stands on its square, promoted or not; what it took
-/// is in the hand of its side, unpromoted; what was dropped is out of the hand; the turn has
-/// passed. It takes no memory.
+/// The position after a legal move.
+///
+/// A step moves the piece, promotes it or not, and puts a captured piece unpromoted into the hand. A drop takes the
+/// piece from the hand. The turn passes. Allocates nothing.
 pub fn play(position: &SPos, played: &SMove) -> SPos
     requires { Legal position.now played.now }
     ensures { result ≡ play position.now played.now }
@@ -20,7 +21,7 @@ pub fn play(position: &SPos, played: &SMove) -> SPos
     SPos::of_parts(board, hands, layout.turn.other())
 }
 
-// The kind as which a piece that stands there is taken.
+// The kind that a captured piece has in the hand.
 fn taken_kind(there: Option<SPiece>) -> Option<HandKind>
     ensures { result ≡ taken_kind there }
 {
@@ -30,7 +31,7 @@ fn taken_kind(there: Option<SPiece>) -> Option<HandKind>
     }
 }
 
-// One more than the side to move holds of a kind.
+// One more than the number of pieces of a kind in the hand of the side to move.
 fn one_more(layout: &Layout, kind: HandKind) -> u8
     requires { IsShogiPosition layout.now.board layout.now.hands }
     ensures { result ≡ held layout.now.hands layout.now.turn kind + 1 }
@@ -38,7 +39,6 @@ fn one_more(layout: &Layout, kind: HandKind) -> u8
     layout.held(kind) + 1
 }
 
-// The hands after a move.
 fn hands_after(layout: &Layout, played: &SMove) -> Hands
     requires { IsShogiPosition layout.now.board layout.now.hands }
     ensures { result ≡ hands_after (position_of layout.now) played.now }

@@ -1,4 +1,4 @@
-//! Moves but for what they do to the kings.
+//! Pseudo-legal moves: the rules except those about attacked kings and mate by a dropped pawn.
 ghost use Rattle.std.specs.Prelude.{◌≡◌, ◌&&◌, ◌||◌, ◌==◌, ℕ, not};
 ghost use Rattle.std.specs.FinMap as map;
 ghost use Rattle.std.specs.FinSet as set;
@@ -16,7 +16,7 @@ use crate::zones::{is_stuck, may_land, may_promote};
 use masks::Word81;
 use squares::{HandKind, Role, SBoard, SMove, SPiece, Side, Ssq};
 
-// Whether the piece, standing on `from`, is of the side and goes to `to`.
+// Whether the piece on `from` belongs to the side and can step to `to`.
 fn piece_goes(board: &SBoard, turn: Side, piece: SPiece, from: Ssq, to: Ssq, promote: bool) -> bool
     ensures { result ≡ (same_side piece.side turn && may_land turn (map.get board.now to)
         && (not promote || may_promote piece from to) && piece_reaches board.now piece from to) }
@@ -27,7 +27,7 @@ fn piece_goes(board: &SBoard, turn: Side, piece: SPiece, from: Ssq, to: Ssq, pro
         && piece_reaches(board, piece, from, to)
 }
 
-// Whether the piece on `from` goes to `to`.
+// Whether the piece on `from` can step to `to`.
 #[tactic(auto, unfolding(crate::specs::Computed::goes))]
 fn goes(layout: &Layout, from: Ssq, to: Ssq, promote: bool) -> bool
     ensures { result ≡ goes (position_of layout.now) from to promote }
@@ -38,7 +38,7 @@ fn goes(layout: &Layout, from: Ssq, to: Ssq, promote: bool) -> bool
     }
 }
 
-// Whether no piece stands on the square.
+// Whether the square is empty.
 fn is_free(board: &SBoard, square: Ssq) -> bool
     ensures { result ≡ is_free board.now square }
 {
@@ -48,7 +48,7 @@ fn is_free(board: &SBoard, square: Ssq) -> bool
     }
 }
 
-/// Whether a piece goes so, or is dropped on an empty square.
+/// Whether the move is a possible step of a piece, or a drop on an empty square.
 pub fn is_movement(layout: &Layout, played: &SMove) -> bool
     ensures { result ≡ is_movement (position_of layout.now) played.now }
 {
@@ -58,7 +58,7 @@ pub fn is_movement(layout: &Layout, played: &SMove) -> bool
     }
 }
 
-/// Whether the move drops what the side does not hold.
+/// Whether the move drops a piece that the hand does not hold.
 pub fn lacks(layout: &Layout, played: &SMove) -> bool
     ensures { result ≡ lacks (position_of layout.now) played.now }
 {
@@ -68,7 +68,7 @@ pub fn lacks(layout: &Layout, played: &SMove) -> bool
     }
 }
 
-// Whether the piece on `from` could never move from `to`.
+// Whether the piece on `from`, unpromoted, could never move from `to`.
 #[tactic(auto, unfolding(crate::specs::Computed::stuck_after))]
 fn stuck_after(layout: &Layout, from: Ssq, to: Ssq) -> bool
     ensures { result ≡ stuck_after (position_of layout.now) from to }
@@ -89,7 +89,7 @@ pub fn stays(layout: &Layout, played: &SMove) -> bool
     }
 }
 
-/// Whether the move drops a piece to where it could never move.
+/// Whether the move drops a piece on a square from which it could never move.
 pub fn drops_dead(layout: &Layout, played: &SMove) -> bool
     ensures { result ≡ drops_dead (position_of layout.now) played.now }
 {
@@ -99,7 +99,7 @@ pub fn drops_dead(layout: &Layout, played: &SMove) -> bool
     }
 }
 
-// The squares on which unpromoted pawns of the side stand.
+// The squares of the side's unpromoted pawns.
 fn pawns_of(board: &SBoard, side: Side) -> Word81
     ensures { (q : ℕ) → set.contains result q ≡ holds_pawn side (map.get board.now q) }
 {
@@ -109,14 +109,14 @@ fn pawns_of(board: &SBoard, side: Side) -> Word81
     })
 }
 
-// Whether the two squares are on one file.
+// Whether both squares are on the same file.
 fn on_one_file(there: Ssq, square: Ssq) -> bool
     ensures { result ≡ (file_of there == file_of square) }
 {
     there.file() == square.file()
 }
 
-// Whether an unpromoted pawn of the side stands on the file of the square.
+// Whether the file of the square has an unpromoted pawn of the side.
 fn pawn_on_file(board: &SBoard, side: Side, square: Ssq) -> bool
     ensures { result ≡ pawn_on_file board.now side square }
 {
@@ -142,7 +142,7 @@ pub fn drops_pawn(played: &SMove) -> bool
     }
 }
 
-/// Whether the move drops a pawn on a file with an own unpromoted pawn.
+/// Whether the move drops a pawn on a file that already has an unpromoted pawn of the side.
 #[tactic(auto, unfolding(crate::specs::Computed::drops_second_pawn))]
 pub fn drops_second_pawn(layout: &Layout, played: &SMove) -> bool
     ensures { result ≡ drops_second_pawn (position_of layout.now) played.now }
@@ -156,7 +156,7 @@ pub fn drops_second_pawn(layout: &Layout, played: &SMove) -> bool
     }
 }
 
-/// Whether the side to move may move so, but for what the move does to the kings.
+/// Whether the move is pseudo-legal: legal except for attacks on kings and mate by a dropped pawn.
 #[tactic(auto, unfolding(crate::specs::Computed::is_pseudo))]
 pub fn is_pseudo(layout: &Layout, played: &SMove) -> bool
     ensures { result ≡ is_pseudo (position_of layout.now) played.now }

@@ -1,4 +1,4 @@
-//! Which squares a piece reaches.
+//! The squares that a piece attacks.
 ghost use Rattle.std.specs.Prelude.{◌≡◌, ◌||◌, ℕ};
 ghost use Rattle.std.specs.FinSet as set;
 ghost use Rattle.shogi_moves.specs.Reach.{line, range};
@@ -8,7 +8,8 @@ use crate::heading::{Heading, range, step};
 use masks::Word81;
 use squares::{SBoard, SPiece, Side, Ssq};
 
-// Whether a piece of that side goes so far over empty squares as to come to a square.
+// Whether a piece on `from` reaches `to` along a heading, over at most `distance` squares, all but the last of them
+// empty.
 fn comes_to(board: &SBoard, side: Side, heading: Heading, distance: u8, from: Ssq, to: Ssq) -> bool
     ensures { result ≡ comes_to board.now to (line distance side heading from) }
 {
@@ -30,7 +31,7 @@ fn comes_to(board: &SBoard, side: Side, heading: Heading, distance: u8, from: Ss
     false
 }
 
-/// Whether the piece, standing on `from`, reaches a square.
+/// Whether the piece on `from` attacks `to`.
 #[tactic(auto, unfolding(crate::specs::Search::piece_reaches))]
 pub fn piece_reaches(board: &SBoard, piece: SPiece, from: Ssq, to: Ssq) -> bool
     ensures { result ≡ piece_reaches board.now piece from to }
@@ -47,7 +48,7 @@ pub fn piece_reaches(board: &SBoard, piece: SPiece, from: Ssq, to: Ssq) -> bool
     })
 }
 
-/// Whether a piece of that side stands on `from` and reaches a square.
+/// Whether `from` holds a piece of the side that attacks `to`.
 #[tactic(auto, unfolding(crate::specs::Search::side_reaches))]
 pub fn side_reaches(board: &SBoard, side: Side, to: Ssq, from: Ssq) -> bool
     ensures { result ≡ side_reaches board.now side to from }
@@ -58,7 +59,7 @@ pub fn side_reaches(board: &SBoard, side: Side, to: Ssq, from: Ssq) -> bool
     }
 }
 
-// The squares and those that a piece of that side comes to along a heading.
+// Adds to `squares` the squares that a piece reaches along a heading within `distance` squares.
 fn with_line(
     board: &SBoard,
     side: Side,
@@ -87,7 +88,7 @@ fn with_line(
     found
 }
 
-// The squares and those that the piece, standing on `from`, reaches in a heading.
+// Adds to `squares` the squares that the piece on `from` reaches along a heading.
 fn with_heading(
     board: &SBoard,
     piece: SPiece,
@@ -102,7 +103,7 @@ fn with_heading(
     with_line(board, piece.side, heading, distance, from, squares)
 }
 
-/// The squares that the piece, standing on `from`, reaches.
+/// The squares that the piece on `from` attacks.
 pub fn reached(board: &SBoard, piece: SPiece, from: Ssq) -> Word81
     ensures { (to : ℕ) → set.contains result to ≡ piece_reaches board.now piece from to }
 {

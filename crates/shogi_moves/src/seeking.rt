@@ -1,4 +1,4 @@
-//! A walk over the moves of a position, for whatever is asked of them.
+//! A visitor over the pseudo-legal moves of a position.
 ghost use Rattle.std.specs.Prelude.{◌≡◌, ◌++◌, Bool, true, false, List, [], IsTrue, OnOk};
 ghost use Rattle.std.specs.FinMap as map;
 ghost use Rattle.squares.specs.declared.shogi.moves.SMove.{SMove};
@@ -20,7 +20,7 @@ use crate::reaching::reached;
 use crate::zones::{is_stuck, may_land, may_promote};
 use squares::{HandKind, SMove, SPiece, Ssq};
 
-/// What is asked of the moves of a walk: a test of each, and what becomes of those that pass.
+/// A visitor of moves: a test of each move, and an accumulated result of those that pass.
 pub trait Seeker {
     type Fault: Drop;
 
@@ -28,12 +28,16 @@ pub trait Seeker {
 
     ghost plus: { Self → List SMove → Self };
 
-    /// Takes a move that may be played but for what it does to the kings.
+    /// Visits a pseudo-legal move.
+    ///
+    /// # Errors
+    ///
+    /// The visitor's own fault, which ends the walk.
     fn take(&mut self, layout: &Layout, played: SMove) -> Result<(), Self::Fault>
         requires { is_pseudo (position_of layout.now) played ≡ true }
         ensures { OnOk result (self.new ≡ plus self.old (if_passes (test (position_of layout.now)) played)) };
 
-    /// Whether no further move changes what is found.
+    /// Whether no further move can change the result.
     fn is_done(&self) -> bool
         ensures { IsTrue result → (moves : List SMove) → plus self.now moves ≡ self.now };
 
@@ -44,7 +48,7 @@ pub trait Seeker {
     ghost plus_more: { (x : Self) (xs ys : List SMove) → plus x (xs ++ ys) ≡ plus (plus x xs) ys };
 }
 
-// Whether a step that promotes may do so, or one that does not leaves the piece where it can move again.
+// Whether a promoting step may promote, or a step without promotion leaves the piece able to move again.
 fn passes(piece: SPiece, from: Ssq, to: Ssq, promote: bool) -> bool
     ensures { result ≡ step_passes piece from to promote }
 {
@@ -55,7 +59,7 @@ fn passes(piece: SPiece, from: Ssq, to: Ssq, promote: bool) -> bool
     }
 }
 
-// Takes a piece's step to a square that it reaches and where it may land.
+// Visits a piece's step to a square that it attacks and may land on.
 fn seek_step<S: Seeker>(
     layout: &Layout,
     piece: SPiece,
@@ -78,7 +82,7 @@ fn seek_step<S: Seeker>(
     Ok(())
 }
 
-// Takes the steps of a piece to a square that it reaches.
+// Visits a piece's steps to a square that it attacks, without and with promotion.
 fn seek_between<S: Seeker>(
     layout: &Layout,
     piece: SPiece,
@@ -100,7 +104,7 @@ fn seek_between<S: Seeker>(
     Ok(())
 }
 
-// Takes the steps of a piece.
+// Visits the steps of a piece.
 fn seek_steps_of<S: Seeker>(
     layout: &Layout,
     piece: SPiece,
@@ -122,7 +126,7 @@ fn seek_steps_of<S: Seeker>(
     Ok(())
 }
 
-// Takes the steps from a square on which an own piece stands.
+// Visits the steps from a square that holds a piece of the side to move.
 fn seek_steps_from<S: Seeker>(layout: &Layout, from: Ssq, seeker: &mut S) -> Result<(), S::Fault>
     requires { is_side layout.now.turn (map.get layout.now.board from) ≡ true }
     ensures { OnOk result (seeker.new
@@ -137,7 +141,7 @@ fn seek_steps_from<S: Seeker>(layout: &Layout, from: Ssq, seeker: &mut S) -> Res
     }
 }
 
-// Takes the steps.
+// Visits all steps.
 fn seek_steps<S: Seeker>(layout: &Layout, seeker: &mut S) -> Result<(), S::Fault>
     ensures { OnOk result (seeker.new
         ≡ S.plus seeker.old (all_steps (S.test (position_of layout.now)))) }
@@ -152,7 +156,7 @@ fn seek_steps<S: Seeker>(layout: &Layout, seeker: &mut S) -> Result<(), S::Fault
     Ok(())
 }
 
-// Takes the drop on a square.
+// Visits the drop of a kind on a square.
 fn seek_drop_on<S: Seeker>(
     layout: &Layout,
     kind: HandKind,
@@ -170,7 +174,7 @@ fn seek_drop_on<S: Seeker>(
     Ok(())
 }
 
-// Takes the drops of a kind.
+// Visits the drops of a kind.
 fn seek_drops_of<S: Seeker>(layout: &Layout, kind: HandKind, seeker: &mut S) -> Result<(), S::Fault>
     ensures { OnOk result (seeker.new
         ≡ S.plus seeker.old (drops_of (S.test (position_of layout.now)) kind)) }
@@ -187,7 +191,7 @@ fn seek_drops_of<S: Seeker>(layout: &Layout, kind: HandKind, seeker: &mut S) -> 
     Ok(())
 }
 
-// Takes the drops.
+// Visits all drops.
 fn seek_drops<S: Seeker>(layout: &Layout, seeker: &mut S) -> Result<(), S::Fault>
     ensures { OnOk result (seeker.new
         ≡ S.plus seeker.old (all_drops (S.test (position_of layout.now)))) }
@@ -198,8 +202,11 @@ fn seek_drops<S: Seeker>(layout: &Layout, seeker: &mut S) -> Result<(), S::Fault
     Ok(())
 }
 
-/// Takes each move that may be played but for what it does to the kings, in the order of the list
-/// of moves, until the seeker is done.
+/// Visits each pseudo-legal move, in the order of the move list, until the seeker is done.
+///
+/// # Errors
+///
+/// The first fault that the seeker returns.
 pub fn seek<S: Seeker>(layout: &Layout, seeker: &mut S) -> Result<(), S::Fault>
     ensures { OnOk result (seeker.new
         ≡ S.plus seeker.old (all_moves (S.test (position_of layout.now)))) }

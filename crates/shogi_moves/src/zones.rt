@@ -1,11 +1,11 @@
-//! Where pieces may promote, must promote and may land.
+//! Promotion zones, dead squares and squares on which a step may end.
 ghost use Rattle.std.specs.Prelude.{◌≡◌};
 ghost use Rattle.squares.specs.ShogiSets.{is_king};
 ghost use Rattle.shogi_moves.specs.Rules.{far_rank, can_promote, may_promote, last_ranks, is_stuck, may_land};
 
 use squares::{Role, SPiece, Side, Ssq};
 
-// How far a square is from the enemy's edge, as the side sees it: 1 is the last rank.
+// The rank as the side counts it from the enemy's edge: 1 is the farthest rank.
 pub(crate) fn far_rank(side: Side, square: Ssq) -> u8
     ensures { result ≡ far_rank side square }
 {
@@ -24,14 +24,14 @@ fn can_promote(role: Role) -> bool
     }
 }
 
-/// Whether a step of the piece from a square to another may promote it.
+/// Whether a step from `from` to `to` may promote the piece.
 pub fn may_promote(piece: SPiece, from: Ssq, to: Ssq) -> bool
     ensures { result ≡ may_promote piece from to }
 {
     can_promote(piece.role) && (far_rank(piece.side, from) <= 3 || far_rank(piece.side, to) <= 3)
 }
 
-// On how many of the last ranks the piece could never move again.
+// The number of farthest ranks on which an unpromoted piece could never move again.
 fn last_ranks(role: Role) -> u8
     ensures { result ≡ last_ranks role }
 {
@@ -49,8 +49,7 @@ pub fn is_stuck(side: Side, role: Role, square: Ssq) -> bool
     far_rank(side, square) <= last_ranks(role)
 }
 
-/// Whether a step of the side may end on a square where this stands: on nothing, or on an enemy
-/// that is no king.
+/// Whether a step of the side may end on a square with this content: nothing, or an enemy other than the king.
 pub fn may_land(side: Side, there: Option<SPiece>) -> bool
     ensures { result ≡ may_land side there }
 {

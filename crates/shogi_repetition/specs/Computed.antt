@@ -1,4 +1,4 @@
--- The end of a line, computed from its positions.
+-- The end of a history, computed from its positions.
 use Rattle.std.specs.Prelude.{ℕ, ◌==◌, ◌||◌, nat_le, not, if◌then◌else◌, Bool, true, false, Option, Some, None, List}
 use Rattle.std.specs.Prelude.{length, count_by, drop}
 use Rattle.std.specs.List.{list_all, position, zip}
@@ -15,27 +15,27 @@ use Rattle.shogi_repetition.specs.declared.ends.SEnd.{SEnd}
 use Rattle.shogi_repetition.specs.declared.ends.SEnd.TheVariants.{NoMove, PerpetualCheck, Fourfold, PlyLimit}
 use Rattle.shogi_repetition.specs.Line.{last_position, positions}
 
--- whether the side to move is in check
+-- Whether the side to move is in check.
 abbrev pub is_in_check : ShogiPosition → Bool
 is_in_check p = king_attacked p.board p.turn
 
--- whether the move between two positions is one of the other side, or left the enemy's king attacked
+-- Whether the move between two positions is one of the other side, or gives check.
 abbrev pub keeps_checking : Side → ShogiPosition → ShogiPosition → Bool
 keeps_checking side before after = same_side before.turn (other side) || is_in_check after
 
--- whether each move of the side, from each position to the next, left the enemy's king attacked
+-- Whether each move of the side, from each position to the next, gives check.
 unfoldable pub checks_throughout : Side → List ShogiPosition → Bool
 checks_throughout side ps = list_all (λ e. keeps_checking side e.0 e.1) (zip ps (drop 1 ps))
 
--- whether the last position stands for the fourth time
+-- Whether the last position occurs for the fourth time.
 unfoldable pub stands_four_times : ShogiPosition → List ShogiPosition → Bool
 stands_four_times last ps = nat_le 4 (count_by (λ p. same_shogi_position p last) ps)
 
--- the positions from the first on that is the last position
+-- The positions from the first occurrence of the last position on.
 unfoldable pub since_first : ShogiPosition → List ShogiPosition → List ShogiPosition
 since_first last ps = option_map_or (λ f. drop f ps) (position (λ p. same_shogi_position p last) ps) ps
 
--- the end of a fourth repetition, by which sides gave check throughout
+-- The end of a fourth repetition, by the sides that gave check throughout.
 abbrev pub end_by_checks : Bool → Bool → SEnd
 end_by_checks true false = PerpetualCheck First
 end_by_checks false true = PerpetualCheck Second
@@ -46,12 +46,12 @@ unfoldable pub repetition : ShogiPosition → List ShogiPosition → SEnd
 repetition last ps = end_by_checks (checks_throughout First (since_first last ps))
     (checks_throughout Second (since_first last ps))
 
--- the first end that holds after so many plies, by the last position and all positions of a line
+-- The first end that holds, from the last position, all positions and the number of plies.
 unfoldable pub first_end : ShogiPosition → List ShogiPosition → ℕ → Option SEnd
 first_end last ps plies =
     if not (has_move last) then Some NoMove else if stands_four_times last ps then Some
     (repetition last ps) else if plies == 600 then Some PlyLimit else None
 
--- the end of a line, if its last ply ends it
+-- The end of a history, if its last ply ends it.
 unfoldable pub end_of : ShogiPosition → List SMove → Option SEnd
 end_of start ms = first_end (last_position start ms) (positions start ms) (length ms)

@@ -1,4 +1,4 @@
--- When marks are those of a line.
+-- When a `Marks` represents a game history.
 use Rattle.std.specs.Prelude.{◌≡◌, ◌+◌, ℕ, List, Option, Some, None, length, min}
 use Rattle.std.specs.BTreeMap.{get}
 use Rattle.game_lines.specs.Line as line
@@ -15,14 +15,13 @@ use Rattle.shogi_repetition.specs.Ends.{FirstStands, EndsSo}
 use Rattle.shogi_repetition.specs.Faults.{IsPlayed}
 use Rattle.shogi_repetition.specs.Tails.{tail_of, times_stood}
 
--- how often a position stood in a line, and when first
+-- The occurrences of a position in a history.
 abbrev pub HasStood : ShogiPosition → List SMove → ShogiPosition → Option Stood → Type 0
 HasStood start ms p None = line.times_at play same_shogi_position start ms p ≡ 0
 HasStood start ms p (Some s) = (s.times ≡ line.times_at play same_shogi_position start ms p)
     × line.FirstAt play start ms p s.first
 
--- The line is played by the rules, and the marks have its last position, its plies, its tail, and how often each
--- position stood in it, and when first.
+-- The history follows the rules, and the value has its last position, plies, tail and the occurrences of each position.
 pub record Follows (start : ShogiPosition) (ms : List SMove) (marks : Marks) : Type 0 where
   pub played : IsPlayed start ms (length ms)
   pub last : marks.last ≡ last_position start ms
@@ -32,11 +31,11 @@ pub record Follows (start : ShogiPosition) (ms : List SMove) (marks : Marks) : T
   pub tail : marks.tail ≡ tail_of start ms
   pub seen : (p : ShogiPosition) → HasStood start ms p (get position_cmp marks.seen p)
 
--- once more, after so many plies
+-- The occurrences after one more, at the given ply.
 abbrev pub stood_again : ℕ → Option Stood → Stood
 stood_again plies None = record { times = 1; first = plies }
 stood_again plies (Some s) = record { times = min (s.times + 1) 4294967295; first = s.first }
 
--- Where the marks are those of a line, it ends so.
+-- The end of the represented history.
 abbrev pub TellsEnd : Marks → Option SEnd → Type 0
 TellsEnd marks end = (start : ShogiPosition) (ms : List SMove) → Follows start ms marks → EndsSo start ms end

@@ -1,4 +1,4 @@
--- The ends of a game of shogi. Two positions are the same where they are one: board, hands and turn.
+-- The ends of a game of shogi. Positions are the same if board, hands and side to move are.
 use Rattle.std.specs.Prelude.{◌≡◌, ◌<◌, ◌≤◌, ◌≢◌, ℕ, ◌+◌, Option, Some, None, List, length}
 use Rattle.game_lines.specs.Line as line
 use Rattle.squares.specs.declared.sides.Side.{Side}
@@ -13,11 +13,11 @@ use Rattle.shogi_repetition.specs.declared.ends.SEnd.{SEnd}
 use Rattle.shogi_repetition.specs.declared.ends.SEnd.TheVariants.{NoMove, PerpetualCheck, Fourfold, PlyLimit}
 use Rattle.shogi_repetition.specs.Line.{last_position, position_after}
 
--- After k plies stood the position that is also the last of the line.
+-- The position after k plies is the last position.
 abbrev pub StandsAfter : ShogiPosition → List SMove → ℕ → Type 0
 StandsAfter start ms k = position_after start ms k ≡ last_position start ms
 
--- The last position of a line stood three times or more before.
+-- The last position occurred at least three times before.
 pub record StandsFourTimes (start : ShogiPosition) (ms : List SMove) : Type 0 where
   pub first : ℕ
   pub second : ℕ
@@ -29,29 +29,29 @@ pub record StandsFourTimes (start : ShogiPosition) (ms : List SMove) : Type 0 wh
   pub at_second : StandsAfter start ms second
   pub at_third : StandsAfter start ms third
 
--- After f plies the last position of the line stood for the first time.
+-- The last position occurs for the first time after f plies.
 abbrev pub FirstStands : ShogiPosition → List SMove → ℕ → Type 0
 FirstStands = line.FirstStands play
 
--- the side to move is in check
+-- The side to move is in check.
 abbrev pub InCheck : ShogiPosition → Type 0
 InCheck p = KingAttacked p.board p.turn
 
--- Each move that the side made after f plies left the enemy's king attacked.
+-- Each move of the side after f plies gave check.
 abbrev pub GaveCheckThroughout : ShogiPosition → List SMove → Side → ℕ → Type 0
 GaveCheckThroughout start ms side f =
     (k : ℕ) → f ≤ k → k < length ms → (position_after start ms k).turn ≡ side
     → InCheck (position_after start ms (k + 1))
 
--- Since the last position stood first, the side gave check throughout, and the other did not.
+-- Since the first occurrence of the last position, the side gave check throughout and the other side did not.
 pub record ChecksAlone (start : ShogiPosition) (ms : List SMove) (side : Side) : Type 0 where
   pub since : ℕ
   pub first : FirstStands start ms since
   pub checks : GaveCheckThroughout start ms side since
   pub alone : GaveCheckThroughout start ms (other side) since → ⊥
 
--- The end of a line, if its last ply ends it: the side to move has no move; else the position stands for the fourth
--- time, by perpetual check of one side or not; else 600 plies were played.
+-- The end of a history, if its last ply ends it. First comes the lack of a legal move, then the fourth occurrence of
+-- the position, with or without perpetual check of one side. Last comes the limit of 600 plies.
 abbrev pub EndsSo : ShogiPosition → List SMove → Option SEnd → Type 0
 EndsSo start ms (Some NoMove) = HasMove (last_position start ms) → ⊥
 EndsSo start ms (Some (PerpetualCheck side)) = HasMove (last_position start ms) × StandsFourTimes start ms
@@ -61,8 +61,8 @@ EndsSo start ms (Some Fourfold) = HasMove (last_position start ms) × StandsFour
 EndsSo start ms (Some PlyLimit) = HasMove (last_position start ms) × (StandsFourTimes start ms → ⊥) × (length ms ≡ 600)
 EndsSo start ms None = HasMove (last_position start ms) × (StandsFourTimes start ms → ⊥) × (length ms ≢ 600)
 
--- The score of an end, by the side to move after it: a side without a move loses, and so does one that checks
--- perpetually. The rest are draws.
+-- The score of an end, by the side to move after it: a side without a move or with perpetual check loses, the rest are
+-- draws.
 abbrev pub outcome_of : SEnd → Side → Score
 outcome_of NoMove turn = loses turn
 outcome_of (PerpetualCheck side) turn = loses side

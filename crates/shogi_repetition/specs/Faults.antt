@@ -1,4 +1,4 @@
--- Which lines of shogi are played by the rules, and what is wrong with the others.
+-- Legal shogi histories, and the faults of the others.
 use Rattle.std.specs.Prelude.{ℕ, List}
 use Rattle.game_lines.specs.declared.faults.LineFault.{LineFault}
 use Rattle.game_lines.specs.Faults as lines
@@ -9,7 +9,7 @@ use Rattle.shogi_moves.specs.Rules.{Legal, FirstBroken, play}
 use Rattle.shogi_repetition.specs.declared.ends.SEnd.{SEnd}
 use Rattle.shogi_repetition.specs.Ends.{EndsSo}
 
--- a move is refused for the first rule that it breaks
+-- A move is refused for the first rule that it breaks.
 abbrev pub shogi_lines : lines.LineRules ShogiPosition SMove SEnd Illegal
 shogi_lines = record { play = play; Legal = Legal; IsRefused = FirstBroken; EndsSo = EndsSo }
 

@@ -1,4 +1,4 @@
--- What is proved of the ends of lines.
+-- Properties of the ends of histories.
 use Rattle.std.specs.Prelude.{◌≡◌, ◌↔◌, Option, List}
 use Rattle.squares.specs.declared.shogi.moves.SMove.{SMove}
 use Rattle.squares.specs.ShogiSets.{ShogiPosition}
@@ -6,16 +6,16 @@ use Rattle.shogi_repetition.specs.declared.ends.SEnd.{SEnd}
 use Rattle.shogi_repetition.specs.Ends.{EndsSo}
 use Rattle.shogi_repetition.specs.Computed.{end_of}
 
--- each line has an end, or goes on
+-- Each history has an end or goes on.
 abbrev pub EachLineHasAnEnd : Type 0
 EachLineHasAnEnd = (start : ShogiPosition) (ms : List SMove) → (end : Option SEnd) × EndsSo start ms end
 
--- no line has two ends, nor an end where it goes on
+-- No history has two ends, or an end while it goes on.
 abbrev pub NoLineHasTwoEnds : Type 0
 NoLineHasTwoEnds = (start : ShogiPosition) (ms : List SMove) (one two : Option SEnd) → EndsSo start ms one
     → EndsSo start ms two → one ≡ two
 
--- the end is the computed one
+-- The end is the computed one.
 abbrev pub EndsAreComputed : Type 0
 EndsAreComputed = (start : ShogiPosition) (ms : List SMove) (end : Option SEnd)
     → EndsSo start ms end ↔ (end ≡ end_of start ms)

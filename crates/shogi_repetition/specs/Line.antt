@@ -1,18 +1,18 @@
--- A line of shogi.
+-- Shogi histories.
 use Rattle.std.specs.Prelude.{ℕ, List}
 use Rattle.game_lines.specs.Line as line
 use Rattle.squares.specs.declared.shogi.moves.SMove.{SMove}
 use Rattle.squares.specs.ShogiSets.{ShogiPosition}
 use Rattle.shogi_moves.specs.Rules.{play}
 
--- the last position of a line
+-- The last position of a history.
 abbrev pub last_position : ShogiPosition → List SMove → ShogiPosition
 last_position = line.last_position play
 
--- the position after k plies of a line
+-- The position after k plies.
 abbrev pub position_after : ShogiPosition → List SMove → ℕ → ShogiPosition
 position_after = line.position_after play
 
--- the positions of a line, the first and the last included
+-- All positions of a history, from the first to the last.
 abbrev pub positions : ShogiPosition → List SMove → List ShogiPosition
 positions = line.positions play

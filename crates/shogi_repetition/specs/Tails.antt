@@ -1,4 +1,4 @@
--- Two numbers of a line, by which its last ply is judged without the plies before it.
+-- Counters that give the end of a history without its earlier plies.
 use Rattle.std.specs.Prelude.{◌≡◌, ℕ, ◌+◌, ◌-◌, ◌*◌, ◌==◌, ◌++◌, nat_le, not, if◌then◌else◌, Bool, Option, Some, None}
 use Rattle.std.specs.Prelude.{List, [], ◌∷◌, length, drop, filter}
 use Rattle.std.specs.List.{suffix_len}
@@ -18,11 +18,11 @@ use Rattle.shogi_repetition.specs.Line.{last_position, positions}
 use Rattle.shogi_repetition.specs.Ends.{FirstStands}
 use Rattle.shogi_repetition.specs.Computed.{is_in_check, end_by_checks, end_of}
 
--- the positions to which the moves of a side led, among all positions of a line
+-- The positions after the moves of a side, among all positions of a history.
 abbrev pub led_to : Side → List ShogiPosition → List ShogiPosition
 led_to side ps = filter (λ p. same_side p.turn (other side)) (drop 1 ps)
 
--- how many of the last moves of a side, in a row, gave check
+-- The number of the side's consecutive last moves that gave check.
 abbrev pub checks_in_a_row : Side → List ShogiPosition → ℕ
 checks_in_a_row side ps = suffix_len is_in_check (led_to side ps)
 
@@ -33,7 +33,7 @@ tail_of start ms =
       second_checks = checks_in_a_row Second (positions start ms);
     }
 
--- ---- what the tail of a line is, one ply after another
+-- The tail, ply by ply.
 
 abbrev pub no_checks : Tail
 no_checks = record { first_checks = 0; second_checks = 0 }
@@ -41,7 +41,7 @@ no_checks = record { first_checks = 0; second_checks = 0 }
 abbrev pub count_on : ℕ → Bool → ℕ
 count_on checks gives_check = if gives_check then checks + 1 else 0
 
--- after a move the other side has the turn
+-- The moving side is the opponent of the side to move after the move.
 abbrev pub tail_after : Tail → Bool → Side → Tail
 tail_after tail gives_check First =
     record { first_checks = tail.first_checks; second_checks = count_on tail.second_checks gives_check }
@@ -51,13 +51,12 @@ tail_after tail gives_check Second =
 abbrev pub next_tail : Tail → ShogiPosition → Tail
 next_tail tail after = tail_after tail (is_in_check after) after.turn
 
--- A side made half of the moves since the position stood first. It checked throughout where so many of its moves, in a
--- row, gave check.
+-- A side made half of the plies since the first occurrence; it gave check throughout if at least that many of its
+-- consecutive last moves gave check.
 abbrev pub repetition_by : Tail → ℕ → SEnd
 repetition_by tail plies = end_by_checks (nat_le plies (2 * tail.first_checks)) (nat_le plies (2 * tail.second_checks))
 
--- the end of a line with this tail and this last position, which stood so often, and first after that ply, after so
--- many plies
+-- The end of a history with this tail and last position, from the number of plies and the occurrences of the position.
 unfoldable pub end_by : Tail → ShogiPosition → ℕ → ℕ → ℕ → Option SEnd
 end_by tail last plies times first =
     if not (has_move last)
@@ -65,9 +64,9 @@ end_by tail last plies times first =
     else if nat_le 4 times then Some (repetition_by tail (plies - first)) else if plies == 600 then Some
     PlyLimit else None
 
--- ---- laws
+-- Properties of tails.
 
--- the tail of a line without a move, and with one more
+-- The tail before the first move, and after one more move.
 abbrev pub TailsBegin : Type 0
 TailsBegin = (start : ShogiPosition) → tail_of start [] ≡ no_checks
 
@@ -75,11 +74,11 @@ abbrev pub TailsGoOn : Type 0
 TailsGoOn = (start : ShogiPosition) (ms : List SMove) (m : SMove)
     → tail_of start (ms ++ m ∷ []) ≡ next_tail (tail_of start ms) (play (last_position start ms) m)
 
--- how often the last position of a line stood in it
+-- The repetition count of the last position.
 abbrev pub times_stood : ShogiPosition → List SMove → ℕ
 times_stood = line.times_stood play same_shogi_position
 
--- by its tail a line ends as by all its positions
+-- The end by the tail is the end by all positions.
 abbrev pub TailsTellEnds : Type 0
 TailsTellEnds =
     (start : ShogiPosition) (ms : List SMove) (first : ℕ) → FirstStands start ms first →

@@ -1,25 +1,25 @@
-//! The ends that the rules give a game.
+//! The ends of a game.
 ghost use Rattle.std.specs.Prelude.{◌≡◌};
 ghost use Rattle.shogi_repetition.specs.Ends.{outcome_of};
 
 use squares::{Score, Side};
 
-/// An end that the rules give a game. Where several hold at once, the first of them counts.
+/// How a game ends by the rules. If several ends apply, the first in this list counts.
 #[derive(Clone, Copy, Debug, PartialEq, Eq, Hash)]
 pub enum SEnd {
-    /// The side to move has no legal move, in check or not. It loses.
+    /// The side to move has no legal move, whether in check or not, and loses.
     NoMove,
-    /// The position stands for the fourth time, and since it stood first each move of this side, and
-    /// not each of the other's, left the enemy's king attacked. This side loses.
+    /// The position occurs for the fourth time, and since its first occurrence this side alone gave check with each of
+    /// its moves. This side loses.
     PerpetualCheck(Side),
-    /// The position stands for the fourth time with the same side to move. It is a draw.
+    /// The position occurs for the fourth time with the same side to move (sennichite). The game is a draw.
     Fourfold,
-    /// 600 plies were played. It is a draw.
+    /// 600 plies have been played. The game is a draw.
     PlyLimit,
 }
 
 impl SEnd {
-    /// The score of the game, by the side to move after the end.
+    /// The score of the game; `turn` is the side to move in the final position.
     pub fn outcome(self, turn: Side) -> Score
         ensures { result ≡ outcome_of self turn }
     {

@@ -1,7 +1,7 @@
-//! What is wrong with a line of moves.
+//! Faults of a sequence of moves.
 
 use game_lines::LineFault;
 use shogi_moves::Illegal;
 
-/// Why a line of moves of shogi is not judged.
+/// Why a sequence of shogi moves is rejected.
 pub type SLineFault = LineFault<Illegal>;

@@ -1,4 +1,4 @@
-//! The judgement of a whole line of moves.
+//! Judging a whole game.
 ghost use Rattle.std.specs.Prelude.{IfOk, IfErr, length};
 ghost use Rattle.shogi_repetition.specs.Ends.{EndsSo};
 ghost use Rattle.shogi_repetition.specs.Faults.{IsPlayed, HasFault};
@@ -9,12 +9,18 @@ use crate::marks::Marks;
 use squares::{SMove, SPos};
 use std::alloc::Global;
 
-/// The end of a line of moves from a position, if its last ply ends it. An end of the position
-/// itself counts, where there are no moves. What counts are the positions of this line alone.
+/// The end of the game after a sequence of moves, if the last ply ends it.
 ///
-/// It fails at the first ply that is not played by the rules: there the game has ended before, or
-/// the move is not legal. Where both hold, the game has ended. It also fails where memory is
-/// refused, and then alone.
+/// Without moves the result is the end of the starting position itself, if it is one. Only positions of this sequence
+/// count for repetition.
+///
+/// # Errors
+///
+/// The fault of the first ply that breaks the rules:
+///
+/// - `AfterEnd`: the game had already ended. It takes precedence over `Illegal`.
+/// - `Illegal`: the move is illegal.
+/// - `Memory`: out of memory.
 pub fn judge(alloc: Global, start: &SPos, moves: &[SMove]) -> Result<Option<SEnd>, SLineFault>
     ensures played { IfOk result (λ _. IsPlayed start.now moves.now (length moves.now)) }
     ensures end { IfOk result (λ end. EndsSo start.now moves.now end) }

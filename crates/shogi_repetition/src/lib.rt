@@ -1,4 +1,7 @@
-//! When a game of shogi ends by the rules.
+//! The ends of a game of shogi: no legal move, repetition (sennichite), perpetual check and the ply limit.
+//!
+//! A fourth occurrence of a position is a draw, unless one side alone has given check throughout; that side loses. The
+//! limit of 600 plies is our own.
 #![tactic(auto)]
 
 pub mod ends;

@@ -1,4 +1,4 @@
-//! A line that is judged ply by ply.
+//! The state of a game that is judged ply by ply.
 ghost use Rattle.std.specs.Prelude.{◌≡◌, ◌≤◌, ◌+◌, [], IfOk, IfErr, OnOk, OnErr};
 ghost use Rattle.std.specs.BTreeMap.{get};
 ghost use Rattle.squares.specs.ShogiOrder.{position_cmp};
@@ -11,22 +11,24 @@ use squares::{SMove, SPos};
 use std::alloc::Global;
 use std::collections::BTreeMap;
 
-/// How often a position stood, and after which ply first.
+/// The repetition count of a position, and the ply after which it first occurred.
 #[derive(Clone, Copy, Debug, PartialEq, Eq, Drop)]
 pub struct Stood {
     pub times: u32,
     pub first: usize,
 }
 
-/// What a line of moves comes to, ply by ply: a push looks at no earlier ply.
+/// The state of a game after a sequence of moves.
+///
+/// A push looks at no earlier ply.
 #[derive(Drop)]
 pub struct Marks {
     last: SPos,
     plies: usize,
-    /// How often the last position stood, and when first.
+    /// The occurrences of the last position.
     stood: Stood,
     tail: Tail,
-    /// How often each position stood, and when first.
+    /// The occurrences of each position.
     seen: BTreeMap<SPos, Stood>,
     ghost within: { plies ≤ 600 },
     ghost few_first_checks: { tail.first_checks ≤ plies },
@@ -40,7 +42,11 @@ impl Marks {
     ghost use Rattle.shogi_repetition.specs.Faults.{shogi_lines};
     ghost use Rattle.shogi_repetition.specs.Tails.{end_by};
 
-    /// The line without a move from a position.
+    /// The state before the first move, from a starting position.
+    ///
+    /// # Errors
+    ///
+    /// `Memory` if out of memory.
     pub fn start(alloc: Global, position: &SPos) -> Result<Marks, SLineFault>
         ensures follows { IfOk result (Follows position.now []) }
         ensures fault { IfErr result (λ fault. fault ≡ Memory) }
@@ -57,8 +63,18 @@ impl Marks {
         })
     }
 
-    /// The line with one move more. It fails where the game has ended, or where the move is not legal, with the fault
-    /// that `judge` has of that ply, or where memory is refused; then the line stays as it was.
+    /// Appends a move.
+    ///
+    /// # Errors
+    ///
+    /// - `AfterEnd`: the game has already ended.
+    /// - `Illegal`: the move is illegal.
+    /// - `Memory`: out of memory.
+    ///
+    /// # Guarantees
+    ///
+    /// `fault`: apart from `Memory`, the fault is the one that `judge` returns for this ply. `kept`: after an error the
+    /// state is unchanged.
     pub fn push(&mut self, played: &SMove) -> Result<(), SLineFault>
         ensures follows { OnOk result (GrowsBy Follows played.now self.old self.new) }
         ensures fault { IfErr result (RefusesNext Follows shogi_lines played.now self.old) }
@@ -87,7 +103,7 @@ impl Marks {
         Ok(())
     }
 
-    // How often a position will have stood after the next ply, and when first.
+    // The occurrences of a position, counting one more after the next ply.
     fn stood_again(&self, position: &SPos) -> Stood
         ensures { result ≡ stood_again (self.now.plies + 1) (get position_cmp self.now.seen position.now) }
     {
@@ -103,7 +119,7 @@ impl Marks {
         }
     }
 
-    // The end by the tail.
+    // The end of the game according to the tail, if it has ended.
     fn end_by_tail(&self) -> Option<SEnd>
         ensures { result ≡ end_by self.now.tail self.now.last self.now.plies self.now.stood.times self.now.stood.first }
     {
@@ -115,7 +131,7 @@ impl Marks {
         )
     }
 
-    /// The end that the rules give the line, if its last ply ends it.
+    /// The end of the game, if the last ply ends it.
     pub fn end(&self) -> Option<SEnd>
         ensures { TellsEnd self.now result }
     {

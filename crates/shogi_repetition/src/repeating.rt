@@ -1,4 +1,4 @@
-//! What ends a repetition: which sides gave check throughout.
+//! Checks during a repetition.
 ghost use Rattle.std.specs.Prelude.{◌≡◌};
 ghost use Rattle.shogi_moves.specs.Computed.{has_move};
 ghost use Rattle.shogi_repetition.specs.Computed.{is_in_check, end_by_checks};
@@ -21,7 +21,7 @@ pub(crate) fn is_in_check(position: &SPos) -> bool
     in_check(position)
 }
 
-/// The end where a side, or both, or none, gave check throughout.
+/// The end of a fourth repetition; `first` and `second` tell whether that side gave check with each of its moves.
 pub(crate) fn end_by_checks(first: bool, second: bool) -> SEnd
     ensures { result ≡ end_by_checks first second }
 {

@@ -1,4 +1,4 @@
-//! Two numbers of a line by which its last ply is judged, without the plies before it.
+//! Counters that give the end of a game without looking at earlier plies.
 ghost use Rattle.std.specs.Prelude.{◌≡◌, ◌<◌};
 ghost use Rattle.shogi_repetition.specs.Computed.{is_in_check, end_by_checks};
 ghost use Rattle.shogi_repetition.specs.Tails.{no_checks, count_on, next_tail, repetition_by, end_by};
@@ -7,23 +7,22 @@ use crate::ends::SEnd;
 use crate::repeating::{can_move, end_by_checks, is_in_check};
 use squares::{SPos, Side};
 
-/// What tells the end of a line's last ply, beside the last position, the number of plies, and how often and after
-/// which ply first that position stood.
+/// The counters that, with the last position, its occurrences and the number of plies, give the end of a game.
 #[derive(Clone, Copy, Debug, PartialEq, Eq)]
 pub struct Tail {
-    /// The last moves of First, in a row, that gave check.
+    /// The number of First's consecutive moves, up to the last one, that gave check.
     pub first_checks: u32,
-    /// The last moves of Second, in a row, that gave check.
+    /// The number of Second's consecutive moves, up to the last one, that gave check.
     pub second_checks: u32,
 }
 
-/// So often may a position stand before it ends the game.
+/// The repetition count at which a game ends.
 const STANDS: usize = 4;
 
-/// The plies after which every game ends.
+/// The number of plies after which every game ends.
 const PLY_LIMIT: usize = 600;
 
-// The checks in a row after one move more.
+// The number of consecutive checks after one more move.
 fn count_on(checks: u32, gives_check: bool) -> u32
     requires { checks < 4294967295 }
     ensures { result ≡ count_on checks gives_check }
@@ -35,7 +34,7 @@ fn count_on(checks: u32, gives_check: bool) -> u32
 }
 
 impl Tail {
-    /// The tail of a line without a move.
+    /// The tail before the first move.
     pub fn start() -> Tail
         ensures { result ≡ no_checks }
     {
@@ -45,7 +44,7 @@ impl Tail {
         }
     }
 
-    /// The tail of the line with one move more, which led to this position.
+    /// The tail after one more move, which leads to `after`.
     pub fn next(self, after: &SPos) -> Tail
         requires first_checks { self.first_checks < 4294967295 }
         requires second_checks { self.second_checks < 4294967295 }
@@ -63,7 +62,7 @@ impl Tail {
         }
     }
 
-    // The end of a fourth repetition, where so many plies were played since the position stood first.
+    // The end of a fourth repetition, `plies` plies after the first occurrence of the position.
     fn repetition(self, plies: usize) -> SEnd
         ensures { result ≡ repetition_by self plies }
     {
@@ -73,8 +72,10 @@ impl Tail {
         )
     }
 
-    /// The end that the rules give the line with this tail, whose last position stood so often after so many plies, and
-    /// first after the ply `first`.
+    /// The end of a game with this tail, if it has ended.
+    ///
+    /// `position` is the last position, `plies` the number of plies, `times` the repetition count of the position, and
+    /// `first` the ply after which it first occurred.
     #[tactic(auto, unfolding(crate::specs::Tails::end_by))]
     pub fn end(self, position: &SPos, plies: usize, times: usize, first: usize) -> Option<SEnd>
         ensures { result ≡ end_by self position.now plies times first }

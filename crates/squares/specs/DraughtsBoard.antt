@@ -1,4 +1,4 @@
--- A board is a finite map from squares to pieces, and a position a board and a turn.
+-- A draughts board is a finite map from squares to pieces; a position is a board and the side to move.
 use Rattle.std.specs.Prelude.{ℕ, Bool, false, Option, Some, None, List, [], ◌∷◌}
 use Rattle.std.specs.Ordering.{nat_cmp}
 use Rattle.std.specs.FinMap as map
@@ -19,11 +19,11 @@ occupied n [] = []
 occupied n (None ∷ cells) = occupied (suc n) cells
 occupied n (Some p ∷ cells) = (n, p) ∷ occupied (suc n) cells
 
--- the board of fifty cells, in the order of the squares
+-- The board of a list of 50 cells, in the order of the squares.
 unfoldable pub board_of : List (Option DPiece) → Board
 board_of cells = map.from_entries (occupied 1 cells)
 
--- whether a piece of a side stands there
+-- Whether the cell holds a piece of the side.
 abbrev pub is_of : Side → Option DPiece → Bool
 is_of side None = false
 is_of side (Some q) = same_side q.side side

@@ -1,4 +1,4 @@
--- What fifty cells say of the board that they keep.
+-- Lemmas about the list of 50 cells and its board.
 use Rattle.std.proofs.Common.{◌≡◌, ℕ, zero, suc, ◌+◌, ◌<◌, true, false, cond, List, [], ◌∷◌, length, get_or, ◌≢◌, ◌⊎◌}
 use Rattle.std.proofs.Common.{inl, inr, refl, sym, ap, ◌∙◌, arith, Option, Some, None}
 use Rattle.std.specs.Prelude.{map as list_map}
@@ -81,7 +81,7 @@ board_of-clear cells k n e h =
     (map.same_map nat_cmp_total nat_cmp-IsAntisymmetric _ _
     (λ q. get-board_of-set cells k None h q ∙ sym (map.get-remove nat_cmp_total (board_of cells) (k + 1) q)))
 
--- the cells that a board was made of
+-- The cells are recovered from their board.
 pub cells_back : (cells : List (Option DPiece)) → length cells ≡ 50
     → list_map (λ n. map.get (board_of cells) n) (range_with_len 1 50) ≡ cells
 cells_back cells h =

@@ -1,4 +1,4 @@
--- The dark squares of the board by number, 1 to 50, and by row and column, and the lines along them.
+-- Geometry of the draughts board: square numbers 1 to 50, rows, columns and diagonals.
 use Rattle.std.specs.Prelude.{◌≡◌, ℕ, ◌+◌, ◌-◌, ◌*◌, ◌/◌, ◌%◌, ◌≤◌, ◌==◌, ◌||◌, ◌&&◌, nat_le, Option, Some, None, List}
 use Rattle.std.specs.Prelude.{[], ◌∷◌, if◌then◌else◌}
 use Rattle.std.specs.Option.{option_map_or}
@@ -12,28 +12,28 @@ row_of n = (n - 1) / 5
 abbrev pub column_of : ℕ → ℕ
 column_of n = 2 * ((n - 1) % 5) + (1 - row_of n % 2)
 
--- the numbers of the fifty squares
+-- The number is that of a square, 1 to 50.
 abbrev pub OnBoard : ℕ → Type 0
 OnBoard n = (1 ≤ n) × (n ≤ 50)
 
--- the number of the dark square at a row and a column
+-- The number of the dark square at a row and a column.
 abbrev pub number_at : ℕ → ℕ → ℕ
 number_at row column = 5 * row + column / 2 + 1
 
--- a row and a column of the board whose square is dark: the top left square is light
+-- A row and a column of a dark square; the top left square is light.
 pub record IsDark (row column : ℕ) : Type 0 where
   pub row_in : row ≤ 9
   pub column_in : column ≤ 9
   pub odd : (row + column) % 2 ≡ 1
 
--- m stands k rows and k columns from n in a direction
+-- Square m is k rows and k columns from square n in a direction.
 abbrev pub IsMoved : Direction → ℕ → ℕ → ℕ → Type 0
 IsMoved UpLeft k n m = (row_of m + k ≡ row_of n) × (column_of m + k ≡ column_of n)
 IsMoved UpRight k n m = (row_of m + k ≡ row_of n) × (column_of m ≡ column_of n + k)
 IsMoved DownLeft k n m = (row_of m ≡ row_of n + k) × (column_of m + k ≡ column_of n)
 IsMoved DownRight k n m = (row_of m ≡ row_of n + k) × (column_of m ≡ column_of n + k)
 
--- the next square in a direction from a square of the board, if there is one
+-- The next square in a direction from a square on the board, if there is one.
 unfoldable pub neighbor : Direction → ℕ → Option ℕ
 neighbor UpLeft n = if row_of n == 0 || column_of n == 0 then None else Some
     (number_at (row_of n - 1) (column_of n - 1))
@@ -44,16 +44,16 @@ neighbor DownLeft n = if row_of n == 9 || column_of n == 0 then None else Some
 neighbor DownRight n = if row_of n == 9 || column_of n == 9 then None else Some
     (number_at (row_of n + 1) (column_of n + 1))
 
--- the next square in a direction, if there is one; from a number that is no square there is none
+-- The next square in a direction, if there is one; `None` for a number that is no square.
 unfoldable pub step : Direction → ℕ → Option ℕ
 step d n = if nat_le 1 n && nat_le n 50 then neighbor d n else None
 
--- at most k squares from n on in a direction
+-- At most k squares from n in a direction, without n.
 unfoldable pub line : ℕ → Direction → ℕ → List ℕ
 line zero d n = []
 line (suc k) d n = option_map_or (λ m. m ∷ line k d m) (step d n) []
 
--- the squares from n on in a direction, the nearest first, up to the board's edge
+-- The squares from n in a direction up to the edge of the board, nearest first, without n.
 unfoldable pub ray : Direction → ℕ → List ℕ
 ray d n = line 9 d n
 

@@ -1,4 +1,4 @@
--- Beside its cells a position keeps the squares of each side, and those of the kings.
+-- The bitboards of a position: each side's pieces, and the kings.
 use Rattle.std.proofs.Common.{◌≡◌, ℕ, zero, suc, Bool, false, cond, Option, Some, None, List, length, sym, ap, ◌∙◌}
 use Rattle.std.proofs.Common.{arith, inl, inr}
 use Rattle.std.specs.Cmp.{nat_cmp_total}
@@ -13,31 +13,31 @@ use Rattle.squares.specs.declared.sides.Side.TheVariants.{First, Second}
 use Rattle.squares.specs.DraughtsBoard.{Board, board_of, is_of}
 use Rattle.squares.specs.DraughtsCells.{get-board_of, get-board_of-zero}
 
--- whether a king stands there
+-- Whether the cell holds a king.
 abbrev pub is_king : Option DPiece → Bool
 is_king None = false
 is_king (Some q) = q.king
 
--- the set has the squares where what stands passes the test, and no other
+-- The set holds exactly the squares whose cell passes the test.
 abbrev pub Marks : (Option DPiece → Bool) → Numbers → Board → Type 0
 Marks test s board = (q : ℕ) → set.contains s q ≡ test (map.get board q)
 
--- fifty cells, and the squares of each side's pieces and of the kings among them
+-- Fifty cells with the squares of each side's pieces and of the kings.
 pub record KeepsCells (cells : List (Option DPiece)) (first second kings : Numbers) : Type 0 where
   pub has_cells : length cells ≡ 50
   pub of_first : Marks (is_of First) first (board_of cells)
   pub of_second : Marks (is_of Second) second (board_of cells)
   pub of_kings : Marks is_king kings (board_of cells)
 
--- the set with the square if it is to be there, and without it if not
+-- Adds the square to the set if `is_in`, otherwise removes it.
 abbrev pub noted : Numbers → ℕ → Bool → Numbers
 noted s n is_in = cond is_in (set.insert s n) (set.remove s n)
 
--- the squares of the board where what stands passes the test
+-- The squares whose cell passes the test.
 unfoldable pub squares_where : (Option DPiece → Bool) → Board → Numbers
 squares_where test board = set.from_list (passing (λ n. test (map.get board n)) 1 50)
 
--- the set that the board was kept with
+-- The set is recovered from the board.
 module _ (test : Option DPiece → Bool) (none : test None ≡ false) (cells : List (Option DPiece)) (s : Numbers)
     (many : length cells ≡ 50) (marks : Marks test s (board_of cells)) where
   each : (q : ℕ) → set.contains (squares_where test (board_of cells)) q ≡ test (map.get (board_of cells) q)

@@ -1,4 +1,4 @@
--- What fifty marks say of the set that they keep.
+-- Lemmas about a set of squares as a list of 50 marks.
 use Rattle.std.proofs.Common.{◌≡◌, ℕ, zero, suc, ◌+◌, ◌<◌, Bool, true, false, cond, ◌||◌, List, [], ◌∷◌, length, get_or}
 use Rattle.std.proofs.Common.{nat_eq, ◌≢◌, ◌⊎◌, inl, inr, refl, sym, ap, ◌∙◌, arith, add_comm}
 use Rattle.std.specs.Prelude.{map}
@@ -30,7 +30,7 @@ nat_eq_same n q h = grind (arith, common_steps)
 pub nat_eq-same : (m n : ℕ) → nat_eq m n ≡ true → m ≡ n
 nat_eq-same m n e = elim (cases_eq m n) [ inl s ↦ s | inr d ↦ let f = nat_eq_other m n d in cc ]
 
--- nothing below the first square is marked
+-- Nothing below the first square is marked.
 marked_below : (bs : List Bool) (n q : ℕ) → q < n → list_any (λ y. nat_eq y q) (marked n bs) ≡ false
 marked_below [] n q h = refl
 marked_below (true ∷ bs) n q h = rw (nat_eq_below n q h) (marked_below bs (suc n) q (omega arith))
@@ -59,7 +59,7 @@ marks_back bs h =
     get_or-map-range_with_len (λ n. set.contains (squares_of bs) n) 1 50 k (k + 1) false b (omega arith)
     ∙ contains-squares_of bs (k + 1) k refl)
 
--- what an inserted square does to membership, by the numbers' own test
+-- Membership after an insertion, in terms of `nat_eq`.
 pub contains-insert_nat : (s : Squares) (n q : ℕ) → set.contains (set.insert s n) q ≡ (nat_eq q n || set.contains s q)
 contains-insert_nat s n q = set.contains-insert nat_cmp_total s n q
     ∙ ap (λ b. b || set.contains s q) (unsigned_tied q n)
@@ -81,7 +81,7 @@ squares_of-mark_at bs n k (suc j) e h =
     there ∙ set_or bs j k h (cases_eq j k) ∙ sym
     (ap (λ b. b || set.contains (squares_of bs) (suc j)) same ∙ ap (λ b. nat_eq j k || b) before)
 
--- to mark one more square is to insert it
+-- Marking a square inserts it.
 pub squares_of-mark : (bs : List Bool) (n k : ℕ) → n ≡ k + 1 → k < length bs
     → squares_of (list_set bs k true) ≡ set.insert (squares_of bs) n
 squares_of-mark bs n k e h =

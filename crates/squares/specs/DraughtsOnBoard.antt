@@ -1,4 +1,4 @@
--- The squares of the board are 1 to 50, and lines stay on it.
+-- Squares are 1 to 50, and diagonals stay on the board.
 use Rattle.std.proofs.Common.{◌≡◌, ℕ, zero, suc, ◌+◌, ◌%◌, ◌≤◌, ◌≢◌, Bool, true, false, cond, ◌||◌, ◌&&◌, nat_le, Some}
 use Rattle.std.proofs.Common.{None, List, [], ◌∷◌, nat_eq, refl, ap, subst, arith, ◌⊎◌, inl, inr}
 use Rattle.std.proofs.lemmas.Grind.{common_steps}
@@ -7,7 +7,7 @@ use Rattle.squares.specs.declared.draughts.direction.Direction.{Direction}
 use Rattle.squares.specs.declared.draughts.direction.Direction.TheVariants.{UpLeft, UpRight, DownLeft, DownRight}
 use Rattle.squares.specs.DraughtsGeometry.{OnBoard, row_of, column_of, number_at, neighbor, step, line, ray, line-edge}
 
--- each square of a list is on the board
+-- Every square of the list is on the board.
 abbrev pub AllOnBoard : List ℕ → Type 0
 AllOnBoard [] = Unit {0}
 AllOnBoard (n ∷ ns) = OnBoard n × AllOnBoard ns
@@ -22,7 +22,7 @@ or_false false b e = (refl, e)
 pub nat_eq-differs : (m n : ℕ) → nat_eq m n ≡ false → m ≢ n
 nat_eq-differs m n e = λ h. grind (arith, common_steps)
 
--- the square of a step that was made, if its place is on the board
+-- The result of a step is on the board if its row and column are.
 step_made : (a b : Bool) (n m r c : ℕ) → cond (a || b) None (Some (number_at r c)) ≡ Some m
     → (a ≡ false → b ≡ false → (r ≤ 9) × (c ≤ 9)) → OnBoard m
 step_made true b n m r c e h = cc
@@ -81,7 +81,7 @@ pub ray-on_board : (d : Direction) (n : ℕ) → AllOnBoard (ray d n)
 unfolding ray
 ray-on_board d n = line-on_board 9 d n
 
--- from a number that is no square there is no line
+-- A number that is no square has no diagonal.
 pub ray-off : (d : Direction) (n : ℕ) → OnBoard n ⊎ (ray d n ≡ [])
 unfolding ray step
 ray-off d n =
@@ -90,7 +90,7 @@ ray-off d n =
       | false ↦ λ off. inr (line-edge 9 d n (ap (λ c. cond c (neighbor d n) None) off))
     ] refl
 
--- a row and a column determine the number, and the number them
+-- Row and column determine the number, and the number determines them.
 pub number_at-row_of : (n : ℕ) → OnBoard n → number_at (row_of n) (column_of n) ≡ n
 number_at-row_of n on = omega arith
 

@@ -1,4 +1,4 @@
--- The opening of draughts: twenty men a side, Second's on squares 1 to 20 and First's on 31 to 50, with First to move.
+-- The starting position of draughts: Second's men on squares 1 to 20, First's men on 31 to 50, First to move.
 use Rattle.std.specs.Prelude.{ℕ, false, nat_le, if◌then◌else◌, Option, Some, None, map}
 use Rattle.std.specs.List.{range_with_len}
 use Rattle.squares.specs.declared.draughts.piece.DPiece.{DPiece}
@@ -9,7 +9,7 @@ use Rattle.squares.specs.DraughtsBoard.{Position, board_of}
 abbrev pub man : Side → DPiece
 man side = record { side = side; king = false }
 
--- what stands on square n in the opening
+-- The piece on square n in the starting position.
 abbrev pub opening_piece : ℕ → Option DPiece
 opening_piece n = if nat_le n 20 then Some (man Second) else if nat_le n 30 then None else Some (man First)
 

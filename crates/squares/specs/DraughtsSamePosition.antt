@@ -1,5 +1,4 @@
--- Two positions are the same exactly where they are one position: the same pieces on the same squares, and the same
--- turn.
+-- Equality of draughts positions: the same pieces on the same squares, and the same side to move.
 use Rattle.std.proofs.Common.{◌≡◌, ℕ, Bool, true, false, ◌&&◌, not, nat_eq, Option, Some, None, List, [], ◌∷◌, ◌∙◌}
 use Rattle.std.proofs.Common.{refl, sym, ap}
 use Rattle.std.specs.Cmp.{IsEquivalence, IsPartialEquivalence, partial_equiv_from_equiv, both_ways}
@@ -9,7 +8,7 @@ use Rattle.squares.specs.Sides.{same_side, same_side-same, same_side-itself}
 use Rattle.squares.specs.DraughtsBoard.{Position}
 use Rattle.squares.specs.DraughtsMarks.{nat_eq_same, nat_eq-same}
 
--- whether both are kings, or neither is
+-- Whether both are kings or both are men.
 abbrev pub same_rank : Bool → Bool → Bool
 same_rank true b = b
 same_rank false b = not b
@@ -17,14 +16,14 @@ same_rank false b = not b
 abbrev pub same_piece : DPiece → DPiece → Bool
 same_piece a b = same_side a.side b.side && same_rank a.king b.king
 
--- whether the same stands on two squares
+-- Whether two cells have the same content.
 abbrev pub same_cell : Option DPiece → Option DPiece → Bool
 same_cell None None = true
 same_cell None (Some b) = false
 same_cell (Some a) None = false
 same_cell (Some a) (Some b) = same_piece a b
 
--- whether the same piece stands on the same square
+-- Whether two entries have the same square and the same piece.
 abbrev pub same_entry : ℕ × DPiece → ℕ × DPiece → Bool
 same_entry a b = nat_eq a.0 b.0 && same_piece a.1 b.1
 
@@ -34,7 +33,7 @@ same_entries [] (b ∷ ys) = false
 same_entries (a ∷ xs) [] = false
 same_entries (a ∷ xs) (b ∷ ys) = same_entry a b && same_entries xs ys
 
--- whether two positions have the same pieces on the same squares and the same turn
+-- Whether two positions have the same pieces on the same squares and the same side to move.
 unfoldable pub same_position : Position → Position → Bool
 same_position p q = same_side p.turn q.turn && same_entries (map.entries p.board) (map.entries q.board)
 

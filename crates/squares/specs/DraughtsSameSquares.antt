@@ -1,4 +1,4 @@
--- Two sets have the same squares exactly where they are one set.
+-- Equality of sets: `same_squares` holds exactly for equal sets.
 use Rattle.std.proofs.Common.{◌≡◌, Bool, true, false, ◌&&◌, refl, ap}
 use Rattle.std.specs.Cmp.{IsEquivalence, IsPartialEquivalence, partial_equiv_from_equiv, nat_cmp_total, both_ways}
 use Rattle.std.specs.FinSet as set

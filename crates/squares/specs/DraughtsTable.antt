@@ -1,4 +1,4 @@
--- Where the next squares in a direction stand in a table.
+-- Offsets of the directions in a table of neighbours.
 use Rattle.std.specs.Prelude.{ℕ}
 use Rattle.squares.specs.declared.draughts.direction.Direction.{Direction}
 use Rattle.squares.specs.declared.draughts.direction.Direction.TheVariants.{UpLeft, UpRight, DownLeft, DownRight}

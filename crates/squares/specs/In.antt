@@ -1,4 +1,4 @@
--- Membership of a list by recursion.
+-- List membership by recursion.
 use Rattle.std.proofs.Common.{◌≡◌, ℕ, Bool, true, false, ◌||◌, ◌∙◌, ◌⊎◌, inl, inr, List, [], ◌∷◌, ◌++◌, refl, sym, ap}
 use Rattle.std.proofs.Common.{subst, arith, length, get_or, zero, suc, ◌<◌, ◌≤◌, ◌+◌, take, drop}
 use Rattle.std.proofs.lemmas.List.{take_more, drop_more}
@@ -87,7 +87,7 @@ list_any-finds f [] x h e = absurd h
 list_any-finds f (y ∷ xs) x (inl same) e = ap (λ c. c || list_any f xs) (ap f same ∙ e)
 list_any-finds f (y ∷ xs) x (inr h) e = ap (λ c. f y || c) (list_any-finds f xs x h e) ∙ or_true (f y)
 
--- The steps of a loop that looks for an element which passes a test.
+-- Steps of a loop that searches for an element that passes a test.
 module _ {A : Type 0} (f : A → Bool) (xs : List A) (i : ℕ) where
   module _ (x : A) (h : i < length xs) (is : x ≡ get_or xs i x) (rest : list_any f (drop i xs) ≡ list_any f xs) where
     from_here : (f x || list_any f (drop (i + 1) xs)) ≡ list_any f xs

@@ -1,4 +1,4 @@
--- What a list has once elements are put into it in order.
+-- Lemmas about the elements of a list after sorted insertions.
 use Rattle.std.proofs.Common.{◌≡◌, ℕ, ◌⊎◌, inl, inr, List, [], ◌∷◌, ◌++◌, refl, sym, ap, ◌∙◌, subst, ◌+◌, ◌<◌, ◌≤◌}
 use Rattle.std.proofs.Common.{length, take, drop, get_or, arith, append_assoc}
 use Rattle.std.proofs.lemmas.Grind.{common_steps}
@@ -40,7 +40,7 @@ module _ {A : Type 0} (order : A → A → Ordering) (total : IsTotalOrder order
         | Greater ↦ inr h
       ]
 
-  -- where only equal elements of the list tie with it
+  -- If only equal elements of the list compare as equal to the inserted one.
   pub put-has : (m : A) (xs : List A) → ((x : A) → In x xs → order x m ≡ Equal → x ≡ m) → In m (put order m xs)
   put-has m [] same = inl refl
   put-has m (x ∷ xs) same =
@@ -60,7 +60,7 @@ module _ {A : Type 0} (order : A → A → Ordering) (total : IsTotalOrder order
   all_less x y (z ∷ ys) h (inl e) = ap (order x) (sym e) ∙ h.0
   all_less x y (z ∷ ys) h (inr k) = all_less x y ys h.1 k
 
-  -- a list in order before another, each of whose elements comes after all of the first
+  -- A sorted list followed by a sorted list of greater elements is sorted.
   pub append-sorted : (xs ys : List A) → IsStrictlySortedBy order xs → IsStrictlySortedBy order ys
       → ((x y : A) → In x xs → In y ys → order x y ≡ Less) → IsStrictlySortedBy order (xs ++ ys)
   unfolding IsStrictlySortedBy
@@ -110,7 +110,7 @@ module _ {A : Type 0} (order : A → A → Ordering) (total : IsTotalOrder order
   put_all-keeps [] xs y h = h
   put_all-keeps (m ∷ ms) xs y h = put_all-keeps ms (put order m xs) y (put-keeps m y xs h)
 
-  -- where only equal elements of the two lists tie
+  -- If only equal elements of the two lists compare as equal.
   pub put_all-has : (ms xs : List A) (y : A) → ((a b : A) → In a xs ⊎ In a ms → In b ms → order a b ≡ Equal → a ≡ b)
       → In y ms → In y (put_all order ms xs)
   put_all-has [] xs y same h = absurd h
@@ -128,7 +128,7 @@ module _ {A : Type 0} (order : A → A → Ordering) (total : IsTotalOrder order
   put_all-append [] ns xs = refl
   put_all-append (m ∷ ms) ns xs = put_all-append ms ns (put order m xs)
 
-  -- The steps of a loop that looks for the place.
+  -- Steps of a loop that searches for the insertion place.
   module _ (m x : A) (xs : List A) (i : ℕ) (h : i < length xs) (is : x ≡ get_or xs i x)
       (rest : take i xs ++ put order m (drop i xs) ≡ put order m xs) where
     here : drop i xs ≡ x ∷ drop (i + 1) xs
@@ -160,7 +160,7 @@ module _ {A : Type 0} (order : A → A → Ordering) (total : IsTotalOrder order
       let none : drop i xs ≡ [] = grind (arith, common_steps) in
       sym (ap (λ r. r ++ m ∷ []) (take_all i xs h)) ∙ ap (λ r. take i xs ++ put order m r) (sym none) ∙ rest
 
-  -- one more piece
+  -- The part of one more element.
   pub put_all-more : {B : Type 0} (f : B → List A) (xs : List B) (i : ℕ) (x : B) (before old new : List A)
       → i < length xs → x ≡ get_or xs i x → old ≡ put_all order (flat_map f (take i xs)) before
       → new ≡ put_all order (f x) old → new ≡ put_all order (flat_map f (take (i + 1) xs)) before

@@ -1,4 +1,4 @@
--- How many elements at the end of a list pass a test, in a row.
+-- The length of the longest suffix of a list whose elements pass a test.
 use Rattle.std.proofs.Common.{◌≡◌, ℕ, zero, suc, ◌+◌, ◌-◌, ◌≤◌, Bool, true, false, ◌&&◌, cond, List, [], ◌∷◌, ◌++◌}
 use Rattle.std.proofs.Common.{length, drop, refl, sym, ap, ◌∙◌, arith, length-append}
 use Rattle.std.specs.Prelude.{nat_le, reverse}
@@ -8,12 +8,12 @@ use Rattle.std.proofs.lemmas.List.{reverse-append, reverse-reverse, drop_all}
 use Rattle.std.proofs.lemmas.List.Folds.{list_all-append}
 
 module _ {X : Type 0} (test : X → Bool) where
-  -- one element more
+  -- One more element.
   pub suffix_len-more : (xs : List X) (x : X)
       → suffix_len test (xs ++ x ∷ []) ≡ cond (test x) (1 + suffix_len test xs) 0
   suffix_len-more xs x = ap (prefix_len test) (reverse-append xs (x ∷ []))
 
-  -- the last n elements are all so
+  -- The last n elements pass the test.
   abbrev pub end_so : ℕ → List X → Bool
   end_so n xs = nat_le n (length xs) && list_all test (drop (length xs - n) xs)
 
@@ -71,7 +71,7 @@ module _ {X : Type 0} (test : X → Bool) where
   passed n m true = sym (shorter n m) ∙ ap (nat_le (suc n)) (omega arith)
   passed n m false = sym (le-none n)
 
-  -- over the list from its end
+  -- The same over the reversed list.
   backwards : (n : ℕ) (ys : List X) → end_so n (reverse ys) ≡ nat_le n (prefix_len test ys)
   backwards zero ys = none-so (reverse ys) ∙ sym (le-nought (prefix_len test ys))
   backwards (suc n) [] = fails (nat_le (suc n) 0) _ (le-none n) ∙ sym (le-none n)
@@ -80,6 +80,6 @@ module _ {X : Type 0} (test : X → Bool) where
       ap (end_so (suc n)) turned ∙ so-more n (reverse ys) y ∙ ap (λ b. cond (test y) b false) (backwards n ys)
       ∙ passed n (prefix_len test ys) (test y)
 
-  -- the last n elements are all so exactly where the run at the end has at least n
+  -- The last n elements pass exactly if the longest passing suffix has at least n elements.
   pub end_so-run : (n : ℕ) (xs : List X) → end_so n xs ≡ nat_le n (suffix_len test xs)
   end_so-run n xs = ap (end_so n) (sym (reverse-reverse xs)) ∙ backwards n (reverse xs)

@@ -1,4 +1,4 @@
--- Hands: how many of each kind a side holds.
+-- Hands: the number of pieces of each kind that a side holds.
 use Rattle.std.specs.Prelude.{ℕ}
 use Rattle.squares.specs.declared.sides.Side.{Side}
 use Rattle.squares.specs.declared.sides.Side.TheVariants.{First, Second}
@@ -16,7 +16,7 @@ count_of in_hand.Knight hand = hand.knight
 count_of in_hand.Lance hand = hand.lance
 count_of in_hand.Pawn hand = hand.pawn
 
--- the hand with that many of a kind
+-- The hand with `count` pieces of a kind.
 abbrev pub with_count : HandKind → ℕ → Hand → Hand
 with_count in_hand.Rook count hand = record hand { rook = count }
 with_count in_hand.Bishop count hand = record hand { bishop = count }

@@ -1,4 +1,4 @@
--- The opening of shogi: lnsgkgsnl/1r5b1/ppppppppp/9/9/9/PPPPPPPPP/1B5R1/LNSGKGSNL b -
+-- The starting position of shogi, in SFEN: lnsgkgsnl/1r5b1/ppppppppp/9/9/9/PPPPPPPPP/1B5R1/LNSGKGSNL b -
 use Rattle.std.specs.Prelude.{ℕ, ◌-◌, ◌==◌, ◌||◌, nat_le, if◌then◌else◌, Option, Some, None, map}
 use Rattle.std.specs.List.{range_with_len}
 use Rattle.squares.specs.declared.sides.Side.{Side}
@@ -11,26 +11,26 @@ use Rattle.squares.specs.ShogiBoard.{shogi_board_of}
 use Rattle.squares.specs.ShogiGeometry.{file_of, rank_of}
 use Rattle.squares.specs.ShogiSets.{ShogiPosition}
 
--- what stands on a file of the back rank: from the fifth file outward king, golds, silvers, knights and lances
+-- The piece on a file of the back rank: from file 5 outward king, golds, silvers, knights and lances.
 abbrev pub back_role : ℕ → Role
 back_role file = if file == 5 then King else if file == 4 || file == 6 then Gold else if file == 3 || file ==
     7 then Silver else if file == 2 || file == 8 then Knight else Lance
 
--- what stands on the second rank of First: the rook on the second file and the bishop on the eighth
+-- The piece on First's second rank: the rook on file 2 and the bishop on file 8.
 abbrev pub second_role : ℕ → Option Role
 second_role file = if file == 2 then Some Rook else if file == 8 then Some Bishop else None
 
--- what First has on a file, so many ranks from its edge
+-- First's piece on a file, `row` ranks from First's edge.
 abbrev pub army_role : ℕ → ℕ → Option Role
 army_role file row = if row == 1 then Some (back_role file) else if row == 2 then second_role file else if row ==
     3 then Some Pawn else None
 
--- a piece of the side, where it has that role there
+-- The side's piece with a role, if there is one.
 abbrev pub piece_of : Side → Option Role → Option SPiece
 piece_of side None = None
 piece_of side (Some role) = Some (record { side = side; role = role })
 
--- what stands on a file and a rank: Second's army is First's, turned about the middle of the board
+-- The piece at a file and a rank: Second's pieces are First's, rotated about the middle of the board.
 abbrev pub opening_piece : ℕ → ℕ → Option SPiece
 opening_piece file rank = if nat_le rank 3 then piece_of Second (army_role (10 - file) rank) else piece_of First
     (army_role file (10 - rank))

@@ -1,4 +1,4 @@
--- The order of shogi's positions: by the turn, then the hands, then the board.
+-- The order of shogi positions: by side to move, then hands, then board.
 use Rattle.std.specs.Prelude.{ℕ}
 use Rattle.std.specs.Ordering.{nat_cmp, on, then_cmp, flip_args}
 use Rattle.std.specs.Cmp.Lexicographic.{slice_cmp}
@@ -13,7 +13,7 @@ use Rattle.squares.specs.contracts.shogi.piece.SPieceOrd.TheImpl as piece_order
 use Rattle.squares.specs.ShogiBoard.{ShogiBoard}
 use Rattle.squares.specs.ShogiSets.{ShogiPosition}
 
--- the derived orders, by side and role, and by the fields in turn
+-- The derived orders, by side and role, and by the fields in turn.
 abbrev pub side_cmp : Side → Side → Ordering
 side_cmp = (side_order.ghosts).cmp
 
@@ -23,12 +23,12 @@ hands_cmp = (hands_order.ghosts).cmp
 abbrev pub piece_cmp : SPiece → SPiece → Ordering
 piece_cmp = (piece_order.ghosts).cmp
 
--- of two pieces on squares the one on the later square is less, and on one square they are ordered as pieces
+-- Of pieces on different squares, the one on the later square is less; on the same square the pieces are compared.
 abbrev pub entry_cmp : ℕ × SPiece → ℕ × SPiece → Ordering
 entry_cmp = then_cmp (flip_args (on (λ e. e.0) nat_cmp)) (on (λ e. e.1) piece_cmp)
 
--- Boards are ordered by what stands on the first square where they differ. There nothing is less than a piece: so the
--- board whose next piece stands on a later square is less, and one with no further piece is less than one that has one.
+-- Boards are compared at the first square where they differ: an empty cell is less than a piece. So of two entry lists
+-- the one with the later next square is less, and a list that ends is less than one that goes on.
 unfoldable pub board_cmp : ShogiBoard → ShogiBoard → Ordering
 board_cmp = on map.entries (slice_cmp entry_cmp)
 

@@ -1,4 +1,4 @@
--- The order of shogi's positions is total, and only one position ties with another: itself.
+-- The order of shogi positions is total, and only equal positions compare as equal.
 use Rattle.std.proofs.Common.{◌≡◌, ℕ, Bool, true, false, ◌&&◌, List, [], ◌∷◌, ◌∙◌, refl, sym, ap, subst}
 use Rattle.std.specs.Cmp.{IsTotalOrder, IsPartialOrder, both_ways, unsigned_tied, partial_order_from_agreeing_total}
 use Rattle.std.specs.Cmp.Lexicographic.{slice_cmp}
@@ -23,7 +23,7 @@ use Rattle.squares.specs.ShogiSamePosition.{same_hand, same_hands-same}
 use Rattle.squares.specs.DraughtsMarks.{nat_eq-same}
 use Rattle.squares.specs.ShogiOrder.{side_cmp, hands_cmp, piece_cmp, entry_cmp, board_cmp, position_cmp}
 
--- a tie is a tie of each part
+-- A lexicographic tie is a tie of each part.
 then_tied : (a b : Ordering) → is_eq (ordering_then a b) ≡ true → (is_eq a ≡ true) × (is_eq b ≡ true)
 then_tied Less b e = cc
 then_tied Equal b e = (refl, e)

@@ -1,4 +1,4 @@
--- Kinds and roles of shogi's pieces: what a promoted piece was, and which kinds promote.
+-- Kinds and roles of shogi pieces, and promotion.
 use Rattle.std.specs.Prelude.{Bool, true, false, Option, Some, None}
 use Rattle.squares.specs.declared.shogi.piece.Kind.{Kind}
 use Rattle.squares.specs.declared.shogi.piece.Kind.TheVariants as kind
@@ -7,7 +7,7 @@ use Rattle.squares.specs.declared.shogi.piece.HandKind.TheVariants as in_hand
 use Rattle.squares.specs.declared.shogi.piece.Role.{Role}
 use Rattle.squares.specs.declared.shogi.piece.Role.TheVariants as role
 
--- the kind of a piece, promoted or not
+-- The kind of a piece, regardless of promotion.
 abbrev pub kind_of : Role → Kind
 kind_of role.King = kind.King
 kind_of role.Rook = kind.Rook
@@ -33,7 +33,7 @@ is_promoted role.PromotedLance = true
 is_promoted role.PromotedPawn = true
 is_promoted _ = false
 
--- the role of an unpromoted piece
+-- The role of an unpromoted piece.
 abbrev pub demoted : Kind → Role
 demoted kind.King = role.King
 demoted kind.Rook = role.Rook
@@ -44,7 +44,7 @@ demoted kind.Knight = role.Knight
 demoted kind.Lance = role.Lance
 demoted kind.Pawn = role.Pawn
 
--- the role of a promoted piece: kings and golds have none
+-- The role of a promoted piece; kings and golds have none.
 abbrev pub promotes_to : Kind → Option Role
 promotes_to kind.King = None
 promotes_to kind.Gold = None
@@ -55,13 +55,13 @@ promotes_to kind.Knight = Some role.PromotedKnight
 promotes_to kind.Lance = Some role.PromotedLance
 promotes_to kind.Pawn = Some role.PromotedPawn
 
--- there is a piece of this kind, promoted or not
+-- A piece of this kind and promotion exists.
 abbrev pub CanBe : Kind → Bool → Type 0
 CanBe kind.King true = ⊥
 CanBe kind.Gold true = ⊥
 CanBe _ _ = Unit {0}
 
--- the kind in a hand: the king has none
+-- The kind of a piece in hand; the king has none.
 abbrev pub hand_kind : Kind → Option HandKind
 hand_kind kind.King = None
 hand_kind kind.Rook = Some in_hand.Rook
@@ -72,7 +72,7 @@ hand_kind kind.Knight = Some in_hand.Knight
 hand_kind kind.Lance = Some in_hand.Lance
 hand_kind kind.Pawn = Some in_hand.Pawn
 
--- the kind of a piece from the hand that stands on the board
+-- The kind on the board of a piece from the hand.
 abbrev pub on_board : HandKind → Kind
 on_board in_hand.Rook = kind.Rook
 on_board in_hand.Bishop = kind.Bishop

@@ -1,5 +1,4 @@
--- Two positions of shogi are the same exactly where they are one position: the same pieces on the same squares, the
--- same hands, and the same turn.
+-- Equality of shogi positions: the same board, the same hands and the same side to move.
 use Rattle.std.proofs.Common.{◌≡◌, ℕ, Bool, true, false, ◌&&◌, nat_eq, List, [], ◌∷◌, ◌∙◌, refl, sym, ap}
 use Rattle.std.specs.Cmp.{IsEquivalence, IsPartialEquivalence, partial_equiv_from_equiv, both_ways}
 use Rattle.std.specs.FinMap as map
@@ -14,14 +13,14 @@ use Rattle.squares.specs.ShogiBoard.{ShogiBoard}
 use Rattle.squares.specs.ShogiSets.{ShogiPosition}
 use Rattle.squares.specs.DraughtsMarks.{nat_eq_same, nat_eq-same}
 
--- whether two roles are one, as `==` tells it
+-- Whether two roles are equal, as by `==`.
 abbrev pub same_role : Role → Role → Bool
 same_role a b = sameb the_type a b
 
 abbrev pub same_shogi_piece : SPiece → SPiece → Bool
 same_shogi_piece a b = same_side a.side b.side && same_role a.role b.role
 
--- whether the same piece stands on the same square
+-- Whether two entries have the same square and the same piece.
 abbrev pub same_shogi_entry : ℕ × SPiece → ℕ × SPiece → Bool
 same_shogi_entry a b = nat_eq a.0 b.0 && same_shogi_piece a.1 b.1
 
@@ -31,11 +30,11 @@ same_shogi_entries [] (b ∷ ys) = false
 same_shogi_entries (a ∷ xs) [] = false
 same_shogi_entries (a ∷ xs) (b ∷ ys) = same_shogi_entry a b && same_shogi_entries xs ys
 
--- whether the same pieces stand on the same squares
+-- Whether two boards have the same pieces on the same squares.
 unfoldable pub same_shogi_board : ShogiBoard → ShogiBoard → Bool
 same_shogi_board a b = same_shogi_entries (map.entries a) (map.entries b)
 
--- whether a hand holds as many of each kind as another
+-- Whether two hands hold the same number of each kind.
 unfoldable pub same_hand : Hand → Hand → Bool
 same_hand a b =
     nat_eq a.rook b.rook &&
@@ -46,7 +45,7 @@ same_hand a b =
 abbrev pub same_hands : Hands → Hands → Bool
 same_hands a b = same_hand a.first b.first && same_hand a.second b.second
 
--- whether two positions have the same turn, the same hands and the same pieces on the same squares
+-- Whether two positions have the same side to move, hands and board.
 unfoldable pub same_shogi_position : ShogiPosition → ShogiPosition → Bool
 same_shogi_position p q = same_side p.turn q.turn && (same_hands p.hands q.hands && same_shogi_board p.board q.board)
 

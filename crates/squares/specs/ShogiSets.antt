@@ -1,5 +1,4 @@
--- A shogi position: a board, two hands and a turn, with one king for each side and no more pieces than the set of a
--- game has.
+-- A shogi position has one king for each side and no more pieces than a set contains.
 use Rattle.std.specs.Prelude.{ℕ, ◌+◌, ◌≤◌, ◌≡◌, Option, Some, None, Bool, true, false, ◌&&◌, count_by}
 use Rattle.std.specs.List.{range_with_len}
 use Rattle.std.specs.FinMap as map
@@ -19,7 +18,7 @@ pub record ShogiPosition : Type 0 where
   pub hands : Hands
   pub turn : Side
 
--- a piece of that kind, promoted or not
+-- Whether the role is of the kind, promoted or not.
 abbrev pub is_of : HandKind → Role → Bool
 is_of in_hand.Rook role.Rook = true
 is_of in_hand.Rook role.PromotedRook = true
@@ -40,21 +39,21 @@ abbrev pub is_king : Role → Bool
 is_king role.King = true
 is_king _ = false
 
--- the square holds a piece of that kind
+-- The cell holds a piece of the kind, promoted or not.
 abbrev pub holds_kind : HandKind → Option SPiece → Bool
 holds_kind kind None = false
 holds_kind kind (Some piece) = is_of kind piece.role
 
--- the square holds the king of that side
+-- The cell holds the side's king.
 abbrev pub holds_king : Side → Option SPiece → Bool
 holds_king side None = false
 holds_king side (Some piece) = is_king piece.role && same_side piece.side side
 
--- how many squares pass
+-- The number of squares whose cell passes the test.
 unfoldable pub count_on : (Option SPiece → Bool) → ShogiBoard → ℕ
 count_on test board = count_by (λ square. test (map.get board square)) (range_with_len 0 81)
 
--- how many pieces of a kind the set of a game has
+-- The number of pieces of a kind in a set.
 abbrev pub set_size : HandKind → ℕ
 set_size in_hand.Rook = 2
 set_size in_hand.Bishop = 2
@@ -64,15 +63,15 @@ set_size in_hand.Knight = 4
 set_size in_hand.Lance = 4
 set_size in_hand.Pawn = 18
 
--- how many pieces of a kind the board and the hands have together
+-- The number of pieces of a kind on the board and in both hands.
 abbrev pub in_play : HandKind → ShogiBoard → Hands → ℕ
 in_play kind board hands = count_on (holds_kind kind) board + count_of kind hands.first + count_of kind hands.second
 
--- each side has one king
+-- Each side has one king.
 abbrev pub HasKings : ShogiBoard → Type 0
 HasKings board = (side : Side) → count_on (holds_king side) board ≡ 1
 
--- of no kind is there more than the set of a game has
+-- No kind has more pieces than a set contains.
 abbrev pub KeepsSets : ShogiBoard → Hands → Type 0
 KeepsSets board hands = (kind : HandKind) → in_play kind board hands ≤ set_size kind
 

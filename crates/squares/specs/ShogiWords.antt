@@ -1,4 +1,4 @@
--- A board kept as sets of squares, one for each side and one for each role.
+-- A board as bitboards, one for each side and one for each role.
 use Rattle.std.proofs.Common.{◌≡◌, ℕ, Bool, false, Option, Some, None, List, length, get_or}
 use Rattle.std.specs.FinMap as map
 use Rattle.std.specs.FinSet as set
@@ -12,22 +12,22 @@ use Rattle.squares.specs.Sides.{same_side}
 use Rattle.squares.specs.ShogiBoard.{ShogiBoard, shogi_board_of}
 use Rattle.squares.specs.ShogiSamePosition.{same_role, same_shogi_piece}
 
--- the square holds a piece of that side
+-- The cell holds a piece of the side.
 abbrev pub is_side : Side → Option SPiece → Bool
 is_side side None = false
 is_side side (Some piece) = same_side piece.side side
 
--- the square holds a piece of that role
+-- The cell holds a piece of the role.
 abbrev pub is_role : Role → Option SPiece → Bool
 is_role r None = false
 is_role r (Some piece) = same_role piece.role r
 
--- the square holds that very piece
+-- The cell holds exactly this piece.
 abbrev pub holds : SPiece → Option SPiece → Bool
 holds piece None = false
 holds piece (Some other) = same_shogi_piece other piece
 
--- where the sets of the sides and those of the roles stand
+-- The indices of the bitboards of sides and of roles.
 abbrev pub side_place : Side → ℕ
 side_place First = 0
 side_place Second = 1
@@ -48,15 +48,15 @@ role_place role.PromotedKnight = 11
 role_place role.PromotedLance = 12
 role_place role.PromotedPawn = 13
 
--- the set at a place
+-- The bitboard at an index.
 abbrev pub squares_at : List Numbers → ℕ → Numbers
 squares_at words place = get_or words place set.empty
 
--- the sets are those of the squares that hold what each place stands for
+-- Each bitboard holds exactly the squares whose cell has the property of its index.
 abbrev pub Tracks : {A : Type 0} → (A → ℕ) → (A → Option SPiece → Bool) → List Numbers → ShogiBoard → Type 0
 Tracks {A} place of words board = (a : A) (q : ℕ) → set.contains (squares_at words (place a)) q ≡ of a (map.get board q)
 
--- eighty-one cells, and the sets of the sides and of the roles of what stands on them
+-- Eighty-one cells with the bitboards of sides and roles.
 pub record KeepsBoard (cells : List (Option SPiece)) (sides roles : List Numbers) : Type 0 where
   pub has_cells : length cells ≡ 81
   pub has_sides : length sides ≡ 2

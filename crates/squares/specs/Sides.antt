@@ -1,4 +1,4 @@
--- The two sides, and the score where one of them loses.
+-- The two sides, and the score of a loss.
 use Rattle.std.specs.Prelude.{◌≡◌, refl, Bool, true, false, ℕ, List, codes}
 use Rattle.squares.specs.declared.sides.Side.{Side}
 use Rattle.squares.specs.declared.sides.Side.TheVariants.{First, Second}
@@ -9,25 +9,25 @@ abbrev pub other : Side → Side
 other First = Second
 other Second = First
 
--- whether two sides are one
+-- Whether two sides are equal.
 abbrev pub same_side : Side → Side → Bool
 same_side First First = true
 same_side Second Second = true
 same_side First Second = false
 same_side Second First = false
 
--- the score where that side loses
+-- The score if the given side loses.
 abbrev pub loses : Side → Score
 loses First = SecondWins
 loses Second = FirstWins
 
--- a score as it is written, First's part first
+-- A score as text, First's points first.
 abbrev pub score_text : Score → List ℕ
 score_text FirstWins = codes "2-0"
 score_text Draw = codes "1-1"
 score_text SecondWins = codes "0-2"
 
--- whether two scores are one
+-- Whether two scores are equal.
 abbrev pub same_score : Score → Score → Bool
 same_score FirstWins FirstWins = true
 same_score Draw Draw = true
@@ -50,7 +50,7 @@ same_score-same Draw SecondWins is = cc
 same_score-same SecondWins FirstWins is = cc
 same_score-same SecondWins Draw is = cc
 
--- ---- laws of these
+-- Equality lemmas.
 
 pub same_side-same : (a b : Side) → same_side a b ≡ true → a ≡ b
 same_side-same First First e = refl

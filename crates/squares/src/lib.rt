@@ -1,5 +1,6 @@
-//! The words of both games: sides and scores, squares, pieces, hands, moves and positions. No rule of a game stands
-//! here.
+//! The board model of both games: sides, scores, squares, pieces, hands, moves and positions.
+//!
+//! The rules are in `draughts_moves` and `shogi_moves`.
 #![tactic(auto)]
 
 pub mod draughts;

@@ -1,4 +1,4 @@
-//! The words of shogi: squares, pieces, hands, moves and positions.
+//! Squares, pieces, hands, moves and positions of shogi.
 
 pub mod board;
 pub mod hand;

@@ -1,11 +1,11 @@
-//! The two sides of a game, and how it ended between them.
+//! The two sides of a game, and its score.
 
 ghost use Rattle.std.specs.Prelude.{◌≡◌};
 ghost use Rattle.squares.specs.Sides.{other, loses, score_text};
 
 use std::fmt;
 
-/// A side. First moves first: White in draughts, Black in shogi.
+/// A side. First moves first: it is White in draughts and Black in shogi.
 #[derive(Clone, Copy, Debug, PartialEq, Eq, PartialOrd, Ord, Hash)]
 pub enum Side {
     First,
@@ -13,7 +13,7 @@ pub enum Side {
 }
 
 impl Side {
-    /// The side that this one plays against.
+    /// The opponent of this side.
     pub fn other(self) -> Side
         ensures { result ≡ other self }
     {
@@ -24,7 +24,7 @@ impl Side {
     }
 }
 
-/// The score of an ended game. A win is 2, a draw 1, a loss 0.
+/// The score of a finished game: 2 points for a win, 1 for a draw, 0 for a loss.
 #[derive(Clone, Copy, Debug, PartialEq, Eq, PartialOrd, Ord, Hash)]
 pub enum Score {
     FirstWins,
@@ -33,7 +33,7 @@ pub enum Score {
 }
 
 impl Score {
-    /// The score where that side loses.
+    /// The score if the given side loses.
     pub fn lost_by(side: Side) -> Score
         ensures { result ≡ loses side }
     {
@@ -43,7 +43,7 @@ impl Score {
         }
     }
 
-    /// The score as it is written, First's first: `2-0`, `1-1` or `0-2`.
+    /// The score as text, First's points first: `2-0`, `1-1` or `0-2`.
     pub fn text(self) -> &'static str
         ensures { result.now ≡ score_text self }
     {

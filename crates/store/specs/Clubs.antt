@@ -1,9 +1,9 @@
--- What a club shows of itself.
+-- The ghost view of an open club.
 use Rattle.std.specs.Prelude.{Bool, refl}
 use Rattle.std.specs.Coded.{Coded, code_by, coded×, coded_bool}
 use Rattle.sqlite.specs.Held.{Held, held_code}
 
--- its connection, and whether a call has failed since this was opened
+-- the connection, and whether a call has failed since the database was opened
 pub record Kept (S : Type 0) : Type 0 where
   pub connection : Held S
   pub needs_reopening : Bool

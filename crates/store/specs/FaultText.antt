@@ -1,4 +1,4 @@
--- How the faults of a club's store are written.
+-- The texts of the faults of an open club.
 use Rattle.std.specs.Prelude.{List, ℕ, codes}
 use Rattle.store.specs.declared.fault.AskFault.{AskFault}
 use Rattle.store.specs.declared.fault.AskFault.TheVariants as ask_fault

@@ -1,4 +1,4 @@
--- The fault that a club names where a call on its database failed.
+-- The fault of a club whose database call failed.
 use Rattle.store.specs.declared.fault.StoreFault.{StoreFault}
 use Rattle.store.specs.declared.fault.StoreFault.TheVariants as named
 use Rattle.club_reads.specs.declared.fault.CallFault.{CallFault}

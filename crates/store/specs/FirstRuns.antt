@@ -1,5 +1,4 @@
--- What the program of schema 1 made of requests in turn. It gave no event declarations, and else did what this one
--- does.
+-- The execution of requests by the program of schema 1, which differs only in that events do not allow declarations.
 use Rattle.std.specs.Prelude.{false, if◌then◌else◌, List, [], ◌∷◌, map}
 use Rattle.club_core.specs.Events.{Event}
 use Rattle.club_core.specs.State.{Request, is_accepted}
@@ -9,7 +8,7 @@ use Rattle.club_changes.specs.Steps.{club_next, club_step}
 abbrev pub without_declarations : Event → Event
 without_declarations e = record e { terms = record e.terms { declares = false } }
 
--- the state with no declarations
+-- the state in which no event allows declarations
 abbrev pub undeclared : ClubState → ClubState
 undeclared s = record s { events = map without_declarations s.events }
 
@@ -21,7 +20,7 @@ abbrev pub first_fold : ClubState → List Request → ClubState
 first_fold s [] = s
 first_fold s (r ∷ rs) = first_fold (first_next s r) rs
 
--- those of them that are accepted
+-- the accepted requests
 abbrev pub first_accepted : ClubState → List Request → List Request
 first_accepted s [] = []
 first_accepted s (r ∷ rs) =

@@ -1,4 +1,4 @@
--- What a club makes of requests in turn.
+-- The execution of requests in turn, by the specification of the club.
 use Rattle.std.specs.Prelude.{List}
 use Rattle.club_requests.specs.Outcome.{Outcome}
 use Rattle.club_core.specs.State as machine
@@ -9,10 +9,10 @@ use Rattle.club_rows.specs.Club.{both_games, ClubState}
 abbrev pub club_fold : ClubState → List Request → ClubState
 club_fold = machine.fold both_games
 
--- the outcome of each of them
+-- the outcome of each request
 abbrev pub club_outcomes : ClubState → List Request → List (Outcome ClubState)
 club_outcomes = machine.outcomes both_games
 
--- those of them that are accepted
+-- the accepted requests
 abbrev pub club_accepted : ClubState → List Request → List Request
 club_accepted = machine.accepted_of both_games

@@ -1,4 +1,4 @@
-//! What a command about a challenge does to the tables.
+//! Execution of the commands about challenges: open, withdraw and answer.
 
 ghost use Rattle.std.specs.Prelude.{◌≡◌, ◌≤◌, ◌<◌, ℕ, length, Some, IfOk, is_ok};
 ghost use Rattle.std.specs.Prelude.{string_bytes};
@@ -24,7 +24,6 @@ use club_requests::{AnswerChallenge, Caller, OpenChallenge, Withdraw};
 use sqlite::{Alter, Connection};
 use std::alloc::Global;
 
-// The id of a caller who is a member.
 fn member_id(caller: Caller) -> Option<u32>
     ensures { (id : ℕ) → caller ≡ Caller.Member id → result ≡ Some id }
 {
@@ -67,7 +66,7 @@ impl Decides for Withdraw {
     }
 }
 
-// What is decided of an answer, by the members.
+// The decision on the answer to a challenge.
 fn decided_answer<S: Alter>(
     alloc: Global,
     conn: &mut Connection<S>,

@@ -1,4 +1,4 @@
-//! An open club.
+//! An open club: creation, opening, and the execution of one command.
 
 ghost use Rattle.std.specs.Prelude.{◌≡◌, ◌≤◌, ◌⊎◌, ◌++◌, ◌∷◌, [], false, true, pos, Err, IfOk, IfErr, OnOk, OnErr};
 ghost use Rattle.sqlite.specs.Effect.{IsDatabase};
@@ -45,11 +45,11 @@ use std::marker::Model;
 use store_sql::{commit_changes, create_tables};
 use store_tables::Changes;
 
-/// The store of a club, over any store of `sqlite`. It stands outside a transaction between calls.
+/// A club's open database, over any store of `sqlite`. No transaction is open between calls.
 #[derive(Drop)]
 pub struct Club<S: Alter> {
     connection: Connection<S>,
-    /// A call has failed since the database was opened.
+    /// A call failed since the database was opened, so every later call is refused.
     needs_reopening: bool,
 }
 
@@ -66,15 +66,25 @@ impl<S: Alter> Model for Club<S> {
     ghost invariant = { λ c. c.connection.in_transaction ≡ false };
 }
 
-/// A connection over tables that were not taken as a club's.
+/// A connection whose database was not accepted, with the reason.
 #[derive(Drop)]
 pub struct Unopened<S: Alter> {
     pub fault: OpenFault,
     pub conn: Connection<S>,
 }
 
-/// Makes the tables of a club with nothing in it, in an empty database or behind the tables of other programs, by one
-/// transaction with one commit. A database where a club's tables stand is left as it is. Nothing is allocated so far.
+/// Creates the tables of an empty club, in an empty database or beside foreign tables, in one transaction with one
+/// commit. `_alloc` is not used.
+///
+/// # Errors
+///
+/// - `OpenFault::Foreign`: a club's table exists already; the database is unchanged.
+/// - `OpenFault::Store`: a call of the database failed.
+///
+/// # Guarantees
+///
+/// `cut_off`, `behind_fault`: after an error or a crash there is the empty club or no club, and foreign tables keep
+/// their rows. `begins`: the history of the new club is empty.
 pub fn create<S: Alter>(_alloc: Global, conn: Connection<S>) -> Result<Club<S>, Unopened<S>>
     requires { conn.in_transaction ≡ false }
     ensures ready { IfOk result (λ club. club.needs_reopening ≡ false) }
@@ -94,7 +104,7 @@ pub fn create<S: Alter>(_alloc: Global, conn: Connection<S>) -> Result<Club<S>, 
         (state S.Store conn) → IsHistory alone [] (state S.Store club.connection)) }
     ensures cut_off { IfErr result (λ u. HasCleanDisk (state S.Store u.conn) → IsExactlyEmpty (state S.Store conn) →
         (db : _) → (state S.Store u.conn).may_leave db → IsEmpty db ⊎ IsReachable alone [] db) }
-    // Behind the tables of other programs, whose rows stay.
+    // Beside foreign tables, which keep their rows.
     ensures behind { IfOk result (λ club. HasCleanDisk (state S.Store club.connection) → (them : _) →
         IsWithoutClub them (state S.Store conn) → IsHistory them [] (state S.Store club.connection)) }
     ensures behind_fault { IfErr result (λ u. HasCleanDisk (state S.Store u.conn) → (them : _) →
@@ -120,7 +130,15 @@ pub fn create<S: Alter>(_alloc: Global, conn: Connection<S>) -> Result<Club<S>, 
     }
 }
 
-/// Takes a connection over the tables of a club of schema 2. It changes nothing. Schema 1 is refused by its number.
+/// Opens the club of schema 2 in the connection's database, after checking every row (`examine`). Changes nothing.
+///
+/// # Errors
+///
+/// The errors of `examine`, with the connection. Schema 1 is `OpenFault::Schema(1)`; see `upgrade`.
+///
+/// # Guarantees
+///
+/// `held`: the database holds a legal club. `good`: a legal club is accepted, unless a call fails or memory runs out.
 pub fn adopt<S: Alter>(alloc: Global, conn: Connection<S>) -> Result<Club<S>, Unopened<S>>
     requires { conn.in_transaction ≡ false }
     ensures ready { IfOk result (λ club. club.needs_reopening ≡ false) }
@@ -135,9 +153,9 @@ pub fn adopt<S: Alter>(alloc: Global, conn: Connection<S>) -> Result<Club<S>, Un
         (s : _) × IsClub s × HasClub Current (state S.Store club.connection).now s) }
     ensures clean { IfOk result (λ club. doubt (state S.Store conn).is_clean ≤ doubt
         (state S.Store club.connection).is_clean) }
-    // By whatever texts its tables were made, they answer as those of a club.
+    // The schema is equivalent to a club's, whatever `CREATE` statements made it.
     ensures shape { IfOk result (λ club. is_of_club Current (state S.Store conn).now.schema ≡ true) }
-    // Whatever the tables are.
+    // Whatever tables there are.
     ensures kept { IfOk result (λ club. Reads true (state S.Store conn) (state S.Store club.connection)) }
     ensures idle { IfErr result (λ u. u.conn.in_transaction ≡ false) }
     ensures blames { IfErr result (λ u. HasCleanDisk (state S.Store u.conn) →
@@ -150,7 +168,7 @@ pub fn adopt<S: Alter>(alloc: Global, conn: Connection<S>) -> Result<Club<S>, Un
         IsFirstBeside them (first_tables s) (state S.Store conn) →
         is_of_club First (state S.Store conn).now.schema ≡ true → (u.fault ≡ OpenFault.Schema (pos 1))
         ⊎ ((u.fault ≡ OpenFault.Store) ⊎ (u.fault ≡ OpenFault.Memory))) }
-    // A legal club, alone or among what other programs made, is taken.
+    // A legal club, alone or beside foreign tables, is accepted.
     ensures good { IfErr result (λ u. HasCleanDisk (state S.Store u.conn) → (s : _) → IsClub s →
         HoldsRows Current (tables s) (state S.Store conn).now →
         is_of_club Current (state S.Store conn).now.schema ≡ true →
@@ -168,7 +186,7 @@ pub fn adopt<S: Alter>(alloc: Global, conn: Connection<S>) -> Result<Club<S>, Un
 }
 
 impl<S: Alter> Club<S> {
-    /// Gives the connection back, also after a fault.
+    /// Returns the connection, also after a fault.
     pub fn into_connection(self) -> Connection<S>
         ensures same { result ≡ self.connection }
         ensures idle { result.in_transaction ≡ false }
@@ -180,8 +198,7 @@ impl<S: Alter> Club<S> {
         connection
     }
 
-    /// Puts all of the rows in one transaction with one commit. After a fault every later call is refused with
-    /// `Reopen`.
+    /// Writes all rows in one transaction with one commit. After a fault every later call returns `Reopen`.
     pub(crate) fn apply_changes(&mut self, changes: &Changes) -> Result<(), StoreFault>
         ensures clean { doubt (state S.Store self.old.connection).is_clean ≤ doubt
             (state S.Store self.new.connection).is_clean }
@@ -210,9 +227,21 @@ impl<S: Alter> Club<S> {
         }
     }
 
-    /// Gives the club a command, as the machine takes it: its answer, and the tables of the state after it, in one
-    /// transaction with one commit where the command is accepted. A fault leaves the tables before, or those after,
-    /// whole; after it every later call is refused with `Reopen`.
+    /// Executes one command atomically. An accepted command is one transaction with one commit; any other changes
+    /// nothing.
+    ///
+    /// # Errors
+    ///
+    /// - `StoreFault::Store`: a call of the database failed, or it holds rows that no club has.
+    /// - `StoreFault::Memory`: out of memory.
+    /// - `StoreFault::Reopen`: an earlier call failed; nothing was done.
+    ///
+    /// After any of these every later call returns `Reopen`.
+    ///
+    /// # Guarantees
+    ///
+    /// `answer`, `step`: the outcome and the new state are those of the club's specification. `fault`, `cut_off`: after
+    /// an error or a crash the file holds the state before or after the command.
     pub fn apply(
         &mut self,
         alloc: Global,

@@ -1,4 +1,4 @@
-//! What a command does to the tables.
+//! Execution of a request: authentication, effective timestamp, and dispatch to the command.
 
 ghost use Rattle.std.specs.Prelude.{string_bytes, IfOk, is_ok};
 ghost use Rattle.sqlite.specs.State.{HasCleanDisk};
@@ -75,8 +75,8 @@ impl Decides for Command {
     }
 }
 
-/// What a request does: its outcome, and the rows to put where it is accepted. The effective moment is the later of the
-/// request's and that of the last accepted one.
+/// Decides a request: its outcome, and the rows to write if it is accepted.
+/// The effective timestamp is the later of the request's and that of the last accepted request.
 pub(crate) fn decide_request<S: Alter>(
     alloc: Global,
     conn: &mut Connection<S>,

@@ -1,4 +1,4 @@
-//! What every command promises that a caller gives.
+//! The contract of every command that needs an authenticated caller.
 
 ghost use Rattle.std.specs.Prelude.{◌≤◌, IfOk, is_ok};
 ghost use Rattle.sqlite.specs.State.{HasCleanDisk};
@@ -17,13 +17,13 @@ use club_requests::Caller;
 use sqlite::{Alter, Connection};
 use std::alloc::Global;
 
-/// A command that a caller gives.
+/// A command of an authenticated caller.
 pub(crate) trait Decides {
-    /// The command as the machine knows it.
+    /// The command in the specification of the club.
     ghost command: { Self → Command };
 
-    /// What the command does at the effective moment: its outcome, and the rows to put where it is accepted. It reads
-    /// the tables, and puts nothing.
+    /// Decides the command at the effective timestamp: its outcome, and the rows to write if it is accepted. Reads
+    /// only.
     fn decide<S: Alter>(
         &self,
         alloc: Global,

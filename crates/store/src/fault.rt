@@ -1,21 +1,21 @@
-//! What may go wrong with a club's store.
+//! Errors of calls on an open club.
 
 use club_reads::CallFault;
 use std::error::Error;
 use std::fmt;
 
-/// Why a call on an open club failed. It shows as the number and name of the fault.
+/// Why a call on an open club failed.
 #[derive(Debug, Clone, Copy, PartialEq, Eq, Drop)]
 pub enum StoreFault {
-    /// A call of the database failed.
+    /// A call of the database failed, or it holds rows that no club has.
     Store,
-    /// An earlier call failed, and the database has to be opened again.
+    /// An earlier call failed; the database must be opened again.
     Reopen,
-    /// The allocator refused.
+    /// Out of memory.
     Memory,
 }
 
-/// Writes the number and the name, as `73 Store`.
+/// Writes the number and the name: `73 Store`.
 impl fmt::Display for StoreFault {
     ghost use Rattle.std.specs.Prelude.{Some};
     ghost use Rattle.store.specs.FaultText.{store_fault_text};
@@ -47,16 +47,16 @@ impl From<CallFault> for StoreFault {
     }
 }
 
-/// Why a question was not shown to its end. It shows as the number and name of the fault.
+/// Why a query was not answered completely.
 #[derive(Debug, Clone, Copy, PartialEq, Eq, Drop)]
 pub enum AskFault {
     /// A call on the club failed.
     Club(StoreFault),
-    /// The writer failed. The club goes on.
+    /// The writer failed. The club stays open.
     Output,
 }
 
-/// Writes the number and the name, as `77 Output`.
+/// Writes the number and the name: `77 Output`.
 impl fmt::Display for AskFault {
     ghost use Rattle.std.specs.Prelude.{Some};
     ghost use Rattle.store.specs.FaultText.{ask_fault_text};

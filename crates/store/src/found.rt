@@ -1,10 +1,10 @@
-//! What an upgrade found.
+//! The result of an upgrade.
 
-/// The tables that an upgrade found.
+/// Which schema an upgrade found.
 #[derive(Debug, Clone, Copy, PartialEq, Eq, Drop)]
 pub enum Upgrade {
-    /// Tables of schema 1, which are now those of schema 2.
+    /// Schema 1, which is now schema 2.
     Done,
-    /// Tables of schema 2, which stay as they are.
+    /// Schema 2, which is unchanged.
     Already,
 }

@@ -1,4 +1,4 @@
-//! What is done in one game, by its rules and its rows.
+//! Execution of commands in a game, by its rules and its rows.
 
 ghost use Rattle.std.specs.Prelude.{◌≡◌, ◌≤◌, ◌<◌, ℕ, length, IfOk, is_ok, IsTrue};
 ghost use Rattle.club_core.specs.Answer.{game_command_of};
@@ -33,14 +33,15 @@ use club_rules::Rules;
 use sqlite::{Alter, Connection};
 use std::alloc::Global;
 
-// A decision with its end and its result, and what it makes of the positions and the scores.
+// A decision with the end and result of the game, and the rows of positions and scores that follow from it.
 #[derive(Drop)]
 struct Concluded<R: Rules> {
     decision: Decision<R>,
     counts: DerivedRows,
 }
 
-// The decision with its end, by how often the position after its move has stood, and the rows that go with it.
+// Completes a decision: the repetition count of the new position may end the game; the rows of positions and scores
+// follow.
 fn counted<R: Rules, S: Alter>(
     alloc: Global,
     conn: &mut Connection<S>,
@@ -70,7 +71,7 @@ fn counted<R: Rules, S: Alter>(
     })
 }
 
-// What a command does in the game that the view shows.
+// Executes a command in the game of this view.
 fn on_view<R: Rules, S: Alter>(
     alloc: Global,
     conn: &mut Connection<S>,
@@ -99,7 +100,7 @@ fn on_view<R: Rules, S: Alter>(
     Ok(put_decision(alloc, game, concluded.decision, concluded.counts, moment)?)
 }
 
-// What a command does in a stored game.
+// Executes a command in a stored game, by the rules of its kind.
 fn act<R: Rules, S: Alter>(
     alloc: Global,
     conn: &mut Connection<S>,

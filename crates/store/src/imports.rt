@@ -1,4 +1,4 @@
-//! What an import does to the tables.
+//! Execution of the import of a game record.
 
 ghost use Rattle.std.specs.Prelude.{◌≢◌, ◌≤◌, length, Option, Some, IfOk, is_ok};
 ghost use Rattle.std.specs.Prelude.{string_bytes};
@@ -32,7 +32,7 @@ use sqlite::{Alter, Connection};
 use std::alloc::Global;
 use store_tables::Changes;
 
-// The rows of a recorded game that is added to one of the events, with those of its players' scores.
+// The rows of an imported game, with those of its players' scores.
 fn added<R: Rules, S: Alter>(
     alloc: Global,
     conn: &mut Connection<S>,
@@ -71,7 +71,7 @@ fn added<R: Rules, S: Alter>(
     Ok(put_rows(alloc, rows, scores, moment)?)
 }
 
-// What an import into an event of this kind does.
+// Executes an import into an event with games of this kind.
 fn import_as<R: Records, S: Alter>(
     alloc: Global,
     conn: &mut Connection<S>,

@@ -1,14 +1,14 @@
-//! Laws of the stored club: each is what a function with an empty body ensures.
+//! Properties of a stored club: each is the `ensures` clause of a function with an empty body.
 
 ghost use Rattle.club_changes.specs.Steps.{KeepsClub};
 ghost use Rattle.store.specs.Histories.{BeginsAtOpening};
 
-/// A request leaves a legal club legal, so that command after command may be given to the store.
+/// Every request leaves a legal club legal, so requests can be executed one after another.
 pub fn requests_keep_clubs()
     ensures { KeepsClub }
 {}
 
-/// The history of a club begins with what its making leaves: no session is needed to lead there.
+/// The empty history of a club leads to what its creation leaves.
 pub fn histories_begin_at_opening()
     ensures { BeginsAtOpening }
 {}

@@ -1,4 +1,6 @@
-//! The store of a club: its tables over any store of `sqlite`, changed in transactions with one commit each.
+//! Executes commands, queries and schema upgrades on a club's tables, over any store of `sqlite`.
+//!
+//! Each accepted command is one transaction with one commit, so every command is atomic.
 #![tactic(auto)]
 
 mod challenges;

@@ -1,4 +1,4 @@
-//! What an opening finds of a database that was closed or cut off.
+//! Properties of a database that is opened again after a close or a crash.
 
 ghost use Rattle.sqlite.specs.State.{Opens, IsLive};
 ghost use Rattle.sqlite.specs.Held.{state};
@@ -7,8 +7,8 @@ ghost use Rattle.store.specs.Histories.{IsReachable, IsHistoryAt};
 
 use sqlite::{Alter, Connection};
 
-/// A law. Where a connection was just opened over the tables that sessions and upgrades lead to, it stands where they
-/// lead, by the tables of some version, beside the same neighbours.
+/// If a history leads to the stored tables, then it leads to what a newly opened connection holds, in some schema
+/// version, beside the same foreign tables.
 pub fn holds_what_sessions_left<S: Alter>(conn: &Connection<S>)
     ensures { Opens (state S.Store conn.now) → IsLive (state S.Store conn.now) → (them : _) (chapters : _) →
         IsReachable them chapters (state S.Store conn.now).committed.trees →
@@ -17,7 +17,7 @@ pub fn holds_what_sessions_left<S: Alter>(conn: &Connection<S>)
     let _conn = conn;
 }
 
-/// A law. A stop between two chapters leaves tables that those so far lead to.
+/// A crash between two steps of a history leaves tables that the history leads to.
 pub fn leaves_what_sessions_left<S: Alter>(conn: &Connection<S>)
     ensures { (version : _) (them : _) (chapters : _) → IsHistoryAt version them chapters (state S.Store conn.now) →
         (db : _) → (state S.Store conn.now).may_leave db → IsReachable them chapters db }
@@ -25,7 +25,7 @@ pub fn leaves_what_sessions_left<S: Alter>(conn: &Connection<S>)
     let _conn = conn;
 }
 
-/// A law. A connection that was just opened over a database with no table is empty, as `create` asks for.
+/// A newly opened connection to a database without tables is empty, as `create` requires.
 pub fn holds_nothing<S: Alter>(conn: &Connection<S>)
     ensures { Opens (state S.Store conn.now) → IsLive (state S.Store conn.now) → IsEmpty
         (state S.Store conn.now).committed.trees → IsExactlyEmpty (state S.Store conn.now) }

@@ -1,4 +1,4 @@
-//! What seating a game does to the tables.
+//! Execution of the command that seats a game.
 
 ghost use Rattle.std.specs.Prelude.{◌≡◌, ◌≤◌, ℕ, List, length, IfOk, is_ok, string_bytes};
 ghost use Rattle.sqlite.specs.State.{HasCleanDisk};
@@ -25,7 +25,7 @@ use std::alloc::Global;
 use store_sql::count;
 use store_tables::GameRecord;
 
-// What is decided of a seating, by the members and the events.
+// The decision on a seating.
 fn decided_seating<S: Alter>(
     alloc: Global,
     conn: &mut Connection<S>,
@@ -51,7 +51,7 @@ fn decided_seating<S: Alter>(
     Ok(seat(members, events, under_key, games, caller, command))
 }
 
-// What a seating that was decided does: it starts a game under a key, or nothing.
+// The effect of a seating: a new game, a repeat of one with the same key, or a refusal.
 fn put_seating(
     alloc: Global,
     events: &[Event],

@@ -1,4 +1,4 @@
-//! What a sweep does to the tables.
+//! Execution of the sweep, which ends overdue games.
 
 ghost use Rattle.std.specs.Prelude.{IfOk, is_ok};
 ghost use Rattle.sqlite.specs.State.{HasCleanDisk};
@@ -21,7 +21,7 @@ use std::alloc::Global;
 use store_sql::list;
 use store_tables::{GameRecord, ScoreRow};
 
-// What a sweep of the officer's does.
+// Executes a sweep for the officer.
 fn swept<S: Alter>(
     alloc: Global,
     conn: &mut Connection<S>,
@@ -38,8 +38,7 @@ fn swept<S: Alter>(
     Ok(decided)
 }
 
-/// The command to end by time every running game whose side to move has used more seconds than it had left. It is the
-/// officer's.
+/// The officer's command to end every running game whose side to move has used more seconds than it had left.
 #[derive(Drop)]
 pub(crate) struct Sweep;
 

@@ -1,4 +1,4 @@
-//! The upgrade of a club from schema 1 to schema 2.
+//! The migration of a club from schema 1 to schema 2.
 
 ghost use Rattle.std.specs.Prelude.{◌≡◌, ◌≢◌, ◌≤◌, ◌⊎◌, ◌++◌, ◌∷◌, [], false, true, pos, IfOk, IfErr};
 ghost use Rattle.sqlite.specs.State.{HasCleanDisk, IsLive, Opens};
@@ -27,7 +27,6 @@ use std::alloc::Global;
 use store_sql::widen;
 use store_tables::{MetaRow, Version};
 
-/// The row of `meta` with the number of schema 2, and the same moment.
 fn of_current(meta: &MetaRow) -> MetaRow
     ensures { meta_cells result ≡ Int (pos 1) ∷ Int (pos 2) ∷ Int meta.now.last ∷ [] }
 {
@@ -38,8 +37,18 @@ fn of_current(meta: &MetaRow) -> MetaRow
     }
 }
 
-/// Makes of the tables of schema 1 those of schema 2 with the same state, in one transaction with one commit; those of
-/// schema 2 stay as they are. All rows are tested first, as `adopt` tests them. No event of schema 1 has declarations.
+/// Migrates a club of schema 1 to schema 2, with the same state, in one transaction with one commit; schema 2 stays as
+/// it is.
+/// Every row is checked first, as by `adopt`. Events of schema 1 do not allow declarations.
+///
+/// # Errors
+///
+/// The errors of `examine_from`, with the connection; `OpenFault::Store` also if the migration fails.
+///
+/// # Guarantees
+///
+/// `done`, `already`: the connection holds the same state in schema 2. `fault`, `cut_off`: after an error or a crash
+/// the file is of schema 1 or of schema 2, with the same state. `kept`: only `Store` may leave a changed file.
 pub fn upgrade<S: Alter>(
     alloc: Global,
     conn: Connection<S>,
@@ -49,7 +58,7 @@ pub fn upgrade<S: Alter>(
     ensures given_back { IfErr result (λ u. u.conn.in_transaction ≡ false) }
     ensures clean { IfOk result (λ done. doubt (state S.Store conn).is_clean ≤ doubt (state S.Store done.0).is_clean) }
     ensures known { IfErr result (λ u. doubt (state S.Store conn).is_clean ≤ doubt (state S.Store u.conn).is_clean) }
-    // Wherever the tables stand; the rows of other programs stay.
+    // Beside foreign tables, too, which keep their rows.
     ensures done { IfOk result (λ done. HasCleanDisk (state S.Store done.0) → (them : _) (s : ClubState) →
         IsFirstClub s → IsFirstBeside them (first_tables s) (state S.Store conn) →
         (done.1 ≡ Upgrade.Done) × IsBesideThem them (tables s) (state S.Store done.0)) }

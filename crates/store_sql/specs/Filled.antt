@@ -1,4 +1,4 @@
--- What making the tables together with rows of theirs does.
+-- The effect of creating the tables together with their rows.
 use Rattle.std.specs.Prelude.{◌≡◌, true}
 use Rattle.sqlite.specs.Schema.{Schema}
 use Rattle.sqlite.specs.State.{State}
@@ -8,8 +8,7 @@ use Rattle.store_tables.specs.Over.{HoldsBeside, Neighbours}
 use Rattle.store_tables.specs.Room.{HasRoom}
 use Rattle.store_tables.specs.declared.rows.Changes.{Changes}
 
--- Inside a transaction, a database without a club came to hold these rows over the opening content, and nothing was
--- committed.
+-- Inside a transaction, a club was created with these rows upserted over those of a new club; nothing was committed.
 pub record FillsWith (changes : Changes) (old new : State) : Type 0 where
   pub holds : (schema : Schema) (them : Neighbours) → HasRoom schema them → Holds schema old.now them.rows
       → HoldsBeside them (changed changes opening) new.now

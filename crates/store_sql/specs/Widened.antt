@@ -1,4 +1,4 @@
--- What making the table of the rules of events does to the rows of schema 1.
+-- The effect of the migration from schema 1 to schema 2.
 use Rattle.std.specs.Prelude.{◌≡◌, true, List, []}
 use Rattle.sqlite.specs.State.{State}
 use Rattle.store_tables.specs.Changed.{widened}
@@ -9,8 +9,7 @@ use Rattle.store_tables.specs.declared.names.Table.TheVariants.{EventRules}
 use Rattle.store_tables.specs.declared.rows.EventRuleRow.{EventRuleRow}
 use Rattle.store_tables.specs.declared.rows.MetaRow.{MetaRow}
 
--- Inside a transaction the rows of schema 1 became those of schema 2, with these rules of events and this row of
--- `meta`, and nothing was committed.
+-- Inside a transaction the rows were migrated, with these event rules and this row of `meta`; nothing was committed.
 pub record WidensTo (rules : List EventRuleRow) (meta : MetaRow) (old new : State) : Type 0 where
   pub holds : (them : Neighbours) (content : Content) → content (tree_of EventRules) ≡ []
       → HoldsFirst them content old.now → HoldsBeside them (widened rules meta content) new.now

@@ -1,4 +1,4 @@
-//! The rows that one command changes, put in one transaction.
+//! Commits the rows that a command changes in one transaction.
 
 ghost use Rattle.std.specs.Prelude.{◌≡◌, ◌≤◌, ◌⊎◌, false, [], ◌∷◌, IsTrue, OnOk, OnErr, map};
 ghost use Rattle.sqlite.specs.State.{HasCleanDisk, Survives};
@@ -13,7 +13,7 @@ use crate::upsert::{Put, put_all};
 use sqlite::{Alter, Connection, Error, Transaction};
 use store_tables::Changes;
 
-/// Puts the members, the events with their rules, and the challenges.
+/// Upserts the members, the events with their rules, and the challenges.
 fn put_people<S: Alter>(tx: &mut Transaction<'_, S>, changes: &Changes) -> Result<(), Error>
     ensures same_reference { tx.new.conn.ghost_name ≡ tx.old.conn.ghost_name }
     ensures put { HasCleanDisk (state S.Store tx.new.conn.now) → IsTrue
@@ -28,7 +28,7 @@ fn put_people<S: Alter>(tx: &mut Transaction<'_, S>, changes: &Changes) -> Resul
     Ok(())
 }
 
-/// Puts the games and their moves.
+/// Upserts the games and their moves.
 fn put_play<S: Alter>(tx: &mut Transaction<'_, S>, changes: &Changes) -> Result<(), Error>
     ensures same_reference { tx.new.conn.ghost_name ≡ tx.old.conn.ghost_name }
     ensures put { HasCleanDisk (state S.Store tx.new.conn.now) → IsTrue
@@ -41,7 +41,7 @@ fn put_play<S: Alter>(tx: &mut Transaction<'_, S>, changes: &Changes) -> Result<
     Ok(())
 }
 
-/// Puts how often positions stood, and the scores.
+/// Upserts the repetition counts and the scores.
 fn put_counts<S: Alter>(tx: &mut Transaction<'_, S>, changes: &Changes) -> Result<(), Error>
     ensures same_reference { tx.new.conn.ghost_name ≡ tx.old.conn.ghost_name }
     ensures put { HasCleanDisk (state S.Store tx.new.conn.now) → IsTrue
@@ -54,7 +54,7 @@ fn put_counts<S: Alter>(tx: &mut Transaction<'_, S>, changes: &Changes) -> Resul
     Ok(())
 }
 
-/// Puts the row of `meta`, where there is one.
+/// Upserts the row of `meta`, if there is one.
 fn put_meta<S: Alter>(tx: &mut Transaction<'_, S>, changes: &Changes) -> Result<(), Error>
     ensures same_reference { tx.new.conn.ghost_name ≡ tx.old.conn.ghost_name }
     ensures put { HasCleanDisk (state S.Store tx.new.conn.now) → IsTrue
@@ -68,7 +68,7 @@ fn put_meta<S: Alter>(tx: &mut Transaction<'_, S>, changes: &Changes) -> Result<
     }
 }
 
-/// Puts all of the rows, in a transaction that is open.
+/// Upserts all rows in an open transaction.
 pub(crate) fn put_changes<S: Alter>(
     tx: &mut Transaction<'_, S>,
     changes: &Changes,
@@ -86,7 +86,16 @@ pub(crate) fn put_changes<S: Alter>(
     Ok(())
 }
 
-/// All of the rows in one transaction with one commit.
+/// Upserts all rows in one transaction.
+///
+/// # Errors
+///
+/// `sqlite::Error` if a call of the database fails.
+///
+/// # Guarantees
+///
+/// - `stored`: on success the tables hold these rows; foreign tables are unchanged.
+/// - `fault`, `survives`: after an error or a crash the file holds the state before or after the call (atomic).
 pub fn commit_changes<S: Alter>(conn: &mut Connection<S>, changes: &Changes) -> Result<(), Error>
     requires { conn.old.in_transaction ≡ false }
     ensures idle { conn.new.in_transaction ≡ false }

@@ -1,33 +1,33 @@
-//! Why rows were not read.
+//! Faults of reading rows.
 
 ghost use Rattle.std.specs.Prelude.{◌≡◌, true, false};
 ghost use Rattle.store_tables.specs.Reading.{IsNoInput};
 
 use sqlite::Error;
 
-/// Why the rows of a table that are needed were not read.
+/// Why the rows of an open, checked club cannot be read.
 #[derive(Debug, Clone, Copy, PartialEq, Eq, Drop)]
 pub enum CallFault {
-    /// A call of the database failed, or a value is of another type than its column.
+    /// A call of the database failed, or a value has another type than its column.
     Store,
-    /// The allocator refused.
+    /// Out of memory, except inside a database call.
     Memory,
 }
 
-/// Why the rows of a table were not read, of a database that is looked at for the first time.
+/// Why the rows of a table cannot be read from a database that is not yet checked.
 #[derive(Debug, Clone, Copy, PartialEq, Eq, Drop)]
 pub enum ReadFault {
-    /// The text was refused: the table or one of its columns is missing.
+    /// SQLite rejected the statement: the table or one of its columns is missing.
     Missing,
-    /// A rowid comes twice, or a value is of another type than its column.
+    /// A rowid occurs twice, or a value has another type than its column.
     Mistyped,
     /// A call of the database failed.
     Store,
-    /// The allocator refused.
+    /// Out of memory, except inside a database call.
     Memory,
 }
 
-/// Whether a text of SQL was refused.
+/// Whether SQLite rejected the SQL statement itself (`SqlInputError`).
 pub fn is_refused(error: &Error) -> bool
     ensures known { IsNoInput error.now → result ≡ false }
     ensures other { result ≡ false → IsNoInput error.now }

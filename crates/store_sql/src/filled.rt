@@ -1,4 +1,4 @@
-//! Making the tables in an empty database together with rows of theirs.
+//! Creates the tables in an empty database together with their rows.
 
 ghost use Rattle.std.specs.Prelude.{◌≡◌, ◌≤◌, ◌⊎◌, false, IsTrue, IfOk, IfErr, OnOk, OnErr};
 ghost use Rattle.sqlite.specs.State.{HasCleanDisk, Survives};
@@ -17,7 +17,7 @@ use crate::make::create_inside;
 use sqlite::{Alter, Connection, Error, Transaction};
 use store_tables::Changes;
 
-/// Makes the tables, with the row of `meta`, and puts all of the rows over it, in a transaction that is open.
+/// Creates the tables with the initial row of `meta` and upserts the rows, in an open transaction.
 fn fill_inside<S: Alter>(tx: &mut Transaction<'_, S>, changes: &Changes) -> Result<(), Error>
     ensures same_reference { tx.new.conn.ghost_name ≡ tx.old.conn.ghost_name }
     ensures filled { HasCleanDisk (state S.Store tx.new.conn.now) → IsTrue
@@ -34,9 +34,17 @@ fn fill_inside<S: Alter>(tx: &mut Transaction<'_, S>, changes: &Changes) -> Resu
     Ok(())
 }
 
-/// Makes the tables in an empty database and puts all of the rows over those of a club with nothing in it, in one
-/// transaction with one commit: a stop leaves no table, or all of them with all rows. Where tables of a club stand
-/// nothing is made.
+/// Creates the tables in an empty database and upserts the rows, in one transaction.
+///
+/// # Errors
+///
+/// `sqlite::Error` if a call of the database fails, or if a club's tables already exist.
+///
+/// # Guarantees
+///
+/// - `stored`: on success the database holds exactly a new club's rows with these upserted.
+/// - `fault`, `survives`: after an error or a crash the database is empty, or holds all tables with all rows (atomic).
+/// - `stands`: if a club's tables already exist, the call fails and changes nothing.
 pub fn create_filled<S: Alter>(conn: &mut Connection<S>, changes: &Changes) -> Result<(), Error>
     requires { conn.old.in_transaction ≡ false }
     ensures idle { conn.new.in_transaction ≡ false }

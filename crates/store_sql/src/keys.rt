@@ -1,4 +1,4 @@
-//! Rows by the values of a whole key, or of a column that is UNIQUE.
+//! Queries for at most one row, by a whole key or by a UNIQUE column.
 
 ghost use Rattle.std.specs.Prelude.{◌≡◌, ℕ, List, [], ◌∷◌, IfOk, is_ok, map};
 ghost use Rattle.sqlite.specs.Order.{Row as Cells};
@@ -37,16 +37,21 @@ const SEEN_BY_POSITION: &str =
 const SCORES_BY_PAIR: &str =
     "SELECT event, member, opponent, points, wins, draws, losses FROM scores WHERE event = ?1 AND member = ?2 AND opponent = ?3";
 
-/// Values that some columns of a table have in at most one row.
+/// A query for the row with given values in columns that are a key or UNIQUE.
 pub trait Question {
+    /// The type of the row.
     type Row: Select;
 
-    // the columns, and the values that they are to have
+    // the columns and the wanted values; NULL in columns that are not part of the key
     ghost columns: { List ℕ };
 
     ghost wanted: { Self → Cells };
 
-    /// Shows the row that has the values.
+    /// Runs the query; returns the row as values.
+    ///
+    /// # Errors
+    ///
+    /// `sqlite::Error` if a call of the database fails.
     fn show<S: Alter>(&self, conn: &mut Connection<S>) -> Result<Vec<Row>, Error>
         ensures reads { Reads (is_ok result) (state S.Store conn.old) (state S.Store conn.new) }
         ensures rows { HasCleanDisk (state S.Store conn.new) → IfOk result (λ shown. (content : _) →
@@ -54,7 +59,7 @@ pub trait Question {
             AreThose columns (wanted self.now) (content Self.Row.table.tree) shown.items) };
 }
 
-/// The member with a name.
+/// A query for the member with this name.
 #[derive(Debug, Clone, Copy)]
 pub struct MemberName<'a> {
     pub name: &'a str,
@@ -72,7 +77,7 @@ impl Question for MemberName<'_> {
     }
 }
 
-/// The member with a secret.
+/// A query for the member with this secret key.
 #[derive(Debug, Clone, Copy)]
 pub struct MemberKey<'a> {
     pub key: &'a str,
@@ -90,7 +95,7 @@ impl Question for MemberKey<'_> {
     }
 }
 
-/// The event with a name.
+/// A query for the event with this name.
 #[derive(Debug, Clone, Copy)]
 pub struct EventName<'a> {
     pub name: &'a str,
@@ -108,7 +113,7 @@ impl Question for EventName<'_> {
     }
 }
 
-/// The game that was seated or imported under a name.
+/// A query for the game that was seated or imported under this key.
 #[derive(Debug, Clone, Copy)]
 pub struct GameKey<'a> {
     pub key: &'a str,
@@ -126,7 +131,7 @@ impl Question for GameKey<'_> {
     }
 }
 
-/// The challenge of a member with the member's number for it.
+/// A query for a member's challenge by the member's number for it.
 #[derive(Debug, Clone, Copy)]
 pub struct ChallengeNumber {
     pub member: i64,
@@ -145,7 +150,7 @@ impl Question for ChallengeNumber {
     }
 }
 
-/// The move of a game at a ply.
+/// A query for the move of a game at a ply (from 1).
 #[derive(Debug, Clone, Copy)]
 pub struct MovePly {
     pub game: i64,
@@ -164,7 +169,7 @@ impl Question for MovePly {
     }
 }
 
-/// A position that stood in a game.
+/// A query for a position of a game.
 #[derive(Debug, Clone, Copy)]
 pub struct SeenPosition<'a> {
     pub game: i64,
@@ -183,7 +188,7 @@ impl Question for SeenPosition<'_> {
     }
 }
 
-/// The score of a member against an opponent in an event.
+/// A query for a member's score against an opponent in an event.
 #[derive(Debug, Clone, Copy)]
 pub struct ScorePair {
     pub event: i64,
@@ -206,7 +211,16 @@ impl Question for ScorePair {
     }
 }
 
-/// The rows with the values that are asked for: one, or none.
+/// Returns the row with these values: one, or none.
+///
+/// # Errors
+///
+/// - `Store` if a call of the database fails, or a value has another type than its column.
+/// - `Memory` if out of memory.
+///
+/// # Guarantees
+///
+/// `rows`: exactly the rows of the table with these values; `reads`: nothing is written.
 pub fn find<Q: Question, S: Alter>(
     alloc: Global,
     conn: &mut Connection<S>,

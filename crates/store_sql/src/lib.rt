@@ -1,4 +1,6 @@
-//! Rows of the tables, read and put over any store of `sqlite`, in transactions with one commit each.
+//! Reads and upserts the rows of a club's tables over a SQLite connection, one transaction for each change.
+//!
+//! All guarantees about rows assume `HasCleanDisk`: no doubt about the disk has arisen.
 #![tactic(auto)]
 
 mod commit;

@@ -1,4 +1,4 @@
-//! Making the tables in an empty database.
+//! Creates the tables of a new club.
 
 ghost use Rattle.std.specs.Prelude.{◌≡◌, ◌≤◌, ◌⊎◌, ℕ, false, [], Err, IsTrue, IfOk, IfErr, OnOk, OnErr};
 ghost use Rattle.sqlite.specs.State.{ExecutesInside, HasCleanDisk, Survives};
@@ -16,7 +16,7 @@ use crate::upsert::put_meta;
 use sqlite::{Alter, Connection, Error, Transaction};
 use store_tables::{MetaRow, Table};
 
-/// Runs one text that makes a table.
+/// Executes one CREATE TABLE statement.
 pub(crate) fn make<S: Alter>(tx: &mut Transaction<'_, S>, sql: &str) -> Result<(), Error>
     ensures same_reference { tx.new.conn.ghost_name ≡ tx.old.conn.ghost_name }
     ensures ran { HasCleanDisk (state S.Store tx.new.conn.now) → IsTrue
@@ -33,7 +33,7 @@ pub(crate) fn make<S: Alter>(tx: &mut Transaction<'_, S>, sql: &str) -> Result<(
     }
 }
 
-/// Makes the tables, one after the other.
+/// Creates all tables in the order of `Table::ALL`.
 fn make_tables<S: Alter>(tx: &mut Transaction<'_, S>) -> Result<(), Error>
     ensures same_reference { tx.new.conn.ghost_name ≡ tx.old.conn.ghost_name }
     ensures made { HasCleanDisk (state S.Store tx.new.conn.now) → IsTrue
@@ -43,7 +43,7 @@ fn make_tables<S: Alter>(tx: &mut Transaction<'_, S>) -> Result<(), Error>
         (state S.Store tx.old.conn.now).in_transaction →
         HasTables First (state S.Store tx.old.conn.now).now.schema →
         IfOk result (λ _. ⊥) }
-    // Where a club can be made.
+    // In a schema with room for a club (`HasRoom`) only the store can fail.
     ensures known { HasCleanDisk (state S.Store tx.new.conn.now) → IsTrue
         (state S.Store tx.old.conn.now).in_transaction → (schema : _) (them : _) → HasRoom schema them →
         Holds schema (state S.Store tx.old.conn.now).now them.rows → IfErr result IsNoInput }
@@ -55,7 +55,7 @@ fn make_tables<S: Alter>(tx: &mut Transaction<'_, S>) -> Result<(), Error>
     Ok(())
 }
 
-/// Makes the tables, with the row of `meta`, in a transaction that is open.
+/// Creates the tables and the row of `meta`, in an open transaction.
 pub(crate) fn create_inside<S: Alter>(tx: &mut Transaction<'_, S>) -> Result<(), Error>
     ensures same_reference { tx.new.conn.ghost_name ≡ tx.old.conn.ghost_name }
     ensures filled { HasCleanDisk (state S.Store tx.new.conn.now) → IsTrue
@@ -65,7 +65,7 @@ pub(crate) fn create_inside<S: Alter>(tx: &mut Transaction<'_, S>) -> Result<(),
         (state S.Store tx.old.conn.now).in_transaction →
         HasTables First (state S.Store tx.old.conn.now).now.schema →
         IfOk result (λ _. ⊥) }
-    // Where a club can be made.
+    // In a schema with room for a club (`HasRoom`) only the store can fail.
     ensures known { HasCleanDisk (state S.Store tx.new.conn.now) → IsTrue
         (state S.Store tx.old.conn.now).in_transaction → (schema : _) (them : _) → HasRoom schema them →
         Holds schema (state S.Store tx.old.conn.now).now them.rows → IfErr result IsNoInput }
@@ -81,7 +81,17 @@ pub(crate) fn create_inside<S: Alter>(tx: &mut Transaction<'_, S>) -> Result<(),
     Ok(())
 }
 
-/// Makes the tables in an empty database, or behind those of other programs, in one transaction with one commit.
+/// Creates the tables of a new club in one transaction, in an empty database or beside foreign tables.
+///
+/// # Errors
+///
+/// `sqlite::Error` if a call of the database fails, or if a table name is already taken.
+///
+/// # Guarantees
+///
+/// - `stored`, `behind`: on success the database holds an empty club; foreign tables are unchanged.
+/// - `fault`, `behind_fault`, `survives`: after an error or a crash there is no club, or a complete one (atomic).
+/// - `stands`: if a club's tables already exist, the call fails and changes nothing.
 pub fn create_tables<S: Alter>(conn: &mut Connection<S>) -> Result<(), Error>
     requires { conn.old.in_transaction ≡ false }
     ensures idle { conn.new.in_transaction ≡ false }
@@ -90,18 +100,18 @@ pub fn create_tables<S: Alter>(conn: &mut Connection<S>) -> Result<(), Error>
         IsExactly opening (state S.Store conn.new)) }
     ensures fault { HasCleanDisk (state S.Store conn.new) → OnErr result (IsExactlyEmpty (state S.Store conn.old) →
         (db : _) → (state S.Store conn.new).may_leave db → IsEmpty db ⊎ Leaves opening db) }
-    // Behind the tables of other programs, whose rows stay.
+    // Beside foreign tables, whose rows stay.
     ensures behind { HasCleanDisk (state S.Store conn.new) → OnOk result ((them : _) →
         IsWithoutClub them (state S.Store conn.old) → IsBesideThem them opening (state S.Store conn.new)) }
     ensures behind_fault { HasCleanDisk (state S.Store conn.new) → OnErr result ((them : _) →
         IsWithoutClub them (state S.Store conn.old) → (db : _) → (state S.Store conn.new).may_leave db →
         LeavesNoClub them db ⊎ LeavesBeside them opening db) }
-    // Where tables of a club stand nothing is made.
+    // If a club's tables exist, nothing is created.
     ensures stands { HasCleanDisk (state S.Store conn.new) → HasTables First (state S.Store conn.old).now.schema →
         IfOk result (λ _. ⊥) × KeepsMay (state S.Store conn.old) (state S.Store conn.new) }
     ensures refused { HasCleanDisk (state S.Store conn.new) → IfErr result (λ e. IsNoInput e ⊎ KeepsMay
         (state S.Store conn.old) (state S.Store conn.new)) }
-    // In an empty database a fault is one of the store's, and so it is where a club can be made behind others.
+    // In an empty database only the store can fail; the same beside foreign tables that leave room for a club.
     ensures known { HasCleanDisk (state S.Store conn.new) → IsExactlyEmpty (state S.Store conn.old) →
         IfErr result IsNoInput }
     ensures known_behind { HasCleanDisk (state S.Store conn.new) → (them : _) →

@@ -1,4 +1,5 @@
-//! All rows of a table, or those whose first column is given, as rows of its type.
+//! Reads the rows of a table, all or by their first column, as row types.
+//! Functions that return `ReadFault` serve a database that is not yet checked; those with `CallFault` an open club.
 
 ghost use Rattle.std.specs.Prelude.{◌≡◌, ◌≢◌, ◌⊎◌, IsTrue, IfOk, IfErr, OnOk, is_ok, All, [], ◌∷◌, map, length};
 ghost use Rattle.std.specs.List.Sorted.{IsSorted};
@@ -20,7 +21,11 @@ use sqlite::{Alter, Connection, Error, Row, params};
 use std::alloc::Global;
 use store_tables::{TableRow, Unread, check_ids, parse_all};
 
-/// Shows all rows of a table, in the order of its key.
+/// Returns the values of all rows of a table, in the order of its key.
+///
+/// # Errors
+///
+/// `sqlite::Error` if a call of the database fails.
 pub fn show_all<T: Select, S: Alter>(conn: &mut Connection<S>) -> Result<Vec<Row>, Error>
     ensures reads { Reads (is_ok result) (state S.Store conn.old) (state S.Store conn.new) }
     ensures rows { HasCleanDisk (state S.Store conn.new) → IfOk result (λ rows.
@@ -33,7 +38,7 @@ pub fn show_all<T: Select, S: Alter>(conn: &mut Connection<S>) -> Result<Vec<Row
     conn.query_all(T::kept_in().all(), &[])
 }
 
-/// Shows the rowids of a table, in their order.
+/// Returns the rowids of a table in ascending order.
 fn show_ids<T: Select, S: Alter>(conn: &mut Connection<S>) -> Result<Vec<Row>, Error>
     ensures reads { Reads (is_ok result) (state S.Store conn.old) (state S.Store conn.new) }
     ensures ids { HasCleanDisk (state S.Store conn.new) → IfOk result (λ rows.
@@ -52,7 +57,7 @@ fn show_ids<T: Select, S: Alter>(conn: &mut Connection<S>) -> Result<Vec<Row>, E
     conn.query_all(T::kept_in().ids(), &[])
 }
 
-/// Shows the rows of a table whose first column is a given number.
+/// Returns the values of the rows whose first column is `first`.
 fn show_by_first<T: Select, S: Alter>(
     conn: &mut Connection<S>,
     first: &i64,
@@ -71,7 +76,7 @@ fn show_by_first<T: Select, S: Alter>(
     conn.query_all(T::kept_in().by_first(), params![first])
 }
 
-/// The rows of a table, from the values that it shows. Values of other types are no club's.
+/// Parses rows of a checked club. A wrong type means that the file was changed meanwhile: `Store`.
 pub(crate) fn parsed<T: TableRow>(alloc: Global, shown: &[Row]) -> Result<Vec<T>, CallFault>
     ensures rows { IfOk result (λ found. shown.now ≡ map T.cells found.items) }
 {
@@ -82,7 +87,7 @@ pub(crate) fn parsed<T: TableRow>(alloc: Global, shown: &[Row]) -> Result<Vec<T>
     }
 }
 
-/// A text that is refused names a table or a column that is missing.
+/// A rejected statement names a table or column that is missing.
 fn failed(error: Error) -> ReadFault
     ensures store { IsNoInput error → result ≡ ReadFault.Store }
     ensures typed { result ≢ ReadFault.Mistyped }
@@ -104,7 +109,7 @@ fn unread(why: Unread) -> ReadFault
     }
 }
 
-/// The rows of a table, from the values that it shows.
+/// Parses rows of a database that is not yet checked.
 fn typed<T: TableRow>(alloc: Global, shown: &[Row]) -> Result<Vec<T>, ReadFault>
     ensures rows { IfOk result (λ found. shown.now ≡ map T.cells found.items) }
     ensures blames { IfErr result (λ e. (e ≡ ReadFault.Memory) ⊎ ((e ≡ ReadFault.Mistyped) ×
@@ -116,7 +121,7 @@ fn typed<T: TableRow>(alloc: Global, shown: &[Row]) -> Result<Vec<T>, ReadFault>
     }
 }
 
-/// Tests that the rowids of a table are integers, none of them twice.
+/// Checks that the rowids are distinct integers.
 fn identified(alloc: Global, shown: &[Row]) -> Result<(), ReadFault>
     ensures apart { OnOk result (AreIds shown.now) }
     ensures blames { IfErr result (λ e. (e ≡ ReadFault.Memory) ⊎ ((e ≡ ReadFault.Mistyped) ×
@@ -128,7 +133,14 @@ fn identified(alloc: Global, shown: &[Row]) -> Result<(), ReadFault>
     }
 }
 
-/// Tests the rowids of a table, and tells how many rows it has: of a database that is looked at for the first time.
+/// Checks the rowids of a table and returns the number of its rows.
+///
+/// # Errors
+///
+/// - `Missing` if SQLite rejects the statement.
+/// - `Mistyped` if a rowid is no integer or occurs twice.
+/// - `Store` if a call of the database fails.
+/// - `Memory` if out of memory.
 pub fn check_rowids<T: Select, S: Alter>(
     alloc: Global,
     conn: &mut Connection<S>,
@@ -154,8 +166,12 @@ pub fn check_rowids<T: Select, S: Alter>(
     }
 }
 
-/// Tests that a table stands with all of its columns, whatever its rows: of a database that is looked at for the first
-/// time.
+/// Checks that a table exists with all of its columns; its rows are not checked.
+///
+/// # Errors
+///
+/// - `Missing` if SQLite rejects the statement.
+/// - `Store` if a call of the database fails.
 pub fn check_columns<T: Select, S: Alter>(conn: &mut Connection<S>) -> Result<(), ReadFault>
     ensures reads { Reads (is_ok result) (state S.Store conn.old) (state S.Store conn.new) }
     ensures same { HasCleanDisk (state S.Store conn.new) → OnOk result (
@@ -170,8 +186,14 @@ pub fn check_columns<T: Select, S: Alter>(conn: &mut Connection<S>) -> Result<()
     }
 }
 
-/// All rows of a table, in the order of its key, with its rowids tested: of a database that is looked at for the first
-/// time.
+/// Checks the rowids of a table and returns all of its rows, in the order of its key.
+///
+/// # Errors
+///
+/// - `Missing` if SQLite rejects the statement.
+/// - `Mistyped` if a rowid is no integer or occurs twice, or a value has another type than its column.
+/// - `Store` if a call of the database fails.
+/// - `Memory` if out of memory.
 pub fn read_all<T: Select, S: Alter>(
     alloc: Global,
     conn: &mut Connection<S>,
@@ -195,8 +217,14 @@ pub fn read_all<T: Select, S: Alter>(
     typed(alloc, &shown)
 }
 
-/// The rows of a table whose first column is a given number, in the order of the rest of their key: of a database that
-/// is looked at for the first time.
+/// Returns the rows whose first column is `first`, in the order of the other columns of the key.
+///
+/// # Errors
+///
+/// - `Missing` if SQLite rejects the statement.
+/// - `Mistyped` if a value has another type than its column.
+/// - `Store` if a call of the database fails.
+/// - `Memory` if out of memory.
 pub fn read_by_first<T: Select, S: Alter>(
     alloc: Global,
     conn: &mut Connection<S>,
@@ -221,7 +249,12 @@ pub fn read_by_first<T: Select, S: Alter>(
     typed(alloc, &shown)
 }
 
-/// All rows of a table, in the order of its key.
+/// Returns all rows of a table of an open club, in the order of its key.
+///
+/// # Errors
+///
+/// - `Store` if a call of the database fails, or a value has another type than its column.
+/// - `Memory` if out of memory.
 pub fn list<T: Select, S: Alter>(
     alloc: Global,
     conn: &mut Connection<S>,
@@ -240,8 +273,16 @@ pub fn list<T: Select, S: Alter>(
     }
 }
 
-/// The rows of a table whose first column is a given number, in the order of the rest of their key: by an id the one
-/// with it, if there is one.
+/// Returns the rows of an open club whose first column is `first`, in the order of the other columns of the key.
+///
+/// # Errors
+///
+/// - `Store` if a call of the database fails, or a value has another type than its column.
+/// - `Memory` if out of memory.
+///
+/// # Guarantees
+///
+/// If the key is one id, this is the row with that id, or none.
 pub fn find_by_first<T: Select, S: Alter>(
     alloc: Global,
     conn: &mut Connection<S>,
@@ -259,7 +300,15 @@ pub fn find_by_first<T: Select, S: Alter>(
     }
 }
 
-/// How many rows a table has, where their ids are places.
+/// Counts the rows of a table of an open club.
+///
+/// # Errors
+///
+/// `Store` if a call of the database fails.
+///
+/// # Guarantees
+///
+/// `count`: exact for tables whose key is an id, with ids 1, 2, 3 and so on.
 pub fn count<T: Select, S: Alter>(conn: &mut Connection<S>) -> Result<usize, CallFault>
     ensures reads { Reads (is_ok result) (state S.Store conn.old) (state S.Store conn.new) }
     ensures count { HasCleanDisk (state S.Store conn.new) → IfOk result (λ n. IsTrue T.has_id → (content : _) →

@@ -1,4 +1,4 @@
-//! What an opening finds of a database that was closed or cut off.
+//! A law about a database that is opened again after it was closed or after a crash.
 
 ghost use Rattle.sqlite.specs.State.{Opens, IsLive};
 ghost use Rattle.sqlite.specs.Held.{state};
@@ -6,8 +6,8 @@ ghost use Rattle.store_tables.specs.Contents.{IsExactly, Leaves};
 
 use sqlite::{Alter, Connection};
 
-/// A law. Where a stop left the tables of a schema with certain rows, and a connection was just opened over what it
-/// left, the connection has this schema and exactly these rows, now and after another stop.
+/// Law: a connection that was just opened holds exactly the rows that a crash left, and a further crash leaves the
+/// same.
 pub fn holds_exactly<S: Alter>(conn: &Connection<S>)
     ensures { Opens (state S.Store conn.now) → IsLive (state S.Store conn.now) → (schema : _) (content : _) →
         Leaves schema content (state S.Store conn.now).committed.trees →

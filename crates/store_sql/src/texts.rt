@@ -1,4 +1,4 @@
-//! For each row the table whose texts show it.
+//! Maps each row type to its table, whose SELECT statements return its rows.
 
 ghost use Rattle.std.specs.Prelude.{◌≡◌, ℕ, Bool, true, false, IsTrue, refl};
 ghost use Rattle.std.proofs.Common.{true≢false, sym};
@@ -19,10 +19,10 @@ use store_tables::{
     SeenRow, Table, TableRow,
 };
 
-/// A row whose table has texts that show its rows.
+/// A row type whose table has SELECT statements for its rows.
 pub trait Select: TableRow {
-    // which table it is, as it stands in a club alone, how many columns its key has, and whether the one column of its
-    // key is the rowid, as in most tables
+    // the table; its definition in a database that holds only a club; the number of columns in its key; whether its key
+    // is the rowid, as in most tables
     ghost which: { of_club.Table };
 
     ghost table: { Table };
@@ -31,13 +31,13 @@ pub trait Select: TableRow {
 
     ghost has_id: { Bool } = { true };
 
-    /// The table that has such rows.
+    /// The table that holds these rows.
     fn kept_in() -> Table
         ensures { standing result ≡ table };
 
     ghost is_table: { table ≡ standing which };
 
-    // its texts show its rows wherever it stands
+    // its statements return its rows, whatever other tables exist
     ghost read: { (schema : Schema) (stands : Stands schema which) → AreShownBy schema (made_as which stands.tree)
         width };
 

@@ -1,4 +1,4 @@
-//! One row put into its table, by its key.
+//! Upserts rows into their tables, by their keys.
 
 ghost use Rattle.std.specs.Prelude.{◌≡◌, ℕ, List, [], ◌∷◌, IsTrue, IfErr, OnOk, map};
 ghost use Rattle.sqlite.specs.State.{HasCleanDisk, Survives};
@@ -18,13 +18,22 @@ use store_tables::{
     SeenRow, Table, TableRow,
 };
 
-/// A row that has a text which puts it in place of the row with its key.
+/// A row type with an upsert statement.
 pub trait Put: TableRow {
-    // the number of its table's tree, and the columns of its key
+    // the number of the table's tree, and the columns of its key
     ghost tree: { ℕ };
 
     ghost key: { List ℕ };
 
+    /// Upserts the row in an open transaction.
+    ///
+    /// # Errors
+    ///
+    /// `sqlite::Error` if a call of the database fails.
+    ///
+    /// # Guarantees
+    ///
+    /// `survives`: a crash before the commit leaves nothing of it.
     fn put<S: Alter>(&self, tx: &mut Transaction<'_, S>) -> Result<(), Error>
         ensures same_reference { tx.new.conn.ghost_name ≡ tx.old.conn.ghost_name }
         ensures put { HasCleanDisk (state S.Store tx.new.conn.now) → IsTrue
@@ -34,8 +43,7 @@ pub trait Put: TableRow {
         ensures survives { Survives (state S.Store tx.old.conn.now) (state S.Store tx.new.conn.now) (λ _. ⊥) };
 }
 
-/// Puts the row of `meta` in place of the one with its id. Where the tables of a club stand, a fault is one of the
-/// store's.
+/// Upserts the row of `meta`. If the tables of a club exist, only the store can fail.
 pub(crate) fn put_meta<S: Alter>(row: &MetaRow, tx: &mut Transaction<'_, S>) -> Result<(), Error>
     ensures same_reference { tx.new.conn.ghost_name ≡ tx.old.conn.ghost_name }
     ensures put { HasCleanDisk (state S.Store tx.new.conn.now) → IsTrue
@@ -224,7 +232,15 @@ impl Put for ScoreRow {
     }
 }
 
-/// Puts each of the rows, in turn.
+/// Upserts the rows in order, in an open transaction.
+///
+/// # Errors
+///
+/// `sqlite::Error` if a call of the database fails.
+///
+/// # Guarantees
+///
+/// `survives`: a crash before the commit leaves none of them.
 pub fn put_all<T: Put, S: Alter>(tx: &mut Transaction<'_, S>, rows: &[T]) -> Result<(), Error>
     ensures same_reference { tx.new.conn.ghost_name ≡ tx.old.conn.ghost_name }
     ensures put { HasCleanDisk (state S.Store tx.new.conn.now) → IsTrue

@@ -1,4 +1,4 @@
-//! Carrying the tables of schema 1 over to schema 2.
+//! Migration from schema 1 to schema 2.
 
 ghost use Rattle.std.specs.Prelude.{◌≡◌, ◌≤◌, ◌⊎◌, true, false, [], IsTrue, IfOk, IfErr, OnOk, OnErr, is_ok};
 ghost use Rattle.sqlite.specs.State.{HasCleanDisk, IsUnchanged, Survives};
@@ -19,7 +19,7 @@ use crate::upsert::{Put, put_all};
 use sqlite::{Alter, Connection, Error, Transaction, params};
 use store_tables::{EventRuleRow, MetaRow, Table};
 
-/// Makes the table of the rules of events and puts all rows, in a transaction that is open.
+/// Creates the table of event rules and upserts the rows, in an open transaction.
 fn widen_inside<S: Alter>(
     tx: &mut Transaction<'_, S>,
     rules: &[EventRuleRow],
@@ -37,8 +37,16 @@ fn widen_inside<S: Alter>(
     Ok(())
 }
 
-/// Makes of the tables of schema 1 those of schema 2, with these rules of events and this row of `meta`, in one
-/// transaction with one commit, wherever they stand; the rows of other programs stay.
+/// Migrates the tables from schema 1 to schema 2 in one transaction, with these event rules and this row of `meta`.
+///
+/// # Errors
+///
+/// `sqlite::Error` if a call of the database fails.
+///
+/// # Guarantees
+///
+/// - `stored`: on success the tables hold schema 2; foreign tables are unchanged.
+/// - `fault`, `survives`: after an error or a crash the file holds schema 1 or schema 2 (atomic).
 pub fn widen<S: Alter>(
     conn: &mut Connection<S>,
     rules: &[EventRuleRow],
@@ -64,8 +72,11 @@ pub fn widen<S: Alter>(
     Ok(())
 }
 
-/// Whether the table of the rules of events stands with all of its columns, of a database that is looked at for the
-/// first time.
+/// Whether the table of event rules exists with all of its columns, in a database that is not yet checked.
+///
+/// # Errors
+///
+/// `Store` if a call of the database fails for any other reason than a missing table or column.
 pub fn has_event_rules<S: Alter>(conn: &mut Connection<S>) -> Result<bool, ReadFault>
     ensures reads { Reads (is_ok result) (state S.Store conn.old) (state S.Store conn.new) }
     ensures same { HasCleanDisk (state S.Store conn.new) → OnOk result (IsUnchanged (state S.Store conn.old)

@@ -1,4 +1,4 @@
--- The values that a row of each table has, in the order of its columns.
+-- The column values of a row of each table, in the order of its columns.
 use Rattle.std.specs.Prelude.{◌≡◌, ◌⊎◌, ℕ, ℤ, ◌<ℤ◌, List, [], ◌∷◌, string_bytes, IsUtf8, IsTrue, length}
 use Rattle.sqlite_value.specs.declared.value.Value.{Value}
 use Rattle.sqlite_value.specs.declared.value.Value.TheVariants.{Null, Int, Text}
@@ -51,9 +51,9 @@ abbrev pub score_cells : ScoreRow → Row
 score_cells r = Int r.event ∷ Int r.member ∷ Int r.opponent ∷ Int r.points ∷ Int r.wins ∷ Int r.draws ∷ Int r.losses
     ∷ []
 
--- ---- of the types that the columns name
+-- ---- values of the right types
 
--- a text, in UTF-8
+-- a text in UTF-8
 abbrev pub IsText : Value → Type 0
 IsText v = (t : List ℕ) × (v ≡ Text t) × IsUtf8 t
 
@@ -141,7 +141,7 @@ pub record IsScore (row : Row) : Type 0 where
   pub draws : IsInt (column row 5)
   pub losses : IsInt (column row 6)
 
--- each integer is above the one before it
+-- strictly ascending
 abbrev pub Rises : List ℤ → Type 0
 Rises ids = IsAscending (λ a b. a <ℤ b) ids
 

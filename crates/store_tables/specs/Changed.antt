@@ -1,4 +1,4 @@
--- What the rows that a command changes make of the content of the tables.
+-- The content of the tables after the rows that a command changes are upserted.
 use Rattle.std.specs.Prelude.{List, [], ◌∷◌, map, Option, Some, None}
 use Rattle.sqlite.specs.Order.{Row}
 use Rattle.store_tables.specs.Changes.{Alters}
@@ -34,11 +34,11 @@ put_maybe (Some meta) content = put_in (tree_of Meta) (0 ∷ []) (meta_cells met
 abbrev pub meta_put : Changes → Content → Content
 meta_put c content = put_maybe c.meta content
 
--- each row in place of the row of its table with its key, the rows of one table in turn
+-- the content after all upserts, table by table
 abbrev pub changed : Changes → Content → Content
 changed c content = meta_put c (counts_put c (play_put c (people_put c content)))
 
--- the rows of schema 1 with these rules of events and this row of `meta`
+-- the content after a migration: the rows of schema 1 with these event rules and this row of `meta`
 abbrev pub widened : List EventRuleRow → MetaRow → Content → Content
 widened rules meta content = put_in (tree_of Meta) (0 ∷ []) (meta_cells meta)
     (put_each (tree_of EventRules) (0 ∷ []) (map event_rule_cells rules) content)
@@ -47,7 +47,7 @@ abbrev pub maybe_row : Option MetaRow → List Row
 maybe_row None = []
 maybe_row (Some meta) = meta_cells meta ∷ []
 
--- Each table of the new content is that of the old with its changed rows. Any of them may have none.
+-- Each table of the new content is the old one with its changed rows upserted, in any order.
 pub record AltersTables (changes : Changes) (old new : Content) : Type 0 where
   pub meta : Alters (0 ∷ []) (maybe_row changes.meta) (old (tree_of Meta)) (new (tree_of Meta))
   pub members : Alters (0 ∷ []) (map member_cells changes.members.items) (old (tree_of Members)) (new (tree_of Members))

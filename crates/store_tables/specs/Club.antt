@@ -1,4 +1,4 @@
--- What a database holds, and what a stop leaves of it, by the schema of a club.
+-- The rows in a database with a club's schema, and the rows after a crash.
 use Rattle.sqlite.specs.Tree.{Trees}
 use Rattle.sqlite.specs.Effect.{Database}
 use Rattle.sqlite.specs.State.{State}

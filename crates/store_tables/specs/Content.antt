@@ -1,4 +1,4 @@
--- What one table holds: which rows, whatever their rowids are and however its tree is laid out.
+-- The rows of one table, independent of their rowids and of the layout of its tree.
 use Rattle.std.specs.Prelude.{◌≡◌, ◌≢◌, ℕ, Bool, not, List, ◌∷◌, length, map, filter, IsTrue}
 use Rattle.std.specs.List.{AllByRecursion, range_with_len}
 use Rattle.sqlite.specs.Order.{Row, column}
@@ -13,24 +13,24 @@ use Rattle.sqlite_schema.specs.Rules.{agree}
 use Rattle.sqlite_value.specs.Keys.{plain}
 use Rattle.sqlite_rules.specs.Lists.{Has}
 
--- a stored row as its table shows it: the value of each column, with the rowid in that of the INTEGER PRIMARY KEY
+-- the column values of a stored row; the INTEGER PRIMARY KEY column is the rowid
 abbrev pub cells : Table → Row → Row
 cells table row = map (λ at. column row (place_of table at)) (range_with_len 0 (length table.columns))
 
--- the table has these rows and no other
+-- the table has exactly these rows
 pub record Keeps (table : Table) (trees : Trees) (rows : List Row) : Type 0 where
   pub stored : (row : Row) → Has rows row → (r : Row) × Has (trees table.tree) r × (cells table r ≡ row)
   pub only : (r : Row) → Has (trees table.tree) r → Has rows (cells table r)
 
--- each rowid is an integer, and none comes twice
+-- the rowids are distinct integers
 pub record AreApart (rows : List Row) : Type 0 where
   pub apart : IsAscending (λ a b. value_cmp (rowid a) (rowid b) ≢ Equal) rows
   pub ints : AllByRecursion (λ r. IsTrue (is_int (rowid r))) rows
 
--- the same values in these columns
+-- the same values in the columns of the key
 abbrev pub same_key : List ℕ → Row → Row → Bool
 same_key key a b = agree plain key a key b
 
--- the rows, with this one for the one that has its key
+-- upserts a row: it replaces the one with the same key
 abbrev pub put : List ℕ → Row → List Row → List Row
 put key row rows = row ∷ filter (λ x. not (same_key key x row)) rows

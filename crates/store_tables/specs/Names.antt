@@ -1,4 +1,4 @@
--- The names of the tables, and where each stands.
+-- The names of the tables, their order and their trees.
 use Rattle.std.specs.Prelude.{ℕ, List, [], ◌∷◌, codes}
 use Rattle.store_tables.specs.declared.names.Table.{Table}
 use Rattle.store_tables.specs.declared.names.Table.TheVariants.{Members, Events, EventRules, Challenges, Moves, Games}
@@ -15,11 +15,11 @@ table_name Seen = codes "seen"
 table_name Scores = codes "scores"
 table_name Meta = codes "meta"
 
--- the tables in the order in which they are made
+-- the tables in the order in which they are created
 abbrev pub in_order : List Table
 in_order = Meta ∷ Members ∷ Events ∷ Challenges ∷ Moves ∷ Games ∷ Seen ∷ Scores ∷ EventRules ∷ []
 
--- how many tables are made before it
+-- the number of tables created before it
 abbrev pub place_of : Table → ℕ
 place_of Meta = 0
 place_of Members = 1
@@ -31,7 +31,7 @@ place_of Seen = 6
 place_of Scores = 7
 place_of EventRules = 8
 
--- The number of its tree. The indexes of a table have the trees that follow it.
+-- The number of the table's tree in a database with only a club. Its indexes have the trees that follow.
 abbrev pub tree_of : Table → ℕ
 tree_of Meta = 0
 tree_of Members = 1

@@ -1,4 +1,4 @@
--- The rows of a club in a database that has tables, indexes and views of other programs, too.
+-- The rows of a club in a database that also has foreign tables, indexes and views.
 use Rattle.std.specs.Prelude.{◌≡◌, ℕ, ◌==◌, ◌^◌, nat_lt, Bool, true, false, if◌then◌else◌, List, [], ◌∷◌, Option}
 use Rattle.std.specs.Prelude.{Some, None}
 use Rattle.std.specs.List.{AllByRecursion}
@@ -16,15 +16,15 @@ use Rattle.store_tables.specs.declared.names.Table as of_club
 use Rattle.store_tables.specs.declared.names.Table.TheVariants.{EventRules}
 use Rattle.store_tables.specs.declared.names.Version.TheVariants.{First, Current}
 
--- The tables of a club have exactly these rows wherever they stand, beside tables that have whatever rows; and so it is
--- in all that a stop may leave.
+-- The club's tables have exactly these rows, wherever they are in the schema and whatever foreign tables there are;
+-- also after a crash.
 abbrev pub HasRows : Content → State → Type 0
 HasRows content s =
     (schema : Schema) × (whole : Content) × HasTables Current schema
     × AllByRecursion (λ table. by_club schema whole (tree_of table) ≡ content (tree_of table)) in_order
     × IsExactly schema whole s
 
--- ---- the neighbours of a club
+-- ---- foreign tables
 
 abbrev pub is_tree : ℕ → Option ℕ → Bool
 is_tree n None = false
@@ -35,70 +35,69 @@ over_each schema [] club others n = others n
 over_each schema (table ∷ tables) club others n =
     if is_tree n (tree_in schema table) then club (tree_of table) else over_each schema tables club others n
 
--- the rows of a club's tables where they stand in the schema, and those of the tables of other programs
+-- the rows of all tables of the schema: the club's content in the club's tables, else the foreign rows
 unfoldable pub over : Schema → Content → Content → Content
 over schema = over_each schema in_order
 
--- What stands in the database of a club.
+-- The database of a club with everything else in it.
 pub record Neighbours : Type 0 where
-  -- its tables, indexes and views, those of the club among them
+  -- the whole schema, with the club's tables, indexes and views
   pub schema : Schema
-  -- the rows of the tables of other programs
+  -- the rows of foreign tables
   pub rows : Content
 
--- the tables of a club stand alone
+-- a database with only a club
 abbrev pub alone : Neighbours
 alone = record { schema = club_schema; rows = nothing }
 
--- the database has these rows of a club and those of its neighbours
+-- the database has these rows of a club and the foreign rows
 abbrev pub HoldsBeside : Neighbours → Content → Database → Type 0
 HoldsBeside them content db = Holds them.schema db (over them.schema content them.rows)
 
--- The connection has exactly these rows of a club and those of its neighbours, which have no part in putting rows of
--- the club; and so has all that a stop may leave.
+-- The connection has exactly these rows of a club and the foreign rows, also after a crash. No foreign object affects
+-- upserts of the club's rows.
 pub record IsBesideThem (them : Neighbours) (content : Content) (s : State) : Type 0 where
   pub clear : TakesClub Current them.schema
   pub exactly : IsExactly them.schema (over them.schema content them.rows) s
 
--- a later opening finds these rows of a club and those of its neighbours
+-- after a crash the file has these rows of a club and the foreign rows
 pub record LeavesBeside (them : Neighbours) (content : Content) (trees : Trees) : Type 0 where
   pub clear : TakesClub Current them.schema
   pub leaves : Leaves them.schema (over them.schema content them.rows) trees
 
--- Inside a transaction the rows of the club changed so, wherever its tables stand, those of its neighbours stayed, and
--- nothing was committed.
+-- Inside a transaction the club's rows changed in this way and foreign rows did not; nothing was committed.
 pub record StepsBeside (change : Content → Content) (old new : State) : Type 0 where
   pub holds : (them : Neighbours) → TakesClub Current them.schema → (content : Content)
       → HoldsBeside them content old.now → HoldsBeside them (change content) new.now
   pub committed : new.committed ≡ old.committed
   pub inside : new.in_transaction ≡ true
 
--- ---- a club of schema 1
+-- ---- schema 1
 
--- The neighbours of a club of schema 1 are those that it has once it is upgraded: this is the schema before.
+-- `them` has the schema after the migration to schema 2; this is the schema before it.
 pub record IsUpgraded (schema : Schema) (them : Neighbours) : Type 0 where
   pub tables : HasTablesOf First schema
   pub clear : TakesClub Current them.schema
   pub is : them.schema ≡ created schema (made_as EventRules 0)
-  -- where a table counts its rows, the table for that stands
+  -- if a table uses AUTOINCREMENT, the table `sqlite_sequence` exists
   pub counted : lacks_sequence them.schema ≡ false
-  -- there is a tree for the table, which has no rows yet
+  -- a tree for the new table is free and has no rows
   pub stored : nat_lt (next_tree schema) (2 ^ 31) ≡ true
   pub bare : them.rows (next_tree schema) ≡ []
 
--- the database has these rows of a club of schema 1 and those of its neighbours
+-- the database has these rows of a club of schema 1 and the foreign rows
 pub record HoldsFirst (them : Neighbours) (content : Content) (db : Database) : Type 0 where
   pub schema : Schema
   pub before : IsUpgraded schema them
   pub holds : Holds schema db (over schema content them.rows)
 
--- the connection has exactly these, and so has all that a stop may leave
+-- the connection has exactly these rows, also after a crash
 pub record IsFirstBeside (them : Neighbours) (content : Content) (s : State) : Type 0 where
   pub schema : Schema
   pub before : IsUpgraded schema them
   pub exactly : IsExactly schema (over schema content them.rows) s
 
--- a later opening finds these
+-- after a crash the file has these rows
 pub record LeavesFirst (them : Neighbours) (content : Content) (trees : Trees) : Type 0 where
   pub schema : Schema
   pub before : IsUpgraded schema them

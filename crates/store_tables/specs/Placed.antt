@@ -1,5 +1,4 @@
--- The tables of a club wherever they stand in a schema: in whatever order, with whatever trees, among those that other
--- programs made.
+-- A club's tables in any schema: in any order, with any trees, among foreign tables.
 use Rattle.std.specs.Prelude.{◌≡◌, ◌⊎◌, ℕ, ◌==◌, ◌&&◌, ◌^◌, nat_lt, true, false, if◌then◌else◌, List, [], ◌∷◌}
 use Rattle.std.specs.Prelude.{Option, Some, None, Ok, IfSome, find, slice_get, take}
 use Rattle.std.specs.List.{AllByRecursion}
@@ -29,46 +28,46 @@ use Rattle.store_tables.specs.declared.names.Table.TheVariants.{EventRules}
 use Rattle.store_tables.specs.declared.names.Version.{Version}
 use Rattle.store_tables.specs.declared.names.Version.TheVariants.{First, Current}
 
--- A table of a club stands in the schema, with a tree of its own.
+-- The schema has this table of a club, with a tree of its own.
 pub record Stands (schema : Schema) (table : of_club.Table) : Type 0 where
   pub place : ℕ
   pub tree : ℕ
-  -- its name finds its place
+  -- its name resolves to its place
   pub named : table_named schema (table_name table) ≡ Some place
   pub at : slice_get schema.tables place ≡ Some (made_as table tree)
-  -- its tree is that of no table before it
+  -- no table before it has its tree
   pub own : find (λ (t : Table). t.tree == tree) schema.tables ≡ Some (made_as table tree)
-  -- and not of a table that a statement computes
+  -- it is not the temporary table of a statement
   pub stored : nat_lt tree (2 ^ 31) ≡ true
-  -- each UNIQUE of the table has its index
+  -- each UNIQUE constraint of the table has its index
   pub guarded : IsGuarded schema.indexes (made_as table tree)
 
--- the tables of a club of this version
+-- the tables of this schema version
 abbrev pub tables_of : Version → List of_club.Table
 tables_of First = take 8 in_order
 tables_of Current = in_order
 
--- The schema has the tables of a club, and perhaps others.
+-- The schema has the tables of this version, and perhaps others.
 abbrev pub HasTables : Version → Schema → Type 0
 HasTables version schema = AllByRecursion (Stands schema) (tables_of version)
 
--- The schema has the tables of a club of this version and no other that the club of a later one has: no table, view or
--- index has such a name.
+-- The schema has the tables of exactly this version: no table, view or index uses the name of a table of a later
+-- version.
 abbrev pub HasTablesOf : Version → Schema → Type 0
 HasTablesOf First schema = HasTables First schema × (is_used schema (table_name EventRules) ≡ false)
 HasTablesOf Current schema = HasTables Current schema
 
--- those of one of the versions
+-- those of schema 1 or of schema 2
 abbrev pub HasClubTables : Schema → Type 0
 HasClubTables schema = HasTablesOf First schema ⊎ HasTablesOf Current schema
 
--- what holds of each of these tables where it stands
+-- a property of each of these tables at its place
 abbrev pub EachStanding : (schema : Schema) → ((table : of_club.Table) → Stands schema table → Type 0)
     → (tables : List of_club.Table) → AllByRecursion (Stands schema) tables → Type 0
 EachStanding schema P [] stand = Unit {0}
 EachStanding schema P (table ∷ tables) stand = P table stand.0 × EachStanding schema P tables stand.1
 
--- ---- the rows of a club, by the numbers that the club gives its tables
+-- ---- the rows of a club, by the tree numbers of `tree_of`
 
 abbrev pub tree_of_found : Option Table → Option ℕ
 tree_of_found None = None
@@ -78,7 +77,7 @@ abbrev pub tree_at : Schema → Option ℕ → Option ℕ
 tree_at schema None = None
 tree_at schema (Some place) = tree_of_found (slice_get schema.tables place)
 
--- the tree of a table of the club in this schema, if there is a table of its name
+-- the tree of a club's table in this schema, if there is a table with its name
 unfoldable pub tree_in : Schema → of_club.Table → Option ℕ
 tree_in schema table = tree_at schema (table_named schema (table_name table))
 
@@ -91,53 +90,52 @@ among schema content [] n = []
 among schema content (table ∷ tables) n =
     if n == tree_of table then rows_at content (tree_in schema table) else among schema content tables n
 
--- the rows of the club's tables, wherever they stand in the schema
+-- the rows of the club's tables, wherever they are in the schema
 unfoldable pub by_club : Schema → Content → Content
 by_club schema content = among schema content in_order
 
--- the same of what a database stores
+-- the same for the trees of a database
 abbrev pub club_trees : Database → Trees
 club_trees db = by_club db.schema db.trees
 
--- The text of a question by these columns finds the rows of the table that have the wanted values in them, where it
--- stands.
+-- The query by these columns returns the rows of the table with the wanted values, at this place.
 pub record AsksHere (schema : Schema) (table : of_club.Table) (stands : Stands schema table) (key : List ℕ)
     (wanted params : Row) : Type 0 where
   pub is_select : IsSelect (question_text (made_as table stands.tree) key)
   pub finds : Finds schema (made_as table stands.tree) stands.place key wanted params
       (question_text (made_as table stands.tree) key) (λ x y. Equal)
 
--- it does so wherever the table stands
+-- it does so wherever the table is
 abbrev pub AsksAnywhere : of_club.Table → List ℕ → Row → Row → Type 0
 AsksAnywhere table key wanted params =
     (schema : Schema) (stands : Stands schema table) → AsksHere schema table stands key wanted params
 
--- ---- where rows of the club can be put
+-- ---- upserts beside foreign objects
 
--- a schema with this table alone
+-- a schema with only this table
 abbrev pub only : Table → Schema
 only table = record { tables = table ∷ []; indexes = []; views = [] }
 
--- no table of this schema is the parent of the FOREIGN KEY
+-- the FOREIGN KEY does not refer to a table of this schema
 abbrev pub IsOfOthers : Schema → List Table → Reference → Type 0
 IsOfOthers club tables ref =
     IfSome (parent_key tables ref) (λ key. AllByRecursion (λ t. (key.0 == t.tree) ≡ false) club.tables)
 
--- If the index is over the very columns of the table's primary key, it tells rows apart as the key does.
+-- A unique index on exactly the columns of the primary key compares them as the key does.
 abbrev pub IsAlike : Table → Index → Type 0
 IsAlike table index = (guards index table && aims (Some table.primary) index.columns) ≡ true → index.order ≡ plain
 
--- What other programs made has no part in what it is to put a row of this table by its key. It may have indexes on the
--- table, also UNIQUE ones, which may refuse a row.
+-- Foreign objects do not affect the upsert of a row by its key. They may include indexes on the table, even UNIQUE
+-- ones, which may reject a row.
 pub record IsLeftAlone (schema : Schema) (table : Table) : Type 0 where
-  -- the columns of its primary key are found to be a key, in their order
+  -- the columns of its primary key are resolved as a key, in their order
   pub keyed : key_at schema table table.primary ≡ Ok table.primary
   pub alike : AllByRecursion (IsAlike table) schema.indexes
   -- no FOREIGN KEY refers to it
   pub childless : AllByRecursion (λ (t : Table). AllByRecursion (IsOfOthers (only table) schema.tables) t.references)
       schema.tables
 
--- The schema has the tables of a club, each of which takes its rows, and no two tables have one tree.
+-- The schema has the tables of this version, each accepts upserts, and no two tables have the same tree.
 pub record TakesClub (version : Version) (schema : Schema) : Type 0 where
   pub club : HasTables version schema
   pub clear : EachStanding schema (λ table stands. IsLeftAlone schema (made_as table stands.tree)) (tables_of version)

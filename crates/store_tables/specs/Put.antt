@@ -1,4 +1,4 @@
--- What it means that a text puts one row into a table by its key, and what the text of a SELECT means.
+-- The meaning of an upsert statement and of a SELECT statement.
 use Rattle.std.specs.Prelude.{◌≡◌, ℕ, ℤ, pos, negsuc, true, false, List, [], ◌∷◌, ◌++◌, Some, None}
 use Rattle.std.specs.List.{AllByRecursion}
 use Rattle.sqlite.specs.Order.{Row, column}
@@ -29,7 +29,7 @@ use Rattle.sqlite_rules.specs.Keys.{conflicts}
 use Rattle.sqlite_rules.specs.declared.error.Rowids.TheVariants.{Chosen}
 use Rattle.store_tables.specs.Content.{cells, AreApart, Keeps, put, same_key}
 
--- the query of ON CONFLICT DO UPDATE: the row with the rowid that is given at this place
+-- the row lookup of ON CONFLICT DO UPDATE: the row with the rowid at this place
 abbrev pub picks : ℕ → ℕ → List Term → Query
 picks tree base project = record {
   from = inner tree end;
@@ -47,11 +47,11 @@ abbrev pub on_key : List ℕ → ℕ → ℕ → List Term → List Upsert
 on_key places tree base project =
     record { target = Some places; update = Some (record { lets = []; body = picks tree base project }) } ∷ []
 
--- With these parameters the text puts this row in place of the one with its key. Each field is found by computing.
+-- With these parameters the statement upserts this row. Each field is decided by computation.
 pub record IsPut (schema : Schema) (table : Table) (key : List ℕ) (params row : Row) (from : Source) (places : List ℕ)
     (base : ℕ) (project : List Term) : Type 0 where
   pub source : Row
-  -- the row as the table keeps it under a rowid
+  -- the row as it is stored under a rowid
   pub stored : ℤ → Row
   pub sourced : (db : Trees) (rows : List Row)
       → IsSource (record { schema = schema; trees = db }) (stamped table params) from rows → rows ≡ source ∷ []
@@ -72,13 +72,13 @@ pub record IsPut (schema : Schema) (table : Table) (key : List ℕ) (params row 
       → Has (next table.tree) r → Has (next table.tree) (stored n) → same_key key (cells table r) row ≡ true
       → rowid (stored n) ≡ rowid r
 
--- The table has the row in place of the one with its key, and each other table is as it was.
+-- The row is upserted into the table; all other tables are unchanged.
 pub record HasPut (schema : Schema) (table : Table) (key : List ℕ) (row : Row) (db next : Trees) : Type 0 where
   pub kept : (rows : List Row) → Keeps table db rows → Keeps table next (put key row rows)
   pub apart : AreApart (next table.tree)
   pub others : AllByRecursion (λ t. (t.tree ≡ table.tree → ⊥) → next t.tree ≡ db t.tree) schema.tables
 
--- SELECT of some terms FROM one table, by a filter and in an order
+-- SELECT terms FROM one table, with a filter and an order
 abbrev pub selects : ℕ → List Term → List Term → List (Term × Key) → Query
 selects tree filter project order = record {
   from = inner tree end;

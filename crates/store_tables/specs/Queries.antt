@@ -1,4 +1,4 @@
--- What the text of a SELECT is: by its grammar alone, under whatever schema, and which rows it shows under one schema.
+-- The meaning of a SELECT statement: by its grammar under any schema, and its rows under one schema.
 use Rattle.std.specs.Prelude.{◌≡◌, ℕ, ℤ, ◌-◌, Bool, true, false, List, [], ◌∷◌, Some, Ok, Err, slice_get}
 use Rattle.std.specs.List.{list_all}
 use Rattle.std.specs.declared.cmp.Ordering.{Ordering}
@@ -25,7 +25,7 @@ use Rattle.store_tables.specs.Put.{selects}
 use Rattle.store_tables.specs.Reading.{by_columns, rising}
 use Rattle.store_tables.specs.Texts.{all_text, ids_text, by_first_text}
 
--- ---- by the grammar alone
+-- ---- by the grammar
 
 abbrev pub is_select : Statement → Bool
 is_select (written.Select query) = true
@@ -35,13 +35,13 @@ abbrev pub is_read_as_select : Checked Parsed → Bool
 is_read_as_select (Ok parsed) = is_select parsed.statement
 is_read_as_select (Err fault) = false
 
--- The text is a SELECT, so that it changes nothing, whatever the schema.
+-- The statement is a SELECT, so it changes nothing under any schema.
 abbrev pub IsSelect : List ℕ → Type 0
 IsSelect sql = is_read_as_select (first sql) ≡ true
 
--- ---- under a schema
+-- ---- under one schema
 
--- The text selects some terms of each row of one table, in the order of the first so many of these.
+-- The statement selects these terms of each row of one table, ordered by the first `count` of them.
 pub record Selects (schema : Schema) (tree : ℕ) (count : ℕ) (sql : List ℕ) (project : List Term) : Type 0 where
   pub order : List (Term × Key)
   pub names : List (List ℕ)
@@ -54,7 +54,7 @@ pub record Selects (schema : Schema) (tree : ℕ) (count : ℕ) (sql : List ℕ)
       (output (selects tree [] project order) ([] ∷ r ∷ [])) (output (selects tree [] project order) ([] ∷ s ∷ []))
       ≡ by_columns count (eval_all project ([] ∷ r ∷ [])) (eval_all project ([] ∷ s ∷ []))
 
--- The text selects every column of the rows of one table whose columns have given values, in some order.
+-- The statement selects all columns of the rows of one table with given values, in some order.
 pub record Finds (schema : Schema) (table : Table) (place : ℕ) (key : List ℕ) (wanted params : Row) (sql : List ℕ)
     (cmp : Row → Row → Ordering) : Type 0 where
   pub at : slice_get schema.tables place ≡ Some table
@@ -74,12 +74,12 @@ pub record Finds (schema : Schema) (table : Table) (place : ℕ) (key : List ℕ
       (output (selects table.tree filter project order) (params ∷ s ∷ []))
       ≡ cmp (eval_all project (params ∷ r ∷ [])) (eval_all project (params ∷ s ∷ []))
 
--- the order of a key of so many columns, among rows whose first column is the same
+-- the order of a key of `width` columns among rows with the same first column
 abbrev pub by_others : ℕ → Row → Row → Ordering
 by_others width = key_cmp 1 (rising (width - 1))
 
--- One text shows all rows of the table in the order of its key, one the rowids in their order, and one the rows whose
--- first column has a given number.
+-- The table has a statement for all rows in the order of the key, one for the rowids, and one for the rows with a given
+-- first column.
 pub record AreShownBy (schema : Schema) (table : Table) (width : ℕ) : Type 0 where
   pub place : ℕ
   pub at : slice_get schema.tables place ≡ Some table

@@ -1,4 +1,4 @@
--- What reading a table tells, of whatever database.
+-- The result of reading a table of any database.
 use Rattle.std.specs.Prelude.{◌≡◌, ◌≢◌, ◌≤◌, ℕ, zero, suc, Bool, false, List, [], ◌∷◌, map, IsTrue}
 use Rattle.std.specs.List.{AllByRecursion}
 use Rattle.std.specs.List.Sorted.{IsSorted, IsPermutation}
@@ -22,7 +22,7 @@ use Rattle.sqlite_trees.specs.View.{doubt, is_int}
 use Rattle.store_tables.specs.Content.{Keeps, AreApart, cells}
 use Rattle.store_tables.specs.Contents.{Content, IsExactly}
 
--- the first column of these rows has integers, none of them twice
+-- the first column of these rows has distinct integers
 pub record AreIds (rows : List Row) : Type 0 where
   pub apart : IsAscending (λ a b. value_cmp (column a 0) (column b 0) ≢ Equal) rows
   pub ints : AllByRecursion (λ x. IsTrue (is_int (column x 0))) rows
@@ -31,45 +31,45 @@ abbrev pub rising : ℕ → List Key
 rising zero = []
 rising (suc n) = ascending Binary ∷ rising n
 
--- the order of ORDER BY the first so many columns
+-- the order of ORDER BY the first n columns
 abbrev pub by_columns : ℕ → Row → Row → Ordering
 by_columns n = key_cmp 0 (rising n)
 
--- the order of the moves of one game: by the second column
+-- the order of the moves of one game: by the second column, the ply
 abbrev pub by_ply : Row → Row → Ordering
 by_ply = key_cmp 1 (rising 1)
 
--- These are the rows that the trees have of the table, each of them once, in the order of their key, and the connection
--- is as it was.
+-- These are exactly the rows of the table, in the order of the key; the connection is unchanged.
 pub record Tells (table : Table) (keys : ℕ) (rows : List Row) (trees : Trees) (old new : State) : Type 0 where
   pub keeps : Keeps table trees rows
   pub once : IsPermutation (map (cells table) (trees table.tree)) rows
   pub sorted : IsSorted (by_columns keys) rows
   pub same : IsUnchanged old new
 
--- Each row is shown with an integer of its own first if and only if the rowids of these rows are apart.
+-- The first columns shown are distinct integers if and only if the rowids are.
 pub record TellsIds (stored rows : List Row) (old new : State) : Type 0 where
   pub apart : AreIds rows → AreApart stored
   pub ids : AreApart stored → AreIds rows
   pub sorted : IsSorted (by_columns 1) rows
   pub same : IsUnchanged old new
 
--- it is not that a text of SQL was refused
+-- the error is not a rejected SQL statement
 abbrev pub IsNoInput : Error → Type 0
 IsNoInput e = (why : CompileError) → e ≢ SqlInputError why
 
--- what a stop may leave is what it might have left before
+-- a crash leaves only states that it could leave before
 abbrev pub KeepsMay : State → State → Type 0
 KeepsMay old new = (db : Trees) → new.may_leave db → old.may_leave db
 
--- What the connection holds exactly, by whatever schema, it still holds exactly.
+-- If the connection held exactly this content, it still does, for any schema.
 abbrev pub KeepsContent : State → State → Type 0
 KeepsContent old new = (schema : Schema) (content : Content) → IsExactly schema content old
     → IsExactly schema content new
 
--- A call reads, and changes nothing. Whatever the schema and whatever the answer: the connection stays outside a
--- transaction, doubt of the disk does not shrink, a stop leaves nothing that it could not leave before, and what was
--- committed is what was committed. Where the call answered, the connection holds what it held.
+-- The call only reads, whatever the schema and the result. It stays outside a transaction, and a crash leaves only
+-- states that it could leave before.
+-- The committed state is the same, and doubt about the disk does not shrink. If the call answered, the connection holds
+-- the same content.
 pub record Reads (answered : Bool) (old new : State) : Type 0 where
   pub idle : old.in_transaction ≡ false → new.in_transaction ≡ false
   pub clean : doubt old.is_clean ≤ doubt new.is_clean
@@ -78,6 +78,6 @@ pub record Reads (answered : Bool) (old new : State) : Type 0 where
   pub committed : HasCleanDisk new → IsTrue new.is_open → new.committed ≡ old.committed
   pub kept : IsTrue answered → HasCleanDisk new → KeepsContent old new
 
--- the same of a call that may not have answered
+-- the same for a call that may have failed
 abbrev pub OnlyReads : State → State → Type 0
 OnlyReads = Reads false

@@ -1,4 +1,4 @@
--- A database of other programs, in which a club can be made behind their tables.
+-- A database with foreign tables in which a club can be created.
 use Rattle.std.specs.Prelude.{◌≡◌, ◌≤◌, ℕ, ◌^◌, nat_lt, true, false, List, [], ◌∷◌}
 use Rattle.std.specs.List.{AllByRecursion}
 use Rattle.sqlite.specs.Does.{lacks_sequence}
@@ -20,54 +20,53 @@ use Rattle.store_tables.specs.declared.names.Table as of_club
 abbrev pub IsNoName : List ℕ → Type 0
 IsNoName name = AllByRecursion (λ table. same_name (table_name table) name ≡ false) in_order
 
--- no FOREIGN KEY of the table names a table of a club
+-- no FOREIGN KEY of the table refers to a table of a club
 abbrev pub IsUnrelated : Table → Type 0
 IsUnrelated table = AllByRecursion (λ (ref : Reference). IsNoName ref.parent) table.references
 
--- the schema in which these tables of a club were made behind what stands
+-- the schema after these tables of a club are created
 abbrev pub made_in : Schema → List of_club.Table → Schema
 made_in schema [] = schema
 made_in schema (table ∷ tables) = made_in (created schema (made_as table 0)) tables
 
--- When each of the tables is made, its name is free, there is a tree for it, and where a table counts its rows the
--- table for that stands.
+-- When each table is created, its name is unused and a tree is free; if a table uses AUTOINCREMENT, `sqlite_sequence`
+-- exists.
 abbrev pub AreUnused : Schema → List of_club.Table → Type 0
 AreUnused schema [] = Unit {0}
 AreUnused schema (table ∷ tables) =
     (is_used schema (table_name table) ≡ false) × (nat_lt (next_tree schema) (2 ^ 31) ≡ true)
     × (lacks_sequence (created schema (made_as table 0)) ≡ false) × AreUnused (created schema (made_as table 0)) tables
 
--- A club can be made in the schema, and has these neighbours then.
+-- A club can be created in the schema; `them` is the result.
 pub record HasRoom (schema : Schema) (them : Neighbours) : Type 0 where
-  -- no two tables have one tree
+  -- no two tables have the same tree
   pub trees : IsAscending (λ (a b : Table). a.tree ≡ b.tree → ⊥) schema.tables
   pub unrelated : AllByRecursion IsUnrelated schema.tables
   pub unused : AreUnused schema in_order
   pub is : them.schema ≡ made_in schema in_order
-  -- where there is no table there are no rows
+  -- unused trees have no rows
   pub bare : (tree : ℕ) → next_tree schema ≤ tree → them.rows tree ≡ []
 
--- The connection has exactly the rows of these neighbours and no club yet; and so has all that a stop may leave.
+-- The connection has exactly these foreign rows and no club, also after a crash.
 pub record IsWithoutClub (them : Neighbours) (s : State) : Type 0 where
   pub schema : Schema
   pub before : HasRoom schema them
   pub exactly : IsExactly schema them.rows s
 
--- a later opening finds the rows of these neighbours and no club
+-- after a crash the file has these foreign rows and no club
 pub record LeavesNoClub (them : Neighbours) (trees : Trees) : Type 0 where
   pub schema : Schema
   pub before : HasRoom schema them
   pub leaves : Leaves schema them.rows trees
 
--- Inside a transaction the tables of a club were made behind those of other programs, whose rows stay; and nothing was
--- committed.
+-- Inside a transaction a club's tables were created and the foreign rows stayed; nothing was committed.
 pub record Makes (old new : State) : Type 0 where
   pub made : (schema : Schema) (them : Neighbours) → HasRoom schema them → Holds schema old.now them.rows
       → HoldsBeside them nothing new.now
   pub committed : new.committed ≡ old.committed
   pub inside : new.in_transaction ≡ true
 
--- The same, with the rows of a club with nothing in it.
+-- The same, with the rows of a new club.
 pub record Fills (old new : State) : Type 0 where
   pub holds : (schema : Schema) (them : Neighbours) → HasRoom schema them → Holds schema old.now them.rows
       → HoldsBeside them opening new.now

@@ -1,4 +1,4 @@
--- The words of SQL and of its store in which rows and tables are spoken of.
+-- The terms of SQL and of the store that descriptions of rows and tables use.
 pub use Rattle.sqlite.specs.Effect.{Database, IsDatabase}
 pub use Rattle.sqlite.specs.Order.{Row, column}
 pub use Rattle.sqlite.specs.Schema.{Schema}

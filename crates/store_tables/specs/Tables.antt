@@ -1,5 +1,5 @@
--- The tables of a club, as SQL understands their CREATE texts. Each UNIQUE key, and each key of several columns, has a
--- tree of its own after that of its table. Schema 1 has the first eight of them, schema 2 also the last.
+-- The tables of a club, as SQLite parses their CREATE statements. Each UNIQUE key and each key of several columns has
+-- an index tree after the tree of its table. Schema 1 has the first eight tables, schema 2 all nine.
 use Rattle.std.specs.Prelude.{◌≡◌, ◌⊎◌, ℕ, ◌+◌, Bool, true, false, List, [], ◌∷◌, ◌++◌, map, codes, Option, Some, None}
 use Rattle.std.specs.Prelude.{take}
 use Rattle.sqlite.specs.Collation.TheVariants.{Binary}
@@ -100,7 +100,7 @@ abbrev pub event_rules : ℕ → Table
 event_rules tree = table_of (codes "event_rules") tree
     (column_of (codes "event") Integer false ∷ column_of (codes "declares") Integer true ∷ []) (Some 0) (0 ∷ []) []
 
--- a table of the club, with this tree
+-- a table of the club with this tree
 abbrev pub made_as : of_club.Table → ℕ → Table
 made_as variant.Meta = meta
 made_as variant.Members = members
@@ -112,7 +112,7 @@ made_as variant.Seen = seen
 made_as variant.Scores = scores
 made_as variant.EventRules = event_rules
 
--- as it stands in a club
+-- with its tree in a database with only a club
 abbrev pub standing : of_club.Table → Table
 standing table = made_as table (tree_of table)
 
@@ -130,11 +130,11 @@ flat_indexes (t ∷ ts) = indexes_of t ++ flat_indexes ts
 abbrev pub club_schema : Schema
 club_schema = record { tables = tables; indexes = flat_indexes tables; views = [] }
 
--- the schema with so many of the tables
+-- the schema with the first n tables
 abbrev pub schema_after : ℕ → Schema
 schema_after n = record { tables = take n tables; indexes = flat_indexes (take n tables); views = [] }
 
--- schema 1: all but the last of the tables
+-- schema 1: all tables but the last
 abbrev pub first_schema : Schema
 first_schema = schema_after 8
 
@@ -142,7 +142,7 @@ abbrev pub schema_of : Version → Schema
 schema_of First = first_schema
 schema_of Current = club_schema
 
--- the number of the schema, which `meta` tells
+-- the schema number in `meta`
 abbrev pub schema_number : Version → ℕ
 schema_number First = 1
 schema_number Current = 2

@@ -1,5 +1,5 @@
--- The texts of SQL: for each table its CREATE, the upsert that puts one row by its key, and the SELECTs of its rows, of
--- their rowids, and of the rows with given values.
+-- The SQL statements of each table: CREATE TABLE, the upsert of a row by its key, and the SELECTs of its rows, its
+-- rowids, and the rows with given values.
 use Rattle.std.specs.Prelude.{codes, List, [], ◌∷◌, ◌++◌, ℕ, zero, suc, Option, Some, length, map, take, drop}
 use Rattle.sqlite.specs.Table.{Table}
 use Rattle.sqlite_schema.specs.declared.schema.Column.{Column}
@@ -25,7 +25,7 @@ abbrev more : List (List ℕ) → List ℕ
 more [] = []
 more (name ∷ names) = codes ", " ++ (name ++ more names)
 
--- with commas between them
+-- separated by commas
 abbrev listed : List (List ℕ) → List ℕ
 listed [] = []
 listed (name ∷ names) = name ++ more names
@@ -41,7 +41,7 @@ abbrev name_under : Option ℕ → List (List ℕ) → List ℕ
 name_under (Some at) (name ∷ names) = name
 name_under _ _ = codes "rowid"
 
--- what the rowid is called: by the column that holds it, if there is one
+-- the name of the rowid: its column's, if there is one
 abbrev pub id_name : Table → List ℕ
 id_name table = name_under table.key (names_of table)
 
@@ -56,7 +56,7 @@ parameters =
     ∷ codes "?10" ∷ codes "?11" ∷ codes "?12" ∷ codes "?13" ∷ codes "?14" ∷ codes "?15" ∷ codes "?16" ∷ codes "?17"
     ∷ []
 
--- a parameter for each column
+-- one parameter for each column
 abbrev pub parameters_of : Table → List (List ℕ)
 parameters_of table = take (length table.columns) parameters
 
@@ -75,32 +75,32 @@ abbrev ordered : List (List ℕ) → List ℕ
 ordered [] = []
 ordered (name ∷ names) = codes " ORDER BY " ++ listed (name ∷ names)
 
--- the columns of these names are as the parameters are
+-- the columns with these names equal the parameters
 abbrev given : List (List ℕ) → (parameters : List (List ℕ)) → List ℕ
 given (name ∷ []) (value ∷ values) = name ++ (codes " = " ++ value)
 given (name ∷ names) (value ∷ values) = name ++ (codes " = " ++ (value ++ (codes " AND " ++ given names values)))
 given _ _ = []
 
--- every column of the table, and the rest of the text
+-- SELECT all columns FROM the table, and the rest of the statement
 abbrev rows_text : Table → List ℕ → List ℕ
 rows_text table rest = codes "SELECT " ++ (listed (names_of table) ++ (codes " FROM " ++ (table.name ++ rest)))
 
 abbrev found_text : Table → (names rest : List (List ℕ)) → List ℕ
 found_text table names rest = rows_text table (codes " WHERE " ++ (given names parameters ++ ordered rest))
 
--- all rows, in the order of their key
+-- all rows, in the order of the key
 abbrev pub all_text : Table → List ℕ
 all_text table = rows_text table (ordered (key_names table))
 
--- the rowids, in their order
+-- the rowids, in ascending order
 abbrev pub ids_text : Table → List ℕ
 ids_text table =
     codes "SELECT " ++ (id_name table ++ (codes " FROM " ++ (table.name ++ ordered (id_name table ∷ []))))
 
--- the rows whose first column is given, in the order of the rest of their key
+-- the rows with a given first column, in the order of the rest of the key
 abbrev pub by_first_text : Table → List ℕ
 by_first_text table = found_text table (take 1 (names_of table)) (drop 1 (key_names table))
 
--- the row with the values of these columns, which are a whole key or a column that is UNIQUE
+-- the row with given values in a whole key or a UNIQUE column
 abbrev pub question_text : Table → List ℕ → List ℕ
 question_text table key = found_text table (map (name_at (names_of table)) key) []

@@ -1,4 +1,4 @@
-//! Whether the rows that a SELECT shows begin with integers, none of them twice.
+//! Checks that sorted rows begin with distinct integers, as a table's rowids do.
 
 ghost use Rattle.std.specs.Prelude.{◌≡◌, ◌<◌, true, false, IfOk, IfErr, OnOk, All, map, length};
 ghost use Rattle.std.specs.List.Sorted.{IsSorted};
@@ -12,7 +12,6 @@ use crate::parse::{Unread, read};
 use sqlite::Row;
 use std::alloc::Global;
 
-/// The integer that a row begins with.
 fn first_integer(row: &Row) -> Result<i64, Unread>
     ensures shows { IfOk result (λ id. column row.now 0 ≡ Int id) }
     ensures mistyped { IfErr result (λ e. e ≡ Mistyped → ¬ BeginsWithInteger row.now) }
@@ -23,7 +22,6 @@ fn first_integer(row: &Row) -> Result<i64, Unread>
     read(row, 0)
 }
 
-/// The integers that the rows begin with.
 fn first_integers(alloc: Global, rows: &[Row]) -> Result<Vec<i64>, Unread>
     ensures shows { IfOk result (λ ids. map (λ r. column r 0) rows.now ≡ map Int ids.items) }
     ensures mistyped { IfErr result (λ e. e ≡ Mistyped → ¬ All BeginsWithInteger rows.now) }
@@ -38,7 +36,7 @@ fn first_integers(alloc: Global, rows: &[Row]) -> Result<Vec<i64>, Unread>
     Ok(ids)
 }
 
-/// Whether each integer is above the one before it.
+/// Whether the integers are strictly ascending.
 fn rise(ids: &[i64]) -> bool
     ensures all { result ≡ true → Rises ids.now }
     ensures none { result ≡ false → ¬ Rises ids.now }
@@ -51,7 +49,16 @@ fn rise(ids: &[i64]) -> bool
     true
 }
 
-/// Tests that rows which a SELECT has sorted begin with integers, none of them twice.
+/// Checks that rows which a SELECT has sorted begin with distinct integers.
+///
+/// # Errors
+///
+/// - `Mistyped` if a row does not begin with an integer, or begins with the same integer as the row before it.
+/// - `Memory` if out of memory.
+///
+/// # Guarantees
+///
+/// `mistyped`: if the rows are sorted by their first column, they are not distinct integers.
 pub fn check_ids(alloc: Global, rows: &[Row]) -> Result<(), Unread>
     ensures apart { OnOk result (AreIds rows.now) }
     ensures mistyped { IfErr result (λ e. e ≡ Mistyped → IsSorted (by_columns 1) rows.now → ¬ AreIds rows.now) }

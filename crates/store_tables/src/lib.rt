@@ -1,4 +1,7 @@
-//! The tables of a club: their rows as types, and what their texts of SQL mean.
+//! The tables of a club: row types, table names and SQL statements.
+//!
+//! The statements are SQLite's: [STRICT tables](https://www.sqlite.org/stricttables.html) and
+//! [upserts](https://www.sqlite.org/lang_upsert.html). Their meaning is in `specs/`.
 #![tactic(auto)]
 
 mod ids;

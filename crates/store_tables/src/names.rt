@@ -1,17 +1,17 @@
-//! The names of the tables.
+//! The tables of a club and the versions of its schema.
 
 use std::fmt;
 
-/// The schemas of a club: the first has no rules of events.
+/// The version of a club's schema. Schema 1 has no table of event rules.
 #[derive(Debug, Clone, Copy, PartialEq, Eq)]
 pub enum Version {
-    /// Schema 1.
+    /// Schema 1: all tables but `event_rules`.
     First,
-    /// Schema 2.
+    /// Schema 2: all tables.
     Current,
 }
 
-/// The tables of a club.
+/// A table of a club.
 #[derive(Debug, Clone, Copy, PartialEq, Eq)]
 pub enum Table {
     Members,
@@ -29,7 +29,7 @@ impl Table {
     ghost use Rattle.std.specs.Prelude.{◌≡◌};
     ghost use Rattle.store_tables.specs.Names.{table_name};
 
-    /// The tables in the order in which they are made. Schema 1 has all but the last.
+    /// All tables in the order in which they are created. Schema 1 has all but the last.
     pub const ALL: [Table; 9] = [
         Table::Meta,
         Table::Members,
@@ -42,7 +42,7 @@ impl Table {
         Table::EventRules,
     ];
 
-    /// The table's name.
+    /// The name of the table in SQL.
     pub fn name(self) -> &'static str
         ensures { result.now ≡ table_name self }
     {

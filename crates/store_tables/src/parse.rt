@@ -1,4 +1,4 @@
-//! Rows of values as rows of a table.
+//! Parses the values of a SELECT's rows into row types.
 
 ghost use Rattle.std.specs.Prelude.{◌≡◌, ◌<◌, IfOk, IfErr, All, map, length, string_bytes};
 ghost use Rattle.sqlite_value.specs.declared.value.Value.TheVariants.{Int, Text};
@@ -18,30 +18,40 @@ use sqlite::types::FromSql;
 use sqlite::{Error, ErrorCode, Row};
 use std::alloc::Global;
 
-/// Why a row was not read.
+/// Why a row cannot be parsed.
 #[derive(Debug, Clone, Copy, PartialEq, Eq, Drop)]
 pub enum Unread {
-    /// A value is of another type than its column, or there are more or fewer columns.
+    /// The row has another number of columns, or a value has another type than its column.
     Mistyped,
-    /// The allocator refused.
+    /// Out of memory.
     Memory,
 }
 
-/// A row of a table, which its values show.
+/// A row type that is parsed from the values of a table's columns.
 pub trait TableRow: Sized + Drop {
-    // the values of the row, in the order of its columns
+    // the values of the row in the order of the table's columns
     ghost cells: { Self → Cells };
 
-    // the values have the types of the columns
+    // whether the values have the types of the columns
     ghost IsTyped: { Cells → Type 0 };
 
-    /// The row that these values show.
+    /// Parses the values of a row.
+    ///
+    /// # Errors
+    ///
+    /// - `Mistyped` if the number of columns or the type of a value is wrong.
+    /// - `Memory` if out of memory.
     fn parse(row: &Row) -> Result<Self, Unread>
         ensures shows { IfOk result (λ r. row.now ≡ cells r) }
         ensures mistyped { IfErr result (λ e. e ≡ Mistyped → ¬ IsTyped row.now) };
 }
 
-/// The value in a column.
+/// Reads the value in a column (counted from 0).
+///
+/// # Errors
+///
+/// - `Mistyped` if the value has another type.
+/// - `Memory` if out of memory.
 pub(crate) fn read<T: FromSql>(row: &Row, at: usize) -> Result<T, Unread>
     requires { at < length row.now }
     ensures reads { IfOk result (λ x. T.FromSql.reads_as (column row.now at) x) }
@@ -54,7 +64,7 @@ pub(crate) fn read<T: FromSql>(row: &Row, at: usize) -> Result<T, Unread>
     }
 }
 
-/// The integer in a column, or None where it is null.
+/// Reads an integer column that may be NULL.
 fn read_integer(row: &Row, at: usize) -> Result<Option<i64>, Unread>
     requires { at < length row.now }
     ensures reads { IfOk result (λ o. column row.now at ≡ or_null Int o) }
@@ -63,7 +73,7 @@ fn read_integer(row: &Row, at: usize) -> Result<Option<i64>, Unread>
     read(row, at)
 }
 
-/// The text in a column, or None where it is null.
+/// Reads a text column that may be NULL.
 fn read_text(row: &Row, at: usize) -> Result<Option<String>, Unread>
     requires { at < length row.now }
     ensures reads { IfOk result (λ o. column row.now at ≡ or_null (λ s. Text (string_bytes s)) o) }
@@ -72,7 +82,12 @@ fn read_text(row: &Row, at: usize) -> Result<Option<String>, Unread>
     read(row, at)
 }
 
-/// The rows that these values show, in their order.
+/// Parses all rows, in the same order.
+///
+/// # Errors
+///
+/// - `Mistyped` if a row has another number of columns or a value of another type.
+/// - `Memory` if out of memory.
 pub fn parse_all<T: TableRow>(alloc: Global, rows: &[Row]) -> Result<Vec<T>, Unread>
     ensures shows { IfOk result (λ found. rows.now ≡ map T.cells found.items) }
     ensures mistyped { IfErr result (λ e. e ≡ Mistyped → ¬ All T.IsTyped rows.now) }

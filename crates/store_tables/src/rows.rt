@@ -1,84 +1,85 @@
-//! One struct for the rows of each table. Moments are Unix seconds; ids count from 1.
+//! One struct for the rows of each table.
+//! Timestamps are Unix seconds (UTC); ids count from 1.
 
-/// The one row of `meta`.
+/// The only row of `meta`.
 #[derive(Debug, PartialEq, Drop)]
 pub struct MetaRow {
     /// Always 1.
     pub id: i64,
-    /// The number of the schema.
+    /// The version of the schema: 1 or 2.
     pub schema: i64,
-    /// The moment of the last accepted command.
+    /// The timestamp of the last accepted command.
     pub last: i64,
 }
 
-/// A member of the club.
+/// A row of `members`.
 #[derive(Debug, PartialEq, Drop)]
 pub struct MemberRow {
     pub id: i64,
     pub name: String,
-    /// The member's secret.
+    /// The member's secret key.
     pub key: String,
 }
 
-/// An event, in which games are played.
+/// A row of `events`: an event in which games are played.
 #[derive(Debug, PartialEq, Drop)]
 pub struct EventRow {
     pub id: i64,
     pub name: String,
     /// 0 draughts, 1 shogi.
     pub game: i64,
-    /// The seconds that each player starts with.
+    /// The time budget of each player for the whole game, in seconds.
     pub budget: i64,
-    /// The seconds that a move adds.
+    /// The increment for each move, in seconds.
     pub increment: i64,
 }
 
-/// The rules of an event beside its clock.
+/// A row of `event_rules`: the rules of an event beside its time control.
 #[derive(Debug, PartialEq, Drop)]
 pub struct EventRuleRow {
     pub event: i64,
-    /// 1 where a player may declare that the king has entered, else 0.
+    /// 1 if a player may declare a win by entering king, else 0.
     pub declares: i64,
 }
 
-/// A challenge of one member to another.
+/// A row of `challenges`: a challenge of one member to another.
 #[derive(Debug, PartialEq, Drop)]
 pub struct ChallengeRow {
-    /// The challenger.
+    /// The id of the challenger.
     pub member: i64,
-    /// The challenger's number for it.
+    /// The number that the challenger gave the challenge.
     pub number: i64,
     pub event: i64,
-    /// The member who is challenged.
+    /// The id of the challenged member.
     pub other: i64,
-    /// 1 where the challenger plays First, else 0.
+    /// 1 if the challenger plays First, else 0.
     pub first: i64,
     /// 0 open, 1 withdrawn, 2 refused, 3 accepted.
     pub state: i64,
-    /// The game of an accepted challenge.
+    /// The id of the game that an accepted challenge started.
     pub game: Option<i64>,
 }
 
-/// A ply that was played.
+/// A row of `moves`: one ply of a game.
 #[derive(Debug, PartialEq, Drop)]
 pub struct MoveRow {
     pub game: i64,
-    /// Counted from 1.
+    /// The number of the ply, from 1.
     pub ply: i64,
-    /// The move as it is written, in PDN or USI.
+    /// The move in PDN (draughts) or USI (shogi) notation.
     pub text: String,
     pub moment: i64,
-    /// The seconds that the mover has after it.
+    /// The mover's remaining time after the move, in seconds.
     pub left: i64,
-    /// The position after it.
+    /// The position after the move.
     pub position: String,
 }
 
-/// A game as its table keeps it.
+/// A row of `games`.
 #[derive(Debug, PartialEq, Drop)]
 pub struct GameRecord {
     pub id: i64,
-    /// The name under which an officer seated or imported it.
+    /// The key under which the officer seated or imported the game.
     pub key: Option<String>,
     pub event: i64,
     /// The member who plays First.
@@ -86,53 +87,55 @@ pub struct GameRecord {
     /// The member who plays Second.
     pub second: i64,
     pub start: i64,
-    /// The moment of the last ply, or the start.
+    /// The timestamp of the last ply, or the start if there is none.
     pub since: i64,
-    /// How many plies were played.
+    /// The number of plies played.
     pub plies: i64,
-    /// The seconds left to First.
+    /// First's remaining time, in seconds.
     pub left1: i64,
-    /// The seconds left to Second.
+    /// Second's remaining time, in seconds.
     pub left2: i64,
-    /// 0 First, 1 Second; with `offer_ply` the draw offer that stands.
+    /// The side that has offered a draw: 0 First, 1 Second. NULL if there is no open offer.
     pub offer_side: Option<i64>,
+    /// The ply of the draw offer.
     pub offer_ply: Option<i64>,
-    /// The name of the end.
+    /// The name of the end, NULL while the game runs.
     pub end: Option<String>,
-    /// First's score and Second's, as in `2-0`.
+    /// First's and Second's points, as in `2-0`.
     pub result: Option<String>,
     /// The last position.
     pub position: String,
+    /// The first number of the rules' track.
     pub track_a: i64,
+    /// The second number of the rules' track.
     pub track_b: i64,
 }
 
-/// A position that stood in a game.
+/// A row of `seen`: a position of a game with its repetition count.
 #[derive(Debug, PartialEq, Drop)]
 pub struct SeenRow {
     pub game: i64,
     pub position: String,
-    /// How often it stood.
+    /// The repetition count: how often the position occurred.
     pub count: i64,
-    /// The ply after which it first stood, 0 for the opening.
+    /// The ply after which it first occurred; 0 for the initial position.
     pub first_ply: i64,
 }
 
-/// What a member scored against an opponent in the ended games of an event.
+/// A row of `scores`: a member's results against an opponent in the ended games of an event.
 #[derive(Debug, PartialEq, Drop)]
 pub struct ScoreRow {
     pub event: i64,
     pub member: i64,
     pub opponent: i64,
-    /// 2 for a win, 1 for a draw.
+    /// 2 for each win, 1 for each draw.
     pub points: i64,
     pub wins: i64,
     pub draws: i64,
     pub losses: i64,
 }
 
-/// The rows of a club but for the moves, the positions and the scores of its games: those of each table in the order of
-/// its key.
+/// All rows of a club except moves, positions and scores. The rows of each table are in the order of its key.
 #[derive(Debug, PartialEq, Drop)]
 pub struct Rows {
     pub meta: MetaRow,
@@ -143,7 +146,7 @@ pub struct Rows {
     pub games: Vec<GameRecord>,
 }
 
-/// Rows to put, each in place of the row of its table with its key.
+/// Rows to upsert: each replaces the row of its table with the same key, if there is one.
 #[derive(Debug, PartialEq, Drop)]
 pub struct Changes {
     pub members: Vec<MemberRow>,

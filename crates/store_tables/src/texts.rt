@@ -1,40 +1,32 @@
-//! The texts of SQL of each table of a club.
+//! The SQL statements of each table.
 
 use crate::names::Table;
 
-/// The table of the row that says which schema a club's tables have, and its last moment.
 const CREATE_META: &str =
     "CREATE TABLE meta (id INTEGER PRIMARY KEY, schema INTEGER NOT NULL, last INTEGER NOT NULL) STRICT";
 
-/// The table of members.
 const CREATE_MEMBERS: &str =
     "CREATE TABLE members (id INTEGER PRIMARY KEY, name TEXT NOT NULL UNIQUE, key TEXT NOT NULL UNIQUE) STRICT";
 
-/// The table of events.
 const CREATE_EVENTS: &str =
     "CREATE TABLE events (id INTEGER PRIMARY KEY, name TEXT NOT NULL UNIQUE, game INTEGER NOT NULL, budget INTEGER NOT NULL, increment INTEGER NOT NULL) STRICT";
 
-/// The table of challenges.
 const CREATE_CHALLENGES: &str =
     "CREATE TABLE challenges (member INTEGER NOT NULL, number INTEGER NOT NULL, event INTEGER NOT NULL, other INTEGER NOT NULL, first INTEGER NOT NULL, state INTEGER NOT NULL, game INTEGER, PRIMARY KEY (member, number)) STRICT";
 
-/// The table of the plies of games.
 const CREATE_MOVES: &str =
     "CREATE TABLE moves (game INTEGER NOT NULL, ply INTEGER NOT NULL, text TEXT NOT NULL, moment INTEGER NOT NULL, left INTEGER NOT NULL, position TEXT NOT NULL, PRIMARY KEY (game, ply)) STRICT";
 
-/// The table of games.
 const CREATE_GAMES: &str =
     "CREATE TABLE games (id INTEGER PRIMARY KEY, key TEXT UNIQUE, event INTEGER NOT NULL, first INTEGER NOT NULL, second INTEGER NOT NULL, start INTEGER NOT NULL, since INTEGER NOT NULL, plies INTEGER NOT NULL, left1 INTEGER NOT NULL, left2 INTEGER NOT NULL, offer_side INTEGER, offer_ply INTEGER, end TEXT, result TEXT, position TEXT NOT NULL, track_a INTEGER NOT NULL, track_b INTEGER NOT NULL) STRICT";
 
-/// The table of how often a position stood in a game.
 const CREATE_SEEN: &str =
     "CREATE TABLE seen (game INTEGER NOT NULL, position TEXT NOT NULL, count INTEGER NOT NULL, first_ply INTEGER NOT NULL, PRIMARY KEY (game, position)) STRICT";
 
-/// The table of what members scored against one another in an event.
 const CREATE_SCORES: &str =
     "CREATE TABLE scores (event INTEGER NOT NULL, member INTEGER NOT NULL, opponent INTEGER NOT NULL, points INTEGER NOT NULL, wins INTEGER NOT NULL, draws INTEGER NOT NULL, losses INTEGER NOT NULL, PRIMARY KEY (event, member, opponent)) STRICT";
 
-/// The table of rules of events that only some have; schema 1 has no such table.
+/// Schema 1 has no such table.
 const CREATE_EVENT_RULES: &str =
     "CREATE TABLE event_rules (event INTEGER PRIMARY KEY, declares INTEGER NOT NULL) STRICT";
 
@@ -43,7 +35,7 @@ impl Table {
     ghost use Rattle.store_tables.specs.Tables.{standing};
     ghost use Rattle.store_tables.specs.Texts.{create_of, put_text, all_text, ids_text, by_first_text};
 
-    /// The text that makes the table.
+    /// The CREATE TABLE statement.
     pub fn create(self) -> &'static str
         ensures { result.now ≡ create_of self }
     {
@@ -60,7 +52,7 @@ impl Table {
         }
     }
 
-    /// The text that puts a row in place of the one with its key.
+    /// The upsert statement: inserts a row, or replaces the row with the same key.
     pub fn put(self) -> &'static str
         ensures { result.now ≡ put_text (standing self) }
     {
@@ -95,7 +87,7 @@ impl Table {
         }
     }
 
-    /// The text that shows all rows, in the order of their key.
+    /// The SELECT of all rows, in the order of the key.
     pub fn all(self) -> &'static str
         ensures { result.now ≡ all_text (standing self) }
     {
@@ -122,7 +114,7 @@ impl Table {
         }
     }
 
-    /// The text that shows the rowids, in their order.
+    /// The SELECT of all rowids, in ascending order.
     pub fn ids(self) -> &'static str
         ensures { result.now ≡ ids_text (standing self) }
     {
@@ -139,7 +131,7 @@ impl Table {
         }
     }
 
-    /// The text that shows the rows whose first column is a given number, in the order of the rest of their key.
+    /// The SELECT of the rows whose first column is `?1`, in the order of the other columns of the key.
     pub fn by_first(self) -> &'static str
         ensures { result.now ≡ by_first_text (standing self) }
     {

@@ -1,5 +1,5 @@
--- Whether the columns of a table keep, compare and refuse values as those of a table of the club. Names go without
--- regard to case; the order of columns does not count.
+-- Whether the columns of a table store, compare and reject values like those of a club's table. Names are
+-- case-insensitive; the order of columns does not matter.
 use Rattle.std.specs.Prelude.{ℕ, ◌-◌, ◌==◌, ◌&&◌, ◌||◌, not, Bool, true, false, if◌then◌else◌, List, [], codes, Option}
 use Rattle.std.specs.Prelude.{Some, None, slice_get}
 use Rattle.std.specs.List.{list_all, list_any}
@@ -23,11 +23,11 @@ abbrev pub name_under : List Column → Option ℕ → List ℕ
 name_under columns None = []
 name_under columns (Some at) = name_of (slice_get columns at)
 
--- the name of the column by which rows are numbered, if there is one
+-- the name of the INTEGER PRIMARY KEY column (the rowid), if there is one
 abbrev pub key_name : Table → List ℕ
 key_name table = name_under table.columns table.key
 
--- the name of the column at a place of a row: place 0 is the number of the row
+-- the name of the column at a place in a row; place 0 is the rowid
 abbrev pub name_at : Table → ℕ → List ℕ
 name_at table place = if place == 0 then key_name table else name_of (slice_get table.columns (place - 1))
 
@@ -53,7 +53,7 @@ is_text Text = true
 is_text Blob = false
 is_text Any = false
 
--- a column of the second type or affinity keeps the values of the first as they are
+-- a column of type or affinity `theirs` stores the values of `ours` unchanged
 abbrev pub keeps_values : (ours theirs : Kind) → Bool
 keeps_values ours Integer = is_integer ours
 keeps_values ours Real = false
@@ -68,12 +68,12 @@ compares_bytes RTrim = false
 
 -- ---- a column of ours
 
--- it takes NULL exactly where ours does; for the number of a row NOT NULL says nothing
+-- it accepts NULL exactly if ours does; on the rowid column NOT NULL has no effect
 abbrev pub takes_null_as : List ℕ → (ours theirs : Column) → Bool
 takes_null_as key ours theirs =
     if ours.not_null then theirs.not_null else not theirs.not_null || same_name key ours.name
 
--- it is the column of ours, and keeps, compares and refuses values alike
+-- it has the name of ours, and stores, compares and rejects the same values
 abbrev pub is_column_as : List ℕ → (ours theirs : Column) → Bool
 is_column_as key ours theirs =
     same_name ours.name theirs.name && keeps_values ours.kind theirs.kind && compares_bytes theirs.collation
@@ -83,9 +83,9 @@ is_column_as key ours theirs =
 abbrev pub has_column : (ours theirs : Table) → Column → Bool
 has_column ours theirs column = list_any (is_column_as (key_name ours) column) theirs.columns
 
--- ---- a column that ours has not
+-- ---- a column that ours does not have
 
--- It takes this value, which it gets where it is left out: a STRICT table asks for one of the column's type.
+-- It accepts its default, which it gets in an INSERT that omits it. A STRICT column rejects other types.
 abbrev pub takes_default : Column → Value → Bool
 takes_default column value.Null = not column.not_null
 takes_default column (value.Int n) = not column.is_strict || is_integer column.kind
@@ -93,15 +93,15 @@ takes_default column (value.Real x) = not column.is_strict
 takes_default column (value.Text t) = not column.is_strict || is_text column.kind
 takes_default column (value.Blob b) = not column.is_strict
 
--- No row is refused where it is left out, and it does not hide the number of a row, which `rowid` names.
+-- An INSERT may omit it, and its name does not hide `rowid`.
 abbrev pub is_further : Column → Bool
 is_further column = takes_default column column.default && not (same_name column.name (codes "rowid"))
 
--- it is a column of ours, or may be left out
+-- it is a column of ours, or an INSERT may omit it
 abbrev pub may_be_left_out : Table → Column → Bool
 may_be_left_out ours column = is_further column || has_name ours column.name
 
--- A default that is computed may fail: the column at this place, which has one, is a column of ours, never left out.
+-- A default that is an expression may fail: a column with one must be ours, which an INSERT never omits.
 abbrev pub is_computed_in : (ours theirs : Table) → ℕ → Bool
 is_computed_in ours theirs place = has_name ours (name_at theirs place)
 

@@ -1,4 +1,4 @@
--- What is told of a database's tables.
+-- The schema versions that a database's tables match.
 use Rattle.std.specs.Prelude.{Bool}
 use Rattle.store_tables.specs.declared.names.Version.{Version}
 use Rattle.store_tables.specs.declared.names.Version.TheVariants.{First, Current}

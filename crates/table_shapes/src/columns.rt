@@ -1,4 +1,5 @@
-//! Whether the columns of a table keep, compare and refuse values as those of a table of the club.
+//! Checks that the columns of a table store, compare and reject values like those of a club's table.
+//! `ours` is the club's table as it is created today, `theirs` the table in the database.
 
 ghost use Rattle.std.specs.Prelude.{◌≡◌, slice_get, codes};
 ghost use Rattle.std.specs.List.{list_all, list_any};
@@ -9,7 +10,7 @@ use sqlite_schema::schema::{Column, Kind, Table};
 use sqlite_value::keys::Collation;
 use sqlite_value::value::Value;
 
-/// The name of a column, or none.
+/// The name of a column; empty if there is no such column.
 fn name_of(columns: &[Column], at: usize) -> &[u8]
     ensures { result.now ≡ spec.name_of (slice_get columns.now at) }
 {
@@ -19,7 +20,7 @@ fn name_of(columns: &[Column], at: usize) -> &[u8]
     }
 }
 
-/// The name of the column by which rows are numbered, or none.
+/// The name of the INTEGER PRIMARY KEY column (the rowid); empty if the table has none.
 pub(crate) fn key_name(table: &Table) -> &[u8]
     ensures { result.now ≡ spec.key_name table.now }
 {
@@ -29,7 +30,7 @@ pub(crate) fn key_name(table: &Table) -> &[u8]
     }
 }
 
-/// The name of the column at a place of a row: place 0 is the number of the row.
+/// The name of the column at a place in a row; place 0 is the rowid.
 pub(crate) fn name_at(table: &Table, place: usize) -> &[u8]
     ensures { result.now ≡ spec.name_at table.now place }
 {
@@ -80,7 +81,7 @@ fn is_text(kind: Kind) -> bool
     }
 }
 
-/// Whether a column of the second type or affinity keeps the values of the first as they are.
+/// Whether a column of type or affinity `theirs` stores the values of `ours` unchanged.
 fn keeps_values(ours: Kind, theirs: Kind) -> bool
     ensures { result ≡ spec.keeps_values ours theirs }
 {
@@ -103,7 +104,7 @@ fn compares_bytes(collation: Collation) -> bool
     }
 }
 
-/// Whether the column takes NULL exactly where ours does. For the number of a row NOT NULL says nothing.
+/// Whether `theirs` accepts NULL exactly if `ours` does. On the rowid column NOT NULL has no effect.
 fn takes_null_as(key: &[u8], ours: &Column, theirs: &Column) -> bool
     ensures { result ≡ spec.takes_null_as key.now ours.now theirs.now }
 {
@@ -114,7 +115,7 @@ fn takes_null_as(key: &[u8], ours: &Column, theirs: &Column) -> bool
     }
 }
 
-/// Whether the column is that of ours, and keeps, compares and refuses values alike.
+/// Whether `theirs` has the name of `ours`, and stores, compares and rejects the same values.
 fn is_column_as(key: &[u8], ours: &Column, theirs: &Column) -> bool
     ensures { result ≡ spec.is_column_as key.now ours.now theirs.now }
 {
@@ -135,7 +136,8 @@ fn has_column(ours: &Table, theirs: &Table, column: &Column) -> bool
         .any(|other| is_column_as(key, column, other))
 }
 
-/// Whether the column takes this value, which it gets where it is left out: a STRICT table asks for one of its type.
+/// Whether the column accepts its default, which it gets in an INSERT that omits it. A STRICT column rejects other
+/// types.
 fn takes_default(column: &Column, default: &Value) -> bool
     ensures { result ≡ spec.takes_default column.now default.now }
 {
@@ -148,21 +150,21 @@ fn takes_default(column: &Column, default: &Value) -> bool
     }
 }
 
-/// Whether no row is refused where the column is left out, and it does not hide the number of a row.
+/// Whether an INSERT may omit the column, and its name does not hide the rowid.
 fn is_further(column: &Column) -> bool
     ensures { result ≡ spec.is_further column.now }
 {
     takes_default(column, &column.default) && !same_name(column.name.as_slice(), b"rowid")
 }
 
-/// Whether it is a column of ours, or may be left out.
+/// Whether the column is one of ours, or an INSERT may omit it.
 fn may_be_left_out(ours: &Table, column: &Column) -> bool
     ensures { result ≡ spec.may_be_left_out ours.now column.now }
 {
     is_further(column) || has_name(ours, column.name.as_slice())
 }
 
-/// Whether the column at this place, whose default is computed, is one of ours.
+/// Whether the column at this place, whose default is an expression, is one of ours.
 fn is_computed_in(ours: &Table, theirs: &Table, place: usize) -> bool
     ensures { result ≡ spec.is_computed_in ours.now theirs.now place }
 {
@@ -204,7 +206,7 @@ fn wants_no_other(ours: &Table, theirs: &Table) -> bool
     leaves_out(ours, theirs) && computes_own(ours, theirs)
 }
 
-/// Whether each column of ours is there, and no row is refused where others are left out.
+/// Whether `theirs` has each column of `ours`, and an INSERT may omit all others.
 pub(crate) fn has_columns_as(ours: &Table, theirs: &Table) -> bool
     ensures { result ≡ spec.has_columns_as ours.now theirs.now }
 {

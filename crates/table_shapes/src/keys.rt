@@ -1,4 +1,4 @@
-//! Whether the unique keys of a table hold the same rows apart as those of a table of the club.
+//! Checks that the unique keys of a table reject the same duplicate rows as those of a club's table.
 
 ghost use Rattle.std.specs.Prelude.{◌≡◌, ◌||◌};
 ghost use Rattle.std.specs.List.{list_any};
@@ -26,7 +26,7 @@ fn is_place_of(ours: &Table, theirs: &Table, other: &[usize], place: usize) -> b
     is_in_key(theirs, other, name_at(ours, place))
 }
 
-/// Whether the other key has each column of this one of ours.
+/// Whether the key `other` of `theirs` has each column of the key `mine` of `ours`.
 fn has_places(ours: &Table, mine: &[usize], theirs: &Table, other: &[usize]) -> bool
     ensures { result ≡ spec.has_places ours.now mine.now theirs.now other.now }
 {
@@ -34,7 +34,7 @@ fn has_places(ours: &Table, mine: &[usize], theirs: &Table, other: &[usize]) -> 
         .all(|place| is_place_of(ours, theirs, other, *place))
 }
 
-/// Whether two keys have the same columns, in whatever order.
+/// Whether two keys have the same columns, in any order.
 fn is_key_as(ours: &Table, mine: &[usize], theirs: &Table, other: &[usize]) -> bool
     ensures { result ≡ spec.is_key_as ours.now mine.now theirs.now other.now }
 {
@@ -47,7 +47,7 @@ fn is_unique_on(theirs: &Table, index: &Index) -> bool
     index.is_unique && index.table == theirs.tree
 }
 
-/// Whether the index compares by bytes alone, in whatever direction.
+/// Whether the index uses collation BINARY in all columns, in any sort direction.
 fn is_by_bytes(index: &Index) -> bool
     ensures { result ≡ spec.is_by_bytes index.now }
 {
@@ -60,7 +60,7 @@ fn is_index_for(ours: &Table, theirs: &Table, mine: &[usize], index: &Index) -> 
     is_unique_on(theirs, index) && is_key_as(ours, mine, theirs, index.columns.as_slice())
 }
 
-/// Whether a unique index of the table has exactly the columns of this key of ours.
+/// Whether a unique index of `theirs` has exactly the columns of this key of `ours`.
 fn has_key(schema: &Schema, ours: &Table, theirs: &Table, mine: &[usize]) -> bool
     ensures { result ≡ spec.has_key schema.now ours.now theirs.now mine.now }
 {
@@ -94,7 +94,7 @@ fn has_key_within(ours: &Table, theirs: &Table, index: &Index) -> bool
         || has_unique_within(ours, theirs, index)
 }
 
-/// Whether rows that the index holds apart are held apart by a key of ours.
+/// Whether a key of `ours` already rejects the duplicates that the index rejects.
 fn is_own_key(ours: &Table, theirs: &Table, index: &Index) -> bool
     ensures { result ≡ spec.is_own_key ours.now theirs.now index.now }
 {
@@ -126,7 +126,7 @@ fn has_no_other_key(schema: &Schema, ours: &Table, theirs: &Table) -> bool
         .all(|index| refuses_no_more(ours, theirs, index))
 }
 
-/// Whether each unique key of ours is there, and no other that would refuse more.
+/// Whether `theirs` has each unique key of `ours`, and no other that rejects more rows.
 pub(crate) fn has_keys_as(schema: &Schema, ours: &Table, theirs: &Table) -> bool
     ensures { result ≡ spec.has_keys_as schema.now ours.now theirs.now }
 {

@@ -1,4 +1,9 @@
-//! Whether the tables of a database answer as those of a club, by whatever texts they were made.
+//! Recognises a club's tables in a database by their columns, types and keys, whatever statements created them.
+//!
+//! The terms are SQLite's:
+//! - [type affinity](https://www.sqlite.org/datatype3.html)
+//! - [STRICT tables](https://www.sqlite.org/stricttables.html)
+//! - [CREATE TABLE](https://www.sqlite.org/lang_createtable.html)
 #![tactic(auto)]
 
 mod columns;

@@ -1,4 +1,4 @@
-//! Whether each table of a club stands in a schema, or one that answers as it.
+//! Checks which tables of a club are in a schema, exactly or in an equivalent form.
 
 ghost use Rattle.std.specs.Prelude.{◌≡◌, ◌==◌, ◌&&◌, Ok, IfOk, length};
 ghost use Rattle.sqlite.specs.Held.{state};
@@ -19,7 +19,7 @@ use sqlite_schema::schema::{Schema, Table};
 use std::alloc::{AllocError, Global};
 use store_tables::{Table as ClubTable, Version};
 
-/// Whether no rule is stated by the terms.
+/// Whether the list of terms (the CHECK constraints) is empty.
 fn are_none(alloc: Global, terms: &Terms) -> Result<bool, AllocError>
     ensures { IfOk result (λ none. none ≡ (length terms.now == 0)) }
 {
@@ -27,7 +27,7 @@ fn are_none(alloc: Global, terms: &Terms) -> Result<bool, AllocError>
     Ok(lent.roots.len() == 0)
 }
 
-/// Whether there is no CHECK and no foreign key, and rows are numbered by the column of the same name.
+/// Whether the table has no CHECK constraint and no foreign key, and its rowid column has the same name as ours.
 fn is_plain_as(alloc: Global, ours: &Table, theirs: &Table) -> Result<bool, AllocError>
     ensures { IfOk result (λ plain. plain ≡ spec.is_plain_as ours.now theirs.now) }
 {
@@ -35,7 +35,7 @@ fn is_plain_as(alloc: Global, ours: &Table, theirs: &Table) -> Result<bool, Allo
     Ok(free && theirs.references.len() == 0 && same_name(key_name(ours), key_name(theirs)))
 }
 
-/// Whether this table of the schema answers as ours.
+/// Whether `theirs` can be used in place of `ours`.
 fn answers_as(
     alloc: Global,
     schema: &Schema,
@@ -53,7 +53,7 @@ fn answers_as(
     )
 }
 
-/// Whether a table of the schema answers as ours.
+/// Whether some table of the schema can be used in place of `ours`.
 fn has_table(alloc: Global, schema: &Schema, ours: &Table) -> Result<bool, AllocError>
     ensures { IfOk result (λ has. has ≡ spec.has_table schema.now ours.now) }
 {
@@ -65,7 +65,7 @@ fn has_table(alloc: Global, schema: &Schema, ours: &Table) -> Result<bool, Alloc
     Ok(false)
 }
 
-/// Whether the table that this text of ours makes stands in the schema, or one that answers as it.
+/// Whether the schema has the table that this CREATE TABLE statement creates, or an equivalent one.
 fn made_stands(alloc: Global, schema: &Schema, sql: &str) -> Result<bool, AllocError>
     ensures { IfOk result (λ stands. (ours : made.Table) → table_defined_by sql.now ≡ Ok ours →
         stands ≡ spec.has_table schema.now ours) }
@@ -77,14 +77,14 @@ fn made_stands(alloc: Global, schema: &Schema, sql: &str) -> Result<bool, AllocE
     has_table(alloc, schema, &ours)
 }
 
-/// Whether this table of a club stands in the schema, or one that answers as it.
+/// Whether the schema has this table of a club, or an equivalent one.
 fn stands(alloc: Global, schema: &Schema, table: ClubTable) -> Result<bool, AllocError>
     ensures { IfOk result (λ stands. stands ≡ spec.has_table schema.now (made_as table 0)) }
 {
     made_stands(alloc, schema, table.create())
 }
 
-/// Whether each of these tables stands there.
+/// Whether the schema has each of these tables, or an equivalent one.
 fn all_stand(alloc: Global, schema: &Schema, tables: &[ClubTable]) -> Result<bool, AllocError>
     ensures { IfOk result (λ stand. stand ≡ spec.have_tables schema.now tables.now) }
 {
@@ -96,7 +96,7 @@ fn all_stand(alloc: Global, schema: &Schema, tables: &[ClubTable]) -> Result<boo
     Ok(true)
 }
 
-/// The versions of a club for which the tables of a database may be taken.
+/// The schema versions of a club that the tables of a database match.
 #[derive(Debug, Clone, Copy, PartialEq, Eq)]
 pub struct Versions {
     /// Schema 1.
@@ -106,7 +106,7 @@ pub struct Versions {
 }
 
 impl Versions {
-    /// Whether the tables may be taken for those of this version.
+    /// Whether the tables match this version.
     pub fn has(self, version: Version) -> bool
         ensures { result ≡ has_version self version }
     {
@@ -117,7 +117,6 @@ impl Versions {
     }
 }
 
-/// The same, of a schema.
 fn versions_in(alloc: Global, schema: &Schema) -> Result<Versions, AllocError>
     ensures first { IfOk result (λ found. found.first ≡ spec.have_both schema.now) }
     ensures current { IfOk result (λ found. found.current ≡
@@ -131,12 +130,12 @@ fn versions_in(alloc: Global, schema: &Schema) -> Result<Versions, AllocError>
     })
 }
 
-/// For which versions of a club the tables of a database may be taken: those whose tables stand there, or others that
-/// answer as they do, beside whatever further ones. Nothing is read of them.
+/// Returns the schema versions of a club whose tables are in the database, exactly or in an equivalent form. Foreign
+/// tables are ignored; no row is read.
 ///
 /// # Errors
 ///
-/// Where memory is refused.
+/// `AllocError` if out of memory.
 pub fn versions_of<S: Alter>(alloc: Global, conn: &Connection<S>) -> Result<Versions, AllocError>
     ensures { IfOk result (λ found. (version : Version) →
         has_version found version ≡ spec.is_of_club version (state S.Store conn.now).now.schema) }

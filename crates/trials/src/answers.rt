@@ -1,4 +1,4 @@
-//! What the lines of a script come to.
+//! Runs the lines of a script.
 
 use crate::clubs::{changed, copy_of, made, new_club, retaken, run, table, taken, told, upgraded};
 use crate::courses::{Start, whole_at_each_stop};
@@ -27,7 +27,7 @@ fn read_requests(alloc: Global, group: &[Line<'_>]) -> Result<Vec<Request>> {
     Ok(requests)
 }
 
-// The outcomes of a run, and last the fault that ended it, if one did.
+// The outcomes of a run, and last its fault, if any.
 fn told_run(alloc: Global, run: &Run) -> Result<Vec<String>> {
     let mut texts = Vec::new(alloc);
     for outcome in &run.outcomes {
@@ -39,7 +39,7 @@ fn told_run(alloc: Global, run: &Run) -> Result<Vec<String>> {
     Ok(texts)
 }
 
-// Gives requests by one call. What is held after them, and what each comes to.
+// Executes requests by one call; returns the new state and the result of each.
 fn give(
     alloc: Global,
     held: Held,
@@ -77,7 +77,7 @@ fn new_held(alloc: Global, place: &str) -> Result<Held> {
     }
 }
 
-// What is held where requests to what stands there are to be stopped at each call of the disk.
+// The state in which the next requests are crashed at each disk call.
 fn stopped_held(start: Start, place: &str) -> Result<Held> {
     let frames = place.strip_prefix("stopped ").context("no such place")?;
     Ok(Held::Stopped {
@@ -113,7 +113,7 @@ fn retaken_held(alloc: Global, held: Held, place: &str) -> Result<Held> {
     stopped_held(Start::Club(image), place)
 }
 
-// What an opening of files says, which took a club or not.
+// The result of opening files.
 fn told_opening(alloc: Global, opened: Result<Run, OpenFault>) -> Result<String> {
     match opened {
         Ok(_) => Ok(String::from_str(alloc, "sound")?),
@@ -131,7 +131,7 @@ fn opens(alloc: Global, held: Held) -> Result<(Held, String)> {
     }
 }
 
-// What an opening says of a copy of the club after a statement more. The club stays as it is.
+// The result of opening a copy of the club after one more statement. The club is unchanged.
 fn damage(alloc: Global, held: Held, sql: &str) -> Result<(Held, String)> {
     let mut conn = held.into_connection()?;
     let copy = changed(copy_of(alloc, &mut conn)?, sql)?;
@@ -150,7 +150,6 @@ fn show_table(alloc: Global, held: Held, event: &str) -> Result<(Held, String)> 
     Ok((Held::Club(club), text?))
 }
 
-// What an upgrade comes to.
 fn upgrades(alloc: Global, held: Held) -> Result<(Held, String)> {
     match held {
         Held::Files(files) => {
@@ -164,7 +163,7 @@ fn upgrades(alloc: Global, held: Held) -> Result<(Held, String)> {
     }
 }
 
-// What an upgrade comes to, which is stopped at each call of the disk.
+// The result of an upgrade that is crashed at each disk call.
 fn stop_upgrade(alloc: Global, held: Held, report: &mut Report) -> Result<(Held, String)> {
     let files = held.into_files()?;
     let whole = whole_or_old(alloc, &files)?;
@@ -176,7 +175,7 @@ fn done(alloc: Global, held: Result<Held>) -> Result<(Held, String)> {
     Ok((held?, String::from_str(alloc, "done")?))
 }
 
-// What is held after a line that is no request, and what it comes to.
+// Runs a line that is no request; returns the new state and the result.
 fn answer(
     alloc: Global,
     held: Held,
@@ -199,7 +198,8 @@ fn answer(
     }
 }
 
-// What is held after requests, and what each comes to. Where one is alone, the club is given up and taken again.
+// Runs requests; returns the new state and the result of each. After one that is `alone`, the club is closed and
+// opened again.
 fn outcomes(
     alloc: Global,
     held: Held,
@@ -212,7 +212,7 @@ fn outcomes(
     Ok((held, texts))
 }
 
-// What is held after a group of lines, and what each comes to.
+// Runs a group of lines; returns the new state and the result of each.
 fn answers(
     alloc: Global,
     held: Held,
@@ -232,7 +232,7 @@ fn answers(
     Ok((held, vec![in alloc; text]?))
 }
 
-// Compares what each line came to with what it wants. A run that ended early has no text for the last ones.
+// Compares the result of each line with the expected one. A run that ended early has no results for the last lines.
 fn compare_all(
     alloc: Global,
     group: &[Line<'_>],
@@ -248,8 +248,11 @@ fn compare_all(
     Ok(())
 }
 
-/// What is held after a group of lines, which the report compares with what is wanted. Where one of them fails, all
-/// of them differ, and nothing is held any more.
+/// Runs a group of lines and records the results in the report. If one fails, all differ, and the state is reset.
+///
+/// # Errors
+///
+/// `AllocError` if out of memory.
 pub fn take(
     alloc: Global,
     held: Held,

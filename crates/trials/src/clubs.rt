@@ -1,4 +1,4 @@
-//! Clubs over a database in memory.
+//! Clubs in an in-memory database.
 
 use crate::held::Held;
 use crate::rows::rows_of;
@@ -11,7 +11,7 @@ use std::alloc::Global;
 use store::{Club, OpenFault, Run, Unopened, Upgrade, adopt, create, upgrade};
 use store_sql::commit_changes;
 
-/// The club that stands in a database, or why none does.
+/// Opens the club in a database, or returns the reason.
 pub fn taken(
     alloc: Global,
     conn: Connection<MemStore>,
@@ -26,7 +26,7 @@ pub fn taken(
     }
 }
 
-/// A club that is made in a database, or why none is.
+/// Creates a club in a database, or returns the reason.
 pub fn made(
     alloc: Global,
     conn: Connection<MemStore>,
@@ -41,7 +41,7 @@ pub fn made(
     }
 }
 
-/// What an upgrade of a database came to, and the database.
+/// Upgrades a database; returns the result and the database.
 pub fn upgraded(
     alloc: Global,
     conn: Connection<MemStore>,
@@ -55,7 +55,7 @@ pub fn upgraded(
     }
 }
 
-/// A club that was just made.
+/// Creates a club in an empty database.
 pub fn new_club(alloc: Global) -> Result<Club<MemStore>> {
     match made(alloc, Connection::open_in_memory(alloc)?) {
         Ok(club) => Ok(club),
@@ -63,7 +63,7 @@ pub fn new_club(alloc: Global) -> Result<Club<MemStore>> {
     }
 }
 
-/// What a script holds then, and the word for it, or the fault.
+/// The state and `word` if a club was opened, else the fault.
 pub fn told(
     alloc: Global,
     opened: Result<Club<MemStore>, Unopened<MemStore>>,
@@ -78,7 +78,7 @@ pub fn told(
     }
 }
 
-/// The club in memory, which is taken where it was given up.
+/// Opens the club in a database.
 pub fn adopted(alloc: Global, conn: Connection<MemStore>) -> Result<Club<MemStore>> {
     match taken(alloc, conn) {
         Ok(club) => Ok(club),
@@ -86,7 +86,7 @@ pub fn adopted(alloc: Global, conn: Connection<MemStore>) -> Result<Club<MemStor
     }
 }
 
-/// The club that is given up and taken again, which changes nothing.
+/// Opens the club in a database; fails if that changes anything.
 pub fn retaken(alloc: Global, conn: Connection<MemStore>) -> Result<Club<MemStore>> {
     let mut conn = conn;
     let before = rows_of(alloc, &mut conn)?;
@@ -97,15 +97,15 @@ pub fn retaken(alloc: Global, conn: Connection<MemStore>) -> Result<Club<MemStor
     adopted(alloc, conn)
 }
 
-/// The club after requests that are given to it by one call, and what they came to.
+/// Executes requests by one call; returns the club and the result.
 pub fn run(alloc: Global, club: Club<MemStore>, requests: &[Request]) -> (Club<MemStore>, Run) {
     let mut club = club;
     let run = club.run(alloc, requests);
     (club, run)
 }
 
-/// The database of a new club with the rows of another one. Each is put twice, the second time for the one with its
-/// key.
+/// Copies the rows of a database into a new club. They are written twice, so that the second time each replaces its
+/// own.
 pub fn copy_of(alloc: Global, conn: &mut Connection<MemStore>) -> Result<Connection<MemStore>> {
     let rows = rows_of(alloc, conn)?;
     let mut copy = new_club(alloc)?.into_connection();
@@ -114,14 +114,14 @@ pub fn copy_of(alloc: Global, conn: &mut Connection<MemStore>) -> Result<Connect
     Ok(copy)
 }
 
-/// The database after these statements.
+/// Executes these statements.
 pub fn changed(conn: Connection<MemStore>, sql: &str) -> Result<Connection<MemStore>> {
     let mut conn = conn;
     conn.execute_batch(sql)?;
     Ok(conn)
 }
 
-// The lines of a text, with a `;` between them.
+// Joins the lines of a text with `;`.
 fn joined(alloc: Global, text: &[u8]) -> Result<String> {
     let mut told = String::new(alloc);
     for line in str::from_utf8(text)?.lines() {
@@ -133,7 +133,7 @@ fn joined(alloc: Global, text: &[u8]) -> Result<String> {
     Ok(told)
 }
 
-// What is asked for the cross table of an event, and the moment at which it is asked.
+// The query for the cross table of an event, and its timestamp.
 fn table_asked(alloc: Global, event: &str) -> Result<(Question, Moment)> {
     let name = String::from_str(alloc, event)?;
     match Moment::new(0) {
@@ -142,7 +142,7 @@ fn table_asked(alloc: Global, event: &str) -> Result<(Question, Moment)> {
     }
 }
 
-/// The club, and the cross table of an event, or `none` where there is no such event.
+/// The club, and the cross table of an event; `none` if there is no such event.
 pub fn table(alloc: Global, club: Club<MemStore>, event: &str) -> (Club<MemStore>, Result<String>) {
     let (question, moment) = match table_asked(alloc, event) {
         Ok(asked) => asked,

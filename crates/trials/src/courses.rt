@@ -1,4 +1,4 @@
-//! A club from its making or its opening to its closing, stopped at each call of the disk, for each of the two files.
+//! Runs of requests over files, crashed at each disk call to either file.
 
 use crate::files::{begun, rows_in, session, stopped};
 use crate::held::Disks;
@@ -10,26 +10,26 @@ use std::alloc::Global;
 use store::OpenFault;
 use store_tables::Changes;
 
-/// What was done before a stop.
+/// What was answered before the crash.
 #[derive(Clone, Copy, PartialEq)]
 enum Done {
-    /// The making of the club was not answered.
+    /// The creation of the club was not answered.
     Nothing,
-    /// The club was made, and so many requests were answered.
+    /// The club was created, and this many requests were answered.
     Requests(usize),
 }
 
-/// What stands before a course.
+/// The files before a run.
 #[derive(Drop)]
 pub enum Start {
-    /// Nothing in either file: the course begins with the making of the club.
+    /// Both files are empty; the run begins with the creation of the club.
     Nothing,
     /// The files of a club.
     Club(Image),
 }
 
 impl Start {
-    /// A club in files that stop so, or why none was made in them.
+    /// A club in files with this injected crash, or the reason why there is none.
     fn club(
         &self,
         alloc: Global,
@@ -43,12 +43,12 @@ impl Start {
     }
 }
 
-/// Requests to a club, what each comes to where nothing stops them, and the rows before the first and after each.
+/// Requests to a club, their results without a crash, and the rows before the first and after each.
 #[derive(Drop)]
 struct Course<'a> {
     start: Start,
     requests: &'a [Request],
-    /// How many frames of the log a commit finds that copies them into the database file.
+    /// The checkpoint threshold in frames of the log.
     frames: usize,
     outcomes: Vec<String>,
     rows: Vec<Changes>,
@@ -62,8 +62,8 @@ fn told(alloc: Global, outcomes: &[Outcome]) -> Result<Vec<String>> {
     Ok(texts)
 }
 
-/// What a request is answered that stood already, given what it was answered at first: an accepted one is repeated, but
-/// for a sweep, which then has nothing more to end.
+/// The expected answer to a repeated request, given its first answer: an accepted one is repeated, but a sweep finds no
+/// more games to end.
 fn answered_again(alloc: Global, outcome: &str) -> Result<String> {
     match outcome.strip_prefix("accepted ") {
         Some(answer) if answer.starts_with("sweep") => {
@@ -75,7 +75,7 @@ fn answered_again(alloc: Global, outcome: &str) -> Result<String> {
 }
 
 impl<'a> Course<'a> {
-    /// The course of requests that nothing stops, each a session of its own, and the files after them.
+    /// Runs the requests without a crash, each in a session of its own; returns the run and its files.
     fn unstopped(
         alloc: Global,
         start: Start,
@@ -113,7 +113,7 @@ impl<'a> Course<'a> {
         }
     }
 
-    /// What is done until the stop, and the files that it leaves.
+    /// Runs up to the crash; returns what was answered and the files.
     fn stopped(&self, alloc: Global, stop: Stop) -> Result<(Done, Disks)> {
         let (made, files) = self.start.club(alloc, stop, self.options())?;
         match made {
@@ -129,8 +129,7 @@ impl<'a> Course<'a> {
         Ok((Done::Requests(texts.len()), left))
     }
 
-    /// What the request of that number is to be answered now, of those that were not answered before: it stands already
-    /// or not.
+    /// The expected answer to the request with this index, by whether it has taken effect already.
     fn due(&self, alloc: Global, number: usize, stands: bool) -> Result<String> {
         let outcome = self.outcomes.get(number).context("no such request")?;
         if stands {
@@ -139,8 +138,8 @@ impl<'a> Course<'a> {
         Ok(String::from_str(alloc, outcome.as_str())?)
     }
 
-    /// Whether the requests from that number on, given to the files, come to what they come to where nothing stops
-    /// them, the first as one that stands already or not, and leave the rows that are left then.
+    /// Whether the requests from index `from` on have the expected answers and leave the final rows. `stands` says
+    /// whether the first has taken effect already.
     fn goes_on(&self, alloc: Global, files: Disks, from: usize, stands: bool) -> Result<bool> {
         let (run, files) = session(alloc, files, self.requests.get(from..).unwrap_or(&[]));
         let texts = told(alloc, &run?.outcomes)?;
@@ -159,8 +158,7 @@ impl<'a> Course<'a> {
         Ok(true)
     }
 
-    /// Whether the rows of the files are those after so many requests, or after one more, and the rest goes on from
-    /// there.
+    /// Whether the files hold the rows after `answered` requests, or after one more, and the other requests can follow.
     fn is_whole(&self, alloc: Global, files: Disks, answered: usize) -> Result<bool> {
         let (rows, files) = rows_in(alloc, files);
         let rows = rows?;
@@ -172,8 +170,8 @@ impl<'a> Course<'a> {
         self.goes_on(alloc, files, answered, !before)
     }
 
-    /// Whether what is found in files with those bytes is whole. Where the making of the club was stopped it stands, or
-    /// there is none and it can be made.
+    /// Whether files with these bytes hold an expected state. If the creation of the club was cut off, there is an
+    /// empty club, or none and it can be created.
     fn is_found_whole(&self, alloc: Global, done: Done, image: &Image) -> Result<bool> {
         let (run, files) = session(alloc, image.files(alloc, Stop::Never)?, &[]);
         match (run, done) {
@@ -202,19 +200,18 @@ impl Stoppable for Course<'_> {
     }
 }
 
-/// A course that is whole wherever it is stopped.
+/// A run that recovers from a crash at each disk call.
 #[derive(Drop)]
 pub struct WholeCourse {
-    /// What each request comes to where nothing stops it.
+    /// The results without a crash.
     pub outcomes: Vec<String>,
-    /// The files after them.
+    /// The files after the run.
     pub files: Disks,
-    /// At how many calls of the disk it was stopped.
+    /// The number of injected crashes.
     pub stops: u64,
 }
 
-/// The course of requests, if wherever a call of the log or of the database file is the last what is found is whole,
-/// and the rest goes on from there.
+/// Runs the requests with a crash at each disk call; an error if an unexpected state is found after one.
 pub fn whole_at_each_stop(
     alloc: Global,
     start: Start,

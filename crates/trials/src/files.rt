@@ -1,4 +1,4 @@
-//! A club over two files, which are opened for each call and closed after it.
+//! Clubs in two files, which are opened for each call and closed after it.
 
 ghost use Rattle.std.specs.Prelude.{◌≡◌, false, IfOk};
 
@@ -12,7 +12,7 @@ use std::alloc::Global;
 use store::{OpenFault, Run, StoreFault, Upgrade, create, resume, upgrade};
 use store_tables::Changes;
 
-/// A connection over the files, or the files again where they were not opened.
+/// Opens the files; returns them if that fails.
 fn connected<D: Disk + Drop>(
     alloc: Global,
     files: Files<D>,
@@ -29,7 +29,7 @@ fn connected<D: Disk + Drop>(
     }
 }
 
-/// Makes a club in the files, or says why none is made. The files after it.
+/// Creates a club in the files; returns the result and the files.
 pub fn begun<D: Disk + Drop>(
     alloc: Global,
     files: Files<D>,
@@ -45,7 +45,7 @@ pub fn begun<D: Disk + Drop>(
     }
 }
 
-/// A session over the files, or why no club was taken, and the files after it.
+/// Runs a session over the files; returns the result and the files.
 pub fn session<D: Disk + Drop>(
     alloc: Global,
     files: Files<D>,
@@ -61,7 +61,7 @@ pub fn session<D: Disk + Drop>(
     }
 }
 
-// The outcomes of a run, if the club that was asked again after a fault is shut.
+// The outcomes of a run; an error if the club was still open after a fault.
 fn shut_after(run: Run, again: &Run) -> Result<Vec<Outcome>> {
     if run.fault.is_some() && again.fault != Some(StoreFault::Reopen) {
         bail!("a club goes on after a fault");
@@ -69,7 +69,7 @@ fn shut_after(run: Run, again: &Run) -> Result<Vec<Outcome>> {
     Ok(run.outcomes)
 }
 
-// That the club was not taken for a call of the disk that failed, and for nothing else.
+// No outcomes, if the club was not opened because a disk call failed; an error for any other fault.
 fn stopped_before(alloc: Global, fault: OpenFault) -> Result<Vec<Outcome>> {
     match fault {
         OpenFault::Store => Ok(Vec::new(alloc)),
@@ -77,8 +77,8 @@ fn stopped_before(alloc: Global, fault: OpenFault) -> Result<Vec<Outcome>> {
     }
 }
 
-/// Gives the club in the files requests, and after a fault once more, which must find it shut. What was answered, and
-/// the files after it.
+/// Executes requests over the files, and again after a fault, when the club must be unavailable. Returns the outcomes
+/// and the files.
 pub fn stopped<D: Disk + Drop>(
     alloc: Global,
     files: Files<D>,
@@ -102,7 +102,7 @@ pub fn stopped<D: Disk + Drop>(
     (shut_after(run, &again), end(club).close())
 }
 
-/// Upgrades the club in the files, the log of which every commit copies. What that came to, and the files after it.
+/// Upgrades the club in the files, with a checkpoint at every commit; returns the result and the files.
 pub fn upgrade_in<D: Disk + Drop>(
     alloc: Global,
     files: Files<D>,
@@ -121,7 +121,7 @@ pub fn upgrade_in<D: Disk + Drop>(
     }
 }
 
-/// Changes the database in the files by these statements. Whether they were done, and the files after them.
+/// Executes these statements on the files; returns the result and the files.
 pub fn changed_in<D: Disk + Drop>(
     alloc: Global,
     files: Files<D>,
@@ -139,7 +139,7 @@ fn not_opened() -> Result<()> {
     bail!("the files are not opened")
 }
 
-/// The rows that stand in the files, and the files.
+/// The rows in the files, and the files.
 pub fn rows_in<D: Disk + Drop>(alloc: Global, files: Files<D>) -> (Result<Changes>, Files<D>) {
     let mut conn = match connected(alloc, files, Options::new(1)) {
         Ok(conn) => conn,

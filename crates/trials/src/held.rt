@@ -1,4 +1,4 @@
-//! What the lines of a script are about.
+//! The state of a script between its lines.
 
 use crate::clubs::{adopted, changed};
 use crate::courses::Start;
@@ -9,31 +9,31 @@ use sqlite_disk::{Fuse, Memory};
 use std::alloc::Global;
 use store::Club;
 
-/// The database file and the log of a club, which lie in memory.
+/// The database file and the log of a club, in memory, with an injected crash.
 pub type Disks = Files<Fuse<Memory>>;
 
-/// What a script holds between its lines.
+/// The state of a script between its lines.
 #[derive(Drop)]
 pub enum Held {
-    /// Nothing yet, or nothing more after a line that failed.
+    /// Nothing: at the start, or after a line that failed.
     Nothing,
-    /// A club over a database in memory.
+    /// A club in an in-memory database.
     Club(Club<MemStore>),
-    /// A database in memory that is no club's, or whose club was given up.
+    /// An in-memory database without a club, or whose club was closed.
     Database(Connection<MemStore>),
     /// The files of a club.
     Files(Disks),
-    /// A club for the requests that follow, which is to be stopped at each call of the disk.
+    /// The next requests are crashed at each disk call.
     Stopped {
-        /// What stands before the first of them.
+        /// The files before the first request.
         start: Start,
-        /// How many frames of the log a commit finds that copies them into the database file.
+        /// The checkpoint threshold in frames of the log.
         frames: usize,
     },
 }
 
 impl Held {
-    /// The database in memory, of which the club is given up.
+    /// The in-memory database; closes its club.
     pub fn into_connection(self) -> Result<Connection<MemStore>> {
         match self {
             Held::Club(club) => Ok(club.into_connection()),
@@ -44,7 +44,7 @@ impl Held {
         }
     }
 
-    /// The club in memory, which is taken where it was given up.
+    /// The in-memory club; opens it if it was closed.
     pub fn into_club(self, alloc: Global) -> Result<Club<MemStore>> {
         match self {
             Held::Club(club) => Ok(club),
@@ -52,7 +52,7 @@ impl Held {
         }
     }
 
-    /// The database, or the files, after these statements.
+    /// Executes these statements on the database or the files.
     pub fn changed(self, alloc: Global, sql: &str) -> Result<Held> {
         match self {
             Held::Files(files) => {
@@ -64,7 +64,7 @@ impl Held {
         }
     }
 
-    /// The files.
+    /// The files; an error if there are none.
     pub fn into_files(self) -> Result<Disks> {
         match self {
             Held::Files(files) => Ok(files),

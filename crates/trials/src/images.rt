@@ -1,4 +1,4 @@
-//! The two files of a club as bytes, and the disks in memory on which they lie.
+//! The two files of a club as bytes, and the in-memory disks that hold them.
 
 use crate::held::Disks;
 use anyhow::{Result, bail};
@@ -21,7 +21,7 @@ pub enum ClubFile {
 }
 
 impl ClubFile {
-    /// The stop after so many calls of the file.
+    /// A crash after this many calls to the file.
     pub fn stop(self, calls: u64) -> Stop {
         match self {
             ClubFile::Log => Stop::Log(calls),
@@ -36,7 +36,7 @@ impl ClubFile {
         }
     }
 
-    /// Whether a further call of the file passes.
+    /// Whether another call to the file succeeds.
     pub fn goes_on(self, disks: &mut Disks) -> bool {
         match self {
             ClubFile::Log => passes(&mut disks.log),
@@ -45,7 +45,6 @@ impl ClubFile {
     }
 }
 
-// Whether a further call of the disk passes.
 fn passes(disk: &mut Fuse<Memory>) -> bool {
     if !disk.may_be_used() {
         return false;
@@ -53,7 +52,7 @@ fn passes(disk: &mut Fuse<Memory>) -> bool {
     disk.len().is_ok()
 }
 
-/// Which file's calls are counted, and how many pass.
+/// The file whose calls are counted, and how many of them succeed.
 #[derive(Clone, Copy)]
 pub enum Stop {
     Log(u64),
@@ -77,17 +76,18 @@ impl Stop {
     }
 }
 
-/// How many calls of the disk something takes at most.
+/// The maximum number of disk calls of a run.
 const MOST_CALLS: u64 = 100_000;
 
-/// What can be stopped after any number of calls of a file.
+/// A run that can be crashed after any number of calls to a file.
 pub trait Stoppable {
-    /// Stops it after so many calls of the file. Whether it came to its end without the stop, if what is found is
-    /// whole, with all that was written and with what was synced alone.
+    /// Runs it with a crash after `calls` calls to the file; returns whether it ended without the crash, or `None` if
+    /// an unexpected state was found.
+    /// The state is checked with all that was written, and with only what was synced.
     fn tried(&self, alloc: Global, file: ClubFile, calls: u64) -> Result<Option<bool>>;
 }
 
-/// Stops it at each call of the file, until it comes to its end without a stop. How many stops that were.
+/// Crashes it at each call to the file, until it ends without a crash; returns the number of crashes.
 fn stop_at_each<T: Stoppable>(alloc: Global, trial: &T, file: ClubFile) -> Result<u64> {
     let name = file.name();
     for calls in 0..MOST_CALLS {
@@ -101,14 +101,14 @@ fn stop_at_each<T: Stoppable>(alloc: Global, trial: &T, file: ClubFile) -> Resul
     bail!("not at an end after any number of calls of the {name}")
 }
 
-/// Stops it at each call of the one file and then of the other. How many stops that were.
+/// Crashes it at each call to either file; returns the number of crashes.
 pub fn stop_everywhere<T: Stoppable>(alloc: Global, trial: &T) -> Result<u64> {
     let in_log = stop_at_each(alloc, trial, ClubFile::Log)?;
     let in_database = stop_at_each(alloc, trial, ClubFile::Database)?;
     Ok(in_log.saturating_add(in_database))
 }
 
-/// Files of which nothing was written yet.
+/// Empty files with this injected crash.
 pub fn empty_files(alloc: Global, stop: Stop) -> Disks {
     Files {
         log: Fuse::new(Memory::new(alloc), stop.log_calls()),
@@ -124,7 +124,7 @@ fn disk(alloc: Global, bytes: &[u8], calls: u64) -> Result<Fuse<Memory>> {
 }
 
 impl Image {
-    /// What was written into files.
+    /// All that was written to the files.
     pub fn written(alloc: Global, files: &Disks) -> Result<Image> {
         Ok(Image {
             log: Vec::from_slice(alloc, files.log.inner().bytes())?,
@@ -132,7 +132,7 @@ impl Image {
         })
     }
 
-    /// What was synced of them.
+    /// What was synced to the files.
     pub fn synced(alloc: Global, files: Disks) -> Result<Image> {
         let mut files = files;
         files.log.crash();
@@ -140,7 +140,7 @@ impl Image {
         Image::written(alloc, &files)
     }
 
-    /// Files with these bytes, which stop so.
+    /// Files with these bytes and this injected crash.
     pub fn files(&self, alloc: Global, stop: Stop) -> Result<Disks> {
         Ok(Files {
             log: disk(alloc, &self.log, stop.log_calls())?,

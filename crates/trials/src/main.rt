@@ -1,6 +1,7 @@
-//! The program `trials`: reads a script from the standard input, gives what it asks for to clubs, and says of each line
-//! that comes to something else than it wants what it came to. What the lines may be is said at the head of the script
-//! that this crate brings, `stdin`.
+//! A test program that runs scripts of requests against the store, with a crash injected at each disk call.
+//!
+//! Reads a script from standard input and prints each line whose result differs from the expected one. The head of the
+//! script `stdin` of this crate describes the lines.
 #![tactic(auto)]
 
 mod answers;
@@ -26,7 +27,7 @@ fn read_script(rt: &HostRuntime) -> anyhow::Result<String> {
     Ok(text)
 }
 
-// What the lines of the script come to, in turn.
+// Runs the lines of the script in order.
 fn reported(rt: &HostRuntime, text: &str) -> anyhow::Result<Report> {
     let mut report = Report::new(rt.alloc());
     let mut held = Held::Nothing;
@@ -37,8 +38,8 @@ fn reported(rt: &HostRuntime, text: &str) -> anyhow::Result<Report> {
     Ok(report)
 }
 
-// Whether every line of the script holds, which is printed. How many stops were tried is no matter of the script, and
-// is told beside it.
+// Runs and prints the report; whether every line holds. The number of injected crashes goes to standard error, so that
+// the expected output does not depend on it.
 fn holds(rt: &HostRuntime) -> anyhow::Result<bool> {
     let text = read_script(rt)?;
     let report = reported(rt, text.as_str())?;

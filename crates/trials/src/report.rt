@@ -1,9 +1,9 @@
-//! What the lines of a script came to.
+//! The results of a script.
 
 use crate::script::Line;
 use std::alloc::{AllocError, Global};
 
-/// How many lines hold, what is told of the others, and how many stops were tried.
+/// The number of lines that hold, the lines that differ, and the number of injected crashes.
 #[derive(Drop)]
 pub struct Report {
     holding: u64,
@@ -12,6 +12,7 @@ pub struct Report {
 }
 
 impl Report {
+    /// An empty report.
     pub fn new(alloc: Global) -> Report {
         Report {
             holding: 0,
@@ -20,7 +21,7 @@ impl Report {
         }
     }
 
-    /// Takes down what a line came to.
+    /// Records the result of a line.
     pub fn compare(&mut self, alloc: Global, line: &Line<'_>, got: &str) -> Result<(), AllocError> {
         if line.wanted == got {
             self.holding = self.holding.saturating_add(1);
@@ -29,19 +30,19 @@ impl Report {
         self.differ(alloc, line, got)
     }
 
-    /// Takes down that a line does not come to what it wants, whatever that is.
+    /// Records that a line differs.
     pub fn differ(&mut self, alloc: Global, line: &Line<'_>, got: &str) -> Result<(), AllocError> {
         let (number, text, wanted) = (line.number, line.text, line.wanted);
         let told = format!(in alloc; "line {number}: {text}: wanted {wanted} .. got {got}\n")?;
         self.differing.push_str(told.as_str())
     }
 
-    /// Takes down that something was stopped at so many calls of the disk.
+    /// Adds to the number of injected crashes.
     pub fn add_stops(&mut self, stops: u64) {
         self.stops = self.stops.saturating_add(stops);
     }
 
-    /// At how many calls of the disk something was stopped.
+    /// The number of injected crashes.
     pub fn stops(&self) -> u64 {
         self.stops
     }
@@ -51,7 +52,7 @@ impl Report {
         self.differing.is_empty() && self.holding > 0
     }
 
-    /// The lines that differ, and how many hold.
+    /// The lines that differ, and the number of those that hold.
     pub fn told(&self, alloc: Global) -> Result<String, AllocError> {
         format!(in alloc; "{}{} lines hold", self.differing.as_str(), self.holding)
     }

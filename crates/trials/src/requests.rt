@@ -1,4 +1,4 @@
-//! Requests as texts, `SECONDS WHO COMMAND`, where WHO is `officer` or a member's key.
+//! Parses requests, `SECONDS WHO COMMAND`, where WHO is `officer` or a member's key.
 
 use anyhow::{Context, Result, bail};
 use clocks::Moment;
@@ -9,7 +9,7 @@ use club_requests::{
 use club_rules::{GameKind, RecordFormat};
 use std::alloc::Global;
 
-// The word, where `''` stands for none.
+// The word; `''` is the empty text.
 fn text(alloc: Global, word: &str) -> Result<String> {
     let letters = if word == "''" { "" } else { word };
     Ok(String::from_str(alloc, letters)?)
@@ -52,7 +52,7 @@ fn game_command(alloc: Global, words: &[&str]) -> Result<Command> {
     }
 }
 
-// Whether the word is the one or the other, of which it must be one.
+// Whether the word is `one`; an error if it is neither `one` nor `other`.
 fn is_the_one(word: &str, one: &str, other: &str) -> Result<bool> {
     if word == one {
         return Ok(true);
@@ -83,7 +83,7 @@ fn challenge_command(alloc: Global, words: &[&str]) -> Result<Command> {
     }
 }
 
-// The text of a record, where `\n` stands for the end of a line.
+// The text of a record; `\n` is a newline.
 fn record(alloc: Global, word: &str) -> Result<Vec<u8>> {
     let mut text = String::new(alloc);
     for line in word.split("\\n") {
@@ -133,7 +133,7 @@ fn command(alloc: Global, words: &[&str]) -> Result<Command> {
     }
 }
 
-/// The request of a moment and the words that follow it.
+/// Parses the request with this timestamp and these words.
 pub fn request(alloc: Global, seconds: &str, asked: &str) -> Result<Request> {
     let moment = Moment::new(seconds.parse()?).context("no such moment")?;
     let words: Vec<&str> = asked.split_whitespace().collect(alloc)?;

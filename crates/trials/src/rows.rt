@@ -1,4 +1,4 @@
-//! The rows that stand in a database.
+//! Reads the rows of a database.
 
 use anyhow::{Result, bail};
 use sqlite::types::ValueRef;
@@ -49,7 +49,7 @@ fn add_row(alloc: Global, row: &Row, told: &mut String) -> Result<()> {
     Ok(())
 }
 
-/// The rows that a statement finds, with `;` between them and `|` between the columns of each, or `none`.
+/// The rows of a query, separated by `;`, their columns by `|`; `none` if there are none.
 pub fn found(alloc: Global, conn: &mut Connection<MemStore>, sql: &str) -> Result<String> {
     let mut told = String::new(alloc);
     for row in &conn.query_all(sql, &[])? {

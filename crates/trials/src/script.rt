@@ -1,4 +1,4 @@
-//! A script as lines, and its lines in groups.
+//! Parses a script into lines and groups of lines.
 
 use std::alloc::{AllocError, Global};
 
@@ -9,13 +9,13 @@ pub struct Line<'a> {
     pub number: usize,
     /// The whole line.
     pub text: &'a str,
-    /// Its first word, which says what it is about, but for `alone`.
+    /// Its first word, after `alone`, which says what it does.
     pub word: &'a str,
     /// Whether it begins with `alone`.
     pub is_alone: bool,
-    /// What stands between this word and what is wanted.
+    /// The text between that word and the expected result.
     pub asked: &'a str,
-    /// What it must come to. Nothing comes to an empty text.
+    /// The expected result; no result is the empty text.
     pub wanted: &'a str,
 }
 
@@ -27,7 +27,7 @@ fn parted(text: &str) -> (&str, &str) {
     }
 }
 
-// What is asked in a text, and what is wanted, which stands after its last `=`.
+// The text before its last `=`, and the expected result after it.
 fn asked_and_wanted(text: &str) -> (&str, &str) {
     match text.rsplit_once("= ") {
         Some((asked, wanted)) => (asked.trim(), wanted.trim()),
@@ -58,25 +58,25 @@ impl<'a> Line<'a> {
         }
     }
 
-    /// Whether the line is a request: it begins with a moment.
+    /// Whether the line is a request: it begins with a timestamp.
     pub fn is_request(&self) -> bool {
         self.word.parse::<u64>().is_ok()
     }
 
-    // Whether the line may be given by one call with others.
+    // Whether the line can be executed by one call with others.
     fn is_shared(&self) -> bool {
         !self.is_alone && self.is_request()
     }
 }
 
-// Whether a line goes to the group of the one before it.
+// Whether a line joins the group of the one before it.
 fn is_with_last(groups: &[Vec<Line<'_>>], line: &Line<'_>) -> bool {
     let last = groups.last().and_then(|group| group.first());
     line.is_shared() && last.is_some_and(|before| before.is_shared())
 }
 
-/// The lines of a script in their order, but for those that are empty or begin with `#`. Requests that follow one
-/// another are one group; every other line, and a request that is alone, is one by itself.
+/// The lines of a script in order, without empty lines and those that begin with `#`. Consecutive requests are one
+/// group; any other line, and a request that is `alone`, is a group by itself.
 pub fn groups(alloc: Global, script: &str) -> Result<Vec<Vec<Line<'_>>>, AllocError> {
     let mut groups: Vec<Vec<Line<'_>>> = Vec::new(alloc);
     for (index, text) in script.lines().enumerate() {

@@ -1,4 +1,4 @@
-//! An upgrade that is stopped at each call of the disk, for each of the two files.
+//! Upgrades that are crashed at each disk call to either file.
 
 use crate::files::{rows_in, upgrade_in};
 use crate::held::Disks;
@@ -8,7 +8,7 @@ use std::alloc::Global;
 use store::{OpenFault, Upgrade};
 use store_tables::Changes;
 
-/// An upgrade that is stopped: the files before it, and their rows after it.
+/// An upgrade: the files before it, and their rows after it.
 #[derive(Drop)]
 struct Trial {
     image: Image,
@@ -16,8 +16,8 @@ struct Trial {
 }
 
 impl Trial {
-    /// Whether files with those bytes are whole, as they were or upgraded: an upgrade makes of them what it makes where
-    /// nothing stops it, and nothing more where it was answered.
+    /// Whether files with these bytes hold schema 1 or 2: an upgrade has the result that it has without a crash, and it
+    /// is a repeat if the first was answered.
     fn is_found_whole(&self, alloc: Global, answered: bool, image: &Image) -> Result<bool> {
         let (upgraded, files) = upgrade_in(alloc, image.files(alloc, Stop::Never)?);
         let (rows, _files) = rows_in(alloc, files);
@@ -45,7 +45,7 @@ impl Stoppable for Trial {
     }
 }
 
-/// What an upgrade of the files comes to, as the program prints it.
+/// The result of an upgrade, as the program prints it.
 pub fn told_upgrade(alloc: Global, upgraded: Result<Upgrade, OpenFault>) -> Result<String> {
     match upgraded {
         Ok(Upgrade::Done) => Ok(String::from_str(alloc, "upgraded")?),
@@ -54,16 +54,16 @@ pub fn told_upgrade(alloc: Global, upgraded: Result<Upgrade, OpenFault>) -> Resu
     }
 }
 
-/// An upgrade that is whole wherever it is stopped.
+/// An upgrade that recovers from a crash at each disk call.
 #[derive(Drop)]
 pub struct WholeUpgrade {
-    /// What it comes to where nothing stops it.
+    /// The result without a crash.
     pub told: String,
-    /// At how many calls of the disk it was stopped.
+    /// The number of injected crashes.
     pub stops: u64,
 }
 
-/// The upgrade of the files, if wherever a call of the log or of the database file is the last what is found is whole.
+/// Upgrades the files with a crash at each disk call; an error if an unexpected state is found after one.
 pub fn whole_or_old(alloc: Global, files: &Disks) -> Result<WholeUpgrade> {
     let image = Image::written(alloc, files)?;
     let (upgraded, left) = upgrade_in(alloc, image.files(alloc, Stop::Never)?);

@@ -1,4 +1,4 @@
-//! All rows of a recorded game but those of the scores.
+//! The rows of an imported game, except its scores.
 
 ghost use Rattle.std.specs.Prelude.{Some, IfOk, IsTrue};
 ghost use Rattle.club_rules.specs.Records.{recorded_of, IsGameByRules};
@@ -17,7 +17,7 @@ use club_rules::{Memory, Rules};
 use std::alloc::Global;
 use store_tables::{GameRecord, MoveRow, SeenRow};
 
-/// The rows of a game that is added: its own, one for each ply and one for each distinct position.
+/// The rows of a new game: its own, one for each ply and one for each distinct position.
 #[derive(Drop)]
 pub struct NewRows {
     pub game: GameRecord,
@@ -25,7 +25,11 @@ pub struct NewRows {
     pub seen: Vec<SeenRow>,
 }
 
-/// The rows of a recorded game that is added under a key, all of it at that moment, by the terms of its event.
+/// Returns the rows of a recorded game that is imported under a key. All plies have the timestamp `moment`.
+///
+/// # Errors
+///
+/// `Memory` if out of memory.
 pub fn new_rows<R: Rules>(
     alloc: Global,
     key: &str,

@@ -1,4 +1,4 @@
-//! The rows of the moves of a recorded game.
+//! The rows of an imported game's moves.
 
 ghost use Rattle.std.specs.Prelude.{◌≡◌, ◌≤◌, ◌<◌, ◌+◌, ◌^◌, [], ◌∷◌, map, length, Ok, IfOk, IsTrue};
 ghost use Rattle.sqlite_value.specs.declared.value.Value.TheVariants.{Text};
@@ -17,7 +17,7 @@ use club_rules::{Memory, Rules};
 use std::alloc::Global;
 use store_tables::MoveRow;
 
-// The row of a ply, whose move was made in the one position and led to the other.
+// The row of one ply: its move and the position after it; `left` is the mover's remaining time in seconds.
 fn ply_row<R: Rules>(
     alloc: Global,
     game: u32,
@@ -47,7 +47,11 @@ fn ply_row<R: Rules>(
     })
 }
 
-/// The rows of moves that are all made at that moment in the game of this id, by the terms of its event.
+/// Returns the rows of moves that all have the timestamp `moment`.
+///
+/// # Errors
+///
+/// `Memory` if out of memory.
 pub fn move_rows<R: Rules>(
     alloc: Global,
     game: u32,

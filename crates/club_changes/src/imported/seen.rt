@@ -1,4 +1,4 @@
-//! The rows of the positions of a recorded game.
+//! The rows of an imported game's positions.
 
 ghost use Rattle.std.specs.Prelude.{◌≡◌, ◌<◌, ◌+◌, ◌++◌, ◌^◌, map, length, drop, IfOk, OnOk, string_bytes};
 ghost use Rattle.std.specs.List.{list_any};
@@ -13,7 +13,7 @@ use club_rules::{Memory, Rules};
 use std::alloc::Global;
 use store_tables::SeenRow;
 
-// The texts of the positions of a line: of the opening, and after each ply.
+// The notation of each position: the initial one, then one after each ply.
 fn texts_of<R: Rules>(alloc: Global, moves: &[R::Move]) -> Result<Vec<String>, Memory>
     requires { IsLegalLine R.rules R.rules.start moves.now }
     ensures { IfOk result (λ texts. bytes_of texts.items
@@ -29,21 +29,18 @@ fn texts_of<R: Rules>(alloc: Global, moves: &[R::Move]) -> Result<Vec<String>, M
     Ok(texts)
 }
 
-// How often a text stands among the texts.
 fn times_in(texts: &[String], text: &str) -> usize
     ensures { result ≡ times_in (bytes_of texts.now) text.now }
 {
     texts.iter().filter(|t| text == t.as_str()).count()
 }
 
-// Whether a text stands among these.
 fn stands_in(texts: &[String], text: &str) -> bool
     ensures { result ≡ list_any (λ t. bytes_eq text.now (string_bytes t)) texts.now }
 {
     texts.iter().any(|t| text == t.as_str())
 }
 
-// The row of a text that stands so often, and first after that ply.
 fn seen_row(game: u32, text: &String, count: usize, ply: usize) -> Result<SeenRow, Memory>
     requires count { count < 2 ^ 63 }
     requires ply { ply < 2 ^ 63 }
@@ -57,7 +54,7 @@ fn seen_row(game: u32, text: &String, count: usize, ply: usize) -> Result<SeenRo
     })
 }
 
-// Adds the row of the text after that ply, unless the text stood before.
+// Adds the row of the position after a ply, unless it occurred before.
 fn add_text(rows: &mut Vec<SeenRow>, game: u32, texts: &[String], ply: usize) -> Result<(), Memory>
     requires { ply < length texts.now }
     ensures { OnOk result (map seen_cells rows.new.items
@@ -74,7 +71,7 @@ fn add_text(rows: &mut Vec<SeenRow>, game: u32, texts: &[String], ply: usize) ->
     Ok(())
 }
 
-// The rows of texts, each once.
+// One row for each distinct position.
 fn rows_of_texts(alloc: Global, game: u32, texts: &[String]) -> Result<Vec<SeenRow>, Memory>
     ensures { IfOk result (λ rows. map seen_cells rows.items ≡ rows_of_texts game (bytes_of texts.now)) }
 {
@@ -85,7 +82,11 @@ fn rows_of_texts(alloc: Global, game: u32, texts: &[String]) -> Result<Vec<SeenR
     Ok(rows)
 }
 
-/// The rows of the positions of a line in the game of this id.
+/// Returns one row for each distinct position of a legal line.
+///
+/// # Errors
+///
+/// `Memory` if out of memory.
 pub fn seen_rows<R: Rules>(
     alloc: Global,
     game: u32,

@@ -1,4 +1,4 @@
-//! What was played in a game, by its rows.
+//! The moves and the result of a stored game, by replay.
 
 ghost use Rattle.std.specs.Prelude.{map, IfOk, IfSome};
 ghost use Rattle.club_core.specs.Game.{Game};
@@ -17,8 +17,12 @@ use club_rules::{Memory, Rules};
 use std::alloc::Global;
 use store_tables::{GameRecord, MoveRow};
 
-/// What was played in the game of this id that is played by these terms, by its row and the rows of its moves in their
-/// order; none where no legal game has these.
+/// Replays the rows of a stored game and returns its moves and result; the rows must be in the order of plies. None if
+/// they are not those of a legal game with these terms.
+///
+/// # Errors
+///
+/// `Memory` if out of memory.
 pub fn played_of<R: Rules>(
     alloc: Global,
     terms: Terms,

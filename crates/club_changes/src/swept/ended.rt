@@ -1,4 +1,4 @@
-//! The row of a game that ends by time.
+//! The row of a game that is lost on time.
 
 ghost use Rattle.std.specs.Prelude.{◌≡◌, IfOk};
 ghost use Rattle.store_tables.specs.Cells.{game_cells};
@@ -11,7 +11,11 @@ use squares::Score;
 use std::alloc::Global;
 use store_tables::GameRecord;
 
-/// The row of a game once it has ended by time with this score.
+/// Returns the game's row with the end `Time` and this score.
+///
+/// # Errors
+///
+/// `Memory` if out of memory.
 pub fn lost_row(alloc: Global, row: &GameRecord, score: Score) -> Result<GameRecord, Memory>
     ensures { IfOk result (λ lost. game_cells lost ≡ cells_lost row.now score) }
 {

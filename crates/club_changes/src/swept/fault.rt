@@ -1,16 +1,16 @@
-//! What may go wrong where the rows of a sweep are made.
+//! The fault of a sweep.
 
 use club_rules::Memory;
 use std::alloc::AllocFailed;
 use std::error::Error;
 use std::fmt;
 
-/// Why the rows of a sweep were not made.
+/// Why the rows of a sweep cannot be computed.
 #[derive(Clone, Copy, Debug, PartialEq, Eq)]
 pub enum SweepFault {
-    /// Memory was refused.
+    /// Out of memory.
     Memory,
-    /// No club has the rows that were given, or a sum does not fit.
+    /// The given rows are not those of a legal club, or a sum overflows.
     Unfit,
 }
 

@@ -1,4 +1,4 @@
-//! Which side of a game has lost by time, by the columns of its row.
+//! Finds the side that has lost on time, from the row of a game.
 
 ghost use Rattle.std.specs.Prelude.{◌≡◌};
 ghost use Rattle.club_core.specs.Game.{side_after};
@@ -9,7 +9,7 @@ use clocks::Moment;
 use club_rows::columns::StoredGame;
 use squares::Side;
 
-/// The side that moves after so many plies.
+/// The side to move after this number of plies.
 pub fn side_after(plies: u32) -> Side
     ensures { result ≡ side_after plies }
 {
@@ -20,7 +20,7 @@ pub fn side_after(plies: u32) -> Side
     }
 }
 
-/// The side to move, where the game goes on and that side has used more seconds by this moment than it had left.
+/// The side to move if the game runs and that side has used more seconds by `moment` than it had left; else None.
 pub fn late_side(stored: &StoredGame<'_>, moment: Moment) -> Option<Side>
     ensures { result ≡ late_side (columns_in stored.now) moment }
 {

@@ -1,10 +1,10 @@
-//! Laws of a sweep: each is what a function with an empty body ensures.
+//! A property of sweeps, stated by the contract of a function with an empty body.
 
 ghost use Rattle.std.specs.Prelude.{ℕ};
 ghost use Rattle.club_rows.specs.Club.{ClubState};
 ghost use Rattle.club_changes.specs.Swept.{LeavesOthers};
 
-/// A sweep leaves the tables of members, events, challenges, moves and positions as they are.
+/// Law: a sweep changes no rows of members, events, challenges, moves and positions.
 pub fn sweep_leaves_others()
     ensures { (s : ClubState) (moment : ℕ) → LeavesOthers s moment }
 {}

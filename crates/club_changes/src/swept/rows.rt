@@ -1,4 +1,4 @@
-//! All rows that a sweep puts.
+//! Computes all rows that a sweep upserts.
 
 ghost use Rattle.std.specs.Prelude.{◌≡◌, map, IfOk, IsErrOf};
 ghost use Rattle.store_tables.specs.Cells.{game_cells, score_cells};
@@ -18,21 +18,24 @@ use squares::Score;
 use std::alloc::Global;
 use store_tables::{GameRecord, ScoreRow};
 
-/// What a sweep puts, each row in its turn for the one that has its key: a later row of scores of two players stands
-/// for an earlier one.
+/// The rows to upsert, in order. A later row of scores replaces an earlier one of the same two players.
 #[derive(Debug, PartialEq, Drop)]
 pub struct SweptRows {
     /// The rows of the games that end.
     pub games: Vec<GameRecord>,
-    /// The rows of their players, two for each game, in the order of the games.
+    /// The rows of scores, two for each of these games, in the same order.
     pub scores: Vec<ScoreRow>,
-    /// How many games end.
+    /// The number of games that end.
     pub count: u32,
 }
 
-/// The rows that a sweep puts at that moment, from the rows of all games of a club in the order of their ids, and
-/// those of its scores in whatever order. A running game ends where its side to move has used more seconds than it
-/// had left.
+/// Returns the rows that a sweep upserts, from the rows of all games in the order of ids and of all scores in any
+/// order. A running game ends if its side to move has used more seconds than it had left.
+///
+/// # Errors
+///
+/// - `Unfit` if the rows are not those of a legal club, or a sum overflows.
+/// - `Memory` if out of memory.
 pub fn swept_rows(
     alloc: Global,
     games: &[GameRecord],
@@ -42,7 +45,7 @@ pub fn swept_rows(
     ensures rows { IfOk result (λ rows. (s : ClubState) → IsClub s →
         map game_cells games.now ≡ tables s (tree_of Games) →
         HaveSame (map score_cells scores.now) (tables s (tree_of Scores)) → IsSwept s moment rows) }
-    // No rows of a club are unfit: memory alone may be refused for them.
+    // With the rows of a legal club the only fault is out of memory.
     ensures unfit { IsErrOf result SweepFault.Unfit → (s : ClubState) → IsClub s →
         map game_cells games.now ≡ tables s (tree_of Games) →
         ¬ HaveSame (map score_cells scores.now) (tables s (tree_of Scores)) }

@@ -1,4 +1,4 @@
-//! The sums of pairs of players as they stand while games end one after another.
+//! Running sums of scores while a sweep ends games one after another.
 
 ghost use Rattle.std.specs.Prelude.{◌≡◌, ◌≢◌, ◌≤◌, ◌^◌, ◌++◌, ◌∷◌, [], List, Some, pos, cond, length, map};
 ghost use Rattle.std.specs.Prelude.{IfOk, OnOk, IsErrOf};
@@ -22,7 +22,7 @@ use std::alloc::Global;
 use std::collections::HashMap;
 use store_tables::ScoreRow;
 
-// The row of a pair, if they met.
+// The row of a pair, if they have met.
 fn row_of(standings: &HashMap<Pair, Sums>, pair: Pair) -> Option<ScoreRow>
     ensures { result ≡ option_map (row_with pair) (sums_at standings.now pair) }
 {
@@ -40,7 +40,7 @@ fn row_of(standings: &HashMap<Pair, Sums>, pair: Pair) -> Option<ScoreRow>
     }
 }
 
-// Keeps the sums of the row as those of its pair.
+// Stores the sums of the row for its pair.
 fn keep(standings: &mut HashMap<Pair, Sums>, row: &ScoreRow) -> Result<(), Memory>
     ensures { OnOk result ((pair : given_pair.Pair) → sums_at standings.new pair
         ≡ cond (same_pair (pair_in row.now) pair) (Some (sums_found (Some row.now))) (sums_at standings.old pair)) }
@@ -49,7 +49,11 @@ fn keep(standings: &mut HashMap<Pair, Sums>, row: &ScoreRow) -> Result<(), Memor
     Ok(())
 }
 
-/// The sums of all pairs that have a row.
+/// Collects the sums of all pairs that have a row.
+///
+/// # Errors
+///
+/// `Memory` if out of memory.
 pub fn standings_of(alloc: Global, rows: &[ScoreRow]) -> Result<HashMap<Pair, Sums>, Memory>
     ensures { IfOk result (λ standings. (all : List Row) → HaveSame (map score_cells rows.now) all →
         AreStanding (λ pair. sums_at standings pair) all) }
@@ -61,7 +65,7 @@ pub fn standings_of(alloc: Global, rows: &[ScoreRow]) -> Result<HashMap<Pair, Su
     Ok(standings)
 }
 
-// Puts a row, as the one that stands for its pair.
+// Stores the sums of the row, and adds it to the rows to upsert.
 fn put(
     standings: &mut HashMap<Pair, Sums>,
     changed: &mut Vec<ScoreRow>,
@@ -76,7 +80,16 @@ fn put(
     Ok(())
 }
 
-/// Puts the rows of the two players of a game that ended so, from what stands for them, and keeps these as what stands.
+/// Adds one ended game: stores both players' new sums, and adds their rows to `changed`.
+///
+/// # Errors
+///
+/// - `Unfit` if a sum overflows.
+/// - `Memory` if out of memory.
+///
+/// # Guarantees
+///
+/// `unfit`: a sum overflows only after at least 2^61 results.
 pub fn put_scores(
     standings: &mut HashMap<Pair, Sums>,
     changed: &mut Vec<ScoreRow>,
@@ -88,7 +101,6 @@ pub fn put_scores(
         PutsRows (score_rows (before ++ after)) (score_rows (before ++
         (meetings (pos stored.now.event) (pos stored.now.first) (pos stored.now.second) score ++ after)))
         (λ pair. sums_at standings.new pair) changed.old.items changed.new.items) }
-    // Only the sums of very many games do not fit.
     ensures unfit { IsErrOf result SweepFault.Unfit → (ms : List Meeting) →
         AreStanding (λ pair. sums_at standings.old pair) (score_rows ms) → 2 ^ 61 ≤ length ms }
 {

@@ -1,6 +1,6 @@
 //! The four diagonal directions.
 
-/// A diagonal direction. Up is towards row 0, left towards column 0.
+/// A diagonal direction. Up is toward row 0, left is toward column 0.
 #[derive(Clone, Copy, Debug, PartialEq, Eq)]
 pub enum Direction {
     UpLeft,

@@ -1,10 +1,11 @@
-//! A move by what it changes on the board.
+//! A draughts move, by its effect on the board.
 
 use crate::draughts::set::DSet;
 use crate::draughts::square::Dsq;
 
-/// A move: the square that the piece leaves, the square that it comes to, and the squares of the
-/// pieces that it takes. Two paths over the board with one such triple are one move.
+/// A move: the square it starts from, the square it ends on, and the squares of the captured pieces.
+///
+/// Two capture routes with the same start, end and captured pieces are the same move.
 #[derive(Clone, Copy, Debug, PartialEq, Eq)]
 pub struct DMove {
     pub from: Dsq,

@@ -1,11 +1,11 @@
-//! The squares of a set by their numbers.
+//! The numbers of the squares in a set.
 ghost use Rattle.std.specs.Prelude.{◌≡◌};
 ghost use Rattle.squares.specs.DraughtsSets.{ascending};
 
 use crate::draughts::set::DSet;
 use std::marker::Model;
 
-/// Up to fifty numbers.
+/// A list of at most 50 square numbers.
 #[derive(Drop)]
 pub struct Numbers {
     numbers: [u8; 50],
@@ -23,7 +23,7 @@ impl Model for Numbers {
 }
 
 impl Numbers {
-    /// The squares of a set in ascending order.
+    /// The squares of a set, in ascending order.
     pub fn of(set: DSet) -> Numbers
         ensures { result ≡ ascending set }
     {
@@ -37,7 +37,7 @@ impl Numbers {
         Numbers { numbers, len }
     }
 
-    /// The numbers, in rising order.
+    /// The numbers, in ascending order.
     pub fn as_slice(&self) -> &[u8]
         ensures { result.now ≡ self.now }
     {

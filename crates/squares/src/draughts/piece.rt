@@ -1,8 +1,8 @@
-//! The pieces of draughts.
+//! Draughts pieces.
 
 use crate::sides::Side;
 
-/// A man, or a king where `king` is true, of a side.
+/// A draughts piece: a king if `king` is true, otherwise a man.
 #[derive(Clone, Copy, Debug, PartialEq, Eq, Hash)]
 pub struct DPiece {
     pub side: Side,

@@ -1,4 +1,4 @@
-//! A position: a board and a turn.
+//! A draughts position: a board and the side to move.
 ghost use Rattle.std.specs.Prelude.{◌≡◌, ◌+◌, ◌<◌, ℕ, false, Option, length, not, IsTrue, ◌↔◌, ◌⊎◌, None};
 ghost use Rattle.std.specs.Prelude.{is_none};
 ghost use Rattle.std.specs.FinMap as map;
@@ -18,10 +18,10 @@ use masks::Word50;
 use std::hash::{Hash, Hasher};
 use std::marker::Model;
 
-/// A board, with at most one piece on each square, and the side to move. Two positions with the
-/// same pieces on the same squares and the same turn are one position.
+/// A draughts position: at most one piece on each square, and the side to move.
 ///
-/// Beside the cells it keeps the squares of each side's pieces, and those of the kings, as words of bits.
+/// Positions are equal if they have the same pieces on the same squares and the same side to move. Besides the cells, a
+/// position keeps bitboards of each side's pieces and of the kings.
 #[derive(Clone, Copy, Debug)]
 pub struct DPos {
     cells: [Option<DPiece>; 50],
@@ -75,7 +75,7 @@ impl Model for DPos {
 }
 
 impl DPos {
-    /// The empty board.
+    /// The empty board with `turn` to move.
     pub fn new(turn: Side) -> DPos
         ensures { result ≡ record { board = map.empty; turn = turn } }
     {
@@ -88,8 +88,7 @@ impl DPos {
         }
     }
 
-    /// The opening: Second's men on squares 1 to 20, First's men on squares 31 to 50, and First to
-    /// move.
+    /// The starting position: Second's men on squares 1 to 20, First's men on squares 31 to 50, First to move.
     pub fn opening() -> DPos
         ensures value { result ≡ opening }
         ensures pieces { (n : ℕ) → OnBoard n → map.get result.board n ≡ opening_piece n }
@@ -114,7 +113,7 @@ impl DPos {
         self.turn
     }
 
-    /// The piece on a square, if one stands there.
+    /// The piece on a square, or `None` if the square is empty.
     pub fn at(&self, square: Dsq) -> Option<DPiece>
         ensures { result ≡ map.get self.now.board square }
     {
@@ -150,7 +149,7 @@ impl DPos {
         DSet::of_word(empty)
     }
 
-    /// Puts a piece on a square, in place of what stands there.
+    /// Puts a piece on a square and replaces any piece there.
     pub fn put(&mut self, square: Dsq, piece: DPiece)
         ensures { self.new ≡ record self.old { board = map.insert self.old.board square piece } }
     {
@@ -160,7 +159,7 @@ impl DPos {
         self.kings = noted(self.kings, square, piece.king);
     }
 
-    /// Takes what stands on a square off the board.
+    /// Removes the piece on a square, if there is one.
     pub fn clear(&mut self, square: Dsq)
         ensures { self.new ≡ record self.old { board = map.remove self.old.board square } }
     {
@@ -170,7 +169,7 @@ impl DPos {
         self.kings = self.kings.without(square.number());
     }
 
-    /// Takes what stands on any square of a set off the board.
+    /// Removes the pieces on all squares of a set.
     pub fn clear_all(&mut self, squares: DSet)
         ensures { self.new ≡ record self.old {
           board = map.retain_keys self.old.board (λ n. not (set.contains squares n));
@@ -182,7 +181,7 @@ impl DPos {
         }
     }
 
-    /// A law: no piece stands anywhere but on the fifty squares.
+    /// Lemma: pieces are only on squares 1 to 50.
     pub fn keeps_to_its_squares(&self)
         ensures { (n : ℕ) → (n < 1) ⊎ (50 < n) → map.get self.now.board n ≡ None }
     {
@@ -218,7 +217,7 @@ impl Eq for DPos {
     ghost laws = { same_position-equivalence };
 }
 
-// A hash reads what stands on each square, in the order of the squares, and then the turn.
+// The hash covers the squares in order, then the side to move.
 impl Hash for DPos {
     ghost use Rattle.squares.specs.DraughtsSamePosition.{same_position-same};
     ghost use Rattle.squares.specs.DraughtsHash.{hash_writes};
@@ -236,7 +235,7 @@ impl Hash for DPos {
     }
 }
 
-// Whether the same stands on each of the fifty squares.
+// Whether both lists of 50 cells hold the same pieces.
 fn same_cells(mine: &[Option<DPiece>], theirs: &[Option<DPiece>]) -> bool
     requires mine { length mine.now ≡ 50 }
     requires theirs { length theirs.now ≡ 50 }
@@ -250,7 +249,7 @@ fn same_cells(mine: &[Option<DPiece>], theirs: &[Option<DPiece>]) -> bool
     true
 }
 
-// The squares of a side's pieces among fifty cells.
+// The squares of a side's pieces in a list of 50 cells.
 fn squares_in(cells: &[Option<DPiece>], side: Side) -> Word50
     requires { length cells.now ≡ 50 }
     ensures { Marks (is_of side) result (board_of cells.now) }
@@ -264,7 +263,7 @@ fn squares_in(cells: &[Option<DPiece>], side: Side) -> Word50
     squares
 }
 
-// The set with the square if it is to be there, and without it if not.
+// Adds the square to the set if `is_in`, otherwise removes it.
 fn noted(squares: Word50, square: Dsq, is_in: bool) -> Word50
     ensures { result ≡ noted squares square is_in }
 {
@@ -275,7 +274,7 @@ fn noted(squares: Word50, square: Dsq, is_in: bool) -> Word50
     }
 }
 
-// Whether a piece of a side stands there.
+// Whether the cell holds a piece of the side.
 fn is_of(side: Side, cell: Option<DPiece>) -> bool
     ensures { result ≡ is_of side cell }
 {
@@ -295,7 +294,7 @@ fn same_cell(mine: Option<DPiece>, theirs: Option<DPiece>) -> bool
     }
 }
 
-// What stands on a square in the opening.
+// The piece on a square in the starting position.
 fn opening_piece(number: u8) -> Option<DPiece>
     ensures { result ≡ opening_piece number }
 {

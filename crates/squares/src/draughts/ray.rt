@@ -1,4 +1,4 @@
-//! The line from a square to the board's edge.
+//! Diagonals from a square to the edge of the board.
 ghost use Rattle.std.specs.Prelude.{◌≡◌, ◌==◌, ◌<◌, ℕ};
 ghost use Rattle.std.specs.FinSet as set;
 ghost use Rattle.std.specs.List.{find, list_any, slice_index};
@@ -10,7 +10,7 @@ use crate::draughts::square::{Dsq, place_of};
 use masks::Word50;
 
 impl Dsq {
-    /// The squares on the way in a direction, up to the board's edge, as a set.
+    /// The squares on the diagonal from this square to the edge of the board, without this square.
     pub fn line(self, toward: Direction) -> DSet
         ensures { (n : ℕ) → set.contains result n ≡ list_any (λ m. m == n) (ray toward self) }
     {
@@ -20,7 +20,7 @@ impl Dsq {
         DSet::of_word(squares)
     }
 
-    /// The first square of a set on the way in a direction, or None where none is up to the board's edge.
+    /// The first square of a set on the diagonal from this square, or `None` if there is none.
     pub fn first_on(self, toward: Direction, of: DSet) -> Option<Dsq>
         ensures { result ≡ find (set.contains of) (ray toward self) }
     {
@@ -32,8 +32,7 @@ impl Dsq {
     }
 }
 
-// The lines from the fifty squares, each as the bits of its squares: fifty for each direction, after one that stands
-// for no square.
+// Bitboards of the diagonals from each square: after an unused entry, 50 for each direction.
 static LINES: [u64; 201] = [
     0,
     0x0,
@@ -238,7 +237,6 @@ static LINES: [u64; 201] = [
     0x0,
 ];
 
-// An entry of the table.
 fn line_word(place: usize) -> u64
     requires { place < 201 }
     ensures { result ≡ slice_index LINES place }

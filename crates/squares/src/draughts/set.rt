@@ -1,4 +1,4 @@
-//! A set of squares.
+//! Sets of draughts squares.
 ghost use Rattle.std.specs.Prelude.{◌≡◌, ◌↔◌, ◌+◌, ◌^◌, ◌<◌, ◌&&◌, ◌||◌, false, ℕ, IsTrue};
 ghost use Rattle.masks.specs.Words.{IsGreatest, IsLeast, has_bit};
 ghost use Rattle.std.specs.FinSet as set;
@@ -15,7 +15,7 @@ use masks::Word50;
 use std::cmp::Ordering;
 use std::marker::Model;
 
-/// A set of squares.
+/// A set of draughts squares, in a bitboard.
 #[derive(Clone, Copy, Debug)]
 pub struct DSet {
     squares: Word50,
@@ -45,21 +45,21 @@ impl DSet {
         }
     }
 
-    /// Whether the set has a square.
+    /// Whether the square is in the set.
     pub fn contains(self, square: Dsq) -> bool
         ensures { result ≡ set.contains self square }
     {
         self.squares.contains(square.number())
     }
 
-    /// Whether the set has no square.
+    /// Whether the set is empty.
     pub fn is_empty(self) -> bool
         ensures { IsTrue result ↔ (self ≡ set.empty) }
     {
         self.squares.is_empty()
     }
 
-    /// The set with this square too; the same set, where it has the square.
+    /// The set with a square added.
     pub fn with(self, square: Dsq) -> DSet
         ensures { result ≡ set.insert self square }
     {
@@ -68,7 +68,7 @@ impl DSet {
         }
     }
 
-    /// The set without this square; the same set, where it has not the square.
+    /// The set with a square removed.
     pub fn without(self, square: Dsq) -> DSet
         ensures { result ≡ set.remove self square }
     {
@@ -77,14 +77,14 @@ impl DSet {
         }
     }
 
-    /// The word of the set: bit `n - 1` is set exactly for the squares `n` of the set.
+    /// The bitboard of the set: bit `n - 1` is set if square `n` is in the set.
     pub fn word(&self) -> u64
         ensures { (n : ℕ) → has_bit result n ≡ set.contains self.now (n + 1) }
     {
         self.squares.word()
     }
 
-    /// Compares the two by their ascending squares.
+    /// Compares the sets lexicographically by their squares in ascending order.
     pub fn compare(self, other: DSet) -> Ordering
         ensures { result ≡ slice_cmp nat_cmp (ascending self) (ascending other) }
     {
@@ -93,7 +93,7 @@ impl DSet {
             .cmp(Numbers::of(other).as_slice())
     }
 
-    /// Takes the least square out of the set, or answers None where there is none.
+    /// Removes and returns the lowest square, or returns `None` if the set is empty.
     pub fn pop(&mut self) -> Option<Dsq>
         ensures { PopsSquare self.old result self.new }
     {
@@ -104,7 +104,7 @@ impl DSet {
         Dsq::new(number)
     }
 
-    /// The least square of the set, or None where it has none.
+    /// The lowest square, or `None` if the set is empty.
     pub fn least(self) -> Option<Dsq>
         ensures { IsLeast self result }
     {
@@ -115,7 +115,7 @@ impl DSet {
         }
     }
 
-    /// The greatest square of the set, or None where it has none.
+    /// The highest square, or `None` if the set is empty.
     pub fn greatest(self) -> Option<Dsq>
         ensures { IsGreatest self result }
     {
@@ -126,7 +126,7 @@ impl DSet {
         }
     }
 
-    /// The squares of either set.
+    /// The union of the sets.
     pub fn union(self, other: DSet) -> DSet
         ensures { result ≡ set.union self other }
     {
@@ -135,7 +135,7 @@ impl DSet {
         }
     }
 
-    /// The squares of both sets.
+    /// The intersection of the sets.
     pub fn intersection(self, other: DSet) -> DSet
         ensures { result ≡ set.intersection self other }
     {
@@ -144,7 +144,7 @@ impl DSet {
         }
     }
 
-    /// The squares of this set that the other has not.
+    /// The squares of this set that are not in the other.
     pub fn difference(self, other: DSet) -> DSet
         ensures { result ≡ set.difference self other }
     {
@@ -153,7 +153,7 @@ impl DSet {
         }
     }
 
-    /// The squares whose next square in a direction is of the set.
+    /// The squares from which one step in a direction leads into the set.
     pub fn beside(self, toward: Direction) -> DSet
         ensures { (n : ℕ) → set.contains result n
             ≡ option_map_or (set.contains self) (step toward n) false }
@@ -187,14 +187,13 @@ impl DSet {
         }
     }
 
-    // The set of a word.
     pub(crate) fn of_word(squares: Word50) -> DSet
         ensures { result ≡ squares }
     {
         DSet { squares }
     }
 
-    /// How many squares the set has.
+    /// The number of squares in the set.
     pub fn len(self) -> usize
         ensures { result ≡ set.len self }
     {
@@ -202,7 +201,7 @@ impl DSet {
     }
 }
 
-// The squares of one set in some rows, and those of another in other rows. The rows are given by their bits.
+// The squares of `even` in the rows of the mask `even_rows`, and those of `odd` in the rows of the mask `odd_rows`.
 fn in_rows(even: Word50, even_rows: u64, odd: Word50, odd_rows: u64) -> DSet
     requires even_fits { even_rows < 2 ^ 50 }
     requires odd_fits { odd_rows < 2 ^ 50 }

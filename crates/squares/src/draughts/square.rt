@@ -1,4 +1,4 @@
-//! A square by its number.
+//! Draughts squares, by number.
 ghost use Rattle.std.specs.Prelude.{◌≡◌, ◌↔◌, ◌+◌, ◌%◌, ◌<◌, ◌≤◌, IsSome, IfSome, ℕ};
 ghost use Rattle.std.specs.List.{range_with_len, slice_index};
 ghost use Rattle.squares.specs.DraughtsGeometry.{row_of, column_of, number_at, IsDark, neighbor, step};
@@ -7,10 +7,10 @@ ghost use Rattle.squares.specs.DraughtsTable.{place_of};
 use crate::draughts::direction::Direction;
 use std::marker::Model;
 
-/// A dark square of the board of ten rows and ten columns, by its number from 1 to 50.
+/// A dark square of the 10 × 10 board, numbered 1 to 50.
 ///
-/// Rows and columns count from 0; row 0 is the top. Square `n` has row `(n - 1) / 5`, and column
-/// `2 * ((n - 1) % 5)`, plus 1 where the row is even. First, who plays White, sits at the bottom.
+/// Rows and columns count from 0; row 0 is the top. Square `n` has row `(n - 1) / 5` and column `2 * ((n - 1) % 5)`,
+/// plus 1 in even rows. First, who plays White, sits at the bottom.
 #[derive(Clone, Copy, Debug, PartialEq, Eq, PartialOrd, Ord, Hash)]
 pub struct Dsq {
     number: u8,
@@ -27,7 +27,7 @@ impl Model for Dsq {
 }
 
 impl Dsq {
-    /// The square of a number, or None where the number is not 1 to 50.
+    /// The square with a number, or `None` if the number is not 1 to 50.
     pub fn new(number: u8) -> Option<Dsq>
         ensures some { IsSome result ↔ ((1 ≤ number) × (number ≤ 50)) }
         ensures value { IfSome result (λ s. s ≡ number) }
@@ -39,7 +39,7 @@ impl Dsq {
         }
     }
 
-    /// All fifty squares in the order of their numbers.
+    /// All 50 squares, in ascending order.
     pub fn all() -> [Dsq; 50]
         ensures { result ≡ range_with_len 1 50 }
     {
@@ -52,7 +52,7 @@ impl Dsq {
         squares
     }
 
-    /// The square's number, 1 to 50.
+    /// The number of the square, 1 to 50.
     pub fn number(self) -> u8
         ensures value { result ≡ self }
         ensures range { (1 ≤ self) × (self ≤ 50) }
@@ -60,7 +60,7 @@ impl Dsq {
         self.number
     }
 
-    /// The square's row, 0 at the top to 9.
+    /// The row, from 0 at the top to 9.
     pub fn row(self) -> u8
         ensures value { result ≡ row_of self }
         ensures range { result < 10 }
@@ -68,7 +68,7 @@ impl Dsq {
         (self.number - 1) / 5
     }
 
-    /// The square's column, 0 at the left to 9.
+    /// The column, from 0 at the left to 9.
     pub fn column(self) -> u8
         ensures value { result ≡ column_of self }
         ensures range { result < 10 }
@@ -76,8 +76,9 @@ impl Dsq {
         2 * ((self.number - 1) % 5) + (1 - self.row() % 2)
     }
 
-    /// The square at a row and a column, or None where one of them is above 9 or the square there
-    /// is light, which is where their sum is even.
+    /// The square at a row and a column.
+    ///
+    /// `None` if one of them is above 9 or the square is light, that is, if their sum is even.
     pub fn at(row: u8, column: u8) -> Option<Dsq>
         ensures dark { IsSome result ↔ IsDark row column }
         ensures value { IfSome result (λ s. s ≡ number_at row column) }
@@ -88,7 +89,7 @@ impl Dsq {
         Some(Dsq::on(row, column))
     }
 
-    // The square at a row and a column of the board.
+    // The dark square at a row and a column.
     fn on(row: u8, column: u8) -> Dsq
         requires row_in { row < 10 }
         requires column_in { column < 10 }
@@ -99,7 +100,7 @@ impl Dsq {
         }
     }
 
-    /// The next square in a direction, or None at the edge of the board.
+    /// The next square in a direction, or `None` at the edge of the board.
     pub fn step(self, toward: Direction) -> Option<Dsq>
         ensures { result ≡ step toward self }
     {
@@ -118,8 +119,7 @@ impl Dsq {
     }
 }
 
-// The next squares of the fifty squares, 0 where there is none: fifty numbers for each direction, after one that stands
-// for no square.
+// The neighbour of each square, 0 if there is none: after an unused entry, 50 numbers for each direction.
 static NEIGHBORS: [u8; 201] = [
     0, //
     0, 0, 0, 0, 0, 0, 1, 2, 3, 4, 6, 7, 8, 9, 10, 0, 11, 12, 13, 14, 16, 17, 18, 19, 20, 0, 21, 22,
@@ -132,7 +132,6 @@ static NEIGHBORS: [u8; 201] = [
     35, 37, 38, 39, 40, 0, 41, 42, 43, 44, 45, 47, 48, 49, 50, 0, 0, 0, 0, 0, 0,
 ];
 
-// An entry of the table.
 fn entry(place: usize) -> u8
     requires { place < 201 }
     ensures { result ≡ slice_index NEIGHBORS place }
@@ -140,7 +139,7 @@ fn entry(place: usize) -> u8
     NEIGHBORS[place]
 }
 
-// Where the entries of a direction begin in a table, less one.
+// The offset of a direction's entries in a table: the entry of square `n` is at this offset plus `n`.
 pub(crate) fn place_of(toward: Direction) -> usize
     ensures { result ≡ place_of toward }
 {

@@ -1,4 +1,4 @@
-//! The pieces on the squares.
+//! The shogi board.
 
 ghost use Rattle.std.specs.Prelude.{◌≡◌, ◌≤◌, ℕ, None, count_by, length};
 ghost use Rattle.std.specs.FinMap as map;
@@ -15,8 +15,9 @@ use masks::Word81;
 use std::cmp::Ordering;
 use std::marker::Model;
 
-/// A shogi board. Contracts see it as a finite map from squares to pieces. Beside the cells it keeps the squares of
-/// each side and of each role as words of bits.
+/// A shogi board; contracts see it as a finite map from squares to pieces.
+///
+/// Besides the cells it keeps a bitboard for each side and for each role.
 #[derive(Drop)]
 pub struct SBoard {
     cells: [Option<SPiece>; 81],
@@ -41,7 +42,7 @@ impl Model for SBoard {
 }
 
 impl SBoard {
-    /// The board with no piece on it.
+    /// The empty board.
     pub fn empty() -> SBoard
         ensures { result ≡ map.empty }
     {
@@ -52,14 +53,14 @@ impl SBoard {
         }
     }
 
-    /// The piece on a square.
+    /// The piece on a square, or `None` if the square is empty.
     pub fn at(&self, square: Ssq) -> Option<SPiece>
         ensures { result ≡ map.get self.now square }
     {
         self.cells[square.index()]
     }
 
-    /// Another board with the same pieces.
+    /// A copy of the board.
     pub fn copied(&self) -> SBoard
         ensures { result ≡ self.now }
     {
@@ -70,14 +71,14 @@ impl SBoard {
         }
     }
 
-    /// A law: no piece stands anywhere but on the eighty-one squares.
+    /// Lemma: pieces are only on squares 0 to 80.
     pub fn keeps_to_its_squares(&self)
         ensures { (n : ℕ) → 81 ≤ n → map.get self.now n ≡ None }
     {
         let _cells = &self.cells;
     }
 
-    /// Puts a piece on a square, in place of what stood there.
+    /// Puts a piece on a square and replaces any piece there.
     pub fn put(&mut self, square: Ssq, piece: SPiece)
         ensures { self.new ≡ map.insert self.old square piece }
     {
@@ -87,7 +88,7 @@ impl SBoard {
         self.cells[square.index()] = Some(piece);
     }
 
-    /// Leaves the square empty.
+    /// Removes the piece on a square, if there is one.
     pub fn clear(&mut self, square: Ssq)
         ensures { self.new ≡ map.remove self.old square }
     {
@@ -101,14 +102,14 @@ impl SBoard {
         }
     }
 
-    /// The squares on which pieces of a side stand.
+    /// The squares of a side's pieces.
     pub fn squares_of_side(&self, side: Side) -> Word81
         ensures { (q : ℕ) → set.contains result q ≡ is_side side (map.get self.now q) }
     {
         squares_at(&self.sides, side_place(side))
     }
 
-    /// The squares on which a piece stands.
+    /// The squares that hold the given piece.
     pub fn squares_of(&self, piece: SPiece) -> Word81
         ensures { (q : ℕ) → set.contains result q ≡ holds piece (map.get self.now q) }
     {
@@ -117,7 +118,7 @@ impl SBoard {
         own.intersection(alike)
     }
 
-    /// How many squares hold a piece of that kind, promoted or not.
+    /// The number of pieces of a kind on the board, promoted or not.
     pub fn count_kind(&self, kind: HandKind) -> usize
         ensures value { result ≡ count_on (holds_kind kind) self.now }
         ensures range { result ≤ 81 }
@@ -125,7 +126,7 @@ impl SBoard {
         count_cells_of(&self.cells, kind)
     }
 
-    /// How many squares hold a king of that side.
+    /// The number of a side's kings on the board.
     pub fn count_kings(&self, side: Side) -> usize
         ensures value { result ≡ count_on (holds_king side) self.now }
         ensures range { result ≤ 81 }
@@ -133,7 +134,7 @@ impl SBoard {
         count_king_cells(&self.cells, side)
     }
 
-    // Compares the two boards by what stands on their squares in turn.
+    // Compares the boards cell by cell.
     pub(crate) fn compare(&self, other: &SBoard) -> Ordering
         ensures { result ≡ board_cmp self.now other.now }
     {
@@ -159,7 +160,7 @@ impl Eq for SBoard {
     ghost laws = { same_shogi_board-equivalence };
 }
 
-// Whether a cell holds a piece of that kind, promoted or not.
+// Whether a cell holds a piece of the kind, promoted or not.
 fn is_cell_of(cell: Option<SPiece>, kind: HandKind) -> bool
     ensures { result ≡ holds_kind kind cell }
 {
@@ -172,7 +173,7 @@ fn is_cell_of(cell: Option<SPiece>, kind: HandKind) -> bool
     }
 }
 
-// Whether a cell holds the king of that side.
+// Whether a cell holds the side's king.
 fn is_king_cell(cell: Option<SPiece>, side: Side) -> bool
     ensures { result ≡ holds_king side cell }
 {

@@ -1,4 +1,4 @@
-//! The pieces that a side holds.
+//! Pieces in hand.
 
 ghost use Rattle.std.specs.Prelude.{◌≡◌};
 ghost use Rattle.squares.specs.ShogiHands.{count_of, with_count, hand_of};
@@ -6,7 +6,7 @@ ghost use Rattle.squares.specs.ShogiHands.{count_of, with_count, hand_of};
 use crate::shogi::piece::HandKind;
 use crate::sides::Side;
 
-/// How many of each kind a side holds.
+/// The number of pieces of each kind in a side's hand.
 #[derive(Clone, Copy, Debug, Default, PartialEq, Eq, PartialOrd, Ord, Hash)]
 pub struct Hand {
     pub rook: u8,
@@ -26,7 +26,7 @@ pub struct Hands {
 }
 
 impl Hand {
-    /// How many of the kind are held.
+    /// The number of pieces of a kind in the hand.
     pub fn count(self, kind: HandKind) -> u8
         ensures { result ≡ count_of kind self }
     {
@@ -41,7 +41,7 @@ impl Hand {
         }
     }
 
-    /// The hand with that many of the kind, the other kinds as they were.
+    /// The hand with `count` pieces of a kind, and the other kinds unchanged.
     pub fn with_count(self, kind: HandKind, count: u8) -> Hand
         ensures { result ≡ with_count kind count self }
     {

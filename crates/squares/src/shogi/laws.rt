@@ -1,7 +1,7 @@
-//! What ties the numbers of squares to files and ranks.
+//! Lemmas about the geometry of the shogi board: square numbers, files and ranks.
 ghost use Rattle.squares.specs.ShogiLaws.{NumbersGiveSquares, SquaresGiveNumbers};
 
-/// The numbers 0 to 80 and the squares by file and rank correspond one to one.
+/// Lemma: the numbers 0 to 80 and the squares, by file and rank, correspond one to one.
 pub fn numbers_and_squares_correspond()
     ensures numbers { NumbersGiveSquares }
     ensures squares { SquaresGiveNumbers }

@@ -1,4 +1,4 @@
-//! The board and the hands with which a game begins.
+//! The board and the hands of the starting position.
 
 ghost use Rattle.std.specs.Prelude.{◌≡◌, ◌≤◌, ℕ, None, nat_eq, if◌then◌else◌};
 ghost use Rattle.std.specs.FinMap as finite_map;
@@ -10,7 +10,7 @@ use crate::shogi::piece::{Role, SPiece};
 use crate::shogi::square::Ssq;
 use crate::sides::Side;
 
-// What stands on a file of the back rank.
+// The piece on a file of First's back rank.
 fn back_role(file: u8) -> Role
     ensures { result ≡ back_role file }
 {
@@ -23,7 +23,7 @@ fn back_role(file: u8) -> Role
     }
 }
 
-// What stands on a file of First's second rank.
+// The piece on a file of First's second rank.
 fn second_role(file: u8) -> Option<Role>
     ensures { result ≡ second_role file }
 {
@@ -34,7 +34,7 @@ fn second_role(file: u8) -> Option<Role>
     }
 }
 
-// What First has on a file, so many ranks from its edge.
+// First's piece on a file, `row` ranks from First's edge (1 is the back rank).
 fn army_role(file: u8, row: u8) -> Option<Role>
     ensures { result ≡ army_role file row }
 {
@@ -46,7 +46,7 @@ fn army_role(file: u8, row: u8) -> Option<Role>
     }
 }
 
-// What stands on a file and a rank.
+// The piece on a file and a rank in the starting position.
 fn opening_piece(file: u8, rank: u8) -> Option<SPiece>
     requires file { file ≤ 9 }
     requires rank { rank ≤ 9 }
@@ -63,14 +63,14 @@ fn opening_piece(file: u8, rank: u8) -> Option<SPiece>
     }
 }
 
-// What stands on a square.
+// The piece on a square in the starting position.
 fn opening_cell(square: Ssq) -> Option<SPiece>
     ensures { result ≡ opening_cell square }
 {
     opening_piece(square.file(), square.rank())
 }
 
-// Puts on a free square what stands there when a game begins.
+// Fills an empty square as in the starting position.
 fn set_up(board: &mut SBoard, square: Ssq)
     requires { finite_map.get board.old square ≡ None }
     ensures { (q : ℕ) → finite_map.get board.new q ≡
@@ -82,7 +82,7 @@ fn set_up(board: &mut SBoard, square: Ssq)
     }
 }
 
-/// The board with which a game begins.
+/// The board of the starting position.
 pub(crate) fn opening_board() -> SBoard
     ensures { result ≡ opening.board }
 {
@@ -93,7 +93,7 @@ pub(crate) fn opening_board() -> SBoard
     board
 }
 
-/// The hands with which a game begins.
+/// The hands of the starting position, which are empty.
 pub(crate) fn no_hands() -> Hands
     ensures { result ≡ opening.hands }
 {

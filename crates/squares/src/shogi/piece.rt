@@ -1,11 +1,11 @@
-//! Pieces of shogi.
+//! Shogi pieces.
 
 ghost use Rattle.std.specs.Prelude.{◌≡◌, ◌↔◌, IsSome, IfSome};
 ghost use Rattle.squares.specs.ShogiPieces.{kind_of, is_promoted, demoted, promotes_to, CanBe, hand_kind, on_board};
 
 use crate::sides::Side;
 
-/// The kinds of pieces, whether promoted or not.
+/// The kinds of pieces, regardless of promotion.
 #[derive(Clone, Copy, Debug, PartialEq, Eq, PartialOrd, Ord, Hash)]
 pub enum Kind {
     King,
@@ -18,7 +18,9 @@ pub enum Kind {
     Pawn,
 }
 
-/// The kinds that a hand may hold, in the order in which drops are listed and hands are written.
+/// The kinds of pieces that a hand can hold.
+///
+/// The order is that in which drops are listed and hands are written.
 #[derive(Clone, Copy, Debug, PartialEq, Eq, PartialOrd, Ord, Hash)]
 pub enum HandKind {
     Rook,
@@ -30,7 +32,7 @@ pub enum HandKind {
     Pawn,
 }
 
-/// What a piece on the board is: its kind, and whether it is promoted. Kings and golds do not promote.
+/// The kind of a piece on the board and whether it is promoted. Kings and golds do not promote.
 #[derive(Clone, Copy, Debug, PartialEq, Eq, PartialOrd, Ord, Hash)]
 pub enum Role {
     King,
@@ -49,7 +51,7 @@ pub enum Role {
     PromotedPawn,
 }
 
-/// A piece on the board.
+/// A piece on the board: its side and role.
 #[derive(Clone, Copy, Debug, PartialEq, Eq, PartialOrd, Ord, Hash)]
 pub struct SPiece {
     pub side: Side,
@@ -57,7 +59,7 @@ pub struct SPiece {
 }
 
 impl HandKind {
-    /// The seven kinds, in their order.
+    /// All seven kinds, in order.
     pub const ALL: [HandKind; 7] = [
         HandKind::Rook,
         HandKind::Bishop,
@@ -68,7 +70,7 @@ impl HandKind {
         HandKind::Pawn,
     ];
 
-    /// The kind as that of a piece on the board.
+    /// The same kind as a `Kind`.
     pub fn kind(self) -> Kind
         ensures { result ≡ on_board self }
     {
@@ -85,7 +87,7 @@ impl HandKind {
 }
 
 impl Kind {
-    /// The kind in a hand, or none for the king.
+    /// The kind as a `HandKind`, or `None` for the king.
     pub fn in_hand(self) -> Option<HandKind>
         ensures { result ≡ hand_kind self }
     {
@@ -117,7 +119,7 @@ impl Kind {
         }
     }
 
-    /// The role of a promoted piece of this kind, or none for kings and golds.
+    /// The role of a promoted piece of this kind, or `None` for kings and golds.
     pub fn promoted_role(self) -> Option<Role>
         ensures { result ≡ promotes_to self }
     {
@@ -134,7 +136,7 @@ impl Kind {
 }
 
 impl Role {
-    /// The kind, promoted or not.
+    /// The kind of the piece, regardless of promotion.
     pub fn kind(self) -> Kind
         ensures { result ≡ kind_of self }
     {
@@ -167,7 +169,7 @@ impl Role {
 }
 
 impl SPiece {
-    /// The piece of a side and a kind, promoted or not: none for a promoted king or gold.
+    /// A piece of a side and a kind, promoted or not; `None` for a promoted king or gold.
     pub fn new(side: Side, kind: Kind, promoted: bool) -> Option<SPiece>
         ensures some { IsSome result ↔ CanBe kind promoted }
         ensures side { IfSome result (λ piece. piece.side ≡ side) }

@@ -1,4 +1,4 @@
-//! A position of shogi.
+//! A shogi position: a board, the hands and the side to move.
 
 ghost use Rattle.std.specs.Prelude.{◌≡◌, ◌↔◌, ◌≤◌, ◌+◌, ℕ, None, IsTrue, IsSome, IfSome};
 ghost use Rattle.std.specs.FinMap as map;
@@ -14,9 +14,10 @@ use crate::sides::Side;
 use std::cmp::Ordering;
 use std::marker::Model;
 
-/// A board, the hands and the side to move. Each side has one king, and the board and the hands together hold at most
-/// 18 pawns, 4 each of lances, knights, silvers and golds, 2 bishops and 2 rooks. Two positions with the same pieces on
-/// the same squares, the same hands and the same turn are one position.
+/// A shogi position: a board, the hands and the side to move.
+///
+/// Each side has one king. Board and hands together hold at most 18 pawns, 4 each of lances, knights, silvers and
+/// golds, 2 bishops and 2 rooks. Positions are equal if board, hands and side to move are equal.
 #[derive(Drop)]
 pub struct SPos {
     board: SBoard,
@@ -49,9 +50,10 @@ impl Model for SPos {
 }
 
 impl SPos {
-    /// The position in which a game begins: each side has a king, two golds, silvers, knights and lances on its back
-    /// rank, a rook and a bishop before its knights, and nine pawns on its third rank; the hands are empty, and First
-    /// moves.
+    /// The starting position.
+    ///
+    /// Each side has a king and two golds, silvers, knights and lances on its back rank. A rook and a bishop are in
+    /// front of the knights, and nine pawns on the third rank. The hands are empty and First is to move.
     pub fn opening() -> SPos
         ensures { result ≡ opening }
     {
@@ -62,7 +64,9 @@ impl SPos {
         }
     }
 
-    /// The position, or none where a side has not one king or a kind has more pieces than its set.
+    /// The position of a board, hands and a side to move.
+    ///
+    /// `None` if a side does not have exactly one king, or a kind has more pieces than a set contains.
     pub fn new(board: SBoard, hands: Hands, turn: Side) -> Option<SPos>
         ensures some { IsSome result ↔ IsShogiPosition board hands }
         ensures value { IfSome result (λ p. p ≡ record { board = board; hands = hands; turn = turn }) }
@@ -76,7 +80,7 @@ impl SPos {
         Some(SPos { board, hands, turn })
     }
 
-    /// The position of a board on which each side has one king, with hands that keep to the sets.
+    /// The position of a board, hands and a side to move that satisfy `IsShogiPosition`.
     pub fn of_parts(board: SBoard, hands: Hands, turn: Side) -> SPos
         requires { IsShogiPosition board hands }
         ensures { result ≡ record { board = board; hands = hands; turn = turn } }
@@ -84,7 +88,7 @@ impl SPos {
         SPos { board, hands, turn }
     }
 
-    /// Another position with the same pieces, hands and turn.
+    /// A copy of the position.
     pub fn copied(&self) -> SPos
         ensures { result ≡ self.now }
     {
@@ -109,7 +113,11 @@ impl SPos {
         self.hands
     }
 
-    /// The pieces on the squares.
+    /// The board of the position.
+    ///
+    /// # Guarantees
+    ///
+    /// `sound`: each side has one king and no kind has too many pieces. `squares`: pieces are only on squares 0 to 80.
     pub fn board(&self) -> &SBoard
         ensures value { result.now ≡ self.now.board }
         ensures sound { IsShogiPosition self.now.board self.now.hands }
@@ -124,8 +132,7 @@ impl SPos {
     ghost use Rattle.std.specs.Prelude.{Some, true};
     ghost use Rattle.masks.specs.Words.{has_bit};
 
-    /// The word of a piece: bit `9 * (file - 1) + (rank - 1)` is set exactly for the squares on which that piece
-    /// stands.
+    /// The bitboard of a piece: bit `9 * (file - 1) + (rank - 1)` is set if that square holds the piece.
     pub fn word(&self, piece: SPiece) -> u128
         ensures { (n : ℕ) → (has_bit result n ≡ true) ↔ (map.get self.now.board n ≡ Some piece) }
     {
@@ -197,7 +204,6 @@ impl Ord for SPos {
     }
 }
 
-// Whether each side has one king.
 fn has_kings(board: &SBoard) -> bool
     ensures { IsTrue result ↔ HasKings board.now }
 {
@@ -210,7 +216,7 @@ fn has_kings(board: &SBoard) -> bool
     true
 }
 
-// Whether there are no more pieces of a kind than its set has.
+// Whether board and hands together hold no more pieces of a kind than a set contains.
 fn keeps_set(board: &SBoard, hands: Hands, kind: HandKind) -> bool
     ensures { IsTrue result ↔ (in_play kind board.now hands ≤ set_size kind) }
 {
@@ -223,7 +229,7 @@ fn keeps_set(board: &SBoard, hands: Hands, kind: HandKind) -> bool
     board.count_kind(kind) + held <= size
 }
 
-// Whether there are no more pieces of any kind than its set has.
+// Whether board and hands together hold no more pieces of any kind than a set contains.
 fn keeps_sets(board: &SBoard, hands: Hands) -> bool
     ensures { IsTrue result ↔ KeepsSets board.now hands }
 {

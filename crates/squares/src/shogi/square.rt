@@ -1,4 +1,4 @@
-//! A square of the shogi board.
+//! Shogi squares.
 
 ghost use Rattle.std.specs.Prelude.{◌≡◌, ◌↔◌, ◌<◌, ◌≤◌, IsSome, IfSome};
 ghost use Rattle.std.specs.List.{range_with_len};
@@ -6,9 +6,10 @@ ghost use Rattle.squares.specs.ShogiGeometry.{OnShogiBoard, file_of, rank_of, sh
 
 use std::marker::Model;
 
-/// A square of the shogi board, by its file and its rank, 1 to 9 each. Files run from right to left and ranks from top
-/// to bottom, as Black sees the board. Squares are ordered by file, then rank; contracts see that order's number, 0 to
-/// 80.
+/// A shogi square, by file and rank, each 1 to 9.
+///
+/// Files count from right to left and ranks from top to bottom, as Black sees the board. Squares are ordered by file,
+/// then rank; contracts see the index in this order, 0 to 80.
 #[derive(Clone, Copy, Debug, PartialEq, Eq, PartialOrd, Ord, Hash)]
 pub struct Ssq {
     number: u8,
@@ -27,7 +28,7 @@ impl Model for Ssq {
 }
 
 impl Ssq {
-    /// The square of a file and a rank, or none where one of them is not 1 to 9.
+    /// The square at a file and a rank, or `None` if one of them is not 1 to 9.
     pub fn new(file: u8, rank: u8) -> Option<Ssq>
         ensures some { IsSome result ↔ OnShogiBoard file rank }
         ensures value { IfSome result (λ square. square ≡ shogi_number file rank) }
@@ -59,7 +60,7 @@ impl Ssq {
         self.number % 9 + 1
     }
 
-    /// The place in the order of squares, by file, then rank: 0 to 80.
+    /// The index of the square by file, then rank: 0 to 80.
     pub fn index(self) -> usize
         ensures value { result ≡ self }
         ensures range { result < 81 }
@@ -67,7 +68,7 @@ impl Ssq {
         usize::from(self.number)
     }
 
-    /// The square of a number in the order of squares, or none where the number is above 80.
+    /// The square with an index, or `None` if the index is above 80.
     pub fn from_number(number: u8) -> Option<Ssq>
         ensures some { IsSome result ↔ (number < 81) }
         ensures value { IfSome result (λ square. square ≡ number) }
@@ -79,7 +80,7 @@ impl Ssq {
         }
     }
 
-    /// The square of a number that is known to be 0 to 80, in the order of squares.
+    /// The square with an index that is known to be at most 80.
     pub fn of_number(number: u8) -> Ssq
         requires { number < 81 }
         ensures { result ≡ number }
@@ -87,7 +88,7 @@ impl Ssq {
         Ssq { number }
     }
 
-    /// The place in the order of squares, by file, then rank: 0 to 80.
+    /// The index of the square by file, then rank: 0 to 80.
     pub fn number(self) -> u8
         ensures value { result ≡ self }
         ensures range { result < 81 }
@@ -95,7 +96,7 @@ impl Ssq {
         self.number
     }
 
-    /// All squares, in order.
+    /// All 81 squares, by file, then rank.
     pub fn all() -> [Ssq; 81]
         ensures { result ≡ range_with_len 0 81 }
     {

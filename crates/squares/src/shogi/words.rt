@@ -1,4 +1,4 @@
-//! Lists of sets of squares, one for each side or for each role.
+//! Arrays of bitboards, one for each side or for each role.
 
 ghost use Rattle.std.specs.Prelude.{◌≡◌, ◌<◌, length, slice_set};
 ghost use Rattle.std.specs.FinSet as set;
@@ -9,7 +9,7 @@ use crate::shogi::square::Ssq;
 use crate::sides::Side;
 use masks::Word81;
 
-/// The place of a side's set.
+/// The index of a side's bitboard.
 pub(crate) fn side_place(side: Side) -> usize
     ensures value { result ≡ side_place side }
     ensures range { result < 2 }
@@ -20,7 +20,7 @@ pub(crate) fn side_place(side: Side) -> usize
     }
 }
 
-/// The place of a role's set.
+/// The index of a role's bitboard.
 pub(crate) fn role_place(role: Role) -> usize
     ensures value { result ≡ role_place role }
     ensures range { result < 14 }
@@ -43,7 +43,6 @@ pub(crate) fn role_place(role: Role) -> usize
     }
 }
 
-/// The set at a place.
 pub(crate) fn squares_at(words: &[Word81], place: usize) -> Word81
     requires { place < length words.now }
     ensures { result ≡ squares_at words.now place }
@@ -51,7 +50,7 @@ pub(crate) fn squares_at(words: &[Word81], place: usize) -> Word81
     words[place]
 }
 
-/// Puts a square into the set at a place.
+/// Adds a square to the bitboard at an index.
 pub(crate) fn add_to(words: &mut [Word81], place: usize, square: Ssq)
     requires { place < length words.old }
     ensures { words.new ≡ slice_set words.old place (set.insert (squares_at words.old place) square) }
@@ -59,7 +58,7 @@ pub(crate) fn add_to(words: &mut [Word81], place: usize, square: Ssq)
     words[place] = squares_at(words, place).with(square.number());
 }
 
-/// Takes a square out of the set at a place.
+/// Removes a square from the bitboard at an index.
 pub(crate) fn take_from(words: &mut [Word81], place: usize, square: Ssq)
     requires { place < length words.old }
     ensures { words.new ≡ slice_set words.old place (set.remove (squares_at words.old place) square) }

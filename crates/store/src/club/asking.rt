@@ -1,4 +1,4 @@
-//! What a club is asked. A question changes nothing.
+//! Queries on an open club. A query changes nothing.
 
 ghost use Rattle.std.specs.Prelude.{◌≡◌, ◌⊎◌, true, false, Err, IfOk, IfErr, OnOk};
 ghost use Rattle.sqlite.specs.State.{HasCleanDisk};
@@ -20,9 +20,18 @@ use std::alloc::Global;
 use std::io::Write;
 
 impl<S: Alter> Club<S> {
-    /// Writes what a question is shown at this moment, or answers why there is nothing to show. It changes nothing.
-    /// Where the writer fails it answers `Output` and the club goes on; after any other fault every later call is
-    /// refused with `Reopen`. Wherever it stops, the writer has a beginning of the text.
+    /// Writes the answer to a query at this timestamp to `writer`, or returns the refusal. Changes nothing.
+    ///
+    /// # Errors
+    ///
+    /// - `AskFault::Output`: the writer failed. The club stays open; the writer has a prefix of the answer.
+    /// - `AskFault::Club`: a call of the database failed or it holds rows that no club has (`Store`), memory ran out
+    ///   (`Memory`), or an earlier call failed (`Reopen`). Every later call returns `Reopen`.
+    ///
+    /// # Guarantees
+    ///
+    /// `shown`: the text written is the answer of the stored state. `begun`: whatever fails, the writer has a prefix of
+    /// it. `reads`: the tables are unchanged.
     pub fn ask<W: Write>(
         &mut self,
         alloc: Global,

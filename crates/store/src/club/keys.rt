@@ -1,4 +1,4 @@
-//! Whose a key is. Reading changes nothing.
+//! Authentication: the member who has a key.
 
 ghost use Rattle.std.specs.Prelude.{◌≡◌, ◌⊎◌, true, false, Err, IfOk, IfErr, OnOk, OnErr, is_ok, option_map};
 ghost use Rattle.std.specs.Prelude.{string_bytes};
@@ -16,8 +16,15 @@ use sqlite::Alter;
 use std::alloc::Global;
 
 impl<S: Alter> Club<S> {
-    /// The name of the member who has the key, if there is one. It changes nothing. After a fault every later call is
-    /// refused with `Reopen`.
+    /// The name of the member with this key, if any. Changes nothing.
+    ///
+    /// # Errors
+    ///
+    /// - `StoreFault::Store`: a call of the database failed, or it holds rows that no club has.
+    /// - `StoreFault::Memory`: out of memory.
+    /// - `StoreFault::Reopen`: an earlier call failed.
+    ///
+    /// After any of these every later call returns `Reopen`.
     pub fn holder_of(&mut self, alloc: Global, key: &str) -> Result<Option<String>, StoreFault>
         ensures shut { self.old.needs_reopening ≡ true → (result ≡ Err StoreFault.Reopen) × (self.new ≡ self.old) }
         ensures goes_on { OnOk result (self.new.needs_reopening ≡ false) }

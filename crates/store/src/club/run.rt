@@ -1,4 +1,4 @@
-//! Requests in turn.
+//! Execution of several requests in turn.
 
 ghost use Rattle.std.specs.Prelude.{◌≡◌, ◌≤◌, ◌⊎◌, ◌+◌, true, false, None, Some, IsSome, IfSome, Err, IfOk, IfErr};
 ghost use Rattle.std.specs.Prelude.{OnOk, OnErr, [], map, length, take};
@@ -18,15 +18,16 @@ use club_requests::{Outcome, Request};
 use sqlite::Alter;
 use std::alloc::Global;
 
-/// The outcomes of the requests that were served, in their order, and the fault that ended the run, if one did.
+/// The outcomes of the requests that were executed, in order, and the fault that ended the run, if any.
 #[derive(Drop)]
 pub struct Run {
+    /// One outcome for each executed request, in order.
     pub outcomes: Vec<Outcome>,
+    /// The fault that ended the run.
     pub fault: Option<StoreFault>,
 }
 
 impl Run {
-    // A run that ended before the first request.
     fn ended(alloc: Global, fault: StoreFault) -> Run
         ensures fault { result.fault ≡ Some fault }
         ensures none { result.outcomes.items ≡ [] }
@@ -39,7 +40,7 @@ impl Run {
 }
 
 impl<S: Alter> Club<S> {
-    // Gives the club a request. It leaves a legal club legal, since its moment is one that there is.
+    // Executes one request. The range of `Moment` keeps a legal state legal.
     fn serve(&mut self, alloc: Global, request: &Request) -> Result<Outcome, StoreFault>
         ensures goes_on { OnOk result (self.new.needs_reopening ≡ false) }
         ensures ends { OnErr result (self.new.needs_reopening ≡ true) }
@@ -64,10 +65,14 @@ impl<S: Alter> Club<S> {
         self.apply(alloc, &request.who, &request.command, request.moment)
     }
 
-    /// Gives the club the requests in turn, up to the first fault. The outcomes are those of the machine. Without a
-    /// fault all requests are answered, and the tables are those of the state after all of them, now and after a
-    /// stop. With one, a stop leaves the tables of the state after the answered requests, or after one more, whole;
-    /// and every later call is refused with `Reopen`.
+    /// Executes the requests in turn, up to the first fault. Each is a transaction of its own.
+    /// A fault is in `Run::fault`, with the variants of `apply`; then every later call returns `Reopen`.
+    ///
+    /// # Guarantees
+    ///
+    /// `outcomes`: the outcomes are those of the club's specification. `whole`, `stored`: without a fault every request
+    /// is answered, and the tables hold the state after all. `fault`, `left`: after a fault or a crash the file holds
+    /// the state after the answered requests, or after one more.
     pub fn run(&mut self, alloc: Global, requests: &[Request]) -> Run
         ensures shut { self.old.needs_reopening ≡ true → (result.fault ≡ Some StoreFault.Reopen) ×
             (result.outcomes.items ≡ []) × (self.new ≡ self.old) }
@@ -108,7 +113,7 @@ impl<S: Alter> Club<S> {
         if self.needs_reopening {
             return Run::ended(alloc, StoreFault::Reopen);
         }
-        // Room for all outcomes comes first, so that none is lost for want of it.
+        // All outcomes are allocated first: none may be lost after its commit.
         let mut outcomes = match Vec::with_capacity(alloc, requests.len()) {
             Ok(outcomes) => outcomes,
             Err(_) => {

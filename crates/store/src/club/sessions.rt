@@ -1,4 +1,4 @@
-//! Sessions of a club, one after another, over what earlier ones left.
+//! Serving sessions of a club, each over what the earlier ones left in the file.
 
 ghost use Rattle.std.specs.Prelude.{◌≡◌, ◌≤◌, ◌⊎◌, ◌++◌, ◌∷◌, [], false, true, Some, None, IsSome, IfSome, IfOk, IfErr};
 ghost use Rattle.std.specs.Prelude.{map, length, take};
@@ -20,9 +20,12 @@ use sqlite::{Alter, Connection};
 use std::alloc::Global;
 
 impl<S: Alter> Club<S> {
-    /// A session: the requests in turn, up to the first fault, as `run` serves them. Where sessions lead to the
-    /// tables of the club, they lead with this one added to all that a stop may leave; and without a fault to the
-    /// tables of the club, so that the next session may follow.
+    /// Executes the requests as `run`, with a contract in terms of the club's history.
+    ///
+    /// # Guarantees
+    ///
+    /// `history`: whatever a crash leaves is reached by the earlier sessions and this one. `stands`: without a fault
+    /// the open club is, too, so the next session can follow.
     pub fn session(&mut self, alloc: Global, requests: &[Request]) -> Run
         ensures shut { self.old.needs_reopening ≡ true → (result.fault ≡ Some StoreFault.Reopen) ×
             (result.outcomes.items ≡ []) × (self.new ≡ self.old) }
@@ -50,10 +53,16 @@ impl<S: Alter> Club<S> {
     }
 }
 
-/// Takes a connection that was just opened over what earlier sessions left, after a stop or an end, and serves a
-/// session on it. What a stop may leave then is led to by the earlier sessions and this one. A connection over other
-/// tables, or a fault while they are examined, comes back as from `adopt`; what a stop may leave then is led to by
-/// the earlier sessions.
+/// Opens the club in a newly opened connection and executes the requests as one session, whatever ended the last one.
+///
+/// # Errors
+///
+/// The errors of `adopt`, with the connection; no request was executed. A fault during the session is in `Run::fault`.
+///
+/// # Guarantees
+///
+/// `history`: whatever a crash leaves is reached by the earlier sessions and this one. `kept`: after an error, by the
+/// earlier sessions. `good`: a legal club is opened, unless a call fails or memory runs out.
 pub fn resume<S: Alter>(
     alloc: Global,
     conn: Connection<S>,
@@ -64,7 +73,7 @@ pub fn resume<S: Alter>(
         (state S.Store resumed.1.connection).is_clean) }
     ensures goes_on { IfOk result (λ resumed. resumed.0.fault ≡ None → resumed.1.needs_reopening ≡ false) }
     ensures ends { IfOk result (λ resumed. IsSome resumed.0.fault → resumed.1.needs_reopening ≡ true) }
-    // Never `Reopen`: the club has just been opened.
+    // Never `Reopen`: the club was opened just now.
     ensures named { IfOk result (λ resumed. IfSome resumed.0.fault (λ fault. (fault ≡ StoreFault.Store) ⊎ (fault ≡
         StoreFault.Memory))) }
     ensures within { IfOk result (λ resumed. length resumed.0.outcomes.items ≤ length requests.now) }

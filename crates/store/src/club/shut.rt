@@ -1,4 +1,4 @@
-//! Whether a club is shut.
+//! Whether a club is unavailable after a fault.
 
 ghost use Rattle.std.specs.Prelude.{◌≡◌};
 
@@ -6,7 +6,7 @@ use super::Club;
 use sqlite::Alter;
 
 impl<S: Alter> Club<S> {
-    /// Whether a call has failed, so that every later one is refused.
+    /// Whether an earlier call failed, so that every later call is refused.
     pub fn needs_reopening(&self) -> bool
         ensures { result ≡ self.now.needs_reopening }
     {
