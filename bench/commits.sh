@@ -12,8 +12,8 @@ work=$(mktemp -d)
 trap 'rm -rf "$work"' EXIT
 count=200
 
-above='club|club_program|club_files|club_orders|club_words|sessions|trials'
-above="$above|rules|club_trials|desk_trials|http_head|http_bodies|http_desk|officer_door|http_port|club_desk|perft"
+above='club|club_program|club_session|club_orders|cli|club_batches|store_files|store_scripts'
+above="$above|rules|club_tests|http_head|http_bodies|http_desk|control_socket|server|perft"
 
 cp -a "$top/crates" "$work/crates"
 for crate in ${above//|/ }; do rm -rf "${work:?}/crates/$crate"; done

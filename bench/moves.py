@@ -18,9 +18,8 @@ import time
 
 from opening import TOP, begin, club, multiply
 
-ABOVE = ("club", "club_program", "club_files", "club_orders", "club_words", "sessions", "trials", "rules", "club_trials",
-         "desk_trials", "http_head", "http_bodies", "http_desk", "officer_door", "http_port", "club_desk",
-         "perft")
+ABOVE = ("club", "club_program", "club_session", "club_orders", "cli", "club_batches", "store_files", "store_scripts",
+         "rules", "club_tests", "http_head", "http_bodies", "http_desk", "control_socket", "server", "perft")
 RUNS = 5
 MEASURED = 20
 

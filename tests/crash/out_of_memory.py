@@ -118,7 +118,8 @@ def main():
         move("later.db", 2)
         check_command("a move", one, "before.db", 1000, "accepted ply 2 19-23", "move", 1, 2, "19-23")
         record = RECORDS / "evening.pdn"
-        check_command("an import", few, "before.db", 1000, "accepted game 2", "import-pdn", "evening", "cup", "anna", "bert", record)
+        check_command("an import",
+                      few, "before.db", 1000, "accepted game 2", "import-pdn", "evening", "cup", "anna", "bert", record)
         check_command("an export", few, "before.db", 1000, club("before.db", "export", 1)[1], "export", 1)
         check_command("a list of games", few, "before.db", 1000, club("before.db", "games")[1], "games")
         check_command("a sweep", few, "later.db", 2000, "accepted sweep 1", "sweep")

@@ -20,7 +20,7 @@ DATA = TESTS / "data"
 RECORDS = DATA / "records"
 PROGRAM = str(pathlib.Path(os.environ.get("CLUB", TOP / "build/club")).resolve())
 # Programs of tests, which `rt ci` builds from crates of the same names.
-STORE_SCRIPTS = TOP / "crates/trials/out/trials"
+STORE_SCRIPTS = TOP / "crates/store_scripts/out/store_scripts"
 PERFT = TOP / "crates/perft/out/perft"
 
 TABLES = "meta members events event_rules challenges moves games seen scores".split()

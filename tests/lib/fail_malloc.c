@@ -1,5 +1,5 @@
-// Refuses the request for memory whose number REFUSE gives, counted from 1, and leaves a file `refused` where it did; how
-// many there were it writes into the file that COUNTED names. Loaded before the C library.
+// Fails the allocation whose number REFUSE gives, counted from 1, and then creates a file `refused`. It writes how many
+// allocations there were into the file that COUNTED names. A process preloads it before the C library.
 #define _GNU_SOURCE
 #include <dlfcn.h>
 #include <errno.h>
@@ -9,11 +9,11 @@
 #include <stdlib.h>
 #include <unistd.h>
 
-static long asked = 0;
+static long allocations = 0;
 
-static int is_refused(void) {
+static int must_fail(void) {
     const char *number = getenv("REFUSE");
-    if (number == NULL || ++asked != atol(number)) return 0;
+    if (number == NULL || ++allocations != atol(number)) return 0;
     int marker = open("refused", O_CREAT | O_WRONLY, 0600);
     if (marker >= 0) close(marker);
     return 1;
@@ -22,7 +22,7 @@ static int is_refused(void) {
 void *malloc(size_t size) {
     static void *(*real)(size_t) = NULL;
     if (real == NULL) real = (void *(*)(size_t))dlsym(RTLD_NEXT, "malloc");
-    if (is_refused()) {
+    if (must_fail()) {
         errno = ENOMEM;
         return NULL;
     }
@@ -32,17 +32,17 @@ void *malloc(size_t size) {
 void *realloc(void *block, size_t size) {
     static void *(*real)(void *, size_t) = NULL;
     if (real == NULL) real = (void *(*)(void *, size_t))dlsym(RTLD_NEXT, "realloc");
-    if (is_refused()) {
+    if (must_fail()) {
         errno = ENOMEM;
         return NULL;
     }
     return real(block, size);
 }
 
-__attribute__((destructor)) static void tell(void) {
+__attribute__((destructor)) static void write_count(void) {
     const char *path = getenv("COUNTED");
-    FILE *told = path == NULL ? NULL : fopen(path, "w");
-    if (told == NULL) return;
-    fprintf(told, "%ld\n", asked);
-    fclose(told);
+    FILE *file = path == NULL ? NULL : fopen(path, "w");
+    if (file == NULL) return;
+    fprintf(file, "%ld\n", allocations);
+    fclose(file);
 }

@@ -3,10 +3,9 @@
 
     python3 tests/page/page.py [--real] [--pictures] [PROGRAM [CASE ..]]
 
-The page is that of these sources, page/play.html, whatever the program serves.
-Pages come from the desk itself where it has all paths that they ask for; those that it lacks are answered by a stand-in
-(tests/page/page_desk.py), and with --real each of them is a fault. Prints 'ok NAME' or 'not ok NAME' for each thing, and
-where Chromium is not installed 'left out: CASE' for each case. With --pictures it writes those of docs/ instead.
+The page is page/play.html of these sources, and a stand-in (tests/page/page_desk.py) answers the paths that the program lacks.
+With --real the page is the program's own, and a path that it lacks is a fault. Prints 'ok NAME' or 'not ok NAME' for each
+check, and 'left out: CASE' for each case if Chromium is not installed. With --pictures it writes the pictures of docs/.
 """
 import contextlib
 import json
@@ -690,6 +689,18 @@ def written_in_japan(room):
     page.close()
 
 
+def whole_texts(room):
+    """Each text exists in each language, with the same places for values."""
+    page = room.browser.page()
+    source = (TOP / "page/texts.js").read_text().replace("export const", "const")
+    found = page.value(f"""(() => {{ {source}
+        const holes = (it) => [...it.matchAll(/\\{{(\\w+)\\}}/g)].map((hole) => hole[1]).sort().join();
+        const isWhole = (row) => row.length === TEXTS.code.length && row.every((it) => it && holes(it) === holes(row[0]));
+        return Object.entries(TEXTS).filter(([, row]) => !isWhole(row)).map(([name]) => name); }})()""")
+    verdict("each text is in each language, with the same values", [], found)
+    page.close()
+
+
 def empty_club(room):
     club("member", "newcomer", "keynewcomer1")
     page = room.page()
@@ -1029,7 +1040,7 @@ def nothing_forbidden(room):
 CASES = [
     wrong_key, odd_keys, other_name, kept_key, draughts_game, shogi_game, choices, resignation, refused_move, offer, challenges,
     ends_meanwhile, shut_club, silent_desk, lost_replies, claim, declaration, home, notices, installed, many_games,
-    above_the_fold, written_in_japan, empty_club, preview, unsent_move, nowhere, marks_of_shogi,
+    above_the_fold, written_in_japan, whole_texts, empty_club, preview, unsent_move, nowhere, marks_of_shogi,
     clocks, motion, still, contrast, dragging, by_keyboard, by_screen_reader,
     by_touch, stepping, record, tables, languages, on_a_phone, policy, light_and_dark, nothing_forbidden,
 ]

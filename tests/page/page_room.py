@@ -13,7 +13,9 @@ import threading
 import time
 import urllib.request
 
-os.environ["PAGE_OF_SOURCES"] = "1"  # the page of these sources, before whatever desk
+# The page of these sources, whichever page the program has; with --real the program's own.
+if "--real" not in sys.argv:
+    os.environ["PAGE_OF_SOURCES"] = "1"
 import page_browser as browser  # noqa: E402
 import page_desk  # noqa: E402
 

@@ -7,9 +7,9 @@ use Rattle.club_core.specs.Members.{Member}
 use Rattle.club_core.specs.State.{draughts, shogi, place}
 use Rattle.club_rows.specs.Club.{ClubGame, ClubState}
 use Rattle.club_lists.specs.Listing.{event_name, member_name}
-use Rattle.club_views.specs.Viewed.{IsPlayedIn, IsViewed, IsViewOf}
-use Rattle.club_views.specs.declared.viewed.Played.{Played}
-use Rattle.club_views.specs.declared.viewed.ViewedGame.{ViewedGame}
+use Rattle.club_answers.specs.Viewed.{IsPlayedIn, IsViewed, IsViewOf}
+use Rattle.club_answers.specs.declared.viewed.GameProgress.{GameProgress}
+use Rattle.club_answers.specs.declared.viewed.ViewedGame.{ViewedGame}
 use Rattle.club_answers.specs.Boards.{moves_in}
 
 pub event_is : (event : Option Event) (name : List ℕ) → Some name ≡ option_map (λ e. e.name) event
@@ -22,7 +22,7 @@ pub member_is : (member : Option Member) (name : List ℕ) → Some name ≡ opt
 member_is None name is = cc
 member_is (Some member) name is = cc
 
-pub moves_are : (s : ClubState) (game : ClubGame) (played : Played) → IsPlayedIn s game played
+pub moves_are : (s : ClubState) (game : ClubGame) (played : GameProgress) → IsPlayedIn s game played
     → map (λ t. string_bytes t) played.moves.items ≡ moves_in game
 moves_are s (draughts game) played is = is.moves
 moves_are s (shogi game) played is = is.moves

@@ -1,6 +1,9 @@
 mod BoardLemmas
 mod CallLemmas
 mod ChallengeOrder
+pub mod CrossTableLemmas
 mod OverdueLemmas
+pub mod Proved
 mod RecordLemmas
 mod ToldRows
+pub mod ViewedLemmas

@@ -14,7 +14,7 @@ use Rattle.club_core.specs.Step.{is_late as late_game, is_overdue, swept}
 use Rattle.club_core.proofs.Proved.{not-some, outside-alone, score-none}
 use Rattle.club_rows.specs.Club.{ClubGame, ClubState, both_games}
 use Rattle.club_lists.specs.GameSummary.{is_late}
-use Rattle.club_answers.specs.Games.{over_of, told_by_rules}
+use Rattle.club_answers.specs.Games.{over_of, game_summary_by_rules}
 use Rattle.club_answers.specs.Overdue.{IsCounted, IsSweptThen}
 
 -- what a test tells, where one answer changes a value and the other one keeps it
@@ -29,7 +29,7 @@ module _ {P M E T : Type 0} (rules : GameRules P M E T) where
   same_over turn (Some end) = refl
 
   module _ (terms : Terms) (moment id : ℕ) (game : Game M) where
-    pub same_late : is_late moment (told_by_rules rules terms id game) ≡ late_game rules terms game moment
+    pub same_late : is_late moment (game_summary_by_rules rules terms id game) ≡ late_game rules terms game moment
     same_late = ap (λ b. not b && is_overdue rules terms game moment)
         (same_over (turn_of rules game) (end_of rules game))
 
@@ -43,7 +43,7 @@ module _ {P M E T : Type 0} (rules : GameRules P M E T) where
         cc
 
     pub swept_then : {A : Type 0} (kind : Game M → A) → ((a b : Game M) → kind a ≡ kind b → a ≡ b)
-        → (is_late moment (told_by_rules rules terms id game) ≡ true)
+        → (is_late moment (game_summary_by_rules rules terms id game) ≡ true)
         ↔ (kind (swept rules terms game moment) ≢ kind game)
     swept_then kind apart =
         changes_alone _ (kind game) (kind (swept rules terms game moment))

@@ -9,10 +9,10 @@ use Rattle.club_requests.specs.declared.refusals.Refusal.{Refusal}
 use Rattle.club_rules.specs.declared.names.GameKind.{GameKind}
 use Rattle.club_core.specs.State.{draughts, shogi}
 use Rattle.club_rows.specs.Club.{ClubState}
-use Rattle.club_views.specs.Exported.{IsExported, IsWrittenSome}
-use Rattle.club_questions.specs.declared.questions.Question.{Question}
-use Rattle.club_questions.specs.declared.questions.Question.TheVariants.{EventRecords}
-use Rattle.club_answers.specs.AnswerTexts.{BeginsShown, HasShown, HasShownSome, IsText}
+use Rattle.club_answers.specs.Exported.{IsExported, IsWrittenSome}
+use Rattle.club_requests.specs.declared.questions.Question.{Question}
+use Rattle.club_requests.specs.declared.questions.Question.TheVariants.{EventRecords}
+use Rattle.club_answers.specs.AnswerTexts.{BeginsShown, HasWrittenAnswer, HasShownSome, IsText}
 use Rattle.club_answers.specs.EventRecords.{AreRecords, BeginsRecords, opening, parting}
 use Rattle.club_answers.specs.Found.{AsksRecords}
 use Rattle.club_answers.specs.Records.{IsRecordAt}
@@ -177,7 +177,7 @@ text_begun s moment question text before now is some = (text, is, some)
 module _ (s : ClubState) (moment : ℕ) (asked : Question) (kind : GameKind) (ids given : List ℕ)
     (asks : AsksRecords s asked kind ids) (same : given ≡ ids) (before now : Option (List ℕ)) where
   pub records_shown : (refusal : Option Refusal) → HasRecords s kind given refusal before now
-      → HasShown s moment asked refusal before now
+      → HasWrittenAnswer s moment asked refusal before now
   records_shown None (text, are, added) =
       rw asks.asked_is (text, (asks.there, rw (asks.kind_is, same ∙ asks.ids_are) at are), added)
   records_shown (Some refusal) none = absurd none

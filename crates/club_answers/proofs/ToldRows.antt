@@ -20,12 +20,12 @@ use Rattle.club_rows.specs.Tables.{end_name_text, numbered_from}
 use Rattle.club_rows.proofs.Proved.{columns-read, draughts_laws, shogi_laws}
 use Rattle.club_changes.specs.Steps.{game_in}
 use Rattle.store_tables.specs.Cells.{game_cells}
-use Rattle.store_tables.specs.declared.rows.GameRecord.{GameRecord}
+use Rattle.store_tables.specs.declared.rows.GameTableRow.{GameTableRow}
 use Rattle.club_changes.proofs.Proved.{numbered_at, numbered_length}
 use Rattle.club_lists.specs.GameSummary.{GameSummary}
-use Rattle.club_lists.specs.SummaryViews.{all_by, told_by}
-use Rattle.club_lists.specs.declared.told.ToldGame.{ToldGame}
-use Rattle.club_answers.specs.Games.{over_of, over_with, told_by_rules, told_from, told_games, told_of}
+use Rattle.club_lists.specs.SummaryViews.{summaries_of, summary_of}
+use Rattle.club_lists.specs.declared.game_entry.GameEntry.{GameEntry}
+use Rattle.club_answers.specs.Games.{over_of, over_with, game_summary_by_rules, game_summaries_from, game_summaries, game_summary_of}
 
 -- ---- one game
 
@@ -52,14 +52,14 @@ module _ {P M E T : Type 0} (laws : GameRules P M E T) (are : AreRules laws) (te
     over_is turn (Some end) = refl
 
     told_is : IsLegalLine laws laws.start (moves_of game)
-        → told_by_columns (columns_of laws terms id game) ≡ told_by_rules laws terms id game
+        → told_by_columns (columns_of laws terms id game) ≡ game_summary_by_rules laws terms id game
     told_is line =
         let turn = sym (turn-of-game laws are.turn_passes are.first_starts game line) in
         let over = over_is (turn_of laws game) (end_of laws game) in
-        λ i. record (told_by_rules laws terms id game) { turn = turn i; over = over i }
+        λ i. record (game_summary_by_rules laws terms id game) { turn = turn i; over = over i }
 
 pub told_row : (s : ClubState) (id : ℕ) (game : ClubGame) (row : Row) (c : Columns) → IsLegalIn both_games s game
-    → row ≡ game_in s id game → row ≡ stored_cells c → told_by_columns c ≡ told_of s id game
+    → row ≡ game_in s id game → row ≡ stored_cells c → told_by_columns c ≡ game_summary_of s id game
 told_row s id (draughts game) row c legal cells read =
     let terms = terms_at (place s.events game.event) in
     ap told_by_columns (columns-read both_games.draughts terms id game row c cells read)
@@ -72,9 +72,9 @@ told_row s id (shogi game) row c legal cells read =
 -- ---- all games
 
 -- a row tells of the game whose row it is
-abbrev pub TellsOf : GameRecord → ToldGame → Type 0
+abbrev pub TellsOf : GameTableRow → GameEntry → Type 0
 TellsOf row told = (s : ClubState) (id : ℕ) (game : ClubGame) → IsLegalIn both_games s game
-    → game_cells row ≡ game_in s id game → told_by told ≡ told_of s id game
+    → game_cells row ≡ game_in s id game → summary_of told ≡ game_summary_of s id game
 
 told_push : {A B : Type 0} (f : A → B) (xs : List A) (x : A) (y : B) (ys : List B) → f x ≡ y
     → map f (xs ++ x ∷ []) ++ ys ≡ map f xs ++ (y ∷ ys)
@@ -85,21 +85,21 @@ drop_here [] k x at = cc
 drop_here (y ∷ ys) zero x at = let e : y ≡ x = cc in ap (λ z. z ∷ ys) e
 drop_here (y ∷ ys) (suc k) x at = drop_here ys k x at
 
-module _ (s : ClubState) (rows : List GameRecord) (same : map game_cells rows ≡ numbered_from (game_in s) 1 s.games)
+module _ (s : ClubState) (rows : List GameTableRow) (same : map game_cells rows ≡ numbered_from (game_in s) 1 s.games)
   where
-    pub told_more : (is_club : IsClub s) (k : ℕ) (row : GameRecord) → slice_get rows k ≡ Some row
-        → (games after : List ToldGame) (told : ToldGame)
-        → all_by games ++ told_from s (1 + k) (drop k s.games) ≡ told_games s → after ≡ games ++ told ∷ []
-        → TellsOf row told → all_by after ++ told_from s (1 + (k + 1)) (drop (k + 1) s.games) ≡ told_games s
+    pub told_more : (is_club : IsClub s) (k : ℕ) (row : GameTableRow) → slice_get rows k ≡ Some row
+        → (games after : List GameEntry) (told : GameEntry)
+        → summaries_of games ++ game_summaries_from s (1 + k) (drop k s.games) ≡ game_summaries s → after ≡ games ++ told ∷ []
+        → TellsOf row told → summaries_of after ++ game_summaries_from s (1 + (k + 1)) (drop (k + 1) s.games) ≡ game_summaries s
     told_more is_club k row at games after told before grown tells =
         let (game, stands, cells) = numbered_at (game_in s) game_cells 1 rows s.games same k row at in
         let is = tells s (1 + k) game (is_club.games k game stands) cells in
         let id : 1 + (k + 1) ≡ suc (1 + k) = omega arith in
-        rw (grown, id, add-one) (told_push told_by games told _ _ is ∙ (rw (drop_here s.games k game stands) at before))
+        rw (grown, id, add-one) (told_push summary_of games told _ _ is ∙ (rw (drop_here s.games k game stands) at before))
 
-    pub told_all : (k : ℕ) (games : List ToldGame) → length rows ≤ k
-        → all_by games ++ told_from s (1 + k) (drop k s.games) ≡ told_games s → all_by games ≡ told_games s
+    pub told_all : (k : ℕ) (games : List GameEntry) → length rows ≤ k
+        → summaries_of games ++ game_summaries_from s (1 + k) (drop k s.games) ≡ game_summaries s → summaries_of games ≡ game_summaries s
     told_all k games past whole =
         let count : length rows ≡ length s.games = sym (length-map rows game_cells)
         ∙ (ap length same ∙ numbered_length (game_in s) 1 s.games) in
-        rw (drop_all k s.games (omega (arith, past, count)), append-nil (all_by games)) at whole
+        rw (drop_all k s.games (omega (arith, past, count)), append-nil (summaries_of games)) at whole

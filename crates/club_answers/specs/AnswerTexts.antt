@@ -8,17 +8,17 @@ use Rattle.club_requests.specs.declared.refusals.Refusal.TheVariants.{UnknownEve
 use Rattle.club_core.specs.State.{place}
 use Rattle.club_rows.specs.Club.{ClubGame, ClubState}
 use Rattle.club_changes.specs.Stored.{AreLegalRows}
-use Rattle.club_views.specs.CrossTable.{AreTableRows}
-use Rattle.club_questions.specs.declared.questions.Listing.{Listing}
-use Rattle.club_questions.specs.declared.questions.Question.{Question}
-use Rattle.club_questions.specs.declared.questions.Question.TheVariants.{LegalMoves, CrossTable, Record}
-use Rattle.club_questions.specs.declared.questions.Question.TheVariants.{Members, Events, Games}
-use Rattle.club_questions.specs.declared.questions.Question.TheVariants.{Mine, Inviting, EventGames, ClockOf}
-use Rattle.club_questions.specs.declared.questions.Question.TheVariants.{Board, EventRecords, GameBody, MovesBody}
+use Rattle.club_answers.specs.CrossTable.{AreTableRows}
+use Rattle.club_requests.specs.declared.questions.Listing.{Listing}
+use Rattle.club_requests.specs.declared.questions.Question.{Question}
+use Rattle.club_requests.specs.declared.questions.Question.TheVariants.{LegalMoves, CrossTable, Record}
+use Rattle.club_requests.specs.declared.questions.Question.TheVariants.{Members, Events, Games}
+use Rattle.club_requests.specs.declared.questions.Question.TheVariants.{MyGames, ChallengeChoices, EventGames, GameClock}
+use Rattle.club_requests.specs.declared.questions.Question.TheVariants.{Board, EventRecords, GameJson, LegalMovesJson}
 use Rattle.club_lists.specs.Lines.{member_lines, event_lines, AreGameLines}
 use Rattle.club_lists.specs.Listing.{listing_refusal}
 use Rattle.club_lists.specs.Clock.{clock_text}
-use Rattle.club_lists.specs.Shows.{event_games_text, inviting_text, mine_text, name_by}
+use Rattle.club_lists.specs.Shows.{event_games_text, challenge_choices_json, my_games_json, member_name_by_key}
 use Rattle.club_core.specs.declared.challenges.Challenge.{Challenge}
 use Rattle.club_core.specs.Events.{event_kind, has_event_name}
 use Rattle.std.specs.List.{list_any}
@@ -26,19 +26,19 @@ use Rattle.club_answers.specs.Boards.{IsBoardText}
 use Rattle.club_answers.specs.GameBodies.{IsGameBody, IsMovesBody}
 use Rattle.club_answers.specs.Challenges.{AreChallengesOf}
 use Rattle.club_answers.specs.EventRecords.{AreEventRecords, BeginsRecords, ids_in}
-use Rattle.club_answers.specs.Games.{moment_in, told_games, told_of}
+use Rattle.club_answers.specs.Games.{effective_moment, game_summaries, game_summary_of}
 use Rattle.club_answers.specs.Records.{IsRecordAt}
 
 -- each line with its newline
-abbrev pub lined : List (List ℕ) → List ℕ
-lined [] = []
-lined (line ∷ lines) = line ++ codes "\n" ++ lined lines
+abbrev pub join_lines : List (List ℕ) → List ℕ
+join_lines [] = []
+join_lines (line ∷ lines) = line ++ codes "\n" ++ join_lines lines
 
 -- ---- legal moves and cross tables
 
 -- the text of lines that exist
 abbrev pub AreLines : (Option (List (List ℕ)) → Type 0) → List ℕ → Type 0
-AreLines AreThere text = (lines : List (List ℕ)) × AreThere (Some lines) × (text ≡ lined lines)
+AreLines AreThere text = (lines : List (List ℕ)) × AreThere (Some lines) × (text ≡ join_lines lines)
 
 abbrev pub IsLegalText : ClubState → ℕ → List ℕ → Type 0
 IsLegalText s game text = AreLines (AreLegalRows s game) text
@@ -60,13 +60,13 @@ abbrev pub IsMembersText : ClubState → List ℕ → Type 0
 IsMembersText s text = text ≡ member_lines s.members
 
 abbrev pub IsEventsText : ClubState → List ℕ → Type 0
-IsEventsText s text = text ≡ event_lines (told_games s) s.events
+IsEventsText s text = text ≡ event_lines (game_summaries s) s.events
 
 -- the games in the listing, if the member and event that it names exist
 abbrev pub IsGamesText : ClubState → ℕ → Listing → List ℕ → Type 0
 IsGamesText s moment listing text =
     (listing_refusal s.members s.events listing ≡ None)
-    × AreGameLines s.members s.events listing (moment_in s moment) (told_games s) text
+    × AreGameLines s.members s.events listing (effective_moment s moment) (game_summaries s) text
 
 abbrev pub IsNoList : ClubState → Listing → Refusal → Type 0
 IsNoList s listing refusal = listing_refusal s.members s.events listing ≡ Some refusal
@@ -74,24 +74,24 @@ IsNoList s listing refusal = listing_refusal s.members s.events listing ≡ Some
 -- ---- the JSON of a member's games
 
 -- the challenges and running games of the member with this key
-abbrev pub IsMineText : ClubState → ℕ → List ℕ → List ℕ → Type 0
-IsMineText s moment key text =
-    (name : List ℕ) × (Some name ≡ name_by key s.members) × (challenges : List Challenge)
+abbrev pub IsMyGamesText : ClubState → ℕ → List ℕ → List ℕ → Type 0
+IsMyGamesText s moment key text =
+    (name : List ℕ) × (Some name ≡ member_name_by_key key s.members) × (challenges : List Challenge)
     × AreChallengesOf s challenges
-    × (text ≡ mine_text s.members s.events name (moment_in s moment) challenges (told_games s))
+    × (text ≡ my_games_json s.members s.events name (effective_moment s moment) challenges (game_summaries s))
 
 -- no member has this key
 abbrev pub IsNoKey : ClubState → List ℕ → Refusal → Type 0
-IsNoKey s key refusal = (name_by key s.members ≡ None) × (refusal ≡ UnknownKey)
+IsNoKey s key refusal = (member_name_by_key key s.members ≡ None) × (refusal ≡ UnknownKey)
 
-abbrev pub IsInvitingText : ClubState → List ℕ → List ℕ → Type 0
-IsInvitingText s key text =
-    (name : List ℕ) × (Some name ≡ name_by key s.members) × (text ≡ inviting_text key s.members s.events)
+abbrev pub IsChallengeChoicesText : ClubState → List ℕ → List ℕ → Type 0
+IsChallengeChoicesText s key text =
+    (name : List ℕ) × (Some name ≡ member_name_by_key key s.members) × (text ≡ challenge_choices_json key s.members s.events)
 
 abbrev pub IsEventGamesText : ClubState → List ℕ → List ℕ → Type 0
 IsEventGamesText s name text =
     (list_any (has_event_name name) s.events ≡ true)
-    × (text ≡ event_games_text s.members s.events name (told_games s))
+    × (text ≡ event_games_text s.members s.events name (game_summaries s))
 
 -- no event has this name
 abbrev pub IsNoEventNamed : ClubState → List ℕ → Refusal → Type 0
@@ -101,7 +101,7 @@ IsNoEventNamed s name refusal = (list_any (has_event_name name) s.events ≡ fal
 abbrev pub IsClockText : ClubState → ℕ → ℕ → List ℕ → Type 0
 IsClockText s moment id text =
     (game : ClubGame) × (place s.games id ≡ Some game)
-    × (text ≡ clock_text s.members (moment_in s moment) (told_of s id game))
+    × (text ≡ clock_text s.members (effective_moment s moment) (game_summary_of s id game))
 
 -- ---- records of an event
 
@@ -125,12 +125,12 @@ IsText s moment (Record game) text = IsRecordAt s game text
 IsText s moment Members text = IsMembersText s text
 IsText s moment Events text = IsEventsText s text
 IsText s moment (Games listing) text = IsGamesText s moment listing text
-IsText s moment (Mine key) text = IsMineText s moment (string_bytes key) text
-IsText s moment (Inviting key) text = IsInvitingText s (string_bytes key) text
+IsText s moment (MyGames key) text = IsMyGamesText s moment (string_bytes key) text
+IsText s moment (ChallengeChoices key) text = IsChallengeChoicesText s (string_bytes key) text
 IsText s moment (EventGames name) text = IsEventGamesText s (string_bytes name) text
-IsText s moment (ClockOf game) text = IsClockText s moment game text
-IsText s moment (GameBody game) text = IsGameBody s game text
-IsText s moment (MovesBody game) text = IsMovesBody s game text
+IsText s moment (GameClock game) text = IsClockText s moment game text
+IsText s moment (GameJson game) text = IsGameBody s game text
+IsText s moment (LegalMovesJson game) text = IsMovesBody s game text
 IsText s moment (Board game letters) text = IsBoardText s moment game letters text
 IsText s moment (EventRecords name) text = IsRecordsText s (string_bytes name) text
 
@@ -142,12 +142,12 @@ IsRefused s (Record game) refusal = IsNoGame s game refusal
 IsRefused s Members refusal = ⊥
 IsRefused s Events refusal = ⊥
 IsRefused s (Games listing) refusal = IsNoList s listing refusal
-IsRefused s (Mine key) refusal = IsNoKey s (string_bytes key) refusal
-IsRefused s (Inviting key) refusal = IsNoKey s (string_bytes key) refusal
+IsRefused s (MyGames key) refusal = IsNoKey s (string_bytes key) refusal
+IsRefused s (ChallengeChoices key) refusal = IsNoKey s (string_bytes key) refusal
 IsRefused s (EventGames name) refusal = IsNoEventNamed s (string_bytes name) refusal
-IsRefused s (ClockOf game) refusal = IsNoGame s game refusal
-IsRefused s (GameBody game) refusal = IsNoGame s game refusal
-IsRefused s (MovesBody game) refusal = IsNoGame s game refusal
+IsRefused s (GameClock game) refusal = IsNoGame s game refusal
+IsRefused s (GameJson game) refusal = IsNoGame s game refusal
+IsRefused s (LegalMovesJson game) refusal = IsNoGame s game refusal
 IsRefused s (Board game letters) refusal = IsNoGame s game refusal
 IsRefused s (EventRecords name) refusal = IsNoEventNamed s (string_bytes name) refusal
 
@@ -159,10 +159,10 @@ IsShown s moment question (Err refusal) = IsRefused s question refusal
 -- ---- the part of the answer that a writer has received
 
 -- the whole text was appended, or nothing if the query is refused
-abbrev pub HasShown : ClubState → (moment : ℕ) → Question → Option Refusal → Option (List ℕ) → Option (List ℕ) → Type 0
-HasShown s moment question None before now =
+abbrev pub HasWrittenAnswer : ClubState → (moment : ℕ) → Question → Option Refusal → Option (List ℕ) → Option (List ℕ) → Type 0
+HasWrittenAnswer s moment question None before now =
     (text : List ℕ) × IsShown s moment question (Ok text) × Appends before now text
-HasShown s moment question (Some refusal) before now = IsShown s moment question (Err refusal) × (now ≡ before)
+HasWrittenAnswer s moment question (Some refusal) before now = IsShown s moment question (Err refusal) × (now ≡ before)
 
 -- a prefix of the answer was appended; for the records of an event, a prefix of the first records
 abbrev pub BeginsShown : ClubState → (moment : ℕ) → Question → Option (List ℕ) → Option (List ℕ) → Type 0

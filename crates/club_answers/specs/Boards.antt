@@ -6,13 +6,13 @@ use Rattle.club_core.specs.Game.{last_position, moves_of}
 use Rattle.club_core.specs.declared.seats.Pairing.{Pairing}
 use Rattle.club_core.specs.State.{draughts, shogi, place, kind_at, pairing_of}
 use Rattle.club_rows.specs.Club.{ClubGame, ClubState, both_games}
-use Rattle.club_views.specs.Viewed.{written_from}
+use Rattle.club_answers.specs.Viewed.{written_from}
 use Rattle.diagrams.specs.BodDiagram.{bod_text}
 use Rattle.diagrams.specs.DraughtsDiagram.{diagram_text}
 use Rattle.diagrams.specs.ShogiDiagram.{shogi_text}
 use Rattle.club_lists.specs.Board.{Board, board_text}
 use Rattle.club_lists.specs.Listing.{event_name, member_name}
-use Rattle.club_answers.specs.Games.{moment_in, told_of}
+use Rattle.club_answers.specs.Games.{effective_moment, game_summary_of}
 
 -- draughts has one kind of diagram
 abbrev pub draughts_diagram : Bool → Position → List ℕ
@@ -51,4 +51,4 @@ board_of s letters game = board_with s (pairing_of game) (diagram_of letters gam
 abbrev pub IsBoardText : ClubState → (moment : ℕ) → (id : ℕ) → (letters : Bool) → List ℕ → Type 0
 IsBoardText s moment id letters text =
     (game : ClubGame) × (place s.games id ≡ Some game)
-    × (text ≡ board_text (moment_in s moment) (told_of s id game) (board_of s letters game))
+    × (text ≡ board_text (effective_moment s moment) (game_summary_of s id game) (board_of s letters game))

@@ -6,7 +6,7 @@ use Rattle.club_rules.specs.declared.names.GameKind.TheVariants as kind
 use Rattle.club_core.specs.Events.{event_kind}
 use Rattle.club_rows.specs.Club.{ClubState}
 use Rattle.club_lists.specs.EventRecords.{event_game_ids}
-use Rattle.club_answers.specs.Games.{told_games}
+use Rattle.club_answers.specs.Games.{game_summaries}
 use Rattle.club_answers.specs.Records.{IsRecordAt}
 
 -- the separator of records: an empty line in PDN, the line `/` in CSA
@@ -28,7 +28,7 @@ AreRecords s kind is_first (id ∷ ids) text =
 
 -- the ids of the games of the event with this name
 abbrev pub ids_in : ClubState → List ℕ → List ℕ
-ids_in s name = event_game_ids s.events name (told_games s)
+ids_in s name = event_game_ids s.events name (game_summaries s)
 
 -- all records of the event with this name
 abbrev pub AreEventRecords : ClubState → List ℕ → List ℕ → Type 0

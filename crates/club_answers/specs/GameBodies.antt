@@ -6,11 +6,11 @@ use Rattle.squares.specs.declared.sides.Side.{Side}
 use Rattle.squares.specs.declared.sides.Side.TheVariants.{First, Second}
 use Rattle.club_rows.specs.Club.{ClubState}
 use Rattle.club_changes.specs.Stored.{AreLegalRows}
-use Rattle.club_views.specs.Viewed.{IsViewed}
-use Rattle.club_views.specs.declared.viewed.ViewedGame.{ViewedGame}
-use Rattle.game_bodies.specs.Bodies.{game_data, moves_data}
-use Rattle.game_bodies.specs.GameShown.{GameShown}
-use Rattle.game_bodies.specs.ShownViews.{texts_view}
+use Rattle.club_answers.specs.Viewed.{IsViewed}
+use Rattle.club_answers.specs.declared.viewed.ViewedGame.{ViewedGame}
+use Rattle.club_lists.specs.Bodies.{game_data, moves_data}
+use Rattle.club_lists.specs.GameShown.{GameShown}
+use Rattle.club_lists.specs.ShownViews.{texts_view}
 
 -- the name of the player of a side
 abbrev pub named : ViewedGame → Side → List ℕ

@@ -27,8 +27,8 @@ module _ {P M E T : Type 0} (rules : GameRules P M E T) where
       Some (record { end = end_name_text rules end; result = score_text (end_score rules turn end) })
 
   -- the entry of the game with this id, by its rules
-  abbrev pub told_by_rules : Terms → ℕ → Game M → GameSummary
-  told_by_rules terms id game = record {
+  abbrev pub game_summary_by_rules : Terms → ℕ → Game M → GameSummary
+  game_summary_by_rules terms id game = record {
     id = id;
     event = game.event;
     first = game.first;
@@ -42,19 +42,19 @@ module _ {P M E T : Type 0} (rules : GameRules P M E T) where
   }
 
 -- the entry of a game of the club
-abbrev pub told_of : ClubState → ℕ → ClubGame → GameSummary
-told_of s id (draughts game) = told_by_rules both_games.draughts (terms_at (place s.events game.event)) id game
-told_of s id (shogi game) = told_by_rules both_games.shogi (terms_at (place s.events game.event)) id game
+abbrev pub game_summary_of : ClubState → ℕ → ClubGame → GameSummary
+game_summary_of s id (draughts game) = game_summary_by_rules both_games.draughts (terms_at (place s.events game.event)) id game
+game_summary_of s id (shogi game) = game_summary_by_rules both_games.shogi (terms_at (place s.events game.event)) id game
 
 -- the entries of games whose ids count up from this one
-abbrev pub told_from : ClubState → ℕ → List ClubGame → List GameSummary
-told_from s id [] = []
-told_from s id (game ∷ games) = told_of s id game ∷ told_from s (suc id) games
+abbrev pub game_summaries_from : ClubState → ℕ → List ClubGame → List GameSummary
+game_summaries_from s id [] = []
+game_summaries_from s id (game ∷ games) = game_summary_of s id game ∷ game_summaries_from s (suc id) games
 
 -- the entries of all games of the club
-abbrev pub told_games : ClubState → List GameSummary
-told_games s = told_from s 1 s.games
+abbrev pub game_summaries : ClubState → List GameSummary
+game_summaries s = game_summaries_from s 1 s.games
 
 -- the effective timestamp: the later of the request's and that of the last accepted request
-abbrev pub moment_in : ClubState → ℕ → ℕ
-moment_in s moment = max moment s.last
+abbrev pub effective_moment : ClubState → ℕ → ℕ
+effective_moment s moment = max moment s.last

@@ -1,10 +1,13 @@
 pub mod AnswerTexts
 pub mod Boards
 pub mod Challenges
+pub mod CrossTable
 pub mod EventRecords
+pub mod Exported
 pub mod Found
 pub mod GameBodies
 pub mod Games
 pub mod Overdue
 pub mod Records
+pub mod Viewed
 pub mod Writing

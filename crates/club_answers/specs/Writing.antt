@@ -5,13 +5,13 @@ use Rattle.record_writer.specs.Pieces.{AppendsSome}
 use Rattle.club_rules.specs.declared.names.GameKind.{GameKind}
 use Rattle.club_requests.specs.declared.refusals.Refusal.{Refusal}
 use Rattle.club_rows.specs.Club.{ClubState}
-use Rattle.club_views.specs.declared.exported.Stopped.{Stopped}
-use Rattle.club_views.specs.declared.exported.Stopped.TheVariants as stopped
+use Rattle.club_answers.specs.declared.exported.ViewFault.{ViewFault}
+use Rattle.club_answers.specs.declared.exported.ViewFault.TheVariants as stopped
 use Rattle.club_answers.specs.EventRecords.{AreRecords}
 use Rattle.club_answers.specs.Records.{IsRecordAt}
 
 -- the whole text was written and nothing is refused, or the writer failed
-abbrev pub IsWritten : Result (Option Refusal) Stopped → List ℕ → Option (List ℕ) → Option (List ℕ) → Type 0
+abbrev pub IsWritten : Result (Option Refusal) ViewFault → List ℕ → Option (List ℕ) → Option (List ℕ) → Type 0
 IsWritten (Ok refusal) text before now = (refusal ≡ None) × Appends before now text
 IsWritten (Err fault) text before now = fault ≡ stopped.Output
 

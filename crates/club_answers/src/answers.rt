@@ -7,30 +7,29 @@ ghost use Rattle.sqlite.specs.Held.{state};
 ghost use Rattle.store_tables.specs.Over.{HasRows};
 ghost use Rattle.store_tables.specs.Reading.{Reads};
 ghost use Rattle.club_rows.specs.Club.{ClubState, IsClub, tables};
-ghost use Rattle.club_views.specs.Exported.{no_call_failed};
-ghost use Rattle.club_questions.specs.declared.questions.Question.TheVariants as question;
-ghost use Rattle.club_answers.specs.AnswerTexts.{HasShown, HasShownSome};
+ghost use Rattle.club_answers.specs.Exported.{no_call_failed};
+ghost use Rattle.club_requests.specs.declared.questions.Question.TheVariants as question;
+ghost use Rattle.club_answers.specs.AnswerTexts.{HasWrittenAnswer, HasShownSome};
 ghost use Rattle.club_answers.specs.Writing.{IsWritten};
 
-use crate::found::{Found, find_shown};
+use crate::found::{Shown, read_answer};
 use crate::records::write_records;
+use crate::{ViewFault, export_game};
 use clocks::Moment;
-use club_questions::Question;
-use club_requests::Refusal;
-use club_views::{Stopped, export_of};
+use club_requests::{Question, Refusal};
 use record_writer::write_piece;
 use sqlite::{Alter, Connection};
 use std::alloc::Global;
 use std::io::Write;
 
 // Writes a text; after an error the writer has a prefix of it.
-fn write_text<W: Write>(text: &str, writer: &mut W) -> Result<Option<Refusal>, Stopped>
+fn write_text<W: Write>(text: &str, writer: &mut W) -> Result<Option<Refusal>, ViewFault>
     ensures written { IsWritten result text.now (W.contents writer.old) (W.contents writer.new) }
     ensures begun { AppendsSome (W.contents writer.old) (W.contents writer.new) text.now }
 {
     match write_piece(writer, text.as_bytes()) {
         Ok(()) => Ok(None),
-        Err(_) => Err(Stopped::Output),
+        Err(_) => Err(ViewFault::Output),
     }
 }
 
@@ -39,16 +38,16 @@ fn write_record<S: Alter, W: Write>(
     conn: &mut Connection<S>,
     game: u64,
     writer: &mut W,
-) -> Result<Option<Refusal>, Stopped>
+) -> Result<Option<Refusal>, ViewFault>
     ensures reads { Reads (no_call_failed result) (state S.Store conn.old) (state S.Store conn.new) }
     ensures shown { HasCleanDisk (state S.Store conn.new) → IfOk result (λ refusal. (s : ClubState) (moment : ℕ) →
         IsClub s → HasRows (tables s) (state S.Store conn.old) →
-        HasShown s moment (question.Record game) refusal (W.contents writer.old) (W.contents writer.new)) }
+        HasWrittenAnswer s moment (question.Record game) refusal (W.contents writer.old) (W.contents writer.new)) }
     ensures begun { HasCleanDisk (state S.Store conn.new) → (s : ClubState) (moment : ℕ) → IsClub s →
         HasRows (tables s) (state S.Store conn.old) →
         HasShownSome s moment (question.Record game) (W.contents writer.old) (W.contents writer.new) }
 {
-    match export_of(alloc, conn, game, writer) {
+    match export_game(alloc, conn, game, writer) {
         Ok(true) => Ok(None),
         Ok(false) => Ok(Some(Refusal::UnknownGame)),
         Err(stopped) => Err(stopped),
@@ -59,8 +58,8 @@ fn write_record<S: Alter, W: Write>(
 ///
 /// # Errors
 ///
-/// - `Stopped::Call`: reading the tables failed.
-/// - `Stopped::Output`: the writer failed.
+/// - `ViewFault::Call`: reading the tables failed.
+/// - `ViewFault::Output`: the writer failed.
 ///
 /// # Guarantees
 ///
@@ -72,20 +71,20 @@ pub fn answer<S: Alter, W: Write>(
     question: &Question,
     moment: Moment,
     writer: &mut W,
-) -> Result<Option<Refusal>, Stopped>
+) -> Result<Option<Refusal>, ViewFault>
     ensures reads { Reads (no_call_failed result) (state S.Store conn.old) (state S.Store conn.new) }
     ensures shown { HasCleanDisk (state S.Store conn.new) → IfOk result (λ refusal. (s : ClubState) → IsClub s →
         HasRows (tables s) (state S.Store conn.old) →
-        HasShown s moment question.now refusal (W.contents writer.old) (W.contents writer.new)) }
+        HasWrittenAnswer s moment question.now refusal (W.contents writer.old) (W.contents writer.new)) }
     ensures begun { HasCleanDisk (state S.Store conn.new) → (s : ClubState) → IsClub s →
         HasRows (tables s) (state S.Store conn.old) →
         HasShownSome s moment question.now (W.contents writer.old) (W.contents writer.new) }
 {
-    let found = find_shown(alloc, conn, question, moment)?;
+    let found = read_answer(alloc, conn, question, moment)?;
     match found {
-        Found::Text(text) => write_text(text.as_str(), writer),
-        Found::Refused(refusal) => Ok(Some(refusal)),
-        Found::Record(game) => write_record(alloc, conn, game, writer),
-        Found::Records(kind, ids) => write_records(alloc, conn, kind, &ids, writer),
+        Shown::Text(text) => write_text(text.as_str(), writer),
+        Shown::Refused(refusal) => Ok(Some(refusal)),
+        Shown::Record(game) => write_record(alloc, conn, game, writer),
+        Shown::Records(kind, ids) => write_records(alloc, conn, kind, &ids, writer),
     }
 }

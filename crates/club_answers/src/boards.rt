@@ -10,23 +10,23 @@ ghost use Rattle.club_core.specs.Game.{Game, last_position};
 ghost use Rattle.club_core.specs.State.{place};
 ghost use Rattle.club_rows.specs.Club.{ClubGame, ClubState, IsClub, tables};
 ghost use Rattle.club_rows.specs.Replay.{terms_given};
-ghost use Rattle.club_changes.specs.Steps.{IsRecordOf, TellsSeen};
+ghost use Rattle.club_changes.specs.Steps.{IsRecordOf, FindsSeenRows};
 ghost use Rattle.club_changes.specs.Stored.{IsStoredGame};
 ghost use Rattle.club_lists.specs.Board.{board_by};
 ghost use Rattle.club_answers.specs.Boards.{board_of, diagram_of, draughts_diagram, shogi_diagram, IsBoardText};
 ghost use Rattle.club_answers.specs.Found.{IsFoundAs};
 ghost use Rattle.club_answers.specs.AnswerTexts.{IsNoGame};
 
-use crate::found::Found;
-use crate::games::told_in;
+use crate::found::Shown;
+use crate::games::entry_of;
+use crate::view_of;
 use clocks::Moment;
 use club_changes::StoredGame;
 use club_games::{Draughts, Shogi, by_kind};
 use club_lists::{BoardView, board_text};
-use club_reads::{CallFault, last_moment, stored_game, view};
+use club_reads::{LookupFault, last_moment, stored_game, view};
 use club_requests::Refusal;
 use club_rules::Rules;
-use club_views::view_of;
 use diagrams::{Memory, write_bod, write_draughts, write_shogi};
 use sqlite::{Alter, Connection};
 use squares::{DPos, SPos};
@@ -66,11 +66,11 @@ fn diagram_by<R: Diagrams, S: Alter>(
     conn: &mut Connection<S>,
     stored: &StoredGame,
     letters: bool,
-) -> Result<String, CallFault>
+) -> Result<String, LookupFault>
     ensures reads { Reads (is_ok result) (state S.Store conn.old) (state S.Store conn.new) }
     ensures shown { HasCleanDisk (state S.Store conn.new) →
         IfOk result (λ text. (content : Content) (game : Game R.Move) →
-        HasRows content (state S.Store conn.old) → TellsSeen R.rules stored.now.id game content →
+        HasRows content (state S.Store conn.old) → FindsSeenRows R.rules stored.now.id game content →
         IsRecordOf R.rules (terms_given stored.now.terms) stored.now.id stored.now.row game →
         string_bytes text ≡ R.diagram letters (last_position R.rules game)) }
 {
@@ -85,7 +85,7 @@ fn diagram_in<S: Alter>(
     conn: &mut Connection<S>,
     stored: &StoredGame,
     letters: bool,
-) -> Result<String, CallFault>
+) -> Result<String, LookupFault>
     ensures reads { Reads (is_ok result) (state S.Store conn.old) (state S.Store conn.new) }
     ensures shown { HasCleanDisk (state S.Store conn.new) → IfOk result (λ text. (s : ClubState) (id : ℕ)
         (game : ClubGame) → IsClub s → place s.games id ≡ Some game → IsStoredGame s id game stored.now →
@@ -103,7 +103,7 @@ fn board_in<S: Alter>(
     conn: &mut Connection<S>,
     stored: &StoredGame,
     letters: bool,
-) -> Result<BoardView, CallFault>
+) -> Result<BoardView, LookupFault>
     ensures reads { Reads (is_ok result) (state S.Store conn.old) (state S.Store conn.new) }
     ensures shown { HasCleanDisk (state S.Store conn.new) → IfOk result (λ board. (s : ClubState) (id : ℕ)
         (game : ClubGame) → IsClub s → place s.games id ≡ Some game → IsStoredGame s id game stored.now →
@@ -120,7 +120,7 @@ fn board_in<S: Alter>(
             diagram,
             moves: viewed.played.moves,
         }),
-        None => Err(CallFault::Store),
+        None => Err(LookupFault::Store),
     }
 }
 
@@ -131,7 +131,7 @@ pub(crate) fn board<S: Alter>(
     game: u64,
     letters: bool,
     moment: Moment,
-) -> Result<Found, CallFault>
+) -> Result<Shown, LookupFault>
     ensures reads { Reads (is_ok result) (state S.Store conn.old) (state S.Store conn.new) }
     ensures found { HasCleanDisk (state S.Store conn.new) → IfOk result (λ found. (s : ClubState) → IsClub s →
         HasRows (tables s) (state S.Store conn.old) →
@@ -141,11 +141,11 @@ pub(crate) fn board<S: Alter>(
     let stored = stored_game(alloc, conn, game)?;
     match stored {
         Some(stored) => {
-            let told = told_in(alloc, &stored.row)?;
+            let told = entry_of(alloc, &stored.row)?;
             let shown = board_in(alloc, conn, &stored, letters)?;
             let text = board_text(alloc, &told, &shown, moment.later(last))?;
-            Ok(Found::Text(text))
+            Ok(Shown::Text(text))
         }
-        None => Ok(Found::Refused(Refusal::UnknownGame)),
+        None => Ok(Shown::Refused(Refusal::UnknownGame)),
     }
 }

@@ -7,16 +7,16 @@ ghost use Rattle.sqlite.specs.Held.{state};
 ghost use Rattle.store_tables.specs.Over.{HasRows};
 ghost use Rattle.store_tables.specs.Reading.{Reads};
 ghost use Rattle.club_rows.specs.Club.{ClubState, IsClub, tables};
-ghost use Rattle.game_bodies.specs.ShownViews.{game_view};
+ghost use Rattle.club_lists.specs.ShownViews.{game_view};
 ghost use Rattle.club_answers.specs.Found.{IsFoundAs};
 ghost use Rattle.club_answers.specs.AnswerTexts.{IsNoGame};
 ghost use Rattle.club_answers.specs.GameBodies.{IsGameBody, IsMovesBody, named, shown_of};
 
-use crate::found::Found;
-use club_reads::CallFault;
+use crate::found::Shown;
+use crate::{ViewedGame, legal_of, view_of};
+use club_lists::{GameShown, game_text, moves_text};
+use club_reads::LookupFault;
 use club_requests::Refusal;
-use club_views::{ViewedGame, legal_of, view_of};
-use game_bodies::{GameShown, game_text, moves_text};
 use sqlite::{Alter, Connection};
 use squares::Side;
 use std::alloc::{AllocError, Global};
@@ -79,7 +79,7 @@ pub(crate) fn game_body<S: Alter>(
     alloc: Global,
     conn: &mut Connection<S>,
     game: u64,
-) -> Result<Found, CallFault>
+) -> Result<Shown, LookupFault>
     ensures reads { Reads (is_ok result) (state S.Store conn.old) (state S.Store conn.new) }
     ensures found { HasCleanDisk (state S.Store conn.new) → IfOk result (λ found. (s : ClubState) → IsClub s →
         HasRows (tables s) (state S.Store conn.old) → IsFoundAs (IsGameBody s game) (IsNoGame s game) found) }
@@ -88,9 +88,9 @@ pub(crate) fn game_body<S: Alter>(
         Some(viewed) => {
             let shown = game_shown(alloc, viewed)?;
             let text = game_text(alloc, game, shown)?;
-            Ok(Found::Text(text))
+            Ok(Shown::Text(text))
         }
-        None => Ok(Found::Refused(Refusal::UnknownGame)),
+        None => Ok(Shown::Refused(Refusal::UnknownGame)),
     }
 }
 
@@ -99,7 +99,7 @@ pub(crate) fn moves_body<S: Alter>(
     alloc: Global,
     conn: &mut Connection<S>,
     game: u64,
-) -> Result<Found, CallFault>
+) -> Result<Shown, LookupFault>
     ensures reads { Reads (is_ok result) (state S.Store conn.old) (state S.Store conn.new) }
     ensures found { HasCleanDisk (state S.Store conn.new) → IfOk result (λ found. (s : ClubState) → IsClub s →
         HasRows (tables s) (state S.Store conn.old) → IsFoundAs (IsMovesBody s game) (IsNoGame s game) found) }
@@ -107,8 +107,8 @@ pub(crate) fn moves_body<S: Alter>(
     match legal_of(alloc, conn, game)? {
         Some(rows) => {
             let text = moves_text(alloc, rows)?;
-            Ok(Found::Text(text))
+            Ok(Shown::Text(text))
         }
-        None => Ok(Found::Refused(Refusal::UnknownGame)),
+        None => Ok(Shown::Refused(Refusal::UnknownGame)),
     }
 }

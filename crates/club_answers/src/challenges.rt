@@ -13,7 +13,7 @@ ghost use Rattle.store_tables.specs.Cells.{challenge_cells};
 ghost use Rattle.club_answers.specs.Challenges.{AreChallengesOf, ComesBefore};
 
 use club_core::Challenge;
-use club_reads::CallFault;
+use club_reads::LookupFault;
 use club_rows::challenge_of;
 use sqlite::{Alter, Connection};
 use std::alloc::Global;
@@ -42,17 +42,17 @@ fn comes_last(challenges: &[Challenge], next: &Challenge) -> bool
 }
 
 // The challenge in this row.
-fn challenge_in(row: &ChallengeRow) -> Result<Challenge, CallFault>
+fn challenge_in(row: &ChallengeRow) -> Result<Challenge, LookupFault>
     ensures { IfOk result (λ c. challenge_cells row.now ≡ challenge_row c) }
 {
     match challenge_of(row) {
         Some(challenge) => Ok(challenge),
-        None => Err(CallFault::Store),
+        None => Err(LookupFault::Store),
     }
 }
 
 // The challenges of these rows, which must be sorted.
-fn challenges_in(alloc: Global, rows: &[ChallengeRow]) -> Result<Vec<Challenge>, CallFault>
+fn challenges_in(alloc: Global, rows: &[ChallengeRow]) -> Result<Vec<Challenge>, LookupFault>
     ensures rows { IfOk result (λ found. map challenge_cells rows.now ≡ map challenge_row found.items) }
     ensures order { IfOk result (λ found. IsAscending ComesBefore found.items) }
 {
@@ -60,7 +60,7 @@ fn challenges_in(alloc: Global, rows: &[ChallengeRow]) -> Result<Vec<Challenge>,
     for row in rows {
         let challenge = challenge_in(row)?;
         if !comes_last(&challenges, &challenge) {
-            return Err(CallFault::Store);
+            return Err(LookupFault::Store);
         }
         challenges.push(challenge)?;
     }
@@ -71,7 +71,7 @@ fn challenges_in(alloc: Global, rows: &[ChallengeRow]) -> Result<Vec<Challenge>,
 pub(crate) fn all_challenges<S: Alter>(
     alloc: Global,
     conn: &mut Connection<S>,
-) -> Result<Vec<Challenge>, CallFault>
+) -> Result<Vec<Challenge>, LookupFault>
     ensures reads { Reads (is_ok result) (state S.Store conn.old) (state S.Store conn.new) }
     ensures found { HasCleanDisk (state S.Store conn.new) → IfOk result (λ found. (s : ClubState) →
         HasRows (tables s) (state S.Store conn.old) → AreChallengesOf s found.items) }

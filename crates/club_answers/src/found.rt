@@ -6,27 +6,26 @@ ghost use Rattle.sqlite.specs.Held.{state};
 ghost use Rattle.store_tables.specs.Over.{HasRows};
 ghost use Rattle.store_tables.specs.Reading.{Reads};
 ghost use Rattle.club_rows.specs.Club.{ClubState, IsClub, tables};
-ghost use Rattle.club_questions.specs.declared.questions.Question.TheVariants as question;
+ghost use Rattle.club_requests.specs.declared.questions.Question.TheVariants as question;
 ghost use Rattle.club_answers.specs.Found.{IsFound, IsFoundAs};
-ghost use Rattle.club_answers.specs.AnswerTexts.{lined, IsLegalText, IsNoGame, IsTableText, IsNoEvent, IsMembersText};
+ghost use Rattle.club_answers.specs.AnswerTexts.{join_lines, IsLegalText, IsNoGame, IsTableText, IsNoEvent, IsMembersText};
 
 use crate::boards::board;
 use crate::bodies::{game_body, moves_body};
 use crate::lists::of_lists;
-use crate::shows::{clock, mine};
+use crate::member_answers::{clock, mine};
+use crate::{cross_table_lines, legal_of};
 use clocks::Moment;
 use club_lists::members_text;
-use club_questions::Question;
-use club_reads::{CallFault, all_members};
-use club_requests::Refusal;
+use club_reads::{LookupFault, all_members};
+use club_requests::{Question, Refusal};
 use club_rules::GameKind;
-use club_views::{legal_of, table_of};
 use sqlite::{Alter, Connection};
 use std::alloc::{AllocError, Global};
 
 /// The answer to a query: a text, a refusal, or records that are written one row at a time.
 #[derive(Drop)]
-pub(crate) enum Found {
+pub(crate) enum Shown {
     /// The whole answer.
     Text(String),
     /// There is no answer, for this reason.
@@ -38,8 +37,8 @@ pub(crate) enum Found {
 }
 
 // Joins lines into one text, each with its newline.
-fn lined(alloc: Global, lines: &[String]) -> Result<String, AllocError>
-    ensures { IfOk result (λ text. string_bytes text ≡ lined (map (λ t. string_bytes t) lines.now)) }
+fn join_lines(alloc: Global, lines: &[String]) -> Result<String, AllocError>
+    ensures { IfOk result (λ text. string_bytes text ≡ join_lines (map (λ t. string_bytes t) lines.now)) }
 {
     let mut text = String::new(alloc);
     for line in lines {
@@ -54,14 +53,14 @@ fn legal_moves<S: Alter>(
     alloc: Global,
     conn: &mut Connection<S>,
     game: u64,
-) -> Result<Found, CallFault>
+) -> Result<Shown, LookupFault>
     ensures reads { Reads (is_ok result) (state S.Store conn.old) (state S.Store conn.new) }
     ensures found { HasCleanDisk (state S.Store conn.new) → IfOk result (λ found. (s : ClubState) → IsClub s →
         HasRows (tables s) (state S.Store conn.old) → IsFoundAs (IsLegalText s game) (IsNoGame s game) found) }
 {
     match legal_of(alloc, conn, game)? {
-        Some(texts) => Ok(Found::Text(lined(alloc, &texts)?)),
-        None => Ok(Found::Refused(Refusal::UnknownGame)),
+        Some(texts) => Ok(Shown::Text(join_lines(alloc, &texts)?)),
+        None => Ok(Shown::Refused(Refusal::UnknownGame)),
     }
 }
 
@@ -69,35 +68,35 @@ fn cross_table<S: Alter>(
     alloc: Global,
     conn: &mut Connection<S>,
     name: &str,
-) -> Result<Found, CallFault>
+) -> Result<Shown, LookupFault>
     ensures reads { Reads (is_ok result) (state S.Store conn.old) (state S.Store conn.new) }
     ensures found { HasCleanDisk (state S.Store conn.new) → IfOk result (λ found. (s : ClubState) → IsClub s →
         HasRows (tables s) (state S.Store conn.old) →
         IsFoundAs (IsTableText s name.now) (IsNoEvent s name.now) found) }
 {
-    match table_of(alloc, conn, name)? {
-        Some(lines) => Ok(Found::Text(lined(alloc, &lines)?)),
-        None => Ok(Found::Refused(Refusal::UnknownEvent)),
+    match cross_table_lines(alloc, conn, name)? {
+        Some(lines) => Ok(Shown::Text(join_lines(alloc, &lines)?)),
+        None => Ok(Shown::Refused(Refusal::UnknownEvent)),
     }
 }
 
-fn members<S: Alter>(alloc: Global, conn: &mut Connection<S>) -> Result<Found, CallFault>
+fn members<S: Alter>(alloc: Global, conn: &mut Connection<S>) -> Result<Shown, LookupFault>
     ensures reads { Reads (is_ok result) (state S.Store conn.old) (state S.Store conn.new) }
     ensures found { HasCleanDisk (state S.Store conn.new) → IfOk result (λ found. (s : ClubState) → IsClub s →
         HasRows (tables s) (state S.Store conn.old) → IsFoundAs (IsMembersText s) (λ refusal. ⊥) found) }
 {
     let members = all_members(alloc, conn)?;
     let text = members_text(alloc, &members)?;
-    Ok(Found::Text(text))
+    Ok(Shown::Text(text))
 }
 
 /// Finds the answer to a query at this timestamp.
-pub(crate) fn find_shown<S: Alter>(
+pub(crate) fn read_answer<S: Alter>(
     alloc: Global,
     conn: &mut Connection<S>,
     question: &Question,
     moment: Moment,
-) -> Result<Found, CallFault>
+) -> Result<Shown, LookupFault>
     ensures reads { Reads (is_ok result) (state S.Store conn.old) (state S.Store conn.new) }
     ensures found { HasCleanDisk (state S.Store conn.new) → IfOk result (λ found. (s : ClubState) → IsClub s →
         HasRows (tables s) (state S.Store conn.old) → IsFound s moment question.now found) }
@@ -105,16 +104,16 @@ pub(crate) fn find_shown<S: Alter>(
     match question {
         Question::LegalMoves(game) => legal_moves(alloc, conn, *game),
         Question::CrossTable(name) => cross_table(alloc, conn, name.as_str()),
-        Question::Record(game) => Ok(Found::Record(*game)),
+        Question::Record(game) => Ok(Shown::Record(*game)),
         Question::Members => members(alloc, conn),
         Question::Events => of_lists(alloc, conn, question, moment),
         Question::Games(_) => of_lists(alloc, conn, question, moment),
-        Question::Mine(key) => mine(alloc, conn, key.as_str(), moment),
-        Question::Inviting(_) => of_lists(alloc, conn, question, moment),
+        Question::MyGames(key) => mine(alloc, conn, key.as_str(), moment),
+        Question::ChallengeChoices(_) => of_lists(alloc, conn, question, moment),
         Question::EventGames(_) => of_lists(alloc, conn, question, moment),
-        Question::ClockOf(game) => clock(alloc, conn, *game, moment),
-        Question::GameBody(game) => game_body(alloc, conn, *game),
-        Question::MovesBody(game) => moves_body(alloc, conn, *game),
+        Question::GameClock(game) => clock(alloc, conn, *game, moment),
+        Question::GameJson(game) => game_body(alloc, conn, *game),
+        Question::LegalMovesJson(game) => moves_body(alloc, conn, *game),
         Question::Board { game, letters } => board(alloc, conn, *game, *letters, moment),
         Question::EventRecords(_) => of_lists(alloc, conn, question, moment),
     }

@@ -7,19 +7,19 @@ ghost use Rattle.club_rows.specs.Club.{ClubGame, ClubState, IsClub, both_games};
 ghost use Rattle.club_rows.specs.Tables.{numbered_from};
 ghost use Rattle.club_changes.specs.Steps.{game_in};
 ghost use Rattle.store_tables.specs.Cells.{game_cells};
-ghost use Rattle.club_lists.specs.SummaryViews.{all_by, over_by, told_by};
-ghost use Rattle.club_answers.specs.Games.{over_with, told_games, told_of};
+ghost use Rattle.club_lists.specs.SummaryViews.{summaries_of, over_by, summary_of};
+ghost use Rattle.club_answers.specs.Games.{over_with, game_summaries, game_summary_of};
 
 use club_changes::swept::late::side_after;
 use club_core::Offer;
-use club_lists::{GameOver, ToldGame};
-use club_reads::CallFault;
+use club_lists::{GameEntry, GameOver};
+use club_reads::LookupFault;
 use club_rows::columns::stored_game;
-use club_rows::records::owned;
+use club_rows::records::to_owned_text;
 use club_rules::Memory;
 use squares::{Score, Side};
 use std::alloc::Global;
-use store_tables::GameRecord;
+use store_tables::GameTableRow;
 
 fn offering(offer: Option<Offer>) -> Option<Side>
     ensures { result ≡ option_map (λ o. o.side) offer }
@@ -51,16 +51,16 @@ fn over_with(
 }
 
 /// The entry of a game, from its row.
-pub(crate) fn told_in(alloc: Global, row: &GameRecord) -> Result<ToldGame, CallFault>
+pub(crate) fn entry_of(alloc: Global, row: &GameTableRow) -> Result<GameEntry, LookupFault>
     ensures { IfOk result (λ told. (s : ClubState) (id : ℕ) (game : ClubGame) → IsLegalIn both_games s game →
-        game_cells row.now ≡ game_in s id game → told_by told ≡ told_of s id game) }
+        game_cells row.now ≡ game_in s id game → summary_of told ≡ game_summary_of s id game) }
 {
     let Some(game) = stored_game(row) else {
-        return Err(CallFault::Store);
+        return Err(LookupFault::Store);
     };
-    let key = owned(alloc, game.key)?;
+    let key = to_owned_text(alloc, game.key)?;
     let over = over_with(alloc, game.end, game.result)?;
-    Ok(ToldGame {
+    Ok(GameEntry {
         id: game.id,
         event: game.event,
         first: game.first,
@@ -77,13 +77,16 @@ pub(crate) fn told_in(alloc: Global, row: &GameRecord) -> Result<ToldGame, CallF
 }
 
 /// The entries of all games, from their rows.
-pub(crate) fn all_told(alloc: Global, rows: &[GameRecord]) -> Result<Vec<ToldGame>, CallFault>
+pub(crate) fn entries_of(
+    alloc: Global,
+    rows: &[GameTableRow],
+) -> Result<Vec<GameEntry>, LookupFault>
     ensures { IfOk result (λ games. (s : ClubState) → IsClub s →
-        map game_cells rows.now ≡ numbered_from (game_in s) 1 s.games → all_by games.items ≡ told_games s) }
+        map game_cells rows.now ≡ numbered_from (game_in s) 1 s.games → summaries_of games.items ≡ game_summaries s) }
 {
     let mut games = Vec::new(alloc);
     for row in rows {
-        games.push(told_in(alloc, row)?)?;
+        games.push(entry_of(alloc, row)?)?;
     }
     Ok(games)
 }

@@ -2,7 +2,7 @@
 
 ghost use Rattle.std.specs.Prelude.{◌≡◌, ℕ, List, Option, Some};
 ghost use Rattle.club_rows.specs.Club.{ClubGame, ClubState};
-ghost use Rattle.club_views.specs.CrossTable.{AreTableRows};
+ghost use Rattle.club_answers.specs.CrossTable.{AreTableRows};
 ghost use Rattle.club_answers.specs.Overdue.{IsCounted, IsSweptThen};
 
 /// The games listed as overdue at a timestamp are those that a sweep at that timestamp ends.

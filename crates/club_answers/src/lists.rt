@@ -6,39 +6,38 @@ ghost use Rattle.sqlite.specs.Held.{state};
 ghost use Rattle.store_tables.specs.Over.{HasRows};
 ghost use Rattle.store_tables.specs.Reading.{Reads};
 ghost use Rattle.club_rows.specs.Club.{ClubState, IsClub, tables};
-ghost use Rattle.club_questions.specs.declared.questions.Question.TheVariants as question;
+ghost use Rattle.club_requests.specs.declared.questions.Question.TheVariants as question;
 ghost use Rattle.club_answers.specs.Found.{IsFound, IsFoundAs, IsReadOf};
-ghost use Rattle.club_answers.specs.AnswerTexts.{IsEventGamesText, IsEventsText, IsGamesText, IsInvitingText};
+ghost use Rattle.club_answers.specs.AnswerTexts.{IsEventGamesText, IsEventsText, IsGamesText, IsChallengeChoicesText};
 ghost use Rattle.club_answers.specs.AnswerTexts.{IsNoEventNamed, IsNoKey, IsNoList};
 
-use crate::found::Found;
+use crate::found::Shown;
 use crate::read::{ClubRead, read_club};
 use clocks::Moment;
 use club_lists::{
-    event_game_ids, event_games_text, event_kind, events_text, games_text, inviting_text, is_event,
-    listing_refusal, name_by,
+    challenge_choices_json, event_game_ids, event_games_text, event_kind, events_text, games_text,
+    has_event, listing_refusal, member_name_by_key,
 };
-use club_questions::{Listing, Question};
-use club_reads::CallFault;
-use club_requests::Refusal;
+use club_reads::LookupFault;
+use club_requests::{Listing, Question, Refusal};
 use sqlite::{Alter, Connection};
 use std::alloc::Global;
 
-fn events(alloc: Global, club: &ClubRead) -> Result<Found, CallFault>
+fn events(alloc: Global, club: &ClubRead) -> Result<Shown, LookupFault>
     ensures { IfOk result (λ found. (s : ClubState) (moment : ℕ) → IsReadOf s moment club.now →
         IsFoundAs (IsEventsText s) (λ refusal. ⊥) found) }
 {
     let text = events_text(alloc, &club.events, &club.games)?;
-    Ok(Found::Text(text))
+    Ok(Shown::Text(text))
 }
 
 // The games in this listing, or the refusal of the listing.
-fn games(alloc: Global, club: &ClubRead, listing: &Listing) -> Result<Found, CallFault>
+fn games(alloc: Global, club: &ClubRead, listing: &Listing) -> Result<Shown, LookupFault>
     ensures { IfOk result (λ found. (s : ClubState) (moment : ℕ) → IsReadOf s moment club.now →
         IsFoundAs (IsGamesText s moment listing.now) (IsNoList s listing.now) found) }
 {
     match listing_refusal(listing, &club.members, &club.events) {
-        Some(refusal) => Ok(Found::Refused(refusal)),
+        Some(refusal) => Ok(Shown::Refused(refusal)),
         None => {
             let text = games_text(
                 alloc,
@@ -48,62 +47,62 @@ fn games(alloc: Global, club: &ClubRead, listing: &Listing) -> Result<Found, Cal
                 &club.games,
                 club.moment,
             )?;
-            Ok(Found::Text(text))
+            Ok(Shown::Text(text))
         }
     }
 }
 
 // The events, and the members whom the holder of this key can challenge.
-fn inviting(alloc: Global, club: &ClubRead, key: &str) -> Result<Found, CallFault>
+fn inviting(alloc: Global, club: &ClubRead, key: &str) -> Result<Shown, LookupFault>
     ensures { IfOk result (λ found. (s : ClubState) (moment : ℕ) → IsReadOf s moment club.now →
-        IsFoundAs (IsInvitingText s key.now) (IsNoKey s key.now) found) }
+        IsFoundAs (IsChallengeChoicesText s key.now) (IsNoKey s key.now) found) }
 {
-    match name_by(&club.members, key) {
+    match member_name_by_key(&club.members, key) {
         Some(_) => {
-            let text = inviting_text(alloc, key, &club.members, &club.events)?;
-            Ok(Found::Text(text))
+            let text = challenge_choices_json(alloc, key, &club.members, &club.events)?;
+            Ok(Shown::Text(text))
         }
-        None => Ok(Found::Refused(Refusal::UnknownKey)),
+        None => Ok(Shown::Refused(Refusal::UnknownKey)),
     }
 }
 
 // The games of the event with this name.
-fn event_games(alloc: Global, club: &ClubRead, name: &str) -> Result<Found, CallFault>
+fn event_games(alloc: Global, club: &ClubRead, name: &str) -> Result<Shown, LookupFault>
     ensures { IfOk result (λ found. (s : ClubState) (moment : ℕ) → IsReadOf s moment club.now →
         IsFoundAs (IsEventGamesText s name.now) (IsNoEventNamed s name.now) found) }
 {
-    if !is_event(&club.events, name) {
-        return Ok(Found::Refused(Refusal::UnknownEvent));
+    if !has_event(&club.events, name) {
+        return Ok(Shown::Refused(Refusal::UnknownEvent));
     }
     let text = event_games_text(alloc, &club.members, &club.events, name, &club.games)?;
-    Ok(Found::Text(text))
+    Ok(Shown::Text(text))
 }
 
 // The ids of the games of the event with this name, whose records are written.
-fn event_records(alloc: Global, club: &ClubRead, name: &String) -> Result<Found, CallFault>
+fn event_records(alloc: Global, club: &ClubRead, name: &String) -> Result<Shown, LookupFault>
     ensures { IfOk result (λ found. (s : ClubState) (moment : ℕ) → IsReadOf s moment club.now →
         IsFound s moment (question.EventRecords name.now) found) }
 {
-    if !is_event(&club.events, name.as_str()) {
-        return Ok(Found::Refused(Refusal::UnknownEvent));
+    if !has_event(&club.events, name.as_str()) {
+        return Ok(Shown::Refused(Refusal::UnknownEvent));
     }
     let ids = event_game_ids(alloc, &club.events, name.as_str(), &club.games)?;
     let kind = event_kind(&club.events, name.as_str());
-    Ok(Found::Records(kind, ids))
+    Ok(Shown::Records(kind, ids))
 }
 
 // The answer to one of the queries of this module, from a club that was read.
-fn shown_of(alloc: Global, club: &ClubRead, question: &Question) -> Result<Found, CallFault>
+fn shown_of(alloc: Global, club: &ClubRead, question: &Question) -> Result<Shown, LookupFault>
     ensures { IfOk result (λ found. (s : ClubState) (moment : ℕ) → IsReadOf s moment club.now →
         IsFound s moment question.now found) }
 {
     match question {
         Question::Events => events(alloc, club),
         Question::Games(listing) => games(alloc, club, listing),
-        Question::Inviting(key) => inviting(alloc, club, key.as_str()),
+        Question::ChallengeChoices(key) => inviting(alloc, club, key.as_str()),
         Question::EventGames(name) => event_games(alloc, club, name.as_str()),
         Question::EventRecords(name) => event_records(alloc, club, name),
-        _ => Err(CallFault::Store),
+        _ => Err(LookupFault::Store),
     }
 }
 
@@ -113,7 +112,7 @@ pub(crate) fn of_lists<S: Alter>(
     conn: &mut Connection<S>,
     question: &Question,
     moment: Moment,
-) -> Result<Found, CallFault>
+) -> Result<Shown, LookupFault>
     ensures reads { Reads (is_ok result) (state S.Store conn.old) (state S.Store conn.new) }
     ensures found { HasCleanDisk (state S.Store conn.new) → IfOk result (λ found. (s : ClubState) → IsClub s →
         HasRows (tables s) (state S.Store conn.old) → IsFound s moment question.now found) }

@@ -6,19 +6,19 @@ ghost use Rattle.sqlite.specs.Held.{state};
 ghost use Rattle.store_tables.specs.Over.{HasRows};
 ghost use Rattle.store_tables.specs.Reading.{Reads};
 ghost use Rattle.club_rows.specs.Club.{ClubState, IsClub, tables};
-ghost use Rattle.club_lists.specs.SummaryViews.{all_by};
+ghost use Rattle.club_lists.specs.SummaryViews.{summaries_of};
 ghost use Rattle.club_answers.specs.Found.{IsReadOf};
-ghost use Rattle.club_answers.specs.Games.{told_games};
+ghost use Rattle.club_answers.specs.Games.{game_summaries};
 
-use crate::games::all_told;
+use crate::games::entries_of;
 use clocks::Moment;
 use club_core::{Event, Member};
-use club_lists::ToldGame;
-use club_reads::{CallFault, all_events, all_members, last_moment};
+use club_lists::GameEntry;
+use club_reads::{LookupFault, all_events, all_members, last_moment};
 use sqlite::{Alter, Connection};
 use std::alloc::Global;
 use store_sql::list;
-use store_tables::GameRecord;
+use store_tables::GameTableRow;
 
 /// A club at a timestamp, without the moves of its games.
 #[derive(Drop)]
@@ -27,17 +27,20 @@ pub(crate) struct ClubRead {
     pub moment: Moment,
     pub members: Vec<Member>,
     pub events: Vec<Event>,
-    pub games: Vec<ToldGame>,
+    pub games: Vec<GameEntry>,
 }
 
 // The entries of all games.
-fn games_of<S: Alter>(alloc: Global, conn: &mut Connection<S>) -> Result<Vec<ToldGame>, CallFault>
+fn games_of<S: Alter>(
+    alloc: Global,
+    conn: &mut Connection<S>,
+) -> Result<Vec<GameEntry>, LookupFault>
     ensures reads { Reads (is_ok result) (state S.Store conn.old) (state S.Store conn.new) }
     ensures told { HasCleanDisk (state S.Store conn.new) → IfOk result (λ games. (s : ClubState) → IsClub s →
-        HasRows (tables s) (state S.Store conn.old) → all_by games.items ≡ told_games s) }
+        HasRows (tables s) (state S.Store conn.old) → summaries_of games.items ≡ game_summaries s) }
 {
-    let rows = list::<GameRecord, S>(alloc, conn)?;
-    all_told(alloc, &rows)
+    let rows = list::<GameTableRow, S>(alloc, conn)?;
+    entries_of(alloc, &rows)
 }
 
 /// Reads a club for a query at this timestamp.
@@ -45,7 +48,7 @@ pub(crate) fn read_club<S: Alter>(
     alloc: Global,
     conn: &mut Connection<S>,
     moment: Moment,
-) -> Result<ClubRead, CallFault>
+) -> Result<ClubRead, LookupFault>
     ensures reads { Reads (is_ok result) (state S.Store conn.old) (state S.Store conn.new) }
     ensures read { HasCleanDisk (state S.Store conn.new) → IfOk result (λ club. (s : ClubState) → IsClub s →
         HasRows (tables s) (state S.Store conn.old) → IsReadOf s moment club) }

@@ -8,14 +8,14 @@ ghost use Rattle.sqlite.specs.Held.{state};
 ghost use Rattle.store_tables.specs.Over.{HasRows};
 ghost use Rattle.store_tables.specs.Reading.{Reads};
 ghost use Rattle.club_rows.specs.Club.{ClubState, IsClub, tables};
-ghost use Rattle.club_views.specs.Exported.{no_call_failed};
+ghost use Rattle.club_answers.specs.Exported.{no_call_failed};
 ghost use Rattle.club_answers.specs.EventRecords.{opening, BeginsRecords};
 ghost use Rattle.club_answers.specs.Writing.{AddsRecord, BeginsRecord, HasRecords};
 
-use club_reads::CallFault;
+use crate::{ViewFault, export_game};
+use club_reads::LookupFault;
 use club_requests::Refusal;
 use club_rules::GameKind;
-use club_views::{Stopped, export_of};
 use record_writer::write_piece;
 use sqlite::{Alter, Connection};
 use std::alloc::Global;
@@ -35,24 +35,24 @@ fn opening(is_first: bool, kind: GameKind) -> &'static str
 }
 
 // Writes the separator.
-fn write_front<W: Write>(front: &str, writer: &mut W) -> Result<(), Stopped>
+fn write_front<W: Write>(front: &str, writer: &mut W) -> Result<(), ViewFault>
     ensures written { OnOk result (Appends (W.contents writer.old) (W.contents writer.new) front.now) }
     ensures begun { AppendsSome (W.contents writer.old) (W.contents writer.new) front.now }
 {
     match write_piece(writer, front.as_bytes()) {
         Ok(()) => Ok(()),
-        Err(_) => Err(Stopped::Output),
+        Err(_) => Err(ViewFault::Output),
     }
 }
 
 // Writes a separator and the record of a game.
-fn write_behind<S: Alter, W: Write>(
+fn write_record_after<S: Alter, W: Write>(
     alloc: Global,
     conn: &mut Connection<S>,
     front: &str,
     id: u32,
     writer: &mut W,
-) -> Result<(), Stopped>
+) -> Result<(), ViewFault>
     ensures reads { Reads (no_call_failed result) (state S.Store conn.old) (state S.Store conn.new) }
     ensures written { HasCleanDisk (state S.Store conn.new) → OnOk result ((s : ClubState) → IsClub s →
         HasRows (tables s) (state S.Store conn.old) →
@@ -62,9 +62,9 @@ fn write_behind<S: Alter, W: Write>(
         BeginsRecord s id front.now (W.contents writer.old) (W.contents writer.new) }
 {
     write_front(front, writer)?;
-    match export_of(alloc, conn, u64::from(id), writer) {
+    match export_game(alloc, conn, u64::from(id), writer) {
         Ok(true) => Ok(()),
-        Ok(false) => Err(Stopped::Call(CallFault::Store)),
+        Ok(false) => Err(ViewFault::Call(LookupFault::Store)),
         Err(stopped) => Err(stopped),
     }
 }
@@ -73,8 +73,8 @@ fn write_behind<S: Alter, W: Write>(
 ///
 /// # Errors
 ///
-/// - `Stopped::Call`: reading the tables failed.
-/// - `Stopped::Output`: the writer failed.
+/// - `ViewFault::Call`: reading the tables failed.
+/// - `ViewFault::Output`: the writer failed.
 ///
 /// # Guarantees
 ///
@@ -85,7 +85,7 @@ pub(crate) fn write_records<S: Alter, W: Write>(
     kind: GameKind,
     ids: &[u32],
     writer: &mut W,
-) -> Result<Option<Refusal>, Stopped>
+) -> Result<Option<Refusal>, ViewFault>
     ensures reads { Reads (no_call_failed result) (state S.Store conn.old) (state S.Store conn.new) }
     ensures written { HasCleanDisk (state S.Store conn.new) → IfOk result (λ refusal. (s : ClubState) → IsClub s →
         HasRows (tables s) (state S.Store conn.old) →
@@ -96,7 +96,7 @@ pub(crate) fn write_records<S: Alter, W: Write>(
 {
     let mut is_first = true;
     for id in ids {
-        match write_behind(alloc, conn, opening(is_first, kind), *id, writer) {
+        match write_record_after(alloc, conn, opening(is_first, kind), *id, writer) {
             Ok(()) => {}
             Err(stopped) => return Err(stopped),
         }

@@ -7,10 +7,10 @@ use Rattle.std.proofs.lemmas.Option.{same_Some}
 use Rattle.club_rules.specs.declared.names.GameKind.{GameKind}
 use Rattle.club_rules.specs.GameRules.{GameRules}
 use Rattle.club_core.specs.Game.{Game, result_of}
-use Rattle.club_core.specs.LegalState.{AreApartIfAny, IsGameOf, IsLegalIn}
+use Rattle.club_core.specs.LegalState.{HaveUniqueKeysIfAny, IsGameOf, IsLegalIn}
 use Rattle.club_core.specs.State.{draughts, shogi, place, terms_at, key_of, pairing_of}
 use Rattle.store_tables.specs.Cells.{game_cells}
-use Rattle.store_tables.specs.declared.rows.GameRecord.{GameRecord}
+use Rattle.store_tables.specs.declared.rows.GameTableRow.{GameTableRow}
 use Rattle.club_rows.specs.Club.{both_games, ClubGame, ClubState}
 use Rattle.club_rows.specs.Tables.{numbered_from, row_of_game}
 use Rattle.club_audit.specs.ChallengeAudit.{IsRowOfPairing}
@@ -31,17 +31,17 @@ take-got (y ∷ ys) (suc i) x at = ap (λ zs. y ∷ zs) (take-got ys i x at)
 
 -- ---- what the rows of games tell
 
-abbrev pub key_in : GameRecord → Option (List ℕ)
+abbrev pub key_in : GameTableRow → Option (List ℕ)
 key_in r = option_map (λ s. string_bytes s) r.key
 
-tells : {P M E T : Type 0} (rules : GameRules P M E T) (id : ℕ) (game : Game M) (row : GameRecord)
+tells : {P M E T : Type 0} (rules : GameRules P M E T) (id : ℕ) (game : Game M) (row : GameTableRow)
     → IsToldBy rules id game row → Tells row
     (meetings_if (pos game.event) (pos game.first) (pos game.second) (result_of rules game))
 tells rules id game row told =
     let ids = told.numbers in record { score = result_of rules game; result = told.result; met = cc }
 
 -- the row has the game's id, its event and its players, its key, and its meetings
-pub record TellsGame (id : ℕ) (any : ClubGame) (row : GameRecord) : Type 0 where
+pub record TellsGame (id : ℕ) (any : ClubGame) (row : GameTableRow) : Type 0 where
   pub id_is : row.id ≡ pos id
   pub pairing : IsRowOfPairing row (pairing_of any)
   pub key_is : key_in row ≡ key_of any
@@ -49,7 +49,7 @@ pub record TellsGame (id : ℕ) (any : ClubGame) (row : GameRecord) : Type 0 whe
 
 module _ (s : ClubState) where
   -- as it is told by the row's cells
-  pub game-told : (id : ℕ) (row : GameRecord) (any : ClubGame)
+  pub game-told : (id : ℕ) (row : GameTableRow) (any : ClubGame)
       → game_cells row ≡ row_of_game both_games s.events id any → TellsGame id any row
   game-told id row (draughts g) cells =
       let told = columns-told both_games.draughts (terms_at (place s.events g.event)) id g row cells in
@@ -71,23 +71,23 @@ module _ (s : ClubState) where
       }
 
   -- the row of a game has its id
-  pub id-told : (id : ℕ) (row : GameRecord) (any : ClubGame) → game_cells row ≡ row_of_game both_games s.events id any
+  pub id-told : (id : ℕ) (row : GameTableRow) (any : ClubGame) → game_cells row ≡ row_of_game both_games s.events id any
       → row.id ≡ pos id
   id-told id row any cells = (game-told id row any cells).id_is
 
 -- ---- keys
 
-module _ (s : ClubState) (games : List ClubGame) (rows : List GameRecord)
+module _ (s : ClubState) (games : List ClubGame) (rows : List GameTableRow)
     (rows_are : map game_cells rows ≡ numbered_from (row_of_game both_games s.events) 1 games) where
   -- keys of the games are apart where those of the rows are
-  pub keys-of : AreApartIfAny key_in rows → AreApartIfAny key_of games
+  pub keys-of : HaveUniqueKeysIfAny key_in rows → HaveUniqueKeysIfAny key_of games
   keys-of apart i j x y b one two first second =
       let (r, here, cells) = numbered-back _ _ _ _ _ rows_are i x one in
       let (q, there, cells') = numbered-back _ _ _ _ _ rows_are j y two in
       apart i j r q b here there ((game-told s (1 + i) r x cells).key_is ∙ first)
       ((game-told s (1 + j) q y cells').key_is ∙ second)
 
-  pub keys-in : AreApartIfAny key_of games → AreApartIfAny key_in rows
+  pub keys-in : HaveUniqueKeysIfAny key_of games → HaveUniqueKeysIfAny key_in rows
   keys-in apart i j x y b one two first second =
       let (g, here, cells) = numbered-at _ _ _ _ _ rows_are i x one in
       let (h, there, cells') = numbered-at _ _ _ _ _ rows_are j y two in
@@ -124,7 +124,7 @@ pub game-elsewhere : (s : ClubState) (games : List ClubGame) (any : ClubGame) �
 game-elsewhere s games any of = legal-later s games s.last (omega arith) any of
 
 module _ (s : ClubState) where
-  pub games-told : (id : ℕ) (rows : List GameRecord) (games : List ClubGame)
+  pub games-told : (id : ℕ) (rows : List GameTableRow) (games : List ClubGame)
       → map game_cells rows ≡ numbered_from (row_of_game both_games s.events) id games
       → AreTold rows (flat_map (meetings_in both_games) games)
   games-told id [] [] are = refl
@@ -157,7 +157,7 @@ games-met (any ∷ games) =
     let whole = length-append (meetings_in both_games any) (flat_map (meetings_in both_games) games) in
     omega (arith, one, more, whole)
 
-module _ (s : ClubState) (rows : List GameRecord) (are : AreGamesOf s rows) where
+module _ (s : ClubState) (rows : List GameTableRow) (are : AreGamesOf s rows) where
   pub club-told : AreTold rows (flat_map (meetings_in both_games) s.games)
   club-told = games-told s 1 rows s.games are.rows_are
 

@@ -7,15 +7,15 @@ use Rattle.sqlite_rules.proofs.ListLemmas.{has_got}
 use Rattle.club_core.specs.declared.challenges.Challenge.{Challenge}
 use Rattle.club_core.specs.declared.challenges.ChallengeState.{ChallengeState}
 use Rattle.club_core.specs.declared.challenges.ChallengeState.TheVariants.{Accepted}
-use Rattle.club_core.specs.Challenges.{goes_by, pairing_for}
-use Rattle.club_core.specs.LegalState.{Each, AreApart, IsLegalChallenge}
+use Rattle.club_core.specs.Challenges.{key_of_challenge, pairing_for}
+use Rattle.club_core.specs.LegalState.{Each, HaveUniqueKeys, IsLegalChallenge}
 use Rattle.club_requests.specs.Limits.{is_challenge_number}
 use Rattle.club_core.specs.declared.seats.Pairing.{Pairing}
 use Rattle.club_core.specs.State.{place, pairing_of}
 use Rattle.club_laws.proofs.Proved.{map-at, map-got}
 use Rattle.store_tables.specs.Cells.{challenge_cells, event_cells, game_cells, member_cells}
 use Rattle.store_tables.specs.declared.rows.ChallengeRow.{ChallengeRow}
-use Rattle.store_tables.specs.declared.rows.GameRecord.{GameRecord}
+use Rattle.store_tables.specs.declared.rows.GameTableRow.{GameTableRow}
 use Rattle.store_tables.specs.declared.rows.Rows.{Rows}
 use Rattle.store_tables.proofs.Proved.{same_by}
 use Rattle.club_rows.specs.ChallengeRows.{HasShortGame}
@@ -37,17 +37,17 @@ accepted-same : (a b : ℕ) → ◌≡◌ {A = ChallengeState} (Accepted a) (Acc
 accepted-same a b is = cc
 
 -- a game that an accepted challenge names, and whose row is of its event and its members, is the one
-pub its-game-found : (games : List GameRecord) (c : Challenge) (id : ℕ) → c.standing ≡ Accepted id
+pub its-game-found : (games : List GameTableRow) (c : Challenge) (id : ℕ) → c.standing ≡ Accepted id
     → IsGameAmong games id (pairing_for c) → HasItsGame games c
 its-game-found games c id is among =
     λ n stands. subst (λ k. IsGameAmong games k (pairing_for c)) (accepted-same id n (sym is ∙ stands)) among
 
 -- the row is not of the game with this id, or not of this event and these players
-abbrev pub IsOther : ℕ → Pairing → GameRecord → Type 0
+abbrev pub IsOther : ℕ → Pairing → GameTableRow → Type 0
 IsOther id pairing row = row.id ≡ pos id → ¬ IsRowOfPairing row pairing
 
-pub none-among : (games : List GameRecord) (id : ℕ) (pairing : Pairing)
-    → ((k : ℕ) (row : GameRecord) → slice_get games k ≡ Some row → IsOther id pairing row)
+pub none-among : (games : List GameTableRow) (id : ℕ) (pairing : Pairing)
+    → ((k : ℕ) (row : GameTableRow) → slice_get games k ≡ Some row → IsOther id pairing row)
     → ¬ IsGameAmong games id pairing
 none-among games id pairing none among = none among.place among.row among.at among.id_is among.of
 
@@ -55,8 +55,8 @@ none-among games id pairing none among = none among.place among.row among.at amo
 
 -- rows of challenges have one key exactly where the challenges go by one
 numbers-key : (r s : ChallengeRow) (c d : Challenge) → challenge_cells r ≡ challenge_row c
-    → challenge_cells s ≡ challenge_row d → (goes_by c ≡ goes_by d → key_in r ≡ key_in s)
-    × (key_in r ≡ key_in s → goes_by c ≡ goes_by d)
+    → challenge_cells s ≡ challenge_row d → (key_of_challenge c ≡ key_of_challenge d → key_in r ≡ key_in s)
+    × (key_in r ≡ key_in s → key_of_challenge c ≡ key_of_challenge d)
 numbers-key r s c d r_is s_is = (
   λ same. cc (ap (λ p. p.0) same, ap (λ p. p.1) same),
   λ same. cc (ap (λ k. k.member) same, ap (λ k. k.number) same),
@@ -81,7 +81,7 @@ module _ (rows : Rows) where
         each-cons (λ (c : Challenge). HasShortGame c.standing) one.challenge rest.0 one.short.game rest.3,
       )
 
-  pub challenges-are : Each (IsChallengeOf rows) rows.challenges.items → AreApart key_in rows.challenges.items
+  pub challenges-are : Each (IsChallengeOf rows) rows.challenges.items → HaveUniqueKeys key_in rows.challenges.items
       → (cs : List Challenge) × AreChallenges cs rows
   challenges-are each apart =
       let rs = rows.challenges.items in
@@ -114,7 +114,7 @@ module _ (rows : Rows) where
         (are.rows_are.same.there (challenge_cells r)
         (mapped_has challenge_cells rows.challenges.items r (has_got rows.challenges.items n r at)))
 
-    pub numbers-apart : AreApart key_in rows.challenges.items
+    pub numbers-apart : HaveUniqueKeys key_in rows.challenges.items
     numbers-apart i j r s one two alike =
         let (m, c, at, r_is) = shown-at i r one in
         let (n, d, there, s_is) = shown-at j s two in

@@ -23,7 +23,7 @@ use Rattle.club_core.specs.View.{IsRowOf, Shows, clocks_in, terms_of}
 use Rattle.store_tables.specs.Cells.{event_cells, event_rule_cells, seen_cells, member_cells}
 use Rattle.store_tables.specs.declared.rows.EventRow.{EventRow}
 use Rattle.store_tables.specs.declared.rows.EventRuleRow.{EventRuleRow}
-use Rattle.store_tables.specs.declared.rows.GameRecord.{GameRecord}
+use Rattle.store_tables.specs.declared.rows.GameTableRow.{GameTableRow}
 use Rattle.store_tables.specs.declared.rows.MoveRow.{MoveRow}
 use Rattle.store_tables.specs.declared.rows.Rows.{Rows}
 use Rattle.club_audit.specs.Audit.{AreAllOf, AreEvents, GivesTerms, HasPeople, NamesEvent, IsWithin, EndsBy, AreRulesOf}
@@ -182,7 +182,7 @@ terms-are e row budget increment declares parts gives rule =
 abbrev pub HasKind : EventRow → GameKind → Type 0
 HasKind row kind = row.game ≡ pos (kind_number kind)
 
-module _ (s : ClubState) (rows : Rows) (people : HasPeople s rows) (index : ℕ) (row : GameRecord)
+module _ (s : ClubState) (rows : Rows) (people : HasPeople s rows) (index : ℕ) (row : GameTableRow)
     (moves : List MoveRow) where
   count : length rows.members.items ≡ length s.members
   count = numbered-length member_cells member_row 1 rows.members.items s.members people.members.rows_are

@@ -9,13 +9,13 @@ use Rattle.club_core.specs.Events.{Terms}
 use Rattle.club_core.specs.Game.{Game}
 use Rattle.club_core.specs.View.{Shows, terms_of}
 use Rattle.store_tables.specs.Cells.{seen_cells}
-use Rattle.store_tables.specs.declared.rows.GameRecord.{GameRecord}
+use Rattle.store_tables.specs.declared.rows.GameTableRow.{GameTableRow}
 use Rattle.store_tables.specs.declared.rows.MoveRow.{MoveRow}
 use Rattle.store_tables.specs.declared.rows.SeenRow.{SeenRow}
 use Rattle.store_tables.specs.declared.names.Table.{Table}
 use Rattle.store_tables.specs.declared.names.Table.TheVariants.{Games, Meta, Moves, Scores, Seen, Members, Events}
 use Rattle.club_rows.specs.declared.view.CheckedRows.{CheckedRows}
-use Rattle.club_rows.specs.declared.view.Played.{Played}
+use Rattle.club_rows.specs.declared.view.CheckedGame.{CheckedGame}
 use Rattle.club_rows.specs.EachOnce.{AreEachOnce}
 use Rattle.club_rows.specs.Seen.{seen_rows}
 use Rattle.club_rows.specs.LegalRows.{AreMovesOf, AreRowsOf, IsSoundIfShown, ShowsGame}
@@ -41,7 +41,7 @@ use Rattle.store_tables.specs.declared.rows.Rows.{Rows}
 use Rattle.club_audit.proofs.AuditLemmas.{legal-later}
 use Rattle.club_rows.specs.declared.view.CheckedRows.TheVariants as checked
 
-module _ {P M E T : Type 0} (rules : GameRules P M E T) (terms : Terms) (row : GameRecord) (moves : List MoveRow) where
+module _ {P M E T : Type 0} (rules : GameRules P M E T) (terms : Terms) (row : GameTableRow) (moves : List MoveRow) where
   -- the moves of a legal game are right
   pub moves-of : (id : ℕ) (game : Game M) → AreRowsOf rules terms id row moves game → AreMovesOf rules terms row moves
   moves-of id game are =
@@ -67,7 +67,7 @@ module _ {P M E T : Type 0} (rules : GameRules P M E T) (terms : Terms) (row : G
     pub complete : (n : ℕ) (g : Game M) → AreRowsOf rules terms n row moves g → Shows rules g view
 
   -- rows that are shown are so
-  pub shown-by : {R : Type 0} (told : CheckedRows R P M E T) (played : Played R P M E T) → told ≡ checked.Game played
+  pub shown-by : {R : Type 0} (told : CheckedRows R P M E T) (played : CheckedGame R P M E T) → told ≡ checked.Game played
       → IsSoundIfShown rules terms row moves told
       → ((n : ℕ) (g : Game M) → AreRowsOf rules terms n row moves g → ShowsGame rules terms g told)
       → IsShown played.view
@@ -82,7 +82,7 @@ module _ {P M E T : Type 0} (rules : GameRules P M E T) (terms : Terms) (row : G
         complete = λ n g of. let it = subst (ShowsGame rules terms g) is (complete n g of) in it.1;
       }
 
-module _ {R P M E T : Type 0} {rules : GameRules P M E T} {terms : Terms} {row : GameRecord} {moves : List MoveRow}
+module _ {R P M E T : Type 0} {rules : GameRules P M E T} {terms : Terms} {row : GameTableRow} {moves : List MoveRow}
     {view : GameView R P M E T} (shown : IsShown rules terms row moves view) where
   -- a game of these rows has the number of its row
   numbered : (number n : ℕ) (game : Game M) → pos number ≡ row.id → AreRowsOf rules terms n row moves game → n ≡ number
@@ -188,12 +188,12 @@ ends-later rules terms n m game low ends = record {
 }
 
 -- the tables before that of moves are right, of whatever game
-pub early-of : (last : Option ℕ) (row : GameRecord) (moves : List MoveRow) (seen : List SeenRow) (kind : GameKind)
+pub early-of : (last : Option ℕ) (row : GameTableRow) (moves : List MoveRow) (seen : List SeenRow) (kind : GameKind)
     (terms : Terms) → UpTo (IsRightOf kind terms last row moves seen) 4
 early-of last row moves seen Draughts terms = up-to-moves (IsRightOf Draughts terms last row moves seen) tt tt tt tt
 early-of last row moves seen Shogi terms = up-to-moves (IsRightOf Shogi terms last row moves seen) tt tt tt tt
 
-module _ (event : EventRow) (declares : Bool) (last : Option ℕ) (row : GameRecord) (moves : List MoveRow)
+module _ (event : EventRow) (declares : Bool) (last : Option ℕ) (row : GameTableRow) (moves : List MoveRow)
     (seen : List SeenRow) where
   abbrev InEvent : Table → Type 0
   InEvent = IsRightInEvent event declares last row moves seen
@@ -246,7 +246,7 @@ module _ (event : EventRow) (declares : Bool) (last : Option ℕ) (row : GameRec
 
 -- ---- where a last moment is given
 
-module _ (event : EventRow) (declares : Bool) (last : ℕ) (low : last ≤ 253402300799) (row : GameRecord)
+module _ (event : EventRow) (declares : Bool) (last : ℕ) (low : last ≤ 253402300799) (row : GameTableRow)
     (moves : List MoveRow) (seen : List SeenRow) (wrong : Option Table)
     (first : IsFirstWrong (IsRightInEvent event declares (Some last) row moves seen) wrong) where
   abbrev ByEvent : Table → Type 0
@@ -296,7 +296,7 @@ module _ (event : EventRow) (declares : Bool) (last : ℕ) (low : last ≤ 25340
       (λ t. to-event event declares (Some last) row moves seen of.kind of.budget of.increment of.kind_is of.terms t
       (by-kind of.kind (terms_told of.budget of.increment declares) of.all t))
 
-module _ (s : ClubState) (rows : Rows) (people : HasPeople s rows) (index : ℕ) (row : GameRecord)
+module _ (s : ClubState) (rows : Rows) (people : HasPeople s rows) (index : ℕ) (row : GameTableRow)
     (moves : List MoveRow) (seen : List SeenRow) (last : Option ℕ) where
   abbrev At : Table → Type 0
   At = IsRightAt s rows index row moves seen last
@@ -444,7 +444,7 @@ module _ (s : ClubState) (rows : Rows) (people : HasPeople s rows) (index : ℕ)
     ]
 
 -- an event of a club has a row of its rules
-pub no-rule : (s : ClubState) (rows : Rows) → HasPeople s rows → (row : GameRecord) (id : ℕ) (e : EventRow)
+pub no-rule : (s : ClubState) (rows : Rows) → HasPeople s rows → (row : GameTableRow) (id : ℕ) (e : EventRow)
     → NamesEvent rows row id e → ((n : ℕ) (declares : Bool) → ¬ NamesRule rows row n declares) → ⊥
 no-rule s rows people row id e named none =
     let (known, at, parts) = event-at s.events rows.events.items people.events id e named.row_is in
@@ -454,17 +454,17 @@ no-rule s rows people row id e named none =
 
 -- ---- a club's own game
 
-pub later-game : (s : ClubState) (m : ℕ) → s.last ≤ m → (id : ℕ) (row : GameRecord) (moves : List MoveRow)
+pub later-game : (s : ClubState) (m : ℕ) → s.last ≤ m → (id : ℕ) (row : GameTableRow) (moves : List MoveRow)
     (g : ClubGame) → IsGameAt s id row moves g → IsGameAt (until m s) id row moves g
 later-game s m low id row moves g is =
     record { legal = legal-later s s.games m low g is.legal; row_is = is.row_is; moves_are = is.moves_are }
 
-pub later-all : (s : ClubState) (m : ℕ) → s.last ≤ m → (id : ℕ) (row : GameRecord) (moves : List MoveRow)
+pub later-all : (s : ClubState) (m : ℕ) → s.last ≤ m → (id : ℕ) (row : GameTableRow) (moves : List MoveRow)
     (seen : List SeenRow) (g : ClubGame) → AreAllOf s id row moves seen g → AreAllOf (until m s) id row moves seen g
 later-all s m low id row moves seen g is =
     record { at = later-game s m low id row moves g is.at; seen_are = is.seen_are }
 
-module _ (s : ClubState) (rows : Rows) (people : HasPeople s rows) (index : ℕ) (row : GameRecord)
+module _ (s : ClubState) (rows : Rows) (people : HasPeople s rows) (index : ℕ) (row : GameTableRow)
     (moves : List MoveRow) (seen : List SeenRow) (last : Option ℕ) (within : s.last ≤ 253402300799) where
   module _ (low : index < 5000) (g : ClubGame) (at : IsGameAt s (index + 1) row moves g) (id : ℕ) (e : EventRow)
       (declares : Bool) (named : NamesEvent rows row id e) (ruled : NamesRule rows row id declares) where

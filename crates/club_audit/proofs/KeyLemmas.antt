@@ -7,7 +7,7 @@ use Rattle.std.specs.Str.{bytes_eq}
 use Rattle.std.proofs.lemmas.Bool.{cases_eq, cases_Bool}
 use Rattle.std.proofs.lemmas.Grind.{common_steps}
 use Rattle.std.proofs.lemmas.Option.{same_Some, slice_get_within}
-use Rattle.club_core.specs.LegalState.{AreApart, AreApartIfAny}
+use Rattle.club_core.specs.LegalState.{HaveUniqueKeys, HaveUniqueKeysIfAny}
 use Rattle.club_laws.proofs.Proved.{bytes_eq-same, same-bytes_eq}
 use Rattle.club_audit.proofs.PlacedLemmas.{one-place}
 use Rattle.std.proofs.lemmas.Bool.Decides.{Decides-int_eq}
@@ -77,13 +77,13 @@ module _ {A K Q : Type 0} (key : A → Option K) (value : Q → K) (xs : List A)
 
   -- an element whose key was in an element before it
   pub kept-clash : (index : ℕ) (has : Q → Bool) (x : A) (q : Q) → AreKept index has → slice_get xs index ≡ Some x
-      → key x ≡ Some (value q) → has q ≡ true → ¬ AreApartIfAny key xs
+      → key x ≡ Some (value q) → has q ≡ true → ¬ HaveUniqueKeysIfAny key xs
   kept-clash index has x q kept at is some apart =
       let (i, y, low, one, first) = kept.taken q some in
       let same = apart i index y x (value q) one at first is in
       omega (arith, low, same)
 
-  pub kept-all : (index : ℕ) (has : Q → Bool) → AreKept index has → length xs ≤ index → AreApartIfAny key xs
+  pub kept-all : (index : ℕ) (has : Q → Bool) → AreKept index has → length xs ≤ index → HaveUniqueKeysIfAny key xs
   kept-all index has kept past i j x y b one two first second =
       let i-low = slice_get_within xs i x one in
       let j-low = slice_get_within xs j y two in
@@ -93,10 +93,10 @@ module _ {A K Q : Type 0} (key : A → Option K) (value : Q → K) (xs : List A)
 -- ---- keys that all elements have
 
 module _ {A K : Type 0} (key : A → K) (xs : List A) where
-  pub apart-always : AreApartIfAny (λ x. Some (key x)) xs → AreApart key xs
+  pub apart-always : HaveUniqueKeysIfAny (λ x. Some (key x)) xs → HaveUniqueKeys key xs
   apart-always apart i j x y one two alike = apart i j x y (key y) one two (ap Some alike) refl
 
-  pub always-apart : AreApart key xs → AreApartIfAny (λ x. Some (key x)) xs
+  pub always-apart : HaveUniqueKeys key xs → HaveUniqueKeysIfAny (λ x. Some (key x)) xs
   always-apart apart i j x y b one two first second =
       apart i j x y one two (same_Some (key x) (key y) (first ∙ sym second))
 

@@ -8,7 +8,7 @@ use Rattle.sqlite_value.specs.declared.value.Value.TheVariants.{Int, Text}
 use Rattle.club_rules.specs.declared.names.GameKind.{GameKind}
 use Rattle.club_core.specs.Members.{Member}
 use Rattle.club_core.specs.Events.{Event}
-use Rattle.club_core.specs.LegalState.{AreApart, Each, IsLegalMember, IsLegalEvent}
+use Rattle.club_core.specs.LegalState.{HaveUniqueKeys, Each, IsLegalMember, IsLegalEvent}
 use Rattle.store_tables.specs.Cells.{member_cells, event_cells, event_rule_cells}
 use Rattle.store_tables.specs.declared.rows.MemberRow.{MemberRow}
 use Rattle.store_tables.specs.declared.rows.EventRow.{EventRow}
@@ -31,7 +31,7 @@ module _ {R A : Type 0} (cells : R → Row) (row : ℕ → A → Row) (id : R �
     (xs : List A) (rows_are : map cells rows ≡ numbered_from row 1 xs) where
   -- where no other row has a row's text, no two elements have one
   apart-from : ((i j : ℕ) (r q : R) → slice_get rows i ≡ Some r → slice_get rows j ≡ Some q → id q ≢ id r
-      → text q ≢ text r) → AreApart part xs
+      → text q ≢ text r) → HaveUniqueKeys part xs
   apart-from others i j x y one two same =
       let (r, at, r_is) = numbered-back cells row 1 rows xs rows_are i x one in
       let (q, there, q_is) = numbered-back cells row 1 rows xs rows_are j y two in
@@ -44,7 +44,7 @@ module _ {R A : Type 0} (cells : R → Row) (row : ℕ → A → Row) (id : R �
       ]
 
   -- and where no two have one, no other row has a row's text
-  others-from : AreApart part xs → (i j : ℕ) (r q : R) → slice_get rows i ≡ Some r → slice_get rows j ≡ Some q
+  others-from : HaveUniqueKeys part xs → (i j : ℕ) (r q : R) → slice_get rows i ≡ Some r → slice_get rows j ≡ Some q
       → id q ≢ id r → text q ≢ text r
   others-from apart i j r q at there other same =
       let (x, one, r_is) = numbered-at cells row 1 rows xs rows_are i r at in
@@ -199,8 +199,8 @@ ruled-from n (e ∷ es) (r ∷ rules) long each =
           (legal P keeps (λ k x at. all (suc k) x at)),
     )
 
-named-apart : (es fs : List Event) → map (λ e. e.name) fs ≡ map (λ e. e.name) es → AreApart (λ e. e.name) es
-    → AreApart (λ e. e.name) fs
+named-apart : (es fs : List Event) → map (λ e. e.name) fs ≡ map (λ e. e.name) es → HaveUniqueKeys (λ e. e.name) es
+    → HaveUniqueKeys (λ e. e.name) fs
 named-apart es fs same apart i j x y one two is =
     let (a, at_a, name_a) = named i x one in
     let (b, at_b, name_b) = named j y two in

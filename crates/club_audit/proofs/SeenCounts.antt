@@ -30,7 +30,7 @@ use Rattle.club_laws.proofs.Proved.{bytes_eq-same, got-append, map-at, map-got, 
 use Rattle.store_tables.specs.declared.rows.SeenRow.{SeenRow}
 use Rattle.club_rows.specs.EachOnce.{AreEachOnce}
 use Rattle.club_rows.specs.Tally.{stood_seldom, stood_then}
-use Rattle.club_rows.specs.declared.tally.Stood.{Stood}
+use Rattle.club_rows.specs.declared.tally.Occurrences.{Occurrences}
 
 abbrev text_in : MoveRow → List ℕ
 text_in row = string_bytes row.position
@@ -85,7 +85,7 @@ module _ {P M E T : Type 0} (rules : GameRules P M E T) (terms : Terms) (id : �
 
 -- what is found of each text
 abbrev pub Found : Type 0
-Found = List ℕ → Option Stood
+Found = List ℕ → Option Occurrences
 
 -- ---- counts
 
@@ -93,7 +93,7 @@ pub counted-start : (found : Found) → ((text : List ℕ) → found text ≡ No
 counted-start found none text = subst (IsCountOf [] text) (sym (none text)) (λ k at. cc)
 
 -- what is counted of a text is no more than there are texts
-pub counted-few : (texts : Texts) (text : List ℕ) (stood : Option Stood) → IsCountOf texts text stood
+pub counted-few : (texts : Texts) (text : List ℕ) (stood : Option Occurrences) → IsCountOf texts text stood
     → length texts ≤ 600 → stood_seldom stood
 counted-few texts text None is few = tt
 counted-few texts text (Some s) is few =
@@ -105,7 +105,7 @@ differ-back : (a b : List ℕ) → bytes_eq a b ≡ false → bytes_eq b a ≡ f
 differ-back a b differ = grind (arith, bytes_eq-same a b, same-bytes_eq b a)
 
 -- the new text stands once more
-once-more : (texts : Texts) (new : List ℕ) (stood : Option Stood) → IsCountOf texts new stood
+once-more : (texts : Texts) (new : List ℕ) (stood : Option Occurrences) → IsCountOf texts new stood
     → IsCountOf (texts ++ new ∷ []) new (Some (stood_then stood (length texts)))
 once-more texts new None never =
     let count = times-new texts new in
@@ -117,7 +117,7 @@ once-more texts new (Some s) is =
     (omega (arith, count, times), first-more texts new s.first_ply new is.1)
 
 -- and each other one as often as before
-as-before : (texts : Texts) (new text : List ℕ) (stood : Option Stood) → bytes_eq new text ≡ false
+as-before : (texts : Texts) (new text : List ℕ) (stood : Option Occurrences) → bytes_eq new text ≡ false
     → IsCountOf texts text stood → IsCountOf (texts ++ new ∷ []) text stood
 as-before texts new text None differ never = λ k at. elim (got-append texts new k text at) [
   | inl old ↦ never k old
@@ -143,7 +143,7 @@ counted-more texts new old now counted after text =
 abbrev text_of : SeenRow → List ℕ
 text_of row = string_bytes row.position
 
-never-none : (id : ℕ) (row : SeenRow) (stood : Option Stood) → HasCounted id row stood → stood ≡ None → ⊥
+never-none : (id : ℕ) (row : SeenRow) (stood : Option Occurrences) → HasCounted id row stood → stood ≡ None → ⊥
 never-none id row None has is = has
 never-none id row (Some s) has is = cc
 
@@ -162,7 +162,7 @@ module _ (id : ℕ) (counts : Found) (rows : List SeenRow) where
 
   -- a row, by the text that is looked for and what is found of it
   module _ (index : ℕ) (row : SeenRow) (found : Found) (is : Matched index found) (at : slice_get rows index ≡ Some row)
-      (text : List ℕ) (text_is : text ≡ text_of row) (stood : Option Stood) (stood_is : stood ≡ found text)
+      (text : List ℕ) (text_is : text ≡ text_of row) (stood : Option Occurrences) (stood_is : stood ≡ found text)
       (has : HasCounted id row stood) where
     fits : HasCounted id row (found (text_of row))
     fits = subst (HasCounted id row) (stood_is ∙ ap found text_is) has
@@ -233,7 +233,7 @@ module _ (id : ℕ) (counts : Found) (rows : List SeenRow) where
 
   module _ (texts : Texts) (counted : AreCounted texts counts) where
     -- a row that has what was counted for its text is the row of its text
-    pub counted-row : (row : SeenRow) (stood : Option Stood) → IsCountOf texts (text_of row) stood
+    pub counted-row : (row : SeenRow) (stood : Option Occurrences) → IsCountOf texts (text_of row) stood
         → HasCounted id row stood → Has (rows_of_texts id texts) (seen_cells row)
     counted-row row None is has = absurd has
     counted-row row (Some s) is has =
@@ -241,7 +241,7 @@ module _ (id : ℕ) (counts : Found) (rows : List SeenRow) where
         (row-has id texts s.first_ply (text_of row) is.1)
 
     -- and the row of its text has what was counted for it
-    pub row-counted : (row : SeenRow) (stood : Option Stood) → IsCountOf texts (text_of row) stood
+    pub row-counted : (row : SeenRow) (stood : Option Occurrences) → IsCountOf texts (text_of row) stood
         → Has (rows_of_texts id texts) (seen_cells row) → HasCounted id row stood
     row-counted row stood is h =
         let it = row-had id texts (seen_cells row) h in
@@ -249,7 +249,7 @@ module _ (id : ℕ) (counts : Found) (rows : List SeenRow) where
         by stood it.ply (subst (FirstAt texts it.ply) (sym same) it.first)
         (it.is ∙ ap (λ t. seen_row id t (times_in texts t) it.ply) (sym same)) is
       where
-        by : (o : Option Stood) (ply : ℕ) → FirstAt texts ply (text_of row)
+        by : (o : Option Occurrences) (ply : ℕ) → FirstAt texts ply (text_of row)
             → seen_cells row ≡ seen_row id (text_of row) (times_in texts (text_of row)) ply
             → IsCountOf texts (text_of row) o → HasCounted id row o
         by None ply first cells never = never ply first.at
@@ -295,7 +295,7 @@ module _ (id : ℕ) (counts : Found) (rows : List SeenRow) where
     module _ (are : AreEachOnce (map seen_cells rows) (rows_of_texts id texts)) where
       -- where the rows are those of the texts, the next one has what was counted for its text
       pub matched-next : (index : ℕ) (row : SeenRow) (found : Found) → Matched index found
-          → slice_get rows index ≡ Some row → (text : List ℕ) → text ≡ text_of row → (stood : Option Stood)
+          → slice_get rows index ≡ Some row → (text : List ℕ) → text ≡ text_of row → (stood : Option Occurrences)
           → stood ≡ found text → HasCounted id row stood
       matched-next index row found is at text text_is stood stood_is =
           let mine = are.same.there (seen_cells row) (cells-has index row at) in
@@ -313,7 +313,7 @@ module _ (id : ℕ) (counts : Found) (rows : List SeenRow) where
           → (text : List ℕ) → found text ≡ None
       matched-all found index past is text = by (found text) refl
         where
-          by : (o : Option Stood) → found text ≡ o → found text ≡ None
+          by : (o : Option Occurrences) → found text ≡ o → found text ≡ None
           by None is_none = is_none
           by (Some s) some =
               let free : (n : ℕ) (r : SeenRow) → n < index → slice_get rows n ≡ Some r → text_of r ≡ text

@@ -16,7 +16,7 @@ use Rattle.sqlite_rules.proofs.ListLemmas.{has_got}
 use Rattle.squares.specs.declared.sides.Score.{Score}
 use Rattle.squares.specs.Sides.{score_text}
 use Rattle.store_tables.specs.Cells.{score_cells}
-use Rattle.store_tables.specs.declared.rows.GameRecord.{GameRecord}
+use Rattle.store_tables.specs.declared.rows.GameTableRow.{GameTableRow}
 use Rattle.store_tables.specs.declared.rows.ScoreRow.{ScoreRow}
 use Rattle.club_rows.specs.NextScores.{Fit, gains_of, plus_sums, sums_over, sums_found, row_with}
 use Rattle.club_rows.specs.Scores.{Meeting, same_pair, scores_of, score_rows, own_first, own_second, meetings_if}
@@ -25,7 +25,7 @@ use Rattle.club_audit.specs.Standings.{AreStandings, AreTold, Clears, Tells, som
 use Rattle.club_rows.specs.Pairs.{firsts_pair, pair_in, seconds_pair, sums_at}
 use Rattle.club_rows.specs.declared.scores.Pair.{Pair}
 use Rattle.club_rows.specs.declared.scores.OwnScore.{OwnScore}
-use Rattle.club_rows.specs.declared.scores.Sums.{Sums}
+use Rattle.club_rows.specs.declared.scores.ScoreSums.{ScoreSums}
 use Rattle.club_rows.proofs.Proved.{pair_same, pair_itself, pairs_of, rows_had, rows_has, scores_append, gained, fit}
 use Rattle.club_rows.proofs.Proved.{scores_few}
 use Rattle.club_audit.proofs.KeyLemmas.{no-entries}
@@ -51,13 +51,13 @@ others_score : (pair other : Pair) (own : OwnScore) → same_pair pair other ≡
     → scores_of other (meeting pair own ∷ []) ≡ []
 others_score pair other own apart = rw apart
 
-module _ {S : Type 0} (old : HashMap Pair Sums S) (pair : Pair) (own : OwnScore) (ms : List Meeting)
+module _ {S : Type 0} (old : HashMap Pair ScoreSums S) (pair : Pair) (own : OwnScore) (ms : List Meeting)
     (are : AreStandings old ms) where
   -- what the pair has by then
   by_then : sums_or_none (sums_at old pair) ≡ sums_over (scores_of pair ms)
   by_then = ap sums_or_none (are pair) ∙ sums_or (scores_of pair ms)
 
-  pub score_added : (new : HashMap Pair Sums S) (sums : Sums)
+  pub score_added : (new : HashMap Pair ScoreSums S) (sums : ScoreSums)
       → sums ≡ plus_sums (sums_or_none (sums_at old pair)) (gains_of own)
       → ((q : Pair) → sums_at new q ≡ cond (same_pair pair q) (Some sums) (sums_at old q))
       → AreStandings new (ms ++ meeting pair own ∷ [])
@@ -96,14 +96,14 @@ module _ {S : Type 0} (old : HashMap Pair Sums S) (pair : Pair) (own : OwnScore)
 -- ---- one game more
 
 -- what a row of a game that has ended tells
-pub told_some : (row : GameRecord) (own : List Meeting) (score : Score) → Tells row own
+pub told_some : (row : GameTableRow) (own : List Meeting) (score : Score) → Tells row own
     → ((other : Option Score) → option_map (λ s. string_bytes s) row.result ≡ option_map score_text other
     → Some score ≡ other) → own ≡ meeting (firsts_pair row) (own_first score)
     ∷ meeting (seconds_pair row) (own_second score) ∷ []
 told_some row own score told only = told.met
     ∙ ap (meetings_if row.event row.first row.second) (sym (only told.score told.result))
 
-module _ {S : Type 0} (old mid new : HashMap Pair Sums S) (ms : List Meeting) (one other : Meeting) where
+module _ {S : Type 0} (old mid new : HashMap Pair ScoreSums S) (ms : List Meeting) (one other : Meeting) where
   pub both_added : (AreStandings old ms → length ms < 2 ^ 61 → AreStandings mid (ms ++ one ∷ []))
       → (AreStandings mid (ms ++ one ∷ []) → length (ms ++ one ∷ []) < 2 ^ 61
       → AreStandings new ((ms ++ one ∷ []) ++ other ∷ []))
@@ -117,7 +117,7 @@ module _ {S : Type 0} (old mid new : HashMap Pair Sums S) (ms : List Meeting) (o
 -- ---- the games of a list
 
 -- so many of the games were counted
-pub record AreCounted {S : Type 0} (standings : HashMap Pair Sums S) (games : List GameRecord) (index : ℕ)
+pub record AreCounted {S : Type 0} (standings : HashMap Pair ScoreSums S) (games : List GameTableRow) (index : ℕ)
     (ms : List Meeting) : Type 0 where
   pub before : List Meeting
   pub after : List Meeting
@@ -128,12 +128,12 @@ pub record AreCounted {S : Type 0} (standings : HashMap Pair Sums S) (games : Li
 dropped_next : {A : Type 0} (xs : List A) (i : ℕ) (x : A) → slice_get xs i ≡ Some x → drop i xs ≡ x ∷ drop (i + 1) xs
 dropped_next xs i x at = cc (drop_more xs i x (slice_get_within xs i x at), get_or_from_slice_get xs i x x at)
 
-pub counted_start : {S : Type 0} (standings : HashMap Pair Sums S) (games : List GameRecord) (ms : List Meeting)
+pub counted_start : {S : Type 0} (standings : HashMap Pair ScoreSums S) (games : List GameTableRow) (ms : List Meeting)
     → standings.entries ≡ [] → AreTold games ms → AreCounted standings games 0 ms
 counted_start standings games ms none told =
     record { before = []; after = ms; parts = refl; left = told; counted = λ p. ap (lookup (same_pair p)) none }
 
-pub counted_next : {S : Type 0} (old new : HashMap Pair Sums S) (games : List GameRecord) (i : ℕ) (game : GameRecord)
+pub counted_next : {S : Type 0} (old new : HashMap Pair ScoreSums S) (games : List GameTableRow) (i : ℕ) (game : GameTableRow)
     (ms : List Meeting) → slice_get games i ≡ Some game → length ms < 2 ^ 61
     → ((before own : List Meeting) → AreStandings old before → Tells game own → length (before ++ own) < 2 ^ 61
     → AreStandings new (before ++ own))
@@ -152,7 +152,7 @@ counted_next old new games i game ms at low adds was =
       counted = adds was.before own was.counted told (omega (arith, low, long));
     }
 
-pub counted_all : {S : Type 0} (standings : HashMap Pair Sums S) (games : List GameRecord) (i : ℕ) (ms : List Meeting)
+pub counted_all : {S : Type 0} (standings : HashMap Pair ScoreSums S) (games : List GameTableRow) (i : ℕ) (ms : List Meeting)
     → length games ≤ i → AreCounted standings games i ms → AreStandings standings ms
 counted_all standings games i ms past was =
     let none : was.after ≡ [] = subst (λ rows. AreTold rows was.after) (drop_all i games past) was.left in
@@ -161,7 +161,7 @@ counted_all standings games i ms past was =
 -- ---- rows and sums that clear one another
 
 -- the sums matter alone
-pub clears_alike : (f g : Pair → Option Sums) → ((p : Pair) → f p ≡ g p) → (rows : List ScoreRow) → Clears f rows
+pub clears_alike : (f g : Pair → Option ScoreSums) → ((p : Pair) → f p ≡ g p) → (rows : List ScoreRow) → Clears f rows
     → Clears g rows
 clears_alike f g same [] none = λ p. sym (same p) ∙ none p
 clears_alike f g same (row ∷ rows) clears = (
@@ -171,11 +171,11 @@ clears_alike f g same (row ∷ rows) clears = (
 )
 
 -- the rows that are left clear the sums that are left exactly where all clear all
-pub record IsLeft (sums left : Pair → Option Sums) (rows : List ScoreRow) (index : ℕ) : Type 0 where
+pub record IsLeft (sums left : Pair → Option ScoreSums) (rows : List ScoreRow) (index : ℕ) : Type 0 where
   pub on : Clears sums rows → Clears left (drop index rows)
   pub back : Clears left (drop index rows) → Clears sums rows
 
-module _ (sums f : Pair → Option Sums) (rows : List ScoreRow) (i : ℕ) (was : IsLeft sums f rows i)
+module _ (sums f : Pair → Option ScoreSums) (rows : List ScoreRow) (i : ℕ) (was : IsLeft sums f rows i)
     (within : i < length rows) (pair : Pair) (any : ScoreRow) (pair_is : pair ≡ pair_in (get_or rows i any)) where
   abbrev this_row : ScoreRow
   this_row = get_or rows i any
@@ -189,7 +189,7 @@ module _ (sums f : Pair → Option Sums) (rows : List ScoreRow) (i : ℕ) (was :
   opened = subst (Clears f) next
 
   -- it takes its sums
-  pub left_next : (g : Pair → Option Sums) (own : Sums) → f pair ≡ Some own → own ≡ sums_found (Some this_row)
+  pub left_next : (g : Pair → Option ScoreSums) (own : ScoreSums) → f pair ≡ Some own → own ≡ sums_found (Some this_row)
       → ((p : Pair) → g p ≡ cond (same_pair pair p) None (f p)) → IsLeft sums g rows (i + 1)
   left_next g own had same takes = record {
     on = λ all. clears_alike (without (pair_in this_row) f) g (λ p. sym (taken p)) (drop (i + 1) rows)
@@ -208,7 +208,7 @@ module _ (sums f : Pair → Option Sums) (rows : List ScoreRow) (i : ℕ) (was :
   pub left_none : f pair ≡ None → Clears sums rows → ⊥
   left_none none all = let has = (opened (was.on all)).0 in cc
 
-module _ (sums f : Pair → Option Sums) (rows : List ScoreRow) (i : ℕ) (was : IsLeft sums f rows i) where
+module _ (sums f : Pair → Option ScoreSums) (rows : List ScoreRow) (i : ℕ) (was : IsLeft sums f rows i) where
   -- all are cleared where nothing is left in the end
   pub left_end : length rows ≤ i → (((p : Pair) → f p ≡ None) → Clears sums rows)
       × (Clears sums rows → (p : Pair) → f p ≡ None)
@@ -217,15 +217,15 @@ module _ (sums f : Pair → Option Sums) (rows : List ScoreRow) (i : ℕ) (was :
     λ all. subst (Clears f) (drop_all i rows past) (was.on all),
   )
 
-pub none_empty : {S : Type 0} (standings : HashMap Pair Sums S) → ((p : Pair) → sums_at standings p ≡ None)
+pub none_empty : {S : Type 0} (standings : HashMap Pair ScoreSums S) → ((p : Pair) → sums_at standings p ≡ None)
     → length standings.entries ≡ 0
 none_empty standings none = no-entries same_pair (λ (p : Pair). p) pair_itself standings.entries none
 
 -- the rows of sums
-abbrev IsSumRow : (Pair → Option Sums) → Row → Type 0
-IsSumRow sums z = (p : Pair) × (s : Sums) × (sums p ≡ Some s) × (z ≡ score_cells (row_with p s))
+abbrev IsSumRow : (Pair → Option ScoreSums) → Row → Type 0
+IsSumRow sums z = (p : Pair) × (s : ScoreSums) × (sums p ≡ Some s) × (z ≡ score_cells (row_with p s))
 
-cells_told : (row : ScoreRow) (p : Pair) (s : Sums) → score_cells row ≡ score_cells (row_with p s)
+cells_told : (row : ScoreRow) (p : Pair) (s : ScoreSums) → score_cells row ≡ score_cells (row_with p s)
     → (pair_in row ≡ p) × (sums_found (Some row) ≡ s)
 cells_told row p s is =
     let e : row.event ≡ p.event = cc in
@@ -239,11 +239,11 @@ cells_told row p s is =
       λ i. record { points = a i; wins = b i; draws = c i; losses = d i },
     )
 
-without_other : (p q : Pair) (sums : Pair → Option Sums) → same_pair p q ≡ false → without p sums q ≡ sums q
+without_other : (p q : Pair) (sums : Pair → Option ScoreSums) → same_pair p q ≡ false → without p sums q ≡ sums q
 without_other p q sums apart = ap (λ b. cond b None (sums q)) apart
 
 -- another's sums are there with and without it
-without_had : (p q : Pair) (s : Sums) (sums : Pair → Option Sums) → without p sums q ≡ Some s → (same_pair p q ≡ false)
+without_had : (p q : Pair) (s : ScoreSums) (sums : Pair → Option ScoreSums) → without p sums q ≡ Some s → (same_pair p q ≡ false)
     × (sums q ≡ Some s)
 without_had p q s sums at = (grind (arith, common_steps), grind (arith, common_steps))
 
@@ -251,13 +251,13 @@ not_same : (p q : Pair) → same_pair p q ≡ false → p ≡ q → ⊥
 not_same p q apart is = let itself = pair_itself p in cc
 
 -- the rows of one pair's sums are one
-one_row : (sums : Pair → Option Sums) (p q : Pair) (s t : Sums) → p ≡ q → sums p ≡ Some s → sums q ≡ Some t
+one_row : (sums : Pair → Option ScoreSums) (p q : Pair) (s t : ScoreSums) → p ≡ q → sums p ≡ Some s → sums q ≡ Some t
     → score_cells (row_with p s) ≡ score_cells (row_with q t)
 one_row sums p q s t same one two = cc
 
 -- ---- sums that are cleared have these rows, each once
 
-cleared_there : (rows : List ScoreRow) (sums : Pair → Option Sums) → Clears sums rows → (z : Row)
+cleared_there : (rows : List ScoreRow) (sums : Pair → Option ScoreSums) → Clears sums rows → (z : Row)
     → Has (map score_cells rows) z → IsSumRow sums z
 cleared_there [] sums clears z h = absurd h
 cleared_there (row ∷ rows) sums clears z (inl is) = (pair_in row, sums_found (Some row), clears.0, is)
@@ -265,7 +265,7 @@ cleared_there (row ∷ rows) sums clears z (inr h) =
     let (p, s, at, is) = cleared_there rows (without (pair_in row) sums) clears.1 z h in
     (p, s, (without_had (pair_in row) p s sums at).1, is)
 
-cleared_back : (rows : List ScoreRow) (sums : Pair → Option Sums) → Clears sums rows → (p : Pair) (s : Sums)
+cleared_back : (rows : List ScoreRow) (sums : Pair → Option ScoreSums) → Clears sums rows → (p : Pair) (s : ScoreSums)
     → sums p ≡ Some s → Has (map score_cells rows) (score_cells (row_with p s))
 cleared_back [] sums none p s at = let clash = none p in cc
 cleared_back (row ∷ rows) sums clears p s at = elim (cases_Bool (same_pair (pair_in row) p)) [
@@ -275,13 +275,13 @@ cleared_back (row ∷ rows) sums clears p s at = elim (cases_Bool (same_pair (pa
       inr (cleared_back rows (without (pair_in row) sums) clears.1 p s (without_other (pair_in row) p sums apart ∙ at))
 ]
 
-not_again : (row : ScoreRow) (rows : List ScoreRow) (sums : Pair → Option Sums) → Clears sums (row ∷ rows) → (z : Row)
+not_again : (row : ScoreRow) (rows : List ScoreRow) (sums : Pair → Option ScoreSums) → Clears sums (row ∷ rows) → (z : Row)
     → Some (score_cells row) ≡ Some z → Has (map score_cells rows) z → ⊥
 not_again row rows sums clears z at h =
     let (p, s, there, is) = cleared_there rows (without (pair_in row) sums) clears.1 z h in
     not_same (pair_in row) p (without_had (pair_in row) p s sums there).0 (cells_told row p s (cc)).0
 
-cleared_once : (rows : List ScoreRow) (sums : Pair → Option Sums) → Clears sums rows → (i j : ℕ) (z : Row)
+cleared_once : (rows : List ScoreRow) (sums : Pair → Option ScoreSums) → Clears sums rows → (i j : ℕ) (z : Row)
     → slice_get (map score_cells rows) i ≡ Some z → slice_get (map score_cells rows) j ≡ Some z → i ≡ j
 cleared_once [] sums clears i j z at also = cc
 cleared_once (row ∷ rows) sums clears zero zero z at also = refl
@@ -294,13 +294,13 @@ cleared_once (row ∷ rows) sums clears (suc i) (suc j) z at also =
 
 -- ---- and rows that are these, each once, clear them
 
-none_or : (o : Option Sums) → ((s : Sums) → o ≡ Some s → ⊥) → o ≡ None
+none_or : (o : Option ScoreSums) → ((s : ScoreSums) → o ≡ Some s → ⊥) → o ≡ None
 none_or None none = refl
 none_or (Some s) none = absurd (none s refl)
 
-clear : (rows : List ScoreRow) (sums : Pair → Option Sums)
+clear : (rows : List ScoreRow) (sums : Pair → Option ScoreSums)
     → ((z : Row) → Has (map score_cells rows) z → IsSumRow sums z)
-    → ((p : Pair) (s : Sums) → sums p ≡ Some s → Has (map score_cells rows) (score_cells (row_with p s)))
+    → ((p : Pair) (s : ScoreSums) → sums p ≡ Some s → Has (map score_cells rows) (score_cells (row_with p s)))
     → ((i j : ℕ) (z : Row) → slice_get (map score_cells rows) i ≡ Some z → slice_get (map score_cells rows) j ≡ Some z
     → i ≡ j)
     → Clears sums rows
@@ -320,7 +320,7 @@ clear (row ∷ rows) sums there back once =
           (λ i j z one two. let e : suc i ≡ suc j = once (suc i) (suc j) z one two in cc),
     )
   where
-    other : (q : Pair) (t : Sums) (z : Row) → sums q ≡ Some t → z ≡ score_cells (row_with q t)
+    other : (q : Pair) (t : ScoreSums) (z : Row) → sums q ≡ Some t → z ≡ score_cells (row_with q t)
         → Has (map score_cells rows) z → sums (pair_in row) ≡ Some (sums_found (Some row))
         → same_pair (pair_in row) q ≡ false
     other q t z at z_is h here = elim (cases_Bool (same_pair (pair_in row) q)) [
@@ -336,7 +336,7 @@ clear (row ∷ rows) sums there back once =
 -- ---- the rows of meetings
 
 module _ (ms : List Meeting) where
-  abbrev sums_by : Pair → Option Sums
+  abbrev sums_by : Pair → Option ScoreSums
   sums_by p = some_sums (scores_of p ms)
 
   -- who met has sums
@@ -350,7 +350,7 @@ module _ (ms : List Meeting) where
   ]
 
   -- and who has some met
-  some_met : (ns : List Meeting) (p : Pair) (s : Sums) → some_sums (scores_of p ns) ≡ Some s → Has (pairs_of ns) p
+  some_met : (ns : List Meeting) (p : Pair) (s : ScoreSums) → some_sums (scores_of p ns) ≡ Some s → Has (pairs_of ns) p
   some_met [] p s some = cc
   some_met (n ∷ ns) p s some = elim (cases_Bool (same_pair n.pair p)) [
     | inl same ↦ inl (sym (pair_same n.pair p same))

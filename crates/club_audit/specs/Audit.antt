@@ -11,7 +11,7 @@ use Rattle.club_core.specs.declared.challenges.Challenge.{Challenge}
 use Rattle.club_core.specs.Members.{Member}
 use Rattle.club_core.specs.Events.{Event, Terms}
 use Rattle.club_core.specs.Game.{Game, clocks_of, left_of, turn_of}
-use Rattle.club_core.specs.LegalState.{Each, AreApart, AreApartIfAny, IsLegalMember, IsLegalEvent, IsLegalIn}
+use Rattle.club_core.specs.LegalState.{Each, HaveUniqueKeys, HaveUniqueKeysIfAny, IsLegalMember, IsLegalEvent, IsLegalIn}
 use Rattle.club_core.specs.State.{place}
 use Rattle.club_core.specs.View.{clocks_in}
 use Rattle.store_tables.specs.Cells.{event_rule_cells, member_cells, event_cells, move_cells, game_cells, seen_cells}
@@ -19,7 +19,7 @@ use Rattle.store_tables.specs.declared.rows.MemberRow.{MemberRow}
 use Rattle.store_tables.specs.declared.rows.EventRow.{EventRow}
 use Rattle.store_tables.specs.declared.rows.EventRuleRow.{EventRuleRow}
 use Rattle.store_tables.specs.declared.rows.MoveRow.{MoveRow}
-use Rattle.store_tables.specs.declared.rows.GameRecord.{GameRecord}
+use Rattle.store_tables.specs.declared.rows.GameTableRow.{GameTableRow}
 use Rattle.store_tables.specs.declared.rows.Rows.{Rows}
 use Rattle.store_tables.specs.declared.rows.SeenRow.{SeenRow}
 use Rattle.store_tables.specs.declared.names.Table.{Table}
@@ -50,8 +50,8 @@ pub record AreMembers (members : List Member) (rows : List MemberRow) : Type 0 w
   pub rows_are : map member_cells rows ≡ numbered_from member_row 1 members
   pub legal : Each IsLegalMember members
   pub count : length members ≤ most_members
-  pub names : AreApart (λ m. m.name) members
-  pub keys : AreApart (λ m. m.key) members
+  pub names : HaveUniqueKeys (λ m. m.name) members
+  pub keys : HaveUniqueKeys (λ m. m.key) members
 
 -- ---- events
 
@@ -82,7 +82,7 @@ pub record AreEvents (events : List Event) (rows : List EventRow) : Type 0 where
   pub rows_are : map event_cells rows ≡ numbered_from event_row 1 events
   pub legal : Each IsLegalEvent events
   pub count : length events ≤ most_events
-  pub names : AreApart (λ e. e.name) events
+  pub names : HaveUniqueKeys (λ e. e.name) events
 
 -- the row says whether declarations are allowed
 abbrev pub SaysDeclares : EventRuleRow → Bool → Type 0
@@ -116,19 +116,19 @@ abbrev pub until : ℕ → ClubState → ClubState
 until last s = record s { last = last }
 
 -- the game refers to this event, whose row this is
-pub record NamesEvent (rows : Rows) (game : GameRecord) (event : ℕ) (row : EventRow) : Type 0 where
+pub record NamesEvent (rows : Rows) (game : GameTableRow) (event : ℕ) (row : EventRow) : Type 0 where
   pub event_is : game.event ≡ pos event
   pub row_is : place rows.events.items event ≡ Some row
 
 -- the rules of the game's event say whether declarations are allowed
-pub record NamesRule (rows : Rows) (game : GameRecord) (event : ℕ) (declares : Bool) : Type 0 where
+pub record NamesRule (rows : Rows) (game : GameTableRow) (event : ℕ) (declares : Bool) : Type 0 where
   pub event_is : game.event ≡ pos event
   pub rule : EventRuleRow
   pub rule_is : place rows.event_rules.items event ≡ Some rule
   pub says : SaysDeclares rule declares
 
 -- the game refers to these players, who are members
-pub record NamesPlayers (rows : Rows) (game : GameRecord) (first second : ℕ) : Type 0 where
+pub record NamesPlayers (rows : Rows) (game : GameTableRow) (first second : ℕ) : Type 0 where
   pub first_is : game.first ≡ pos first
   pub second_is : game.second ≡ pos second
   pub first_low : 0 < first
@@ -156,7 +156,7 @@ pub record EndsBy {P M E T : Type 0} (rules : GameRules P M E T) (terms : Terms)
         → (clocks_of game terms).since + left_of (turn_of rules game) (clocks_of game terms) < last
 
 -- the rows are those of some legal game with these rules and terms, with timestamps up to `last`
-pub record HaveGame {P M E T : Type 0} (rules : GameRules P M E T) (terms : Terms) (last : ℕ) (row : GameRecord)
+pub record HaveGame {P M E T : Type 0} (rules : GameRules P M E T) (terms : Terms) (last : ℕ) (row : GameTableRow)
     (moves : List MoveRow) : Type 0 where
   pub id : ℕ
   pub game : Game M
@@ -164,13 +164,13 @@ pub record HaveGame {P M E T : Type 0} (rules : GameRules P M E T) (terms : Term
   pub within : EndsBy rules terms last game
 
 -- the rows are those of this game of the club, with this id
-pub record IsGameAt (s : ClubState) (id : ℕ) (row : GameRecord) (moves : List MoveRow) (game : ClubGame) : Type 0 where
+pub record IsGameAt (s : ClubState) (id : ℕ) (row : GameTableRow) (moves : List MoveRow) (game : ClubGame) : Type 0 where
   pub legal : IsLegalIn both_games s game
   pub row_is : game_cells row ≡ row_of_game both_games s.events id game
   pub moves_are : map move_cells moves ≡ rows_of_moves both_games s.events id game
 
 -- these are all rows of this game of the club; its positions each once, in any order
-pub record AreAllOf (s : ClubState) (id : ℕ) (row : GameRecord) (moves : List MoveRow) (seen : List SeenRow)
+pub record AreAllOf (s : ClubState) (id : ℕ) (row : GameTableRow) (moves : List MoveRow) (seen : List SeenRow)
     (game : ClubGame) : Type 0 where
   pub at : IsGameAt s id row moves game
   pub seen_are : AreEachOnce (map seen_cells seen) (rows_of_seen both_games id game)
@@ -178,9 +178,9 @@ pub record AreAllOf (s : ClubState) (id : ℕ) (row : GameRecord) (moves : List 
 -- ---- a club except moves and positions
 
 -- the number of games is within the limit, and no two have the same key
-pub record AreApartGames (games : List GameRecord) : Type 0 where
+pub record AreApartGames (games : List GameTableRow) : Type 0 where
   pub few : length games ≤ most_games
-  pub keys : AreApartIfAny (λ r. option_map (λ s. string_bytes s) r.key) games
+  pub keys : HaveUniqueKeysIfAny (λ r. option_map (λ s. string_bytes s) r.key) games
 
 -- The rows of `meta`, members, events and challenges are those of a legal club; the number of games is within the
 -- limit, and no two have the same key.

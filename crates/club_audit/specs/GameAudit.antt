@@ -7,7 +7,7 @@ use Rattle.club_core.specs.Events.{Terms}
 use Rattle.club_core.specs.Game.{Game}
 use Rattle.store_tables.specs.Cells.{seen_cells}
 use Rattle.store_tables.specs.declared.rows.EventRow.{EventRow}
-use Rattle.store_tables.specs.declared.rows.GameRecord.{GameRecord}
+use Rattle.store_tables.specs.declared.rows.GameTableRow.{GameTableRow}
 use Rattle.store_tables.specs.declared.rows.MoveRow.{MoveRow}
 use Rattle.store_tables.specs.declared.rows.SeenRow.{SeenRow}
 use Rattle.store_tables.specs.declared.rows.Rows.{Rows}
@@ -24,7 +24,7 @@ use Rattle.club_rows.specs.Tables.{kind_number}
 
 -- these are all rows of some legal game with these rules and terms, with timestamps up to `last`
 pub record HaveAll {P M E T : Type 0} (rules : GameRules P M E T) (terms : Terms) (last : ℕ)
-    (row : GameRecord) (moves : List MoveRow) (seen : List SeenRow) : Type 0 where
+    (row : GameTableRow) (moves : List MoveRow) (seen : List SeenRow) : Type 0 where
   pub id : ℕ
   pub game : Game M
   pub are : AreRowsOf rules terms id row moves game
@@ -32,13 +32,13 @@ pub record HaveAll {P M E T : Type 0} (rules : GameRules P M E T) (terms : Terms
   pub seen_are : AreEachOnce (map seen_cells seen) (seen_rows rules id game)
 
 -- the same for the rules of the kind
-abbrev pub HaveAllOf : GameKind → Terms → ℕ → GameRecord → List MoveRow → List SeenRow → Type 0
+abbrev pub HaveAllOf : GameKind → Terms → ℕ → GameTableRow → List MoveRow → List SeenRow → Type 0
 HaveAllOf Draughts terms last row moves seen = HaveAll both_games.draughts terms last row moves seen
 HaveAllOf Shogi terms last row moves seen = HaveAll both_games.shogi terms last row moves seen
 
 -- these are all rows of some legal game with the kind and terms of the event's row, with timestamps up to `last`
 pub record AreOfEvent (event : EventRow) (declares : Bool) (last : ℕ)
-    (row : GameRecord) (moves : List MoveRow) (seen : List SeenRow) : Type 0 where
+    (row : GameTableRow) (moves : List MoveRow) (seen : List SeenRow) : Type 0 where
   pub kind : GameKind
   pub kind_is : event.game ≡ pos (kind_number kind)
   pub budget : ℕ
@@ -50,7 +50,7 @@ pub record AreOfEvent (event : EventRow) (declares : Bool) (last : ℕ)
 
 -- The condition on each table, given that the tables before it are right: moves of a legal game; the game's row,
 -- without a limit on timestamps; all positions; timestamps up to `last`, if given.
-abbrev pub IsRightIn : {P M E T : Type 0} → GameRules P M E T → Terms → Option ℕ → GameRecord → List MoveRow
+abbrev pub IsRightIn : {P M E T : Type 0} → GameRules P M E T → Terms → Option ℕ → GameTableRow → List MoveRow
     → List SeenRow → Table → Type 0
 IsRightIn rules terms last row moves seen Moves = AreMovesOf rules terms row moves
 IsRightIn rules terms last row moves seen Games = HaveGame rules terms last_moment row moves
@@ -60,7 +60,7 @@ IsRightIn rules terms last row moves seen Meta =
 IsRightIn rules terms last row moves seen t = Unit {0}
 
 -- the same for the rules of the kind
-abbrev pub IsRightOf : GameKind → Terms → Option ℕ → GameRecord → List MoveRow → List SeenRow → Table → Type 0
+abbrev pub IsRightOf : GameKind → Terms → Option ℕ → GameTableRow → List MoveRow → List SeenRow → Table → Type 0
 IsRightOf Draughts terms last row moves seen t = IsRightIn both_games.draughts terms last row moves seen t
 IsRightOf Shogi terms last row moves seen t = IsRightIn both_games.shogi terms last row moves seen t
 
@@ -73,19 +73,19 @@ pub record GivesRules (event : EventRow) : Type 0 where
   pub terms : GivesTerms event budget increment
 
 -- the same for the kind and terms of the event's row
-abbrev pub IsRightBy : EventRow → Bool → Option ℕ → GameRecord → List MoveRow → List SeenRow → Table → Type 0
+abbrev pub IsRightBy : EventRow → Bool → Option ℕ → GameTableRow → List MoveRow → List SeenRow → Table → Type 0
 IsRightBy event declares last row moves seen t =
     (kind : GameKind) (budget increment : ℕ) → event.game ≡ pos (kind_number kind) → GivesTerms event budget increment
     → IsRightOf kind (terms_told budget increment declares) last row moves seen t
 
 -- and the event's row has a kind and terms
-abbrev pub IsRightInEvent : EventRow → Bool → Option ℕ → GameRecord → List MoveRow → List SeenRow → Table → Type 0
+abbrev pub IsRightInEvent : EventRow → Bool → Option ℕ → GameTableRow → List MoveRow → List SeenRow → Table → Type 0
 IsRightInEvent event declares last row moves seen Events = GivesRules event
 IsRightInEvent event declares last row moves seen t = IsRightBy event declares last row moves seen t
 
 -- The same for the game at this place (from 0) of a club with these members and events. The moves of a game without a
 -- valid event are not checked.
-abbrev pub IsRightAt : ClubState → Rows → ℕ → GameRecord → List MoveRow → List SeenRow → Option ℕ → Table → Type 0
+abbrev pub IsRightAt : ClubState → Rows → ℕ → GameTableRow → List MoveRow → List SeenRow → Option ℕ → Table → Type 0
 IsRightAt s rows place row moves seen last Moves =
     (id : ℕ) (event : EventRow) (declares : Bool) → NamesEvent rows row id event → NamesRule rows row id declares
     → IsRightBy event declares last row moves seen Moves
@@ -98,7 +98,7 @@ IsRightAt s rows place row moves seen last Meta =
 IsRightAt s rows place row moves seen last t = Unit {0}
 
 -- the game's id fits its place (from 0), the place is within the limit, and its players are members
-pub record StandsAt (rows : Rows) (place : ℕ) (game : GameRecord) : Type 0 where
+pub record StandsAt (rows : Rows) (place : ℕ) (game : GameTableRow) : Type 0 where
   pub low : place < most_games
   pub id : game.id ≡ pos (place + 1)
   pub first : ℕ

@@ -3,7 +3,7 @@
 ghost use Rattle.std.specs.Prelude.{◌≡◌, ◌≢◌, ◌<◌, ◌≤◌, ℕ, Bool, pos, true, false, None, IfOk, IfSome};
 ghost use Rattle.std.specs.Prelude.{string_bytes, Some};
 ghost use Rattle.std.specs.Option.{option_map};
-ghost use Rattle.club_core.specs.LegalState.{AreApartIfAny};
+ghost use Rattle.club_core.specs.LegalState.{HaveUniqueKeysIfAny};
 ghost use Rattle.club_audit.specs.Audit.{AreApartGames, HasPeople, HaveRegister, IsRightInRegister, NamesEvent};
 ghost use Rattle.club_audit.specs.Audit.{NamesPlayers, NamesRule};
 ghost use Rattle.club_audit.specs.FirstWrong.{IsFirstWrong};
@@ -15,11 +15,11 @@ use crate::game_audit::wrong_in_event;
 use crate::people::{are_events, are_members, are_rules, is_place};
 use clocks::Moment;
 use club_requests::values::MOST_GAMES;
-use club_rows::numbers::{declares_of, moment};
+use club_rows::numbers::{declares_of, to_moment};
 use club_rules::Memory;
 use std::alloc::Global;
 use std::collections::HashSet;
-use store_tables::{EventRow, GameRecord, MoveRow, Rows, SeenRow, Table};
+use store_tables::{EventRow, GameTableRow, MoveRow, Rows, SeenRow, Table};
 
 // Whether the id is in 1..=count.
 fn is_among(id: i64, count: usize) -> bool
@@ -33,7 +33,7 @@ fn is_among(id: i64, count: usize) -> bool
 }
 
 // The row of the game's event, if its id is valid.
-fn event_of<'a>(rows: &'a Rows, game: &GameRecord) -> Option<&'a EventRow>
+fn event_of<'a>(rows: &'a Rows, game: &GameTableRow) -> Option<&'a EventRow>
     ensures some { IfSome result (λ e. (event : ℕ) × NamesEvent rows.now game.now event e.now) }
     ensures none { result ≡ None → (event : ℕ) (e : EventRow) → ¬ NamesEvent rows.now game.now event e }
 {
@@ -45,7 +45,7 @@ fn event_of<'a>(rows: &'a Rows, game: &GameRecord) -> Option<&'a EventRow>
 }
 
 // Whether the rules of the game's event allow declarations. None if there is no valid row.
-fn declares_in(rows: &Rows, game: &GameRecord) -> Option<bool>
+fn declares_in(rows: &Rows, game: &GameTableRow) -> Option<bool>
     ensures some { IfSome result (λ declares. (event : ℕ) × NamesRule rows.now game.now event declares) }
     ensures none { result ≡ None → (event : ℕ) (declares : Bool) → ¬ NamesRule rows.now game.now event declares }
 {
@@ -61,7 +61,7 @@ fn declares_in(rows: &Rows, game: &GameRecord) -> Option<bool>
 }
 
 // Whether both players are members.
-fn has_players(rows: &Rows, game: &GameRecord) -> bool
+fn has_players(rows: &Rows, game: &GameTableRow) -> bool
     ensures sound { result ≡ true → (first second : ℕ) × NamesPlayers rows.now game.now first second }
     ensures complete { (first second : ℕ) → NamesPlayers rows.now game.now first second → result ≡ true }
 {
@@ -72,7 +72,7 @@ fn has_players(rows: &Rows, game: &GameRecord) -> bool
 }
 
 // Whether the game's id fits its place (from 0), the place is within the limit, and its players are members.
-fn stands_at(rows: &Rows, place: usize, game: &GameRecord) -> bool
+fn stands_at(rows: &Rows, place: usize, game: &GameTableRow) -> bool
     ensures sound { result ≡ true → StandsAt rows.now place game.now }
     ensures complete { StandsAt rows.now place game.now → result ≡ true }
 {
@@ -112,7 +112,7 @@ pub fn wrong_game(
     alloc: Global,
     rows: &Rows,
     place: usize,
-    game: &GameRecord,
+    game: &GameTableRow,
     moves: &[MoveRow],
     seen: &[SeenRow],
     last: Option<Moment>,
@@ -164,7 +164,7 @@ pub fn wrong_register(alloc: Global, rows: &Rows) -> Result<Option<Table>, Memor
     if !are_apart(alloc, &rows.games)? {
         return Ok(Some(Table::Games));
     }
-    match moment(rows.meta.last) {
+    match to_moment(rows.meta.last) {
         Some(_) => Ok(None),
         None => Ok(Some(Table::Meta)),
     }
@@ -175,7 +175,7 @@ pub fn wrong_register(alloc: Global, rows: &Rows) -> Result<Option<Table>, Memor
 /// # Errors
 ///
 /// `Memory` if out of memory.
-pub fn are_apart(alloc: Global, games: &[GameRecord]) -> Result<bool, Memory>
+pub fn are_apart(alloc: Global, games: &[GameTableRow]) -> Result<bool, Memory>
     ensures sound { IfOk result (λ are. are ≡ true → AreApartGames games.now) }
     ensures complete { IfOk result (λ are. AreApartGames games.now → are ≡ true) }
 {
@@ -187,11 +187,11 @@ pub fn are_apart(alloc: Global, games: &[GameRecord]) -> Result<bool, Memory>
 }
 
 // Whether two games have the same key.
-fn share_key(alloc: Global, games: &[GameRecord]) -> Result<bool, Memory>
+fn share_key(alloc: Global, games: &[GameTableRow]) -> Result<bool, Memory>
     ensures apart { IfOk result (λ shared. shared ≡ false →
-        AreApartIfAny (λ r. option_map (λ s. string_bytes s) r.key) games.now) }
+        HaveUniqueKeysIfAny (λ r. option_map (λ s. string_bytes s) r.key) games.now) }
     ensures shared { IfOk result (λ shared. shared ≡ true →
-        ¬ AreApartIfAny (λ r. option_map (λ s. string_bytes s) r.key) games.now) }
+        ¬ HaveUniqueKeysIfAny (λ r. option_map (λ s. string_bytes s) r.key) games.now) }
 {
     let mut keys = HashSet::new(alloc);
     for game in games {

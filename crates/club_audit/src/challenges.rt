@@ -2,7 +2,7 @@
 
 ghost use Rattle.std.specs.Prelude.{◌≡◌, ◌<◌, ◌≤◌, List, length, pos, true, false, IfOk};
 ghost use Rattle.club_core.specs.declared.challenges.Challenge as core;
-ghost use Rattle.club_core.specs.LegalState.{Each, AreApart};
+ghost use Rattle.club_core.specs.LegalState.{Each, HaveUniqueKeys};
 ghost use Rattle.club_requests.specs.Limits.{most_members, most_events};
 ghost use Rattle.club_audit.specs.ChallengeAudit.{AreChallenges, HasItsGame, IsChallengeAmong, IsChallengeOf};
 ghost use Rattle.club_audit.specs.ChallengeAudit.{IsGameAmong, IsRowOfPairing};
@@ -14,7 +14,7 @@ use club_rows::challenge_of;
 use club_rules::Memory;
 use std::alloc::Global;
 use std::collections::HashSet;
-use store_tables::{ChallengeRow, GameRecord, Rows};
+use store_tables::{ChallengeRow, GameTableRow, Rows};
 
 // The key of a row: the challenger and the challenger's number for it.
 #[derive(Clone, Copy, PartialEq, Eq, Hash)]
@@ -41,7 +41,7 @@ fn is_id(id: u32, count: usize) -> bool
 }
 
 // Whether the game has this event and these players on these sides.
-fn is_row_of_pairing(game: &GameRecord, pairing: Pairing) -> bool
+fn is_row_of_pairing(game: &GameTableRow, pairing: Pairing) -> bool
     ensures sound { result ≡ true → IsRowOfPairing game.now pairing }
     ensures complete { IsRowOfPairing game.now pairing → result ≡ true }
 {
@@ -51,7 +51,7 @@ fn is_row_of_pairing(game: &GameRecord, pairing: Pairing) -> bool
 }
 
 // Whether the game has this id and this pairing.
-fn is_game_of(row: &GameRecord, id: u32, pairing: Pairing) -> bool
+fn is_game_of(row: &GameTableRow, id: u32, pairing: Pairing) -> bool
     ensures sound { result ≡ true → (row.now.id ≡ pos id) × IsRowOfPairing row.now pairing }
     ensures complete { row.now.id ≡ pos id → IsRowOfPairing row.now pairing → result ≡ true }
 {
@@ -61,7 +61,7 @@ fn is_game_of(row: &GameRecord, id: u32, pairing: Pairing) -> bool
     is_row_of_pairing(row, pairing)
 }
 
-fn is_game_among(games: &[GameRecord], id: u32, pairing: Pairing) -> bool
+fn is_game_among(games: &[GameTableRow], id: u32, pairing: Pairing) -> bool
     ensures sound { result ≡ true → IsGameAmong games.now id pairing }
     ensures complete { IsGameAmong games.now id pairing → result ≡ true }
 {
@@ -74,7 +74,7 @@ fn is_game_among(games: &[GameRecord], id: u32, pairing: Pairing) -> bool
 }
 
 // Whether an accepted challenge refers to a game of its event between its two members, on the right sides.
-fn has_its_game(games: &[GameRecord], challenge: &Challenge) -> bool
+fn has_its_game(games: &[GameTableRow], challenge: &Challenge) -> bool
     ensures sound { result ≡ true → HasItsGame games.now challenge.now }
     ensures complete { HasItsGame games.now challenge.now → result ≡ true }
 {
@@ -131,8 +131,8 @@ fn are_each_challenges(rows: &Rows, challenges: &[ChallengeRow]) -> bool
 
 // Whether two challenges of one member have the same number.
 fn share_number(alloc: Global, challenges: &[ChallengeRow]) -> Result<bool, Memory>
-    ensures apart { IfOk result (λ shared. shared ≡ false → AreApart key_in challenges.now) }
-    ensures shared { IfOk result (λ shared. shared ≡ true → ¬ AreApart key_in challenges.now) }
+    ensures apart { IfOk result (λ shared. shared ≡ false → HaveUniqueKeys key_in challenges.now) }
+    ensures shared { IfOk result (λ shared. shared ≡ true → ¬ HaveUniqueKeys key_in challenges.now) }
 {
     let mut keys = HashSet::new(alloc);
     for row in challenges {

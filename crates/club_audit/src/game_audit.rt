@@ -22,7 +22,7 @@ use club_rows::view::{CheckedRows, view_of};
 use club_rules::{GameKind, Memory, Rules};
 use squares::Side;
 use std::alloc::Global;
-use store_tables::{EventRow, GameRecord, MoveRow, SeenRow, Table};
+use store_tables::{EventRow, GameTableRow, MoveRow, SeenRow, Table};
 
 // The remaining seconds of the side to move.
 fn left_to_mover<R: Rules>(view: &GameView<R>) -> u64
@@ -71,7 +71,7 @@ fn is_within_given<R: Rules>(view: &GameView<R>, last: Option<Moment>) -> bool
 // The first wrong table by all rows of a game with these rules and terms.
 fn wrong_of_all<R: Rules>(
     alloc: Global,
-    game: &GameRecord,
+    game: &GameTableRow,
     terms: Terms,
     moves: &[MoveRow],
     seen: &[SeenRow],
@@ -107,7 +107,7 @@ pub(crate) fn wrong_in_event(
     alloc: Global,
     event: &EventRow,
     declares: bool,
-    game: &GameRecord,
+    game: &GameTableRow,
     moves: &[MoveRow],
     seen: &[SeenRow],
     last: Option<Moment>,
@@ -142,7 +142,7 @@ pub fn audit_game(
     alloc: Global,
     event: &EventRow,
     declares: bool,
-    game: &GameRecord,
+    game: &GameTableRow,
     moves: &[MoveRow],
     seen: &[SeenRow],
     last: Moment,

@@ -13,4 +13,4 @@ pub use challenges::are_challenges;
 pub use game_audit::audit_game;
 pub use people::{are_events, are_members, are_rules, terms_of};
 pub use seen_audit::are_seen;
-pub use standings::scores_are;
+pub use standings::are_scores;

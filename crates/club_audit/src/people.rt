@@ -11,7 +11,7 @@ ghost use Rattle.club_rows.specs.Replay.{terms_given};
 use club_requests::values::{MOST_EVENTS, MOST_MEMBERS, is_budget, is_increment};
 use club_requests::{is_member_key, is_name};
 use club_rows::kinds::kind_of;
-use club_rows::numbers::{counted, declares_of};
+use club_rows::numbers::{declares_of, to_u64};
 use club_rows::replay::Terms;
 use store_tables::{EventRow, EventRuleRow, MemberRow};
 
@@ -91,11 +91,11 @@ pub fn terms_of(event: &EventRow, declares: bool) -> Option<Terms>
     ensures told { IfSome result (λ t. terms_given t ≡ terms_told t.budget t.increment declares) }
     ensures none { result ≡ None → (budget increment : ℕ) → ¬ GivesTerms event.now budget increment }
 {
-    let budget = match counted(event.budget) {
+    let budget = match to_u64(event.budget) {
         Some(budget) => budget,
         None => return None,
     };
-    let increment = match counted(event.increment) {
+    let increment = match to_u64(event.increment) {
         Some(increment) => increment,
         None => return None,
     };

@@ -11,22 +11,22 @@ ghost use Rattle.club_audit.specs.SeenAudit.{AreCounted, HasCounted, found_in, t
 ghost use Rattle.club_rows.specs.Tables.{move_rows};
 ghost use Rattle.club_rows.specs.Tally.{stood_seldom, stood_then};
 
-use club_rows::tally::Stood;
+use club_rows::tally::Occurrences;
 use club_rules::{Memory, Rules};
 use std::alloc::Global;
 use std::collections::HashMap;
 use store_tables::{MoveRow, SeenRow};
 
 // The count of a position if it occurs once more, after that ply.
-pub(crate) fn stood_then(found: Option<Stood>, ply: usize) -> Stood
+pub(crate) fn stood_then(found: Option<Occurrences>, ply: usize) -> Occurrences
     ensures { stood_seldom found → result ≡ stood_then found ply }
 {
     match found {
-        Some(stood) => Stood {
+        Some(stood) => Occurrences {
             times: stood.times.saturating_add(1),
             first_ply: stood.first_ply,
         },
-        None => Stood {
+        None => Occurrences {
             times: 1,
             first_ply: ply,
         },
@@ -34,7 +34,11 @@ pub(crate) fn stood_then(found: Option<Stood>, ply: usize) -> Stood
 }
 
 // Counts a position that occurs after that ply.
-fn count<'a>(counts: &mut HashMap<&'a str, Stood>, text: &'a str, ply: usize) -> Result<(), Memory>
+fn count<'a>(
+    counts: &mut HashMap<&'a str, Occurrences>,
+    text: &'a str,
+    ply: usize,
+) -> Result<(), Memory>
     ensures { OnOk result ((texts : List (List ℕ)) → AreCounted texts (found_in counts.old) → length texts ≡ ply →
         ply ≤ 600 → AreCounted (texts ++ text.now ∷ []) (found_in counts.new)) }
 {
@@ -48,7 +52,7 @@ fn counted<'a>(
     alloc: Global,
     start: &'a str,
     moves: &'a [MoveRow],
-) -> Result<HashMap<&'a str, Stood>, Memory>
+) -> Result<HashMap<&'a str, Occurrences>, Memory>
     ensures { IfOk result (λ counts. length moves.now ≤ 600 →
         AreCounted (texts_in start.now moves.now) (found_in counts)) }
 {
@@ -71,7 +75,7 @@ pub(crate) fn is_number(number: i64, wanted: usize) -> bool
 }
 
 // Whether the row has this game, and the count and first ply that were found for its position.
-fn has_counted(row: &SeenRow, game: u32, found: Option<Stood>) -> bool
+fn has_counted(row: &SeenRow, game: u32, found: Option<Occurrences>) -> bool
     ensures sound { result ≡ true → HasCounted game row.now found }
     ensures complete { HasCounted game row.now found → result ≡ true }
 {
@@ -86,7 +90,7 @@ fn has_counted(row: &SeenRow, game: u32, found: Option<Stood>) -> bool
 }
 
 // Whether there is exactly one row for each counted position.
-fn are_counted(game: u32, counts: HashMap<&str, Stood>, rows: &[SeenRow]) -> bool
+fn are_counted(game: u32, counts: HashMap<&str, Occurrences>, rows: &[SeenRow]) -> bool
     ensures sound { result ≡ true → (texts : List (List ℕ)) → AreCounted texts (found_in counts.entry) →
         AreEachOnce (map seen_cells rows.now) (rows_of_texts game texts) }
     ensures complete { (texts : List (List ℕ)) → AreCounted texts (found_in counts.entry) →

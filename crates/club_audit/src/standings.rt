@@ -16,16 +16,16 @@ ghost use Rattle.club_rows.specs.Pairs.{sums_at};
 
 use club_rows::ends::score_of;
 use club_rows::scores::{
-    OwnScore, Pair, Sums, firsts_pair, gains, pair_in, plus, seconds_pair, sums_of,
+    OwnScore, Pair, ScoreSums, add_sums, firsts_pair, gains, pair_in, seconds_pair, sums_of,
 };
 use club_rules::Memory;
 use squares::Score;
 use std::alloc::Global;
 use std::collections::HashMap;
-use store_tables::{GameRecord, ScoreRow};
+use store_tables::{GameTableRow, ScoreRow};
 
 // The sums of a pair; zeros if there are none.
-fn sums_in(standings: &HashMap<Pair, Sums>, pair: &Pair) -> Sums
+fn sums_in(standings: &HashMap<Pair, ScoreSums>, pair: &Pair) -> ScoreSums
     ensures { result ≡ sums_or_none (sums_at standings.now pair.now) }
 {
     match standings.get(pair).copied() {
@@ -35,12 +35,12 @@ fn sums_in(standings: &HashMap<Pair, Sums>, pair: &Pair) -> Sums
 }
 
 // Adds a result to the sums of a pair. An overflow, which no club reaches, changes nothing.
-fn add(standings: &mut HashMap<Pair, Sums>, pair: Pair, score: OwnScore) -> Result<(), Memory>
+fn add(standings: &mut HashMap<Pair, ScoreSums>, pair: Pair, score: OwnScore) -> Result<(), Memory>
     ensures { IfOk result (λ done. (ms : List Meeting) → AreStandings standings.old ms → length ms < 2 ^ 61 →
         AreStandings standings.new (ms ++ record { pair = pair; score = score } ∷ [])) }
 {
     let sums = sums_in(standings, &pair);
-    match plus(sums, gains(score)) {
+    match add_sums(sums, gains(score)) {
         Some(sums) => {
             standings.insert(pair, sums)?;
             Ok(())
@@ -50,7 +50,7 @@ fn add(standings: &mut HashMap<Pair, Sums>, pair: Pair, score: OwnScore) -> Resu
 }
 
 // The score of a game. None while it runs, or if the text is no score.
-fn told_score(game: &GameRecord) -> Option<Score>
+fn told_score(game: &GameTableRow) -> Option<Score>
     ensures { (score : Option Score) →
         option_map (λ s. string_bytes s) game.now.result ≡ option_map score_text score → result ≡ score }
 {
@@ -61,7 +61,7 @@ fn told_score(game: &GameRecord) -> Option<Score>
 }
 
 // Adds the result of an ended game for both players.
-fn add_game(standings: &mut HashMap<Pair, Sums>, game: &GameRecord) -> Result<(), Memory>
+fn add_game(standings: &mut HashMap<Pair, ScoreSums>, game: &GameTableRow) -> Result<(), Memory>
     ensures { IfOk result (λ done. (ms own : List Meeting) → AreStandings standings.old ms → Tells game.now own →
         length (ms ++ own) < 2 ^ 61 → AreStandings standings.new (ms ++ own)) }
 {
@@ -76,7 +76,7 @@ fn add_game(standings: &mut HashMap<Pair, Sums>, game: &GameRecord) -> Result<()
 }
 
 // The sums of all pairs in these games.
-fn standings_of(alloc: Global, games: &[GameRecord]) -> Result<HashMap<Pair, Sums>, Memory>
+fn standings_of(alloc: Global, games: &[GameTableRow]) -> Result<HashMap<Pair, ScoreSums>, Memory>
     ensures { IfOk result (λ standings. (ms : List Meeting) → AreTold games.now ms → length ms < 2 ^ 61 →
         AreStandings standings ms) }
 {
@@ -87,7 +87,7 @@ fn standings_of(alloc: Global, games: &[GameRecord]) -> Result<HashMap<Pair, Sum
     Ok(standings)
 }
 
-fn are_sums_of(sums: Sums, row: &ScoreRow) -> bool
+fn are_sums_of(sums: ScoreSums, row: &ScoreRow) -> bool
     ensures sound { result ≡ true → sums ≡ sums_found (Some row.now) }
     ensures complete { sums ≡ sums_found (Some row.now) → result ≡ true }
 {
@@ -98,7 +98,7 @@ fn are_sums_of(sums: Sums, row: &ScoreRow) -> bool
 }
 
 // Whether each row has the sums of its pair, and no pair is left.
-fn are_those(standings: HashMap<Pair, Sums>, rows: &[ScoreRow]) -> bool
+fn are_those(standings: HashMap<Pair, ScoreSums>, rows: &[ScoreRow]) -> bool
     ensures sound { result ≡ true → Clears (λ pair. sums_at standings pair) rows.now }
     ensures complete { Clears (λ pair. sums_at standings pair) rows.now → result ≡ true }
 {
@@ -121,7 +121,7 @@ fn are_those(standings: HashMap<Pair, Sums>, rows: &[ScoreRow]) -> bool
 /// # Errors
 ///
 /// `Memory` if out of memory.
-pub fn scores_are(alloc: Global, games: &[GameRecord], rows: &[ScoreRow]) -> Result<bool, Memory>
+pub fn are_scores(alloc: Global, games: &[GameTableRow], rows: &[ScoreRow]) -> Result<bool, Memory>
     ensures sound { IfOk result (λ are. are ≡ true → (s : ClubState) → AreGamesOf s games.now →
         AreEachOnce (map score_cells rows.now) (scores_in both_games s.games)) }
     ensures complete { IfOk result (λ are. (s : ClubState) → AreGamesOf s games.now →

@@ -6,15 +6,15 @@ use Rattle.std.specs.List.{list_any, range_with_len}
 use Rattle.std.specs.Str.{bytes_eq}
 use Rattle.std.specs.declared.alloc.Global.{Global}
 use Rattle.std.specs.declared.string.String.{String}
-use Rattle.pairings.specs.declared.table.Pairing.{Pairing}
-use Rattle.club_questions.specs.declared.questions.Question.{Question}
-use Rattle.club_questions.specs.declared.questions.Question.TheVariants.{Games}
+use Rattle.pairings.specs.declared.table.BoardPairing.{BoardPairing}
+use Rattle.club_requests.specs.declared.questions.Question.{Question}
+use Rattle.club_requests.specs.declared.questions.Question.TheVariants.{Games}
 use Rattle.club_requests.specs.declared.requests.Command as given_command
 use Rattle.club_requests.specs.declared.requests.Command.TheVariants as given
 use Rattle.club_requests.specs.declared.requests.Request as given_request
 use Rattle.club_requests.specs.declared.requests.Seat as given_seat
 use Rattle.club_core.specs.State.{Command, Request, seat, officer}
-use Rattle.club_words.specs.declared.batches.RoundRobin.{RoundRobin}
+use Rattle.cli.specs.declared.batches.RoundRobin.{RoundRobin}
 
 abbrev pub is_same : String Global → String Global → Bool
 is_same one other = bytes_eq (string_bytes one) (string_bytes other)
@@ -25,7 +25,7 @@ has_twice [] = false
 has_twice (name ∷ names) = list_any (is_same name) names || has_twice names
 
 -- the key of a game; board 3 of round 1 has PREFIX1.3
-abbrev pub key_of : List ℕ → Pairing → List ℕ
+abbrev pub key_of : List ℕ → BoardPairing → List ℕ
 key_of prefix game = prefix ++ (decimal game.round ++ (codes "." ++ decimal game.board))
 
 -- the name of a player; players count from 1
@@ -33,13 +33,13 @@ abbrev pub name_at : List (List ℕ) → ℕ → List ℕ
 name_at names player = get_or names (player - 1) []
 
 -- the `seat` command of a game of the pairing table
-abbrev pub seat_command : RoundRobin → Pairing → Command
+abbrev pub seat_command : RoundRobin → BoardPairing → Command
 seat_command robin game =
     seat (key_of (string_bytes robin.prefix) game) (string_bytes robin.event)
     (name_at (map string_bytes robin.names.items) game.first)
     (name_at (map string_bytes robin.names.items) game.second)
 
-abbrev pub seat_request : RoundRobin → (moment : ℕ) → Pairing → Request
+abbrev pub seat_request : RoundRobin → (moment : ℕ) → BoardPairing → Request
 seat_request robin moment game = record { who = officer; command = seat_command robin game; moment = moment }
 
 -- the numbers from 1 to `count`

@@ -4,5 +4,5 @@
 pub mod orders;
 pub mod seats;
 
-pub use orders::{BATCH_BYTES, Numbered, batch_for, push_order, read_orders};
-pub use seats::{Unseated, seat_lines, seats_of};
+pub use orders::{BATCH_BYTES, BatchLine, batch_for, push_order, read_orders};
+pub use seats::{SeatError, seat_lines, seats_of};

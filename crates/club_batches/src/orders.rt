@@ -3,10 +3,9 @@
 ghost use Rattle.std.specs.Prelude.{◌≡◌, ◌++◌, ◌∷◌, [], IfOk, OnOk};
 ghost use Rattle.club_batches.specs.Orders.{order_at};
 
+use cli::{BadWords, Batch, BatchOrder, read_line};
 use clocks::Moment;
-use club_questions::Question;
-use club_requests::{Command, Request, Who};
-use club_words::{BadWords, Batch, Line, read_line};
+use club_requests::{Command, Question, Request, Who};
 use std::alloc::{AllocError, Global};
 
 /// The maximum length of a batch's text, in bytes.
@@ -17,9 +16,9 @@ const MOST_ORDERS: usize = 10_000;
 
 /// A command of a batch with its line number, counted from 1.
 #[derive(Debug, Drop)]
-pub struct Numbered {
+pub struct BatchLine {
     pub number: u64,
-    pub line: Line,
+    pub line: BatchOrder,
 }
 
 // An error with the number of its line.
@@ -60,7 +59,7 @@ fn is_passed_over(line: &str) -> bool {
 }
 
 // Whether a line reads its record from standard input, which a batch does not allow.
-fn reads_input(line: &Line) -> bool {
+fn reads_input(line: &BatchOrder) -> bool {
     match &line.record {
         Some(path) => path.as_str() == "-",
         None => false,
@@ -77,7 +76,7 @@ fn words_of<'a>(alloc: Global, line: &'a str) -> Result<Vec<&'a str>, AllocError
     Ok(words)
 }
 
-fn order_of(alloc: Global, number: u64, line: &str) -> Result<Numbered, BadWords>
+fn order_of(alloc: Global, number: u64, line: &str) -> Result<BatchLine, BadWords>
     ensures { IfOk result (λ order. order.number ≡ number) }
 {
     let words = words_of(alloc, line)?;
@@ -87,7 +86,7 @@ fn order_of(alloc: Global, number: u64, line: &str) -> Result<Numbered, BadWords
             number,
             "the record of a line is a file\n",
         )),
-        Ok(line) => Ok(Numbered { number, line }),
+        Ok(line) => Ok(BatchLine { number, line }),
         Err(bad) => Err(bad_words(alloc, number, &bad)),
     }
 }
@@ -95,7 +94,7 @@ fn order_of(alloc: Global, number: u64, line: &str) -> Result<Numbered, BadWords
 // Parses a line and appends its command, if it has one.
 fn push_line(
     alloc: Global,
-    orders: &mut Vec<Numbered>,
+    orders: &mut Vec<BatchLine>,
     number: u64,
     line: &str,
 ) -> Result<(), BadWords> {
@@ -120,7 +119,7 @@ fn push_line(
 /// - `BadWords::Text` if the text is longer than `BATCH_BYTES` or not UTF-8, has more than 10,000 commands, or has an
 ///   invalid line. The message has the number of the first such line.
 /// - `BadWords::Memory` if out of memory.
-pub fn read_orders(alloc: Global, bytes: &[u8]) -> Result<Vec<Numbered>, BadWords> {
+pub fn read_orders(alloc: Global, bytes: &[u8]) -> Result<Vec<BatchLine>, BadWords> {
     if bytes.len() > BATCH_BYTES {
         let text = String::from_str(alloc, "error: a batch has at most 1048576 bytes\n")?;
         return Err(BadWords::Text(text));

@@ -8,11 +8,10 @@ ghost use Rattle.club_batches.specs.Seats.{asked_name, has_twice, is_same, key_o
 ghost use Rattle.club_batches.specs.Seats.{seat_command, seat_line, seat_lines, seat_request};
 
 use crate::orders::{batch_for, push_order};
+use cli::{Batch, RoundRobin};
 use clocks::Moment;
-use club_questions::{Listing, Question, Which};
-use club_requests::{Command, Refusal, Request, Seat, is_name};
-use club_words::{Batch, RoundRobin};
-use pairings::{Pairing, rounds};
+use club_requests::{Command, GameFilter, Listing, Question, Refusal, Request, Seat, is_name};
+use pairings::{BoardPairing, rounds};
 use std::alloc::{AllocError, Global};
 
 /// The maximum number of players of a round robin.
@@ -23,14 +22,14 @@ const FEWEST_PLAYERS: usize = 2;
 
 /// The reason why no round robin is seated.
 #[derive(Debug, Drop)]
-pub enum Unseated {
+pub enum SeatError {
     Refused(Refusal),
     Memory,
 }
 
-impl From<AllocError> for Unseated {
-    fn from(_refused: AllocError) -> Unseated {
-        Unseated::Memory
+impl From<AllocError> for SeatError {
+    fn from(_refused: AllocError) -> SeatError {
+        SeatError::Memory
     }
 }
 
@@ -65,7 +64,7 @@ fn question_for(alloc: Global, name: &str) -> Result<Question, AllocError>
     Ok(Question::Games(Listing {
         event: None,
         member: Some(String::from_str(alloc, name)?),
-        which: Which::All,
+        which: GameFilter::All,
     }))
 }
 
@@ -80,7 +79,7 @@ fn questions_for(alloc: Global, names: &[String]) -> Result<Vec<Question>, Alloc
     Ok(questions)
 }
 
-fn key_of(alloc: Global, prefix: &str, game: Pairing) -> Result<String, AllocError>
+fn key_of(alloc: Global, prefix: &str, game: BoardPairing) -> Result<String, AllocError>
     ensures { IfOk result (λ key. string_bytes key ≡ key_of prefix.now game) }
 {
     let round = game.round;
@@ -98,7 +97,7 @@ fn name_of(alloc: Global, names: &[String], player: u32) -> Result<String, Alloc
     }
 }
 
-fn seat_of(alloc: Global, robin: &RoundRobin, game: Pairing) -> Result<Command, AllocError>
+fn seat_of(alloc: Global, robin: &RoundRobin, game: BoardPairing) -> Result<Command, AllocError>
     ensures { IfOk result (λ command. command_of command ≡ seat_command robin.entry.now game) }
 {
     Ok(Command::Seat(Seat {
@@ -132,7 +131,7 @@ fn refusal_of(robin: &RoundRobin) -> Option<Refusal>
 }
 
 // Whether the keys of all games are valid.
-fn are_keys(alloc: Global, prefix: &str, games: &[Pairing]) -> Result<bool, AllocError> {
+fn are_keys(alloc: Global, prefix: &str, games: &[BoardPairing]) -> Result<bool, AllocError> {
     for game in games {
         let key = key_of(alloc, prefix, *game)?;
         if !is_name(key.as_str()) {
@@ -146,7 +145,7 @@ fn are_keys(alloc: Global, prefix: &str, games: &[Pairing]) -> Result<bool, Allo
 fn seated(
     alloc: Global,
     robin: &RoundRobin,
-    games: &[Pairing],
+    games: &[BoardPairing],
     questions: Vec<Question>,
     moment: Moment,
 ) -> Result<Batch, AllocError>
@@ -169,10 +168,10 @@ fn seated(
 ///
 /// # Errors
 ///
-/// - `Unseated::Refused` with `BadValue` if there are fewer than 2 or more than 32 players, a name is invalid or occurs
+/// - `SeatError::Refused` with `BadValue` if there are fewer than 2 or more than 32 players, a name is invalid or occurs
 ///   twice, or a key is invalid; with `UnknownEvent` if the event's name is invalid.
-/// - `Unseated::Memory` if out of memory.
-pub fn seats_of(alloc: Global, robin: &RoundRobin, moment: Moment) -> Result<Batch, Unseated>
+/// - `SeatError::Memory` if out of memory.
+pub fn seats_of(alloc: Global, robin: &RoundRobin, moment: Moment) -> Result<Batch, SeatError>
     ensures requests { IfOk result (λ batch. map request_of batch.requests.items ≡
         map (seat_request robin.entry.now moment)
         (all_games (length robin.entry.now.names.items) robin.entry.now.is_double)) }
@@ -184,15 +183,15 @@ pub fn seats_of(alloc: Global, robin: &RoundRobin, moment: Moment) -> Result<Bat
 {
     let players = robin.names.as_slice().len();
     if players < FEWEST_PLAYERS || players > MOST_PLAYERS {
-        return Err(Unseated::Refused(Refusal::BadValue));
+        return Err(SeatError::Refused(Refusal::BadValue));
     }
     match refusal_of(robin) {
-        Some(refusal) => return Err(Unseated::Refused(refusal)),
+        Some(refusal) => return Err(SeatError::Refused(refusal)),
         None => {}
     }
     let games = rounds(alloc, players as u32, robin.is_double)?;
     if !are_keys(alloc, robin.prefix.as_str(), games.as_slice())? {
-        return Err(Unseated::Refused(Refusal::BadValue));
+        return Err(SeatError::Refused(Refusal::BadValue));
     }
     let questions = questions_for(alloc, robin.names.as_slice())?;
     Ok(seated(alloc, robin, games.as_slice(), questions, moment)?)

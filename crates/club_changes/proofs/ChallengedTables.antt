@@ -28,7 +28,7 @@ use Rattle.club_rows.specs.Tables.{challenge_row, row_of_game, rows_of_moves}
 use Rattle.club_rows.proofs.Proved.{challenge-put, scores_seated, seen-added}
 use Rattle.store_tables.proofs.Proved.{altered}
 use Rattle.store_tables.specs.declared.rows.Changes.{Changes}
-use Rattle.club_changes.specs.declared.decided.Decided.{Decided}
+use Rattle.club_changes.specs.declared.decided.CommandEffect.{CommandEffect}
 use Rattle.club_changes.specs.Challenged.{PutsBegun, AnswersTo, standing_after, begun_games, begun_seen}
 use Rattle.club_changes.specs.Steps.{Puts, PutRows, IsDecided, started, started_seen, started_scores, no_rows}
 use Rattle.club_changes.proofs.NextRows.{no_moves, first_of_game}
@@ -114,7 +114,7 @@ module _ (s : ClubState) (is_club : IsClub s) (moment : ℕ) where
       (subst (λ z. Puts changes moment (begun_rows s.events moment c (challenge_row c ∷ []) z)) stands begun.puts)
 
   -- where nothing is accepted, nothing is put
-  pub challenge_unmoved : (f : Challenge → ClubState) (shown : ChallengeDecision) (d : Decided)
+  pub challenge_unmoved : (f : Challenge → ClubState) (shown : ChallengeDecision) (d : CommandEffect)
       → IsTold shown d.outcome → d.changes ≡ None → IsDecided s (map_outcome f (challenge_outcome_of shown)) d
   challenge_unmoved f (decision.Accepted c answer) d told none = absurd told
   challenge_unmoved f (decision.Repeated answer) d told none =

@@ -29,9 +29,9 @@ use Rattle.club_rows.specs.Tables.{game_row, move_rows, number, row_of_game, row
 use Rattle.club_rows.proofs.Proved.{Kind, met_running, met_ended, scores_next, scores_stay, entry-alters, seen-stay}
 use Rattle.club_rows.proofs.Proved.{seen-table-set}
 use Rattle.store_tables.specs.Cells.{game_cells, score_cells}
-use Rattle.store_tables.specs.declared.rows.GameRecord.{GameRecord}
+use Rattle.store_tables.specs.declared.rows.GameTableRow.{GameTableRow}
 use Rattle.store_tables.specs.declared.rows.Changes.{Changes}
-use Rattle.club_changes.specs.declared.decided.Decided.{Decided}
+use Rattle.club_changes.specs.declared.decided.CommandEffect.{CommandEffect}
 use Rattle.club_rows.specs.Club.{both_games, ClubState, IsClub, tables}
 use Rattle.sqlite.specs.Order.{Row}
 use Rattle.store_tables.specs.Changed.{changed}
@@ -189,7 +189,7 @@ module _ {P M E T : Type 0} {laws : GameRules P M E T} {kind : GameKind} (k : Ki
   put_game id moment g at _ (Some c) p = absurd p
 
   -- what was decided in the game was decided in the club
-  pub decided_club : (id moment : ℕ) (who : Caller) (command : GameCommand) (g : Game M) (d : Decided)
+  pub decided_club : (id moment : ℕ) (who : Caller) (command : GameCommand) (g : Game M) (d : CommandEffect)
       → place s.games id ≡ Some (k.into g)
       → IsDecidedIn laws (terms_at (place s.events g.event)) id moment (tables s 14) g
       (game_step laws (terms_at (place s.events g.event)) g moment who command) d
@@ -206,7 +206,7 @@ module _ {P M E T : Type 0} {laws : GameRules P M E T} {kind : GameKind} (k : Ki
 
 -- ---- a game that starts
 
-pub seated_cells : {P M E T : Type 0} (laws : GameRules P M E T) (r : GameRecord) (row : GameRow E) (terms : Terms)
+pub seated_cells : {P M E T : Type 0} (laws : GameRules P M E T) (r : GameTableRow) (row : GameRow E) (terms : Terms)
     (p : Pairing) (id : ℕ) (key : Option (List ℕ)) (moment : ℕ) → IsTrue (is_budget terms.budget)
     → ((increment : ℕ) (declares : Bool)
     → IsRowOf laws (record { budget = terms.budget; increment = increment; declares = declares }) (seated key p moment)
@@ -239,7 +239,7 @@ started_seen_first events p id key moment Shogi is =
 
 -- ---- a game that there is not
 
-pub unknown_decided : (s : ClubState) (id : ℕ) (moment : ℕ) (who : Caller) (command : GameCommand) (d : Decided)
+pub unknown_decided : (s : ClubState) (id : ℕ) (moment : ℕ) (who : Caller) (command : GameCommand) (d : CommandEffect)
     → place s.games id ≡ None → d.outcome ≡ given_is.Refused (no_game_refusal who command) → d.changes ≡ None
     → IsDecided s (caller_step s moment who (on_game id command)) d
 unknown_decided s id moment who command d absent is none =

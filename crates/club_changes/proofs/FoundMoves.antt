@@ -24,7 +24,7 @@ use Rattle.club_rows.proofs.Proved.{Kind, same-numbers, rows-count}
 use Rattle.store_tables.specs.Cells.{move_cells}
 use Rattle.store_tables.specs.Content.{same_key}
 use Rattle.store_tables.proofs.Proved.{equal_from}
-use Rattle.club_changes.specs.Steps.{TellsMoves}
+use Rattle.club_changes.specs.Steps.{FindsMoveRows}
 use Rattle.club_changes.proofs.PutSame.{gathered_had, gathered_has, had_at, number_same, numbers_same}
 use Rattle.club_changes.proofs.NextRows.{entry_rows_at, moves_had}
 use Rattle.club_changes.proofs.ClubPlayed.{place_at}
@@ -106,7 +106,7 @@ module _ {P M E T : Type 0} {laws : GameRules P M E T} {kind : GameKind} (k : Ki
   pub id_of : (z : Row) → Has (move_rows laws terms id g) z → column z 0 ≡ number id
   id_of z has = moves_had both_games s.events id (k.into g) z (subst (λ l. Has l z) (sym (k.moves s.events id g)) has)
 
-  pub tells_moves : TellsMoves laws terms id g (tables s)
+  pub tells_moves : FindsMoveRows laws terms id g (tables s)
   tells_moves ply [] those =
       sym
       (no_row laws terms id g ply (λ z has is.

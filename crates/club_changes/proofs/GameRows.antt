@@ -27,11 +27,11 @@ use Rattle.club_rows.proofs.Proved.{Kind, seen-found}
 use Rattle.club_rows.specs.Tables.{number}
 use Rattle.store_tables.specs.Cells.{game_cells}
 use Rattle.store_tables.specs.Contents.{AreThose}
-use Rattle.store_tables.specs.declared.rows.GameRecord.{GameRecord}
+use Rattle.store_tables.specs.declared.rows.GameTableRow.{GameTableRow}
 use Rattle.club_rows.specs.Club.{ClubGame, both_games, ClubState, IsClub, tables}
-use Rattle.club_changes.specs.declared.decided.Decided.{Decided}
+use Rattle.club_changes.specs.declared.decided.CommandEffect.{CommandEffect}
 use Rattle.club_changes.specs.declared.stored.StoredGame.{StoredGame}
-use Rattle.club_changes.specs.Steps.{caller_step, game_in, TellsMoves, TellsSeen, IsRecordOf, IsDecided, IsDecidedIn}
+use Rattle.club_changes.specs.Steps.{caller_step, game_in, FindsMoveRows, FindsSeenRows, IsRecordOf, IsDecided, IsDecidedIn}
 use Rattle.club_changes.specs.Stored.{IsStoredGame}
 use Rattle.club_changes.proofs.NextRows.{first_of_game}
 use Rattle.club_changes.proofs.FoundMoves.{tells_moves}
@@ -104,7 +104,7 @@ module _ (s : ClubState) (is_club : IsClub s) where
       omega (arith, id_is, within)
 
   pub is_record : {P M E T : Type 0} {laws : GameRules P M E T} {kind : GameKind} (k : Kind laws kind) (id : ℕ)
-      (old : Game M) (row : GameRecord) → place s.games id ≡ Some (k.into old)
+      (old : Game M) (row : GameTableRow) → place s.games id ≡ Some (k.into old)
       → game_cells row ≡ game_in s id (k.into old) → IsRecordOf laws (terms_at (place s.events old.event)) id row old
   is_record k id old row at cells =
       let game = game_is k s is_club id old at in
@@ -199,7 +199,7 @@ stored_as {laws = laws} k s is_club id game stored at is kind_is =
 
 -- the table of positions tells what stood in a game of the club
 pub tells-seen : {P M E T : Type 0} {laws : GameRules P M E T} {kind : GameKind} (k : Kind laws kind) (s : ClubState)
-    (id : ℕ) (g : Game M) → place s.games id ≡ Some (k.into g) → TellsSeen laws id g (tables s)
+    (id : ℕ) (g : Game M) → place s.games id ≡ Some (k.into g) → FindsSeenRows laws id g (tables s)
 tells-seen {laws = laws} k s id g here =
     let (n, id_is, at) = place_at s.games id (k.into g) here in
     rw id_is
@@ -208,10 +208,10 @@ tells-seen {laws = laws} k s id g here =
 -- what was decided by the rules of its kind was decided in the club
 pub stored_decided : {P M E T : Type 0} {laws : GameRules P M E T} {kind : GameKind} (k : Kind laws kind)
     (s : ClubState) → IsClub s → (id : ℕ) (game : ClubGame) (stored : StoredGame) (moment : ℕ) (who : Caller)
-    (command : GameCommand) (d : Decided) → s.last ≤ moment → place s.games id ≡ Some game
+    (command : GameCommand) (d : CommandEffect) → s.last ≤ moment → place s.games id ≡ Some game
     → IsStoredGame s id game stored → stored.kind ≡ kind
-    → ((old : Game M) → TellsSeen laws stored.id old (tables s)
-    → TellsMoves laws (terms_given stored.terms) stored.id old (tables s)
+    → ((old : Game M) → FindsSeenRows laws stored.id old (tables s)
+    → FindsMoveRows laws (terms_given stored.terms) stored.id old (tables s)
     → IsRecordOf laws (terms_given stored.terms) stored.id stored.row old
     → (clocks_of old (terms_given stored.terms)).since ≤ moment
     → IsDecidedIn laws (terms_given stored.terms) stored.id moment (tables s 14) old
@@ -220,8 +220,8 @@ pub stored_decided : {P M E T : Type 0} {laws : GameRules P M E T} {kind : GameK
 stored_decided {laws = laws} k s is_club id game stored moment who command d later at is kind_is step =
     let (g, of) = stored_as k s is_club id game stored at is kind_is in
     let since = no_later k s is_club id g (terms_given stored.terms) of.here in
-    let tells = subst (λ i. TellsSeen laws i g (tables s)) (sym is.id_is) (tells-seen k s id g of.here) in
-    let plays = subst₂ (λ t i. TellsMoves laws t i g (tables s)) (sym of.terms) (sym is.id_is)
+    let tells = subst (λ i. FindsSeenRows laws i g (tables s)) (sym is.id_is) (tells-seen k s id g of.here) in
+    let plays = subst₂ (λ t i. FindsMoveRows laws t i g (tables s)) (sym of.terms) (sym is.id_is)
     (tells_moves k s id g of.here) in
     let decided = step g tells plays of.is_row (omega (arith, since, later)) in
     decided_club k s id moment who command g d of.here

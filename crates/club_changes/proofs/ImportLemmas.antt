@@ -31,7 +31,7 @@ use Rattle.club_core.specs.Members.{find_id}
 use Rattle.club_requests.specs.Outcome.{Outcome, accepted, repeated, refused, map_outcome, by_officer}
 use Rattle.club_requests.specs.Outcome.{game_seated}
 use Rattle.club_core.specs.declared.seats.KeyedGame.{KeyedGame}
-use Rattle.club_core.specs.Seats.{has_member_name, are_two}
+use Rattle.club_core.specs.Seats.{has_member_name, are_distinct}
 use Rattle.club_core.specs.State.{draughts, shogi, place, kind_at, terms_at, any_under, draughts_in, shogi_in}
 use Rattle.club_core.specs.State.{state_after, with_imported, import_looked_up, import_as, import_record}
 use Rattle.club_core.proofs.Proved.{none-holds}
@@ -46,9 +46,9 @@ use Rattle.club_changes.specs.declared.imported.added.NewRows.{NewRows}
 use Rattle.store_tables.specs.Cells.{game_cells, move_cells, seen_cells}
 use Rattle.store_tables.specs.Changed.{changed}
 use Rattle.store_tables.specs.declared.rows.Changes.{Changes}
-use Rattle.club_changes.specs.declared.decided.Decided.{Decided}
+use Rattle.club_changes.specs.declared.decided.CommandEffect.{CommandEffect}
 use Rattle.club_changes.specs.declared.stored.StoredGame.{StoredGame}
-use Rattle.club_changes.specs.declared.imports.Known.{Known}
+use Rattle.club_changes.specs.declared.imports.ImportContext.{ImportContext}
 use Rattle.club_changes.specs.Importing.{TellsLine, IsUnder, IsKnown, IsOfKind, imported_by, PutsNewGame, PutsImport}
 use Rattle.club_changes.specs.Importing.{IsImportedIn}
 use Rattle.club_changes.specs.Steps.{AreSame, Puts, caller_step, IsDecided, changed_if, no_rows}
@@ -121,7 +121,7 @@ pub record AddsNext {M : Type 0} (games : ℕ) (i : Imported M) (id : ℕ) : Typ
   pub apart : i.pairing.first ≢ i.pairing.second
 
 between_adds : {M : Type 0} (event : ℕ) (first second : Option ℕ) (games : ℕ) (read : Reading M) (i : Imported M)
-    (id : ℕ) → are_two first second ≡ true → accepted i (game_seated id) ≡ import_between event first second games read
+    (id : ℕ) → are_distinct first second ≡ true → accepted i (game_seated id) ≡ import_between event first second games read
     → AddsNext games i id
 between_adds event None second games (record_is.game r) i id two is = cc
 between_adds event (Some one) None games (record_is.game r) i id two is = cc
@@ -152,7 +152,7 @@ module _ {P M E T : Type 0} (laws : GameRules P M E T) (records : GameRecords M)
         (import_refusal laws records given event first second under old games)
         (import_between event first second games admitted) i (game_seated id) is in
         let tests = none-holds (import_tests laws records given event first second under old games) allowed in
-        let good = three-true (is_name given.key) (are_two first second) (has_part read) (not-false _ tests.1.0) in
+        let good = three-true (is_name given.key) (are_distinct first second) (has_part read) (not-false _ tests.1.0) in
         between_adds event first second games admitted i id good.1 added
 
 -- ---- in the club
@@ -207,7 +207,7 @@ module _ {P M E T : Type 0} {laws : GameRules P M E T} {kind : GameKind} (k : Ki
     put_import (Member m) look (Some c) p = absurd p
 
     -- what was decided by the records of the event's kind was decided in the club
-    pub import_decided : (who : Caller) (known : Known) (d : Decided) → IsKnown s given.key known
+    pub import_decided : (who : Caller) (known : ImportContext) (d : CommandEffect) → IsKnown s given.key known
         → event_kind s.events given.event ≡ kind
         → IsImportedIn laws (events_of known.events.items) given.key known.games moment (tables s 14)
         (imported_by laws records known who given (of.of_kind (any_under s.games given.key))) d
@@ -226,7 +226,7 @@ module _ {P M E T : Type 0} {laws : GameRules P M E T} {kind : GameKind} (k : Ki
 -- ---- by what the program answers
 
 module _ {P M E T : Type 0} (laws : GameRules P M E T) (events : List Event) (key : List ℕ) (games moment : ℕ)
-    (table : List Row) (d : Decided) (after : Outcome (Imported M)) where
+    (table : List Row) (d : CommandEffect) (after : Outcome (Imported M)) where
   pub repeated_in : (id : ℕ) → d.outcome ≡ given_is.Repeated (answer_is.Game id) → d.changes ≡ None
       → ◌≡◌ {A = Outcome (Imported M)} (repeated (game_seated id)) after
       → IsImportedIn laws events key games moment table after d
@@ -281,7 +281,7 @@ put_as laws terms id moment game rows scores c are puts =
     rw (are.game_is, are.moves_are, are.seen_are) at puts
 
 -- what an import answers by the members and the events is what it answers by what is known
-pub by_known : {P M E T : Type 0} (laws : GameRules P M E T) (records : GameRecords M) (known : Known) (who : Caller)
+pub by_known : {P M E T : Type 0} (laws : GameRules P M E T) (records : GameRecords M) (known : ImportContext) (who : Caller)
     (given : Import) (old : Option (Game M)) (ms : List given_member.Member) (es : List given_event.Event)
     → ms ≡ known.members.items → es ≡ known.events.items
     → by_officer who

@@ -31,7 +31,7 @@ use Rattle.club_rows.specs.Tables.{row_of_game, rows_of_moves, rows_of_seen, gat
 use Rattle.club_rows.proofs.Proved.{columns-are, draughts_laws, in_draughts, in_shogi, met_ended, met_running}
 use Rattle.club_rows.proofs.Proved.{none-read, shogi_laws}
 use Rattle.store_tables.specs.Cells.{game_cells}
-use Rattle.store_tables.specs.declared.rows.GameRecord.{GameRecord}
+use Rattle.store_tables.specs.declared.rows.GameTableRow.{GameTableRow}
 use Rattle.club_changes.specs.Ended.{cells_lost}
 use Rattle.club_changes.specs.Late.{late_side}
 use Rattle.club_changes.specs.Swept.{LeavesOthers}
@@ -50,7 +50,7 @@ then_none false x is = refl
 -- ---- what a game's row tells of a sweep
 
 -- a game with these columns that has not ended is late and ends so; what it meets, and its row, where it has ended
-pub record IsLost (late : Bool) (c : Columns) (met met_after : List Meeting) (row_after : Row) (row : GameRecord)
+pub record IsLost (late : Bool) (c : Columns) (met met_after : List Meeting) (row_after : Row) (row : GameTableRow)
     (score : Score) : Type 0 where
   pub late_is : late ≡ true
   pub cells : cells_lost row score ≡ row_after
@@ -60,7 +60,7 @@ pub record IsLost (late : Bool) (c : Columns) (met met_after : List Meeting) (ro
 
 -- the side that the columns show as late, or none, tells whether the game is late
 pub record TellsLate (moment : ℕ) (late : Bool) (c : Columns) (met met_after : List Meeting) (row_after : Row)
-    (row : GameRecord) : Type 0 where
+    (row : GameTableRow) : Type 0 where
   pub in_time : late_side c moment ≡ None → late ≡ false
   pub lost : (side : Side) (score : Score) → late_side c moment ≡ Some side → score ≡ loses side
       → IsLost late c met met_after row_after row score
@@ -68,7 +68,7 @@ pub record TellsLate (moment : ℕ) (late : Bool) (c : Columns) (met met_after :
 -- ---- one game
 
 module _ {P M E T : Type 0} (laws : GameRules P M E T) (are : AreRules laws) (events : List Event) (id moment : ℕ)
-    (game : Game M) (row : GameRecord) (is : IsRecordOf laws (terms_at (place events game.event)) id row game) where
+    (game : Game M) (row : GameTableRow) (is : IsRecordOf laws (terms_at (place events game.event)) id row game) where
   abbrev its_terms : Terms
   its_terms = terms_at (place events game.event)
 
@@ -132,20 +132,20 @@ module _ {P M E T : Type 0} (laws : GameRules P M E T) (are : AreRules laws) (ev
 
 module _ (s : ClubState) (is_club : IsClub s) (id : ℕ) where
   -- of its row something is read
-  pub was_read : (g : ClubGame) (row : GameRecord) → place s.games id ≡ Some g
+  pub was_read : (g : ClubGame) (row : GameTableRow) → place s.games id ≡ Some g
       → game_cells row ≡ row_of_game both_games s.events id g → IsReadAs (game_cells row) None → ⊥
   was_read (draughts game) row at cells = none-read both_games.draughts (terms_at (place s.events game.event)) id game
       row (is_record s is_club in_draughts id game row at cells) draughts-numbers_are_few
   was_read (shogi game) row at cells = none-read both_games.shogi (terms_at (place s.events game.event)) id game row
       (is_record s is_club in_shogi id game row at cells) shogi-numbers_are_few
 
-  abbrev pub TellsLateIn : ℕ → ClubGame → GameRecord → Columns → Type 0
+  abbrev pub TellsLateIn : ℕ → ClubGame → GameTableRow → Columns → Type 0
   TellsLateIn moment g row c =
       let after = swept_any both_games s moment g in
       TellsLate moment (is_late_any both_games s moment g) c (meetings_in both_games g) (meetings_in both_games after)
       (row_of_game both_games s.events id after) row
 
-  pub tells_late : (moment : ℕ) (g : ClubGame) (row : GameRecord) (c : Columns) → place s.games id ≡ Some g
+  pub tells_late : (moment : ℕ) (g : ClubGame) (row : GameTableRow) (c : Columns) → place s.games id ≡ Some g
       → game_cells row ≡ row_of_game both_games s.events id g → game_cells row ≡ stored_cells c
       → TellsLateIn moment g row c
   tells_late moment (draughts game) row c at cells = tells both_games.draughts draughts_laws s.events id moment game row

@@ -28,7 +28,7 @@ use Rattle.club_core.proofs.Proved.{none-holds}
 use Rattle.club_laws.proofs.Proved.{unmoved, not-false, three-true}
 use Rattle.club_rows.specs.Tables.{member_row, event_row, rule_row, row_of_game, rows_of_moves, meta_row}
 use Rattle.store_tables.specs.declared.rows.Changes.{Changes}
-use Rattle.club_changes.specs.declared.decided.Decided.{Decided}
+use Rattle.club_changes.specs.declared.decided.CommandEffect.{CommandEffect}
 use Rattle.club_rows.specs.Club.{both_games, ClubGame, ClubState, IsClub, tables}
 use Rattle.club_changes.specs.Steps.{request, club_step, caller_step, started, started_seen, started_scores, AreSame}
 use Rattle.club_changes.specs.Steps.{HaveSame, Puts, PutRows, no_rows, IsDecided, changed_if}
@@ -57,7 +57,7 @@ accepted_alike (repeated reply) = refl
 accepted_alike (refused refusal) = refl
 
 -- where nothing was accepted, nothing is put
-pub none_decided : (s : ClubState) (after : Outcome ClubState) (d : Decided) (o : given.Outcome) → d.outcome ≡ o
+pub none_decided : (s : ClubState) (after : Outcome ClubState) (d : CommandEffect) (o : given.Outcome) → d.outcome ≡ o
     → d.changes ≡ None → outcome_of o ≡ answered after → is_accepted (outcome_of o) ≡ false → IsDecided s after d
 none_decided s after d o is none answer not_accepted =
     let stays = unmoved s after (sym (accepted_alike after) ∙ (ap is_accepted (sym answer) ∙ not_accepted)) in
@@ -104,7 +104,7 @@ module _ {T : Type 0} (s : ClubState) (f : T → ClubState) where
   officer_stands Officer (refused refusal) t reply is = cc
 
   -- where the officer's command is not accepted, nothing is put
-  pub officer_none : (who : Caller) (step : Outcome T) (d : Decided) (o : given.Outcome) → d.outcome ≡ o
+  pub officer_none : (who : Caller) (step : Outcome T) (d : CommandEffect) (o : given.Outcome) → d.outcome ≡ o
       → d.changes ≡ None → outcome_of o ≡ answered (by_officer who step) → is_accepted (outcome_of o) ≡ false
       → IsDecided s (by_officer who (map_outcome f step)) d
   officer_none who step d o is none answer not_accepted =
@@ -243,14 +243,14 @@ seat_decided s moment who key event first second p id c club answer are running 
 -- ---- who asks
 
 pub caller_decided : (s : ClubState) (moment effective : ℕ) (who : given_who.Who) (caller : Caller)
-    (command : given_command.Command) (d : Decided) → effective ≡ max moment s.last
+    (command : given_command.Command) (d : CommandEffect) → effective ≡ max moment s.last
     → Some caller ≡ caller_of s.members (who_of who)
     → IsDecided s (caller_step s effective caller (command_of command)) d
     → IsDecided s (club_step s (request who command moment)) d
 caller_decided s moment effective who caller command d moment_is caller_is decided =
     rw (← caller_is, ← moment_is) decided
 
-pub nobody_decided : (s : ClubState) (moment : ℕ) (who : given_who.Who) (command : given_command.Command) (d : Decided)
+pub nobody_decided : (s : ClubState) (moment : ℕ) (who : given_who.Who) (command : given_command.Command) (d : CommandEffect)
     → None ≡ caller_of s.members (who_of who) → d.outcome ≡ given_is.Refused UnknownKey → d.changes ≡ None
     → IsDecided s (club_step s (request who command moment)) d
 nobody_decided s moment who command d nobody is none =

@@ -15,7 +15,7 @@ use Rattle.club_rules.specs.Line.{IsLegalLine, times_stood, FirstStands}
 use Rattle.club_rules.proofs.Proved.{IsLegalLine-append}
 use Rattle.club_requests.specs.declared.answers.Answer.{Answer}
 use Rattle.club_requests.specs.declared.answers.Answer.TheVariants as answer_is
-use Rattle.club_requests.specs.declared.answers.Moved.{Moved}
+use Rattle.club_requests.specs.declared.answers.MoveAnswer.{MoveAnswer}
 use Rattle.club_core.specs.declared.decided.Decision.{Decision}
 use Rattle.club_core.specs.declared.decided.Decision.TheVariants as decision
 use Rattle.club_requests.specs.declared.answers.Outcome as given
@@ -43,12 +43,12 @@ use Rattle.club_core.specs.Step.{move_at, checked}
 use Rattle.club_core.specs.Step.{game_step, reply_of_move, move_tests, offer_tests, accept_tests, resign_tests}
 use Rattle.club_core.specs.Step.{claim_tests, repeat_of_declare, declare_tests}
 use Rattle.club_core.specs.declared.settling.Settled.{Settled}
-use Rattle.club_core.specs.View.{concluded, HasMade, IsConcluded, IsMade, IsRowOf, Stood}
+use Rattle.club_core.specs.View.{concluded, HasMade, IsConcluded, IsMade, IsRowOf, RepetitionIfMoved}
 use Rattle.club_core.proofs.Proved.{AreRules, checked-legal, none-holds, reply-played, moves_of-played, made-played}
 use Rattle.club_rows.specs.Tables.{game_row, move_rows, entry_rows, with_entry, at_start}
 use Rattle.club_rows.proofs.Proved.{made-last, rows-alike, seen-row-stays, spend-since, is_some-none}
 use Rattle.store_tables.specs.declared.rows.Changes.{Changes}
-use Rattle.club_changes.specs.declared.decided.Decided.{Decided}
+use Rattle.club_changes.specs.declared.decided.CommandEffect.{CommandEffect}
 use Rattle.sqlite.specs.Order.{Row}
 use Rattle.store_tables.specs.Changed.{changed}
 use Rattle.club_changes.specs.declared.game.DerivedRows.{DerivedRows}
@@ -180,7 +180,7 @@ module _ {P M E T : Type 0} (laws : GameRules P M E T) (terms : Terms) (g : Game
       → IsSeenRow laws id new (laws.write_position (last_position laws new)) (seen_cells row)
       → (times ≡ times_stood laws laws.start (moves_of new)) × FirstStands laws laws.start (moves_of new) first) where
     pub seen_stood : {R : Type 0} (o : Outcome (Game M)) → HasLegalLine o → (d : Decision R P M E T)
-        → IsSeenAfter laws id o d seen → Stood laws o d times first
+        → IsSeenAfter laws id o d seen → RepetitionIfMoved laws o d times first
     seen_stood (accepted new reply) line (decision.Accepted given (Some made) answer) (row, seen_is, is) =
         tells row seen_is id new line is
     seen_stood (repeated reply) line (decision.Accepted given (Some made) answer) is = tt
@@ -269,7 +269,7 @@ IsTold (decision.Refused why) told = told ≡ given_is.Refused why
 module _ {P M E T : Type 0} (laws : GameRules P M E T) (terms : Terms) (id : ℕ) (g : Game M) (moment : ℕ)
     (table : List Row) where
   -- then nothing is put
-  pub none_given : {R : Type 0} (o : Outcome (Game M)) (shown : Decision R P M E T) (d : Decided)
+  pub none_given : {R : Type 0} (o : Outcome (Game M)) (shown : Decision R P M E T) (d : CommandEffect)
       → IsConcluded laws terms g o shown → IsTold shown d.outcome → d.changes ≡ None
       → IsDecidedIn laws terms id moment table g o d
   none_given (repeated reply) (decision.Repeated answer) d is told none =
@@ -289,7 +289,7 @@ rows_stay laws terms id new g start entries =
     ∙ ap (entry_rows laws terms id (at_start g)) entries
 
 -- an answer to a move
-moved_answer : (answer : Answer) (r : MoveReply) → reply_of answer ≡ moved r → (mv : Moved)
+moved_answer : (answer : Answer) (r : MoveReply) → reply_of answer ≡ moved r → (mv : MoveAnswer)
     × (answer ≡ answer_is.Moved mv)
 moved_answer (answer_is.Moved mv) r is = (mv, refl)
 moved_answer _ r is = cc

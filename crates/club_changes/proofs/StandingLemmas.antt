@@ -19,8 +19,8 @@ use Rattle.store_tables.proofs.Proved.{put_had, put_kept, altered}
 use Rattle.club_rows.specs.NextScores.{AreNext, IsFound, pair_of, pair_cells, row_with, sums_found}
 use Rattle.club_rows.specs.Scores.{Meeting, meetings, same_pair, score_rows}
 use Rattle.club_rows.specs.declared.scores.Pair.{Pair}
-use Rattle.club_rows.specs.declared.scores.ScorePair.{ScorePair}
-use Rattle.club_rows.specs.declared.scores.Sums.{Sums}
+use Rattle.club_rows.specs.declared.scores.ScoreRows.{ScoreRows}
+use Rattle.club_rows.specs.declared.scores.ScoreSums.{ScoreSums}
 use Rattle.club_rows.proofs.Proved.{pair_key, pair_same, pair_itself, keys_same, keys_agree, rows_alter}
 use Rattle.club_changes.specs.Standing.{AreStanding, PutsRows}
 use Rattle.club_rows.specs.Pairs.{pair_in}
@@ -47,7 +47,7 @@ pub record Comes (was now : List Row) (row : ScoreRow) : Type 0 where
   pub stays : (z : Row) → Has was z → same_key pair_key z (score_cells row) ≡ false → Has now z
   pub from : (z : Row) → Has now z → Has was z ⊎ (z ≡ score_cells row)
 
-module _ (was now : List Row) (row : ScoreRow) (comes : Comes was now row) (old new : Pair → Option Sums)
+module _ (was now : List Row) (row : ScoreRow) (comes : Comes was now row) (old new : Pair → Option ScoreSums)
     (stand : AreStanding old was)
     (adds : (pair : Pair) → new pair ≡ cond (same_pair (pair_in row) pair) (Some (sums_found (Some row))) (old pair))
   where
@@ -60,7 +60,7 @@ module _ (was now : List Row) (row : ScoreRow) (comes : Comes was now row) (old 
     clash pair apart is =
         true≢false (sym (subst (λ p. same_pair (pair_in row) p ≡ true) is (pair_itself (pair_in row))) ∙ apart)
 
-    found_there : (pair : Pair) → same_pair (pair_in row) pair ≡ false → (sums : Option Sums)
+    found_there : (pair : Pair) → same_pair (pair_in row) pair ≡ false → (sums : Option ScoreSums)
         → IsFound was pair (option_map (row_with pair) sums) → IsFound now pair (option_map (row_with pair) sums)
     found_there pair apart None none = λ z h at. elim (comes.from z h) [
       | inl stood ↦ none z stood at
@@ -101,17 +101,17 @@ found_same : (one other : List Row) (pair : Pair) (found : Option ScoreRow) → 
 found_same one other pair None same none = λ z h at. none z (same.back z h) at
 found_same one other pair (Some row) same found = (same.there _ found.0, found.1)
 
-pub stand_same : (sums : Pair → Option Sums) (one other : List Row) → HaveSame one other → AreStanding sums one
+pub stand_same : (sums : Pair → Option ScoreSums) (one other : List Row) → HaveSame one other → AreStanding sums one
     → AreStanding sums other
 stand_same sums one other same stand pair =
     found_same one other pair (option_map (row_with pair) (sums pair)) same (stand pair)
 
 -- ---- the rows of a table, one after another
 
-pub stand_start : (sums : Pair → Option Sums) → ((pair : Pair) → sums pair ≡ None) → AreStanding sums []
+pub stand_start : (sums : Pair → Option ScoreSums) → ((pair : Pair) → sums pair ≡ None) → AreStanding sums []
 stand_start sums none pair = rw (none pair) (λ z h at. absurd h)
 
-pub stand_more : (rows : List ScoreRow) (k : ℕ) (row : ScoreRow) (old new : Pair → Option Sums)
+pub stand_more : (rows : List ScoreRow) (k : ℕ) (row : ScoreRow) (old new : Pair → Option ScoreSums)
     → slice_get rows k ≡ Some row → AreStanding old (map score_cells (take k rows))
     → ((pair : Pair) → new pair ≡ cond (same_pair (pair_in row) pair) (Some (sums_found (Some row))) (old pair))
     → AreStanding new (map score_cells (take (k + 1) rows))
@@ -120,7 +120,7 @@ stand_more rows k row old new at stand adds =
     (stand_next (map score_cells (take k rows)) (map score_cells (take k rows) ++ score_cells row ∷ []) row
     (comes_last (map score_cells (take k rows)) row) old new stand adds)
 
-pub stand_all : (rows : List ScoreRow) (k : ℕ) (sums : Pair → Option Sums) (all : List Row) → k ≡ length rows
+pub stand_all : (rows : List ScoreRow) (k : ℕ) (sums : Pair → Option ScoreSums) (all : List Row) → k ≡ length rows
     → AreStanding sums (map score_cells (take k rows)) → HaveSame (map score_cells rows) all → AreStanding sums all
 stand_all rows k sums all end stand same =
     stand_same sums (map score_cells rows) all same
@@ -128,8 +128,8 @@ stand_all rows k sums all end stand same =
 
 -- ---- the rows of two players
 
-module _ (before after : List Meeting) (event first second : ℕ) (score : Score) (pair : ScorePair)
-    (old mid new : Pair → Option Sums) where
+module _ (before after : List Meeting) (event first second : ℕ) (score : Score) (pair : ScoreRows)
+    (old mid new : Pair → Option ScoreSums) where
   abbrev was : List Row
   was = score_rows (before ++ after)
 

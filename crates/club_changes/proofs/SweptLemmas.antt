@@ -16,7 +16,7 @@ use Rattle.squares.specs.Sides.{loses}
 use Rattle.store_tables.specs.Cells.{game_cells, score_cells}
 use Rattle.store_tables.specs.Changes.{HaveSame, put_rows}
 use Rattle.store_tables.specs.Content.{put}
-use Rattle.store_tables.specs.declared.rows.GameRecord.{GameRecord}
+use Rattle.store_tables.specs.declared.rows.GameTableRow.{GameTableRow}
 use Rattle.store_tables.specs.declared.rows.ScoreRow.{ScoreRow}
 use Rattle.store_tables.proofs.Proved.{same_then, put_had, put_kept, altered}
 use Rattle.club_core.specs.State.{place, is_late_any, swept_any}
@@ -25,7 +25,7 @@ use Rattle.club_rows.specs.Columns.{Columns, IsReadAs, stored_cells}
 use Rattle.club_rows.specs.Scores.{Meeting, meetings, meetings_in, score_rows, scores_in}
 use Rattle.club_rows.specs.Tables.{gathered_from, row_of_game}
 use Rattle.club_rows.specs.declared.scores.Pair.{Pair}
-use Rattle.club_rows.specs.declared.scores.Sums.{Sums}
+use Rattle.club_rows.specs.declared.scores.ScoreSums.{ScoreSums}
 use Rattle.club_changes.specs.Ended.{cells_lost}
 use Rattle.club_changes.specs.Late.{late_side}
 use Rattle.club_changes.specs.Standing.{AreStanding, PutsRows}
@@ -88,7 +88,7 @@ module _ (s : ClubState) (moment : ℕ) where
   met n = meets (map after (take n s.games)) ++ meets (drop n s.games)
 
 -- where the game of these columns ends so, the rows of its players' scores are put
-abbrev pub Puts : Columns → Score → (sums sums_now : Pair → Option Sums) → (changed changed_now : List ScoreRow)
+abbrev pub Puts : Columns → Score → (sums sums_now : Pair → Option ScoreSums) → (changed changed_now : List ScoreRow)
     → Type 0
 Puts c score sums sums_now changed changed_now =
     (left right : List Meeting) → c.first ≢ c.second → AreStanding sums (score_rows (left ++ right))
@@ -97,19 +97,19 @@ Puts c score sums sums_now changed changed_now =
     changed_now
 
 -- what was put of scores makes the table of these meetings, and these sums stand for it
-abbrev Scores : ClubState → List ScoreRow → (Pair → Option Sums) → List Meeting → Type 0
+abbrev Scores : ClubState → List ScoreRow → (Pair → Option ScoreSums) → List Meeting → Type 0
 Scores s changed sums ms =
     HaveSame (put_rows (0 ∷ 1 ∷ 2 ∷ []) (map score_cells changed) (scores_in both_games s.games)) (score_rows ms)
     × AreStanding sums (score_rows ms)
 
 -- what was made of the first games, and what stands then
-pub record IsSweptTo (s : ClubState) (moment n : ℕ) (ended : List GameRecord) (changed : List ScoreRow)
-    (sums : Pair → Option Sums) : Type 0 where
+pub record IsSweptTo (s : ClubState) (moment n : ℕ) (ended : List GameTableRow) (changed : List ScoreRow)
+    (sums : Pair → Option ScoreSums) : Type 0 where
   pub ended_are : map game_cells ended ≡ ended_rows s moment (take n s.games)
   pub scores : Scores s changed sums (met s moment n)
 
-module _ (s : ClubState) (moment : ℕ) (is_club : IsClub s) (n : ℕ) (ended : List GameRecord)
-    (changed : List ScoreRow) (sums : Pair → Option Sums) (now : IsSweptTo s moment n ended changed sums) where
+module _ (s : ClubState) (moment : ℕ) (is_club : IsClub s) (n : ℕ) (ended : List GameTableRow)
+    (changed : List ScoreRow) (sums : Pair → Option ScoreSums) (now : IsSweptTo s moment n ended changed sums) where
   -- the games that end are no more than those of the club
   pub ended_few : length ended ≤ 5000
   ended_few =
@@ -134,8 +134,8 @@ module _ (s : ClubState) (moment : ℕ) (is_club : IsClub s) (n : ℕ) (ended : 
       omega (arith, long, games, taken, left, count, parts, both)
 
 module _ (s : ClubState) (moment : ℕ) where
-  module _ (is_club : IsClub s) (games : List GameRecord) (rows_are : map game_cells games ≡ tables s 10) (n : ℕ)
-      (game : GameRecord) (at : slice_get games n ≡ Some game) where
+  module _ (is_club : IsClub s) (games : List GameTableRow) (rows_are : map game_cells games ≡ tables s 10) (n : ℕ)
+      (game : GameTableRow) (at : slice_get games n ≡ Some game) where
     -- the game of the row
     game_here : (g : ClubGame) × (slice_get s.games n ≡ Some g) × (game_cells game ≡ row s moment (1 + n) g)
     game_here = numbered_at (row s moment) game_cells 1 games s.games rows_are n game at
@@ -176,7 +176,7 @@ module _ (s : ClubState) (moment : ℕ) where
       tells = tells_late s is_club (1 + n) moment g game c in_place game_here.2 read
 
       -- a game that is not late stays
-      pub stays_next : (ended : List GameRecord) (changed : List ScoreRow) (sums : Pair → Option Sums)
+      pub stays_next : (ended : List GameTableRow) (changed : List ScoreRow) (sums : Pair → Option ScoreSums)
           → late_side c moment ≡ None → IsSweptTo s moment n ended changed sums
           → IsSweptTo s moment (n + 1) ended changed sums
       stays_next ended changed sums none now =
@@ -190,8 +190,8 @@ module _ (s : ClubState) (moment : ℕ) where
           }
 
       -- a game that is late ends
-      pub ends_next : (score : Score) (side : Side) (lost : GameRecord) (ended ended_now : List GameRecord)
-          (changed changed_now : List ScoreRow) (sums sums_now : Pair → Option Sums)
+      pub ends_next : (score : Score) (side : Side) (lost : GameTableRow) (ended ended_now : List GameTableRow)
+          (changed changed_now : List ScoreRow) (sums sums_now : Pair → Option ScoreSums)
           → late_side c moment ≡ Some side → score ≡ loses side → game_cells lost ≡ cells_lost game score
           → ended_now ≡ ended ++ lost ∷ [] → Puts c score sums sums_now changed changed_now
           → IsSweptTo s moment n ended changed sums → IsSweptTo s moment (n + 1) ended_now changed_now sums_now
@@ -213,7 +213,7 @@ module _ (s : ClubState) (moment : ℕ) where
           }
 
   -- all games were looked at
-  pub swept_all : (games : List GameRecord) (n : ℕ) (rows : SweptRows) (sums : Pair → Option Sums)
+  pub swept_all : (games : List GameTableRow) (n : ℕ) (rows : SweptRows) (sums : Pair → Option ScoreSums)
       → map game_cells games ≡ tables s 10 → n ≡ length games → rows.count ≡ length rows.games.items
       → IsSweptTo s moment n rows.games.items rows.scores.items sums → IsSwept s moment rows
   swept_all games n rows sums rows_are end counted now =

@@ -13,7 +13,7 @@ use Rattle.club_rows.specs.Club.{both_games, ClubState}
 use Rattle.club_changes.specs.Swept.{IsSwept, LeavesOthers}
 use Rattle.club_changes.specs.declared.swept.rows.SweptRows.{SweptRows}
 use Rattle.club_changes.proofs.LateGames.{leaves_others}
-use Rattle.club_changes.specs.declared.decided.Decided.{Decided}
+use Rattle.club_changes.specs.declared.decided.CommandEffect.{CommandEffect}
 use Rattle.club_changes.specs.Steps.{Puts, caller_step, IsDecided, no_rows}
 use Rattle.club_changes.proofs.OutcomeLemmas.{all_decided, moment_put, none_decided}
 use Rattle.club_changes.proofs.PutSame.{◌&◌, same_by}
@@ -38,7 +38,7 @@ swept_decided s moment rows swept c are =
     & same_by _ _ (sym others.rules_stay) & tt)
 
 -- a sweep that a member asks for is refused
-pub member_refused : (s : ClubState) (moment : ℕ) (who : Caller) (id : ℕ) (d : Decided) → who ≡ Member id
+pub member_refused : (s : ClubState) (moment : ℕ) (who : Caller) (id : ℕ) (d : CommandEffect) → who ≡ Member id
     → d.outcome ≡ given_is.Refused NotAllowed → d.changes ≡ None → IsDecided s (caller_step s moment who sweep) d
 member_refused s moment who id d is outcome none =
     rw is

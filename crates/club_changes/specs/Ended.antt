@@ -7,10 +7,10 @@ use Rattle.squares.specs.declared.sides.Score.{Score}
 use Rattle.squares.specs.Sides.{score_text}
 use Rattle.club_requests.specs.declared.outside_end.OutsideEnd.TheVariants.{Time}
 use Rattle.club_requests.specs.OutsideEnd.{outside_text}
-use Rattle.store_tables.specs.declared.rows.GameRecord.{GameRecord}
+use Rattle.store_tables.specs.declared.rows.GameTableRow.{GameTableRow}
 
 -- the values of the row with the end `Time` and this score
-abbrev pub cells_lost : GameRecord → Score → Row
+abbrev pub cells_lost : GameTableRow → Score → Row
 cells_lost r score =
     Int r.id ∷ or_null (λ s. Text (string_bytes s)) r.key ∷ Int r.event ∷ Int r.first ∷ Int r.second ∷ Int r.start
     ∷ Int r.since ∷ Int r.plies ∷ Int r.left1 ∷ Int r.left2

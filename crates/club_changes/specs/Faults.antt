@@ -7,8 +7,8 @@ use Rattle.club_changes.specs.declared.swept.fault.SweepFault.TheVariants as swe
 
 abbrev pub fault_text : ChangeFault → List ℕ
 fault_text fault.Memory = codes "out of memory"
-fault_text fault.Unfit = codes "the rows are those of no club"
+fault_text fault.InconsistentRows = codes "the rows are those of no club"
 
 abbrev pub fault_of_sweep : SweepFault → ChangeFault
 fault_of_sweep sweep.Memory = fault.Memory
-fault_of_sweep sweep.Unfit = fault.Unfit
+fault_of_sweep sweep.InconsistentRows = fault.InconsistentRows

@@ -22,9 +22,9 @@ use Rattle.store_tables.specs.Contents.{Content, AreThose}
 use Rattle.store_tables.specs.declared.rows.Changes.{Changes}
 use Rattle.store_tables.specs.Names.{tree_of}
 use Rattle.store_tables.specs.declared.names.Table.TheVariants.{Moves}
-use Rattle.club_changes.specs.declared.decided.Decided.{Decided}
+use Rattle.club_changes.specs.declared.decided.CommandEffect.{CommandEffect}
 use Rattle.club_changes.specs.declared.stored.StoredGame.{StoredGame}
-use Rattle.club_changes.specs.declared.imports.Known.{Known}
+use Rattle.club_changes.specs.declared.imports.ImportContext.{ImportContext}
 use Rattle.club_changes.specs.Steps.{HaveSame, IsRecordOf, Puts, PutsScores, no_rows}
 use Rattle.club_changes.specs.Stored.{IsStoredGame}
 
@@ -51,7 +51,7 @@ IsUnder s key None = (any_under s.games key ≡ None) × (game_under s.games key
 IsUnder s key (Some stored) = IsUnderKey s key stored
 
 -- the state that an import under this key needs, taken from the club
-pub record IsKnown (s : ClubState) (key : List ℕ) (known : Known) : Type 0 where
+pub record IsKnown (s : ClubState) (key : List ℕ) (known : ImportContext) : Type 0 where
   pub members_are : members_of known.members.items ≡ s.members
   pub events_are : events_of known.events.items ≡ s.events
   pub keyed_is : known.keyed ≡ game_under s.games key
@@ -72,7 +72,7 @@ IsOfKind laws kind content (Some game) (Some stored) =
 -- ---- the effect
 
 -- the outcome of an import, from the known state and the game under the key if it is of the event's kind
-abbrev pub imported_by : {P M E T : Type 0} → GameRules P M E T → GameRecords M → Known → Caller → Import
+abbrev pub imported_by : {P M E T : Type 0} → GameRules P M E T → GameRecords M → ImportContext → Caller → Import
     → Option (Game M) → Outcome (Imported M)
 imported_by laws records known caller given old =
     by_officer caller
@@ -114,6 +114,6 @@ PutsImport laws events key games moment table (refused refusal) (Some changes) =
 
 -- The effect has the outcome of the import, and its rows to upsert over this table of scores.
 pub record IsImportedIn {P M E T : Type 0} (laws : GameRules P M E T) (events : List Event) (key : List ℕ)
-    (games moment : ℕ) (table : List Row) (after : Outcome (Imported M)) (decided : Decided) : Type 0 where
+    (games moment : ℕ) (table : List Row) (after : Outcome (Imported M)) (decided : CommandEffect) : Type 0 where
   pub answer : outcome_of decided.outcome ≡ answered after
   pub puts : PutsImport laws events key games moment table after decided.changes

@@ -7,14 +7,14 @@ use Rattle.store_tables.specs.Changes.{HaveSame, put_rows}
 use Rattle.store_tables.specs.declared.rows.ScoreRow.{ScoreRow}
 use Rattle.club_rows.specs.NextScores.{IsFound, row_with}
 use Rattle.club_rows.specs.declared.scores.Pair.{Pair}
-use Rattle.club_rows.specs.declared.scores.Sums.{Sums}
+use Rattle.club_rows.specs.declared.scores.ScoreSums.{ScoreSums}
 
 -- each pair has the sums of its row; None if it has no row
-abbrev pub AreStanding : (Pair → Option Sums) → List Row → Type 0
+abbrev pub AreStanding : (Pair → Option ScoreSums) → List Row → Type 0
 AreStanding sums rows = (pair : Pair) → IsFound rows pair (option_map (row_with pair) (sums pair))
 
 -- rows were added to those to upsert; with them the old table becomes the new one, which has these sums
-pub record PutsRows (was now : List Row) (sums : Pair → Option Sums) (old new : List ScoreRow) : Type 0 where
+pub record PutsRows (was now : List Row) (sums : Pair → Option ScoreSums) (old new : List ScoreRow) : Type 0 where
   pub rows : List Row
   pub more : map score_cells new ≡ map score_cells old ++ rows
   pub makes : HaveSame (put_rows (0 ∷ 1 ∷ 2 ∷ []) rows was) now

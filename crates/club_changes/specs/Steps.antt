@@ -32,7 +32,7 @@ use Rattle.club_rows.specs.Made.{made_row}
 use Rattle.club_rows.specs.NextScores.{AreNext, pair_of, IsFound as score_found}
 use Rattle.club_rows.specs.Scores.{Meeting, meetings_in}
 use Rattle.club_rows.specs.Seen.{seen_rows, IsSeenRow, IsFound}
-use Rattle.club_rows.specs.declared.scores.ScorePair.{ScorePair}
+use Rattle.club_rows.specs.declared.scores.ScoreRows.{ScoreRows}
 use Rattle.club_rows.specs.Tables.{meta_row, number, game_row, move_rows, row_of_game, rows_of_seen}
 use Rattle.store_tables.specs.Cells.{meta_cells, member_cells, event_cells, challenge_cells, move_cells, game_cells}
 use Rattle.store_tables.specs.Cells.{event_rule_cells, seen_cells, score_cells}
@@ -42,7 +42,7 @@ use Rattle.store_tables.specs.declared.rows.Changes.{Changes}
 use Rattle.store_tables.specs.declared.rows.MoveRow.{MoveRow}
 use Rattle.store_tables.specs.declared.rows.SeenRow.{SeenRow}
 use Rattle.store_tables.specs.declared.rows.ScoreRow.{ScoreRow}
-use Rattle.club_changes.specs.declared.decided.Decided.{Decided}
+use Rattle.club_changes.specs.declared.decided.CommandEffect.{CommandEffect}
 use Rattle.store_tables.specs.Changed.{changed}
 use Rattle.store_tables.specs.Names.{tree_of}
 use Rattle.store_tables.specs.declared.names.Table.TheVariants.{Moves, Seen}
@@ -117,7 +117,7 @@ seen_list None = []
 seen_list (Some row) = seen_cells row ∷ []
 
 -- the rows of the two players, if there are any
-abbrev pub score_list : Option ScorePair → List Row
+abbrev pub score_list : Option ScoreRows → List Row
 score_list None = []
 score_list (Some pair) = score_cells pair.first ∷ score_cells pair.second ∷ []
 
@@ -125,7 +125,7 @@ score_list (Some pair) = score_cells pair.first ∷ score_cells pair.second ∷ 
 pub record PutsScores (table : List Row) (event first second : ℕ) (score : Score) (rows : List Row) : Type 0 where
   pub firsts : Option ScoreRow
   pub seconds : Option ScoreRow
-  pub pair : ScorePair
+  pub pair : ScoreRows
   pub firsts_are : score_found table (pair_of event first second) firsts
   pub seconds_are : score_found table (pair_of event second first) seconds
   pub next : AreNext event first second score firsts seconds pair
@@ -182,15 +182,15 @@ left_answered (answer.Moved mv) = mv.left
 left_answered _ = 0
 
 -- a lookup of a position of this game in the content finds its row
-abbrev pub TellsSeen : {P M E T : Type 0} → GameRules P M E T → ℕ → Game M → Content → Type 0
-TellsSeen laws id game content =
+abbrev pub FindsSeenRows : {P M E T : Type 0} → GameRules P M E T → ℕ → Game M → Content → Type 0
+FindsSeenRows laws id game content =
     (text : List ℕ) (found : List SeenRow) →
     AreThose (0 ∷ 1 ∷ []) (number id ∷ Text text ∷ []) (content (tree_of Seen)) (map seen_cells found)
     → IsFound laws id game text (slice_get found 0)
 
 -- a lookup of a ply of this game in the content finds its row
-abbrev pub TellsMoves : {P M E T : Type 0} → GameRules P M E T → Terms → ℕ → Game M → Content → Type 0
-TellsMoves laws terms id game content =
+abbrev pub FindsMoveRows : {P M E T : Type 0} → GameRules P M E T → Terms → ℕ → Game M → Content → Type 0
+FindsMoveRows laws terms id game content =
     (ply : ℕ) (found : List MoveRow) → AreThose (0 ∷ 1 ∷ []) (number id ∷ number ply ∷ []) (content (tree_of Moves))
     (map move_cells found)
     → option_map move_cells (slice_get found 0) ≡ row_at laws terms id game ply
@@ -224,7 +224,7 @@ HasTwoPlayers (decision.Repeated answer) = Unit {0}
 HasTwoPlayers (decision.Refused refusal) = Unit {0}
 
 -- the rows of scores that a decision changes
-abbrev pub AreScoresAfter : {R P M E T : Type 0} → List Row → Decision R P M E T → Option ScorePair → Type 0
+abbrev pub AreScoresAfter : {R P M E T : Type 0} → List Row → Decision R P M E T → Option ScoreRows → Type 0
 AreScoresAfter table (decision.Accepted row made answer) scores =
     PutsScoresOf table row.event row.first row.second row.result (score_list scores)
 AreScoresAfter table (decision.Repeated answer) scores = Unit {0}
@@ -277,11 +277,11 @@ PutsGame laws terms id moment table old (refused refusal) (Some changes) = ⊥
 
 -- The effect has the outcome of the step in a game, and its rows to upsert over this table of scores.
 pub record IsDecidedIn {P M E T : Type 0} (laws : GameRules P M E T) (terms : Terms) (id moment : ℕ) (table : List Row)
-    (old : Game M) (after : Outcome (Game M)) (decided : Decided) : Type 0 where
+    (old : Game M) (after : Outcome (Game M)) (decided : CommandEffect) : Type 0 where
   pub answer : outcome_of decided.outcome ≡ answered after
   pub puts : PutsGame laws terms id moment table old after decided.changes
 
 -- The effect has the outcome of the step, and rows that turn the old state's tables into the new state's.
-pub record IsDecided (s : ClubState) (after : Outcome ClubState) (decided : Decided) : Type 0 where
+pub record IsDecided (s : ClubState) (after : Outcome ClubState) (decided : CommandEffect) : Type 0 where
   pub answer : outcome_of decided.outcome ≡ answered after
   pub rows : AreSame (changed_if decided.changes (tables s)) (tables (state_after s after))

@@ -5,4 +5,4 @@ use Rattle.club_changes.specs.declared.swept.fault.SweepFault.TheVariants as fau
 
 abbrev pub fault_text : SweepFault → List ℕ
 fault_text fault.Memory = codes "out of memory"
-fault_text fault.Unfit = codes "the rows are those of no club"
+fault_text fault.InconsistentRows = codes "the rows are those of no club"

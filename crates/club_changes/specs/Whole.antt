@@ -2,12 +2,12 @@
 use Rattle.std.specs.Prelude.{⊤, IfSome}
 use Rattle.club_requests.specs.declared.answers.Outcome.{Outcome}
 use Rattle.club_requests.specs.declared.answers.Outcome.TheVariants.{Accepted, Repeated, Refused}
-use Rattle.club_changes.specs.declared.decided.Decided.{Decided}
+use Rattle.club_changes.specs.declared.decided.CommandEffect.{CommandEffect}
 
 abbrev pub IsAccepted : Outcome → Type 0
 IsAccepted (Accepted answer) = ⊤
 IsAccepted (Repeated answer) = ⊥
 IsAccepted (Refused refusal) = ⊥
 
-abbrev pub IsWhole : Decided → Type 0
+abbrev pub IsWhole : CommandEffect → Type 0
 IsWhole decided = IfSome decided.changes (λ changes. IsAccepted decided.outcome)

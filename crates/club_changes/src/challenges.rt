@@ -13,7 +13,7 @@ ghost use Rattle.club_changes.specs.Challenged.{PutsBegun, AnswersTo, HasNoEvent
 ghost use Rattle.club_changes.specs.Steps.{Puts, IsDecided, no_rows};
 ghost use Rattle.club_changes.specs.Whole.{IsWhole};
 
-use crate::decided::{Decided, at, unchanged};
+use crate::decided::{CommandEffect, changes_at, without_changes};
 use crate::fault::ChangeFault;
 use crate::seats::seated_rows;
 use clocks::Moment;
@@ -44,21 +44,21 @@ pub fn put_challenge(
     alloc: Global,
     decision: ChallengeDecision,
     moment: Moment,
-) -> Result<Decided, Memory>
+) -> Result<CommandEffect, Memory>
     ensures acts { IfOk result IsWhole }
     ensures step { IfOk result (λ d. (s : ClubState) → IsClub s →
         IsDecided s (map_outcome (with_challenge s moment) (challenge_outcome_of decision)) d) }
 {
     match decision {
         ChallengeDecision::Accepted { challenge, answer } => {
-            let changes = with_challenge(at(alloc, moment), challenge)?;
-            Ok(Decided {
+            let changes = with_challenge(changes_at(alloc, moment), challenge)?;
+            Ok(CommandEffect {
                 outcome: Outcome::Accepted(answer),
                 changes: Some(changes),
             })
         }
-        ChallengeDecision::Repeated(answer) => Ok(unchanged(Outcome::Repeated(answer))),
-        ChallengeDecision::Refused(refusal) => Ok(unchanged(Outcome::Refused(refusal))),
+        ChallengeDecision::Repeated(answer) => Ok(without_changes(Outcome::Repeated(answer))),
+        ChallengeDecision::Refused(refusal) => Ok(without_changes(Outcome::Refused(refusal))),
     }
 }
 
@@ -71,7 +71,7 @@ fn begun_rows(
 ) -> Result<Changes, ChangeFault>
     ensures puts { IfOk result (λ changes. Each IsLegalEvent (events_of events.now) →
         PutsBegun (events_of events.now) moment challenge [] changes) }
-    ensures unfit { IsErrOf result ChangeFault.Unfit →
+    ensures unfit { IsErrOf result ChangeFault.InconsistentRows →
         place (events_of events.now) (pairing_for challenge).event ≡ None }
 {
     match challenge.standing {
@@ -79,7 +79,7 @@ fn begun_rows(
             let pairing = challenge.pairing();
             seated_rows(alloc, events, KeyedGame { game, pairing }, None, moment)
         }
-        _ => Ok(at(alloc, moment)),
+        _ => Ok(changes_at(alloc, moment)),
     }
 }
 
@@ -92,7 +92,7 @@ fn answered_rows(
 ) -> Result<Changes, ChangeFault>
     ensures puts { IfOk result (λ changes. Each IsLegalEvent (events_of events.now) →
         PutsBegun (events_of events.now) moment challenge (challenge_row challenge ∷ []) changes) }
-    ensures unfit { IsErrOf result ChangeFault.Unfit →
+    ensures unfit { IsErrOf result ChangeFault.InconsistentRows →
         place (events_of events.now) (pairing_for challenge).event ≡ None }
 {
     let changes = begun_rows(alloc, events, challenge, moment)?;
@@ -103,30 +103,30 @@ fn answered_rows(
 ///
 /// # Errors
 ///
-/// - `Unfit` if an accepted challenge's event does not exist.
+/// - `InconsistentRows` if an accepted challenge's event does not exist.
 /// - `Memory` if out of memory.
 pub fn put_answered(
     alloc: Global,
     events: &[Event],
     decision: ChallengeDecision,
     moment: Moment,
-) -> Result<Decided, ChangeFault>
+) -> Result<CommandEffect, ChangeFault>
     ensures acts { IfOk result IsWhole }
     ensures step { IfOk result (λ d. (s : ClubState) (accept : Bool) → IsClub s → events_of events.now ≡ s.events →
         AnswersTo (length s.games) accept (challenge_outcome_of decision) →
         IsDecided s (map_outcome (with_answer s moment accept) (challenge_outcome_of decision)) d) }
     // Every challenge of a legal club has an event.
-    ensures unfit { IsErrOf result ChangeFault.Unfit → HasNoEvent (events_of events.now) decision }
+    ensures unfit { IsErrOf result ChangeFault.InconsistentRows → HasNoEvent (events_of events.now) decision }
 {
     match decision {
         ChallengeDecision::Accepted { challenge, answer } => {
             let changes = answered_rows(alloc, events, challenge, moment)?;
-            Ok(Decided {
+            Ok(CommandEffect {
                 outcome: Outcome::Accepted(answer),
                 changes: Some(changes),
             })
         }
-        ChallengeDecision::Repeated(answer) => Ok(unchanged(Outcome::Repeated(answer))),
-        ChallengeDecision::Refused(refusal) => Ok(unchanged(Outcome::Refused(refusal))),
+        ChallengeDecision::Repeated(answer) => Ok(without_changes(Outcome::Repeated(answer))),
+        ChallengeDecision::Refused(refusal) => Ok(without_changes(Outcome::Refused(refusal))),
     }
 }

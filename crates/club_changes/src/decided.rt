@@ -7,13 +7,13 @@ ghost use Rattle.club_changes.specs.Steps.{Puts, no_rows};
 
 use clocks::Moment;
 use club_requests::Outcome;
-use club_rows::numbers::stored;
+use club_rows::numbers::to_i64;
 use std::alloc::Global;
 use store_tables::{Changes, MetaRow};
 
 /// The effect of a command.
 #[derive(Drop)]
-pub struct Decided {
+pub struct CommandEffect {
     /// The reply to the command.
     pub outcome: Outcome,
     /// The rows to upsert. None if the command was refused or repeated.
@@ -21,18 +21,18 @@ pub struct Decided {
 }
 
 /// The effect of a refused or repeated command: nothing is upserted.
-pub fn unchanged(outcome: Outcome) -> Decided
+pub fn without_changes(outcome: Outcome) -> CommandEffect
     ensures outcome { result.outcome ≡ outcome }
     ensures none { result.changes ≡ None }
 {
-    Decided {
+    CommandEffect {
         outcome,
         changes: None,
     }
 }
 
 // Only the row of `meta`, with the timestamp of an accepted command.
-pub(crate) fn at(alloc: Global, moment: Moment) -> Changes
+pub(crate) fn changes_at(alloc: Global, moment: Moment) -> Changes
     ensures { Puts result moment no_rows }
 {
     Changes {
@@ -47,7 +47,7 @@ pub(crate) fn at(alloc: Global, moment: Moment) -> Changes
         meta: Some(MetaRow {
             id: 1,
             schema: 2,
-            last: stored(moment.seconds()),
+            last: to_i64(moment.seconds()),
         }),
     }
 }

@@ -12,7 +12,7 @@ pub enum ChangeFault {
     /// Out of memory.
     Memory,
     /// The given rows are not those of a legal club.
-    Unfit,
+    InconsistentRows,
 }
 
 impl fmt::Display for ChangeFault {
@@ -24,7 +24,7 @@ impl fmt::Display for ChangeFault {
     fn fmt<W: fmt::Write>(&self, f: &mut fmt::Formatter<W>) -> fmt::Result {
         match self {
             ChangeFault::Memory => f.write_str("out of memory"),
-            ChangeFault::Unfit => f.write_str("the rows are those of no club"),
+            ChangeFault::InconsistentRows => f.write_str("the rows are those of no club"),
         }
     }
 }
@@ -62,7 +62,7 @@ impl From<SweepFault> for ChangeFault {
     fn from(fault: SweepFault) -> ChangeFault {
         match fault {
             SweepFault::Memory => ChangeFault::Memory,
-            SweepFault::Unfit => ChangeFault::Unfit,
+            SweepFault::InconsistentRows => ChangeFault::InconsistentRows,
         }
     }
 }

@@ -17,11 +17,11 @@ ghost use Rattle.club_changes.specs.Whole.{IsWhole};
 ghost use Rattle.store_tables.specs.Cells.{seen_cells, score_cells};
 ghost use Rattle.store_tables.specs.declared.rows.SeenRow.{SeenRow};
 
-use crate::decided::{Decided, at, unchanged};
+use crate::decided::{CommandEffect, changes_at, without_changes};
 use clocks::Moment;
 use club_core::{Decision, GameRow};
 use club_requests::{Answer, Caller, Outcome};
-use club_rows::{ScorePair, move_row, record_of};
+use club_rows::{ScoreRows, move_row, record_of};
 use club_rules::{Memory, Rules};
 use std::alloc::Global;
 use store_tables::{Changes, MoveRow, ScoreRow, SeenRow};
@@ -32,7 +32,7 @@ pub struct DerivedRows {
     /// The row of the position after the move. None if no move was made.
     pub seen: Option<SeenRow>,
     /// The rows of both players if the game has ended.
-    pub scores: Option<ScorePair>,
+    pub scores: Option<ScoreRows>,
 }
 
 // The row of the move, if the reply is to a move.
@@ -76,7 +76,7 @@ pub(crate) fn listed_seen(alloc: Global, seen: Option<SeenRow>) -> Result<Vec<Se
 
 pub(crate) fn listed_scores(
     alloc: Global,
-    scores: Option<ScorePair>,
+    scores: Option<ScoreRows>,
 ) -> Result<Vec<ScoreRow>, Memory>
     ensures { IfOk result (λ rows. map score_cells rows.items ≡ score_list scores) }
 {
@@ -110,7 +110,7 @@ fn changed_rows<R: Rules>(
           scores = score_list counts.scores;
         })) }
 {
-    let mut changes = at(alloc, moment);
+    let mut changes = changes_at(alloc, moment);
     changes.games.push(record_of::<R>(alloc, game, row)?)?;
     changes.moves = answered_moves(alloc, game, answer, moment)?;
     changes.seen = listed_seen(alloc, counts.seen)?;
@@ -130,7 +130,7 @@ pub fn put_decision<R: Rules>(
     shown: Decision<R>,
     counts: DerivedRows,
     moment: Moment,
-) -> Result<Decided, Memory>
+) -> Result<CommandEffect, Memory>
     ensures acts { IfOk result IsWhole }
     ensures step { IfOk result (λ d. (terms : core.Terms) (old : Game R.Move) (who : Caller)
         (command : machine.GameCommand)
@@ -147,11 +147,11 @@ pub fn put_decision<R: Rules>(
             made: _,
             answer,
         } => (row, answer),
-        Decision::Repeated(answer) => return Ok(unchanged(Outcome::Repeated(answer))),
-        Decision::Refused(refusal) => return Ok(unchanged(Outcome::Refused(refusal))),
+        Decision::Repeated(answer) => return Ok(without_changes(Outcome::Repeated(answer))),
+        Decision::Refused(refusal) => return Ok(without_changes(Outcome::Refused(refusal))),
     };
     let changes = changed_rows::<R>(alloc, game, &row, &answer, counts, moment)?;
-    Ok(Decided {
+    Ok(CommandEffect {
         outcome: Outcome::Accepted(answer),
         changes: Some(changes),
     })

@@ -6,20 +6,20 @@ ghost use Rattle.club_core.specs.Events.{event_kind};
 ghost use Rattle.store_tables.specs.Cells.{game_cells, move_cells, seen_cells};
 ghost use Rattle.club_changes.specs.Steps.{Puts, score_list, no_rows};
 
-use crate::decided::at;
+use crate::decided::changes_at;
 use crate::game::listed_scores;
 use crate::imported::NewRows;
 use crate::stored::StoredGame;
 use clocks::Moment;
 use club_core::{Event, KeyedGame, Member};
-use club_rows::ScorePair;
+use club_rows::ScoreRows;
 use club_rules::{GameKind, Memory};
 use std::alloc::Global;
 use store_tables::Changes;
 
 /// The state of the club that an import needs.
 #[derive(Drop)]
-pub struct Known {
+pub struct ImportContext {
     /// All members, in the order of ids.
     pub members: Vec<Member>,
     /// All events, in the order of ids.
@@ -53,7 +53,7 @@ pub fn event_kind(events: &[Event], name: &str) -> GameKind
 pub fn put_rows(
     alloc: Global,
     rows: NewRows,
-    scores: ScorePair,
+    scores: ScoreRows,
     moment: Moment,
 ) -> Result<Changes, Memory>
     ensures { IfOk result
@@ -67,7 +67,7 @@ pub fn put_rows(
           scores = score_list (Some scores);
         })) }
 {
-    let mut changes = at(alloc, moment);
+    let mut changes = changes_at(alloc, moment);
     changes.games.push(rows.game)?;
     changes.moves = rows.moves;
     changes.seen = rows.seen;

@@ -1,5 +1,5 @@
 //! Computes what a command changes in the tables: its outcome and the rows to upsert, without any I/O.
-//! Calls fail with `Memory` if out of memory, and with `Unfit` if the given rows or values are not those of a legal
+//! Calls fail with `Memory` if out of memory, and with `InconsistentRows` if the given rows or values are not those of a legal
 //! club.
 #![tactic(auto)]
 
@@ -18,11 +18,11 @@ pub mod sweep;
 pub mod swept;
 
 pub use challenges::{put_answered, put_challenge};
-pub use decided::{Decided, unchanged};
+pub use decided::{CommandEffect, without_changes};
 pub use fault::ChangeFault;
 pub use game::{DerivedRows, put_decision};
 pub use imported::{NewRows, new_rows, played_of};
-pub use imports::{Known, event_kind, put_rows};
+pub use imports::{ImportContext, event_kind, put_rows};
 pub use people::{on_event, on_member};
 pub use seats::{event_at, seated_rows, terms_of};
 pub use stored::StoredGame;

@@ -12,12 +12,12 @@ ghost use Rattle.club_changes.specs.Steps.{caller_step};
 ghost use Rattle.club_changes.specs.Steps.{IsDecided};
 ghost use Rattle.club_changes.specs.Whole.{IsWhole};
 
-use crate::decided::{Decided, at, is_accepted, unchanged};
+use crate::decided::{CommandEffect, changes_at, is_accepted, without_changes};
 use clocks::Moment;
 use club_core::{Event, Member, add_event, add_member};
 use club_requests::{AddEvent, AddMember, Caller};
 use club_rows::kind_number;
-use club_rows::numbers::{declares_number, stored};
+use club_rows::numbers::{declares_number, to_i64};
 use club_rules::Memory;
 use std::alloc::Global;
 use store_tables::{EventRow, EventRuleRow, MemberRow};
@@ -46,7 +46,7 @@ pub fn on_member(
     caller: Caller,
     command: &AddMember,
     moment: Moment,
-) -> Result<Decided, Memory>
+) -> Result<CommandEffect, Memory>
     requires { length members.now ≤ 200 }
     ensures acts { IfOk result IsWhole }
     ensures step { IfOk result (λ d. (s : ClubState) → members_of members.now ≡ s.members →
@@ -55,13 +55,13 @@ pub fn on_member(
 {
     let outcome = add_member(members, caller, command);
     if !is_accepted(&outcome) {
-        return Ok(unchanged(outcome));
+        return Ok(without_changes(outcome));
     }
-    let mut changes = at(alloc, moment);
+    let mut changes = changes_at(alloc, moment);
     changes
         .members
         .push(member_row(members.len() as u32 + 1, command)?)?;
-    Ok(Decided {
+    Ok(CommandEffect {
         outcome,
         changes: Some(changes),
     })
@@ -77,8 +77,8 @@ fn event_row(id: u32, command: &AddEvent) -> Result<EventRow, Memory>
         id: i64::from(id),
         name,
         game: kind_number(command.game),
-        budget: stored(command.budget),
-        increment: stored(command.increment),
+        budget: to_i64(command.budget),
+        increment: to_i64(command.increment),
     })
 }
 
@@ -103,7 +103,7 @@ pub fn on_event(
     caller: Caller,
     command: &AddEvent,
     moment: Moment,
-) -> Result<Decided, Memory>
+) -> Result<CommandEffect, Memory>
     requires { length events.now ≤ 50 }
     ensures acts { IfOk result IsWhole }
     ensures step { IfOk result (λ d. (s : ClubState) → IsClub s → events_of events.now ≡ s.events →
@@ -111,13 +111,13 @@ pub fn on_event(
 {
     let outcome = add_event(events, caller, command);
     if !is_accepted(&outcome) {
-        return Ok(unchanged(outcome));
+        return Ok(without_changes(outcome));
     }
     let id = events.len() as u32 + 1;
-    let mut changes = at(alloc, moment);
+    let mut changes = changes_at(alloc, moment);
     changes.events.push(event_row(id, command)?)?;
     changes.event_rules.push(rule_row(id))?;
-    Ok(Decided {
+    Ok(CommandEffect {
         outcome,
         changes: Some(changes),
     })

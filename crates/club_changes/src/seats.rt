@@ -21,17 +21,17 @@ use store_tables::Changes;
 ///
 /// # Errors
 ///
-/// `Unfit` if there is none.
+/// `InconsistentRows` if there is none.
 pub fn event_at(events: &[Event], event: u32) -> Result<&Event, ChangeFault>
     ensures at { IfOk result (λ e. place (events_of events.now) event ≡ Some (event_of e.now)) }
-    ensures unfit { IsErrOf result ChangeFault.Unfit → place (events_of events.now) event ≡ None }
+    ensures unfit { IsErrOf result ChangeFault.InconsistentRows → place (events_of events.now) event ≡ None }
 {
     if event == 0 {
-        return Err(ChangeFault::Unfit);
+        return Err(ChangeFault::InconsistentRows);
     }
     match events.get(event as usize - 1) {
         Some(event) => Ok(event),
-        None => Err(ChangeFault::Unfit),
+        None => Err(ChangeFault::InconsistentRows),
     }
 }
 
@@ -50,7 +50,7 @@ pub fn terms_of(event: &Event) -> Terms
 ///
 /// # Errors
 ///
-/// - `Unfit` if the event does not exist.
+/// - `InconsistentRows` if the event does not exist.
 /// - `Memory` if out of memory.
 pub fn seated_rows(
     alloc: Global,
@@ -72,7 +72,7 @@ pub fn seated_rows(
     ensures running { IfOk result (λ changes.
         started_scores (events_of events.now) (option_map (λ k. k.now) key.entry) new.pairing moment
         ≡ []) }
-    ensures unfit { IsErrOf result ChangeFault.Unfit → place (events_of events.now) new.pairing.event ≡ None }
+    ensures unfit { IsErrOf result ChangeFault.InconsistentRows → place (events_of events.now) new.pairing.event ≡ None }
 {
     let event = event_at(events, new.pairing.event)?;
     let changes = seat_in(alloc, event.game, terms_of(event), new, key, moment)?;

@@ -11,7 +11,7 @@ ghost use Rattle.club_rows.specs.Tables.{game_row};
 ghost use Rattle.club_rows.specs.Seen.{seen_rows};
 ghost use Rattle.club_changes.specs.Steps.{Puts, no_rows};
 
-use crate::decided::at;
+use crate::decided::changes_at;
 use clocks::Moment;
 use club_core::{GameRow, KeyedGame, Pairing, keyless_row, seated_row};
 use club_rows::{Terms, first_seen, record_of};
@@ -57,7 +57,7 @@ pub(crate) fn start<R: Rules>(
         result_of R.rules (seated (option_map (λ k. k.now) key.entry) new.pairing moment) ≡ None) }
 {
     let row = first_row::<R>(alloc, key, new.pairing, terms.budget, moment)?;
-    let mut changes = at(alloc, moment);
+    let mut changes = changes_at(alloc, moment);
     changes.games.push(record_of::<R>(alloc, new.game, &row)?)?;
     changes.seen.push(first_seen::<R>(alloc, new.game)?)?;
     Ok(changes)

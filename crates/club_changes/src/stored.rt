@@ -2,7 +2,7 @@
 
 use club_rows::Terms;
 use club_rules::GameKind;
-use store_tables::GameRecord;
+use store_tables::GameTableRow;
 
 /// The row of a game with the kind and the terms of its event.
 #[derive(Drop)]
@@ -14,5 +14,5 @@ pub struct StoredGame {
     /// The terms of its event.
     pub terms: Terms,
     /// The row in `games`.
-    pub row: GameRecord,
+    pub row: GameTableRow,
 }

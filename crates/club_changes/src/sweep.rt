@@ -11,23 +11,23 @@ ghost use Rattle.club_changes.specs.Steps.{caller_step, HaveSame, IsDecided};
 ghost use Rattle.club_changes.specs.Whole.{IsWhole};
 ghost use Rattle.club_changes.specs.Swept.{IsSwept};
 
-use crate::decided::{Decided, at};
+use crate::decided::{CommandEffect, changes_at};
 use crate::fault::ChangeFault;
 use crate::swept::{SweptRows, swept_rows};
 use clocks::Moment;
 use club_requests::{Answer, Outcome};
 use std::alloc::Global;
-use store_tables::{GameRecord, ScoreRow};
+use store_tables::{GameTableRow, ScoreRow};
 
-fn put_swept(alloc: Global, rows: SweptRows, moment: Moment) -> Decided
+fn put_swept(alloc: Global, rows: SweptRows, moment: Moment) -> CommandEffect
     ensures acts { IsWhole result }
     ensures step { (s : ClubState) → IsSwept s moment rows →
         IsDecided s (caller_step s moment Officer sweep) result }
 {
-    let mut changes = at(alloc, moment);
+    let mut changes = changes_at(alloc, moment);
     changes.games = rows.games;
     changes.scores = rows.scores;
-    Decided {
+    CommandEffect {
         outcome: Outcome::Accepted(Answer::Swept { count: rows.count }),
         changes: Some(changes),
     }
@@ -37,20 +37,20 @@ fn put_swept(alloc: Global, rows: SweptRows, moment: Moment) -> Decided
 ///
 /// # Errors
 ///
-/// - `Unfit` if the rows or values are not those of a legal club.
+/// - `InconsistentRows` if the rows or values are not those of a legal club.
 /// - `Memory` if out of memory.
 pub fn sweep_games(
     alloc: Global,
-    games: &[GameRecord],
+    games: &[GameTableRow],
     scores: &[ScoreRow],
     moment: Moment,
-) -> Result<Decided, ChangeFault>
+) -> Result<CommandEffect, ChangeFault>
     ensures acts { IfOk result IsWhole }
     ensures step { IfOk result (λ d. (s : ClubState) → IsClub s → map game_cells games.now ≡ tables s (tree_of Games) →
         HaveSame (map score_cells scores.now) (tables s (tree_of Scores)) →
         IsDecided s (caller_step s moment Officer sweep) d) }
     // With the rows of a legal club the only fault is out of memory.
-    ensures unfit { IsErrOf result ChangeFault.Unfit → (s : ClubState) → IsClub s →
+    ensures unfit { IsErrOf result ChangeFault.InconsistentRows → (s : ClubState) → IsClub s →
         map game_cells games.now ≡ tables s (tree_of Games) →
         ¬ HaveSame (map score_cells scores.now) (tables s (tree_of Scores)) }
 {

@@ -1,6 +1,6 @@
 -- Maps the values of the code to those of the specification: answers, members, events and requests.
 use Rattle.std.specs.Prelude.{List, map, true, string_bytes}
-use Rattle.club_requests.specs.declared.answers.Moved.{Moved}
+use Rattle.club_requests.specs.declared.answers.MoveAnswer.{MoveAnswer}
 use Rattle.club_requests.specs.declared.answers.Answer.{Answer}
 use Rattle.club_requests.specs.declared.answers.Answer.TheVariants as answer
 use Rattle.club_requests.specs.declared.answers.Outcome as given_outcome
@@ -19,8 +19,8 @@ use Rattle.club_requests.specs.declared.requests.Request as given_request
 use Rattle.club_requests.specs.declared.requests.Import as given_import
 use Rattle.club_requests.specs.declared.requests.Who as given_who
 use Rattle.club_requests.specs.declared.requests.Who.TheVariants as given_who_is
-use Rattle.club_core.specs.declared.seats.Seating as given_seating
-use Rattle.club_core.specs.declared.seats.Seating.TheVariants as seating
+use Rattle.club_core.specs.declared.seats.SeatDecision as given_seating
+use Rattle.club_core.specs.declared.seats.SeatDecision.TheVariants as seating
 use Rattle.club_requests.specs.Outcome.{Reply, MoveReply, member_added, event_added, game_seated, moved, draw_offered}
 use Rattle.club_requests.specs.Outcome.{game_ended, games_swept, challenge_opened, challenge_withdrawn}
 use Rattle.club_requests.specs.Outcome.{challenge_refused}
@@ -33,7 +33,7 @@ use Rattle.club_core.specs.Step.{GameCommand, move, offer_draw, accept_draw, res
 use Rattle.club_core.specs.State.{Command, add_member, add_event, seat, import_record, on_game, sweep, open_challenge}
 use Rattle.club_core.specs.State.{withdraw_challenge, answer_challenge, Who, officer, key_holder, Request}
 
-abbrev pub move_reply_of : Moved → MoveReply
+abbrev pub move_reply_of : MoveAnswer → MoveReply
 move_reply_of m =
     record { ply = m.ply; text = string_bytes m.text; left = m.left; position = string_bytes m.position; end = m.end }
 
@@ -90,7 +90,7 @@ who_of given_who_is.Officer = officer
 who_of (given_who_is.Key key) = key_holder (string_bytes key)
 
 -- the outcome of a `seat` command
-abbrev pub seating_of : given_seating.Seating → Outcome Pairing
+abbrev pub seating_of : given_seating.SeatDecision → Outcome Pairing
 seating_of (seating.Starts k) = accepted k.pairing (game_seated k.game)
 seating_of (seating.Repeated id) = repeated (game_seated id)
 seating_of (seating.Refused refusal) = refused refusal

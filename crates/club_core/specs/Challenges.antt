@@ -16,11 +16,11 @@ use Rattle.club_requests.specs.Outcome.{Outcome, accepted, refused, first_refusa
 use Rattle.club_core.specs.Members.{Member, find_id}
 use Rattle.club_core.specs.Events.{Event, has_event_name}
 use Rattle.club_core.specs.declared.seats.Pairing.{Pairing}
-use Rattle.club_core.specs.Seats.{has_member_name, is_id, are_two}
+use Rattle.club_core.specs.Seats.{has_member_name, is_id, are_distinct}
 
 -- the unique key of a challenge: its member and the number that the member chose
-abbrev pub goes_by : Challenge → ℕ × ℕ
-goes_by c = (c.member, c.number)
+abbrev pub key_of_challenge : Challenge → ℕ × ℕ
+key_of_challenge c = (c.member, c.number)
 
 -- the challenge has this member and this number
 abbrev pub is_under : ℕ → ℕ → Challenge → Bool
@@ -70,7 +70,7 @@ module _ (caller number : ℕ) (other : Option ℕ) (under : Option Challenge) w
   abbrev pub opening_tests : List (Bool × Refusal)
   opening_tests =
       (is_some under, Conflict)
-      ∷ (not (is_challenge_number number && are_two (Some caller) other), BadValue)
+      ∷ (not (is_challenge_number number && are_distinct (Some caller) other), BadValue)
       ∷ []
 
   abbrev pub opening_refusal : Option Refusal

@@ -18,7 +18,7 @@ use Rattle.club_requests.specs.Outcome.{Reply, game_seated, Outcome, accepted, r
 use Rattle.club_requests.specs.Outcome.{unless_repeat}
 use Rattle.club_core.specs.declared.seats.KeyedGame.{KeyedGame}
 use Rattle.club_core.specs.declared.seats.Pairing.{Pairing}
-use Rattle.club_core.specs.Seats.{are_two, same_seats}
+use Rattle.club_core.specs.Seats.{are_distinct, same_seats}
 use Rattle.club_core.specs.Game.{Game, moves_of, result_of}
 
 -- an import: the key of the new game, the names of its event and its players, and one part of a text in a format
@@ -127,7 +127,7 @@ module _ {P M E T : Type 0} (rules : GameRules P M E T) (records : GameRecords M
     abbrev pub import_tests : List (Bool × Refusal)
     import_tests =
         (is_some under_key, Conflict)
-        ∷ (not (is_name given.key && are_two first second && has_part reading_of_import), BadValue)
+        ∷ (not (is_name given.key && are_distinct first second && has_part reading_of_import), BadValue)
         ∷ (nat_le most_games games, Full)
         ∷ []
 

@@ -12,7 +12,7 @@ use Rattle.club_requests.specs.Limits.{last_moment, most_members, most_events, m
 use Rattle.club_requests.specs.Limits.{is_challenge_number, is_budget, is_increment}
 use Rattle.club_core.specs.Members.{Member}
 use Rattle.club_core.specs.Events.{Event}
-use Rattle.club_core.specs.Challenges.{goes_by, pairing_for}
+use Rattle.club_core.specs.Challenges.{key_of_challenge, pairing_for}
 use Rattle.club_core.specs.Game.{Game, clocks_of, left_of, turn_of}
 use Rattle.club_core.specs.Legal.{IsLegalGame}
 use Rattle.club_core.specs.State.{AnyGame, draughts, shogi, State, place, key_of, pairing_of}
@@ -22,12 +22,12 @@ abbrev pub Each : {A : Type 0} → (A → Type 0) → List A → Type 0
 Each {A} IsSo xs = (n : ℕ) (x : A) → slice_get xs n ≡ Some x → IsSo x
 
 -- the values of `part` are unique
-abbrev pub AreApart : {A B : Type 0} → (A → B) → List A → Type 0
-AreApart {A} part xs = (i j : ℕ) (x y : A) → slice_get xs i ≡ Some x → slice_get xs j ≡ Some y → part x ≡ part y → i ≡ j
+abbrev pub HaveUniqueKeys : {A B : Type 0} → (A → B) → List A → Type 0
+HaveUniqueKeys {A} part xs = (i j : ℕ) (x y : A) → slice_get xs i ≡ Some x → slice_get xs j ≡ Some y → part x ≡ part y → i ≡ j
 
 -- the values of `part` are unique among the elements that have one
-abbrev pub AreApartIfAny : {A B : Type 0} → (A → Option B) → List A → Type 0
-AreApartIfAny {A} {B} part xs =
+abbrev pub HaveUniqueKeysIfAny : {A B : Type 0} → (A → Option B) → List A → Type 0
+HaveUniqueKeysIfAny {A} {B} part xs =
     (i j : ℕ) (x y : A) (b : B) → slice_get xs i ≡ Some x → slice_get xs j ≡ Some y → part x ≡ Some b → part y ≡ Some b
     → i ≡ j
 
@@ -82,13 +82,13 @@ pub record IsLegalState {DP DM DE DT SP SM SE ST : Type 0} (rules : ClubRules DP
   pub last : s.last ≤ last_moment
   pub members : Each IsLegalMember s.members
   pub member_count : length s.members ≤ most_members
-  pub member_names : AreApart (λ m. m.name) s.members
-  pub member_keys : AreApart (λ m. m.key) s.members
+  pub member_names : HaveUniqueKeys (λ m. m.name) s.members
+  pub member_keys : HaveUniqueKeys (λ m. m.key) s.members
   pub events : Each IsLegalEvent s.events
   pub event_count : length s.events ≤ most_events
-  pub event_names : AreApart (λ e. e.name) s.events
+  pub event_names : HaveUniqueKeys (λ e. e.name) s.events
   pub games : Each (IsLegalIn rules s) s.games
   pub game_count : length s.games ≤ most_games
-  pub game_keys : AreApartIfAny (λ g. key_of g) s.games
+  pub game_keys : HaveUniqueKeysIfAny (λ g. key_of g) s.games
   pub challenges : Each (IsLegalChallenge s) s.challenges
-  pub challenge_numbers : AreApart goes_by s.challenges
+  pub challenge_numbers : HaveUniqueKeys key_of_challenge s.challenges

@@ -30,15 +30,15 @@ module _ (event : ℕ) (first second : Option ℕ) where
       else None
 
 -- both members were found and differ
-abbrev pub are_two : Option ℕ → Option ℕ → Bool
-are_two None second = false
-are_two (Some first) None = false
-are_two (Some first) (Some second) = not (first == second)
+abbrev pub are_distinct : Option ℕ → Option ℕ → Bool
+are_distinct None second = false
+are_distinct (Some first) None = false
+are_distinct (Some first) (Some second) = not (first == second)
 
 abbrev pub seat_tests : Option KeyedGame → ℕ → List ℕ → Option ℕ → Option ℕ → List (Bool × Refusal)
 seat_tests under_key games key first second =
     (is_some under_key, Conflict)
-    ∷ (not (is_name key && are_two first second), BadValue)
+    ∷ (not (is_name key && are_distinct first second), BadValue)
     ∷ (nat_le most_games games, Full)
     ∷ []
 

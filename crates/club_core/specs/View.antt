@@ -177,11 +177,11 @@ StoodAfter rules (repeated reply) times first = Unit {0}
 StoodAfter rules (refused refusal) times first = Unit {0}
 
 -- the same, if the decision made a move
-abbrev pub Stood : {R P M E T : Type 0} → GameRules P M E T → Outcome (Game M) → Decision R P M E T → ℕ → ℕ → Type 0
-Stood rules outcome (decision.Accepted row (Some made) answer) times first = StoodAfter rules outcome times first
-Stood rules outcome (decision.Accepted row None answer) times first = Unit {0}
-Stood rules outcome (decision.Repeated answer) times first = Unit {0}
-Stood rules outcome (decision.Refused refusal) times first = Unit {0}
+abbrev pub RepetitionIfMoved : {R P M E T : Type 0} → GameRules P M E T → Outcome (Game M) → Decision R P M E T → ℕ → ℕ → Type 0
+RepetitionIfMoved rules outcome (decision.Accepted row (Some made) answer) times first = StoodAfter rules outcome times first
+RepetitionIfMoved rules outcome (decision.Accepted row None answer) times first = Unit {0}
+RepetitionIfMoved rules outcome (decision.Repeated answer) times first = Unit {0}
+RepetitionIfMoved rules outcome (decision.Refused refusal) times first = Unit {0}
 
 -- The decision, completed with the true repetition count and first ply of the new position, is the outcome of the
 -- transition.
@@ -189,7 +189,7 @@ abbrev pub IsDecision : {R P M E T : Type 0} →
     GameRules P M E T → Terms → Game M → Outcome (Game M) → Decision R P M E T → Type 0
 IsDecision rules terms old outcome decision =
     HasMade rules old outcome decision
-    × ((times first : ℕ) → Stood rules outcome decision times first →
+    × ((times first : ℕ) → RepetitionIfMoved rules outcome decision times first →
     IsConcluded rules terms old outcome (concluded rules decision (settled_of rules decision times first)))
 
 -- the conditions of an accepted move that leaves the mover this many seconds

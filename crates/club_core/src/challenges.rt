@@ -11,7 +11,7 @@ ghost use Rattle.club_core.specs.Answer.{members_of, events_of, reply_of, challe
 
 use crate::events::Event;
 use crate::members::Member;
-use crate::seats::{Pairing, are_two, find_event, find_member, is_id};
+use crate::seats::{Pairing, are_distinct, find_event, find_member, is_id};
 use club_requests::values::{MOST_GAMES, is_challenge_number};
 use club_requests::{Answer, Caller, OpenChallenge, Refusal};
 
@@ -106,7 +106,7 @@ fn refusal_of_opening(
     if under.is_some() {
         return Some(Refusal::Conflict);
     }
-    if !is_challenge_number(number) || !are_two(Some(caller), other) {
+    if !is_challenge_number(number) || !are_distinct(Some(caller), other) {
         return Some(Refusal::BadValue);
     }
     None

@@ -25,5 +25,5 @@ pub use decisions::{asked_ply, decide, refusal_without_game};
 pub use events::{Event, add_event, event_declares};
 pub use members::{Member, add_member, identify};
 pub use rows::{Asked, GameEnd, GameRow, GameView, Made, Offer};
-pub use seats::{KeyedGame, Pairing, Seating, keyless_row, seat, seated_row};
+pub use seats::{KeyedGame, Pairing, SeatDecision, keyless_row, seat, seated_row};
 pub use settling::{Settled, conclude, settle};

@@ -15,7 +15,7 @@ use crate::players::{is_side, left_in, side_of_ply};
 use crate::rows::{GameRow, GameView, Made, copy_key};
 use clocks::{Clock, Moment};
 use club_requests::values::MOST_TEXT_BYTES;
-use club_requests::{Answer, Moved, Refusal};
+use club_requests::{Answer, MoveAnswer, Refusal};
 use club_rules::{Memory, MoveRefusal, Rules};
 use squares::Side;
 use std::alloc::Global;
@@ -30,7 +30,7 @@ fn reads_as<R: Rules>(
     ensures { IfOk result (λ b. b ≡ reads_as R.rules (R.rules.read_move before.now text.now) made.now) }
 {
     match R::read_move(alloc, before, text)? {
-        Ok(read) => Ok(R::same(&read, made)),
+        Ok(read) => Ok(R::is_same_move(&read, made)),
         Err(_) => Ok(false),
     }
 }
@@ -98,7 +98,7 @@ fn repeat_of<R: Rules>(
     } else {
         None
     };
-    Ok(Some(Answer::Moved(Moved {
+    Ok(Some(Answer::Moved(MoveAnswer {
         ply: asked.ply,
         text: written,
         left: asked.left,
@@ -225,7 +225,7 @@ fn accept_move<R: Rules>(
     let shown = written.clone()?;
     let numbers = R::track_numbers(&track);
     let row = moved_row(&view.row, turn, left, moment, numbers, written)?;
-    let answer = Answer::Moved(Moved {
+    let answer = Answer::Moved(MoveAnswer {
         ply: row.plies,
         text,
         left,

@@ -7,7 +7,7 @@ ghost use Rattle.club_requests.specs.Limits.{most_members, most_events, most_gam
 ghost use Rattle.club_core.specs.Members.{find_id};
 ghost use Rattle.club_core.specs.Events.{has_event_name};
 ghost use Rattle.club_core.specs.Seats.{has_member_name, same_seats, seat_refusal, seat_step, seat_found, is_id};
-ghost use Rattle.club_core.specs.Seats.{are_two};
+ghost use Rattle.club_core.specs.Seats.{are_distinct};
 ghost use Rattle.club_requests.specs.Outcome.{by_officer, game_seated};
 ghost use Rattle.club_core.specs.State.{seated};
 ghost use Rattle.club_core.specs.Answer.{members_of, events_of, seating_of};
@@ -40,7 +40,7 @@ pub struct KeyedGame {
 
 /// The outcome of a `seat` command: a new game with this id, a repeat of the command that started it, or a refusal.
 #[derive(Clone, Copy, Debug, PartialEq, Eq)]
-pub enum Seating {
+pub enum SeatDecision {
     Starts(KeyedGame),
     Repeated(u32),
     Refused(Refusal),
@@ -73,8 +73,8 @@ pub fn is_id(found: Option<u32>, id: u32) -> bool
 }
 
 /// Whether both ids were found and differ.
-pub fn are_two(first: Option<u32>, second: Option<u32>) -> bool
-    ensures { result ≡ are_two first second }
+pub fn are_distinct(first: Option<u32>, second: Option<u32>) -> bool
+    ensures { result ≡ are_distinct first second }
 {
     match first {
         Some(one) => match second {
@@ -118,7 +118,7 @@ fn refusal_of_seat(
     if under_key.is_some() {
         return Some(Refusal::Conflict);
     }
-    if !is_name(key) || !are_two(first, second) {
+    if !is_name(key) || !are_distinct(first, second) {
         return Some(Refusal::BadValue);
     }
     if games >= MOST_GAMES {
@@ -135,26 +135,26 @@ fn seat_found(
     under_key: Option<KeyedGame>,
     games: u32,
     key: &str,
-) -> Seating
+) -> SeatDecision
     ensures { seating_of result ≡ seat_found (Some event) first second under_key games key.now }
 {
     match repeated_seat(event, first, second, under_key) {
-        Some(game) => return Seating::Repeated(game),
+        Some(game) => return SeatDecision::Repeated(game),
         None => {}
     }
     match refusal_of_seat(under_key, games, key, first, second) {
-        Some(refusal) => return Seating::Refused(refusal),
+        Some(refusal) => return SeatDecision::Refused(refusal),
         None => {}
     }
     let first = match first {
         Some(first) => first,
-        None => return Seating::Refused(Refusal::BadValue),
+        None => return SeatDecision::Refused(Refusal::BadValue),
     };
     let second = match second {
         Some(second) => second,
-        None => return Seating::Refused(Refusal::BadValue),
+        None => return SeatDecision::Refused(Refusal::BadValue),
     };
-    Seating::Starts(KeyedGame {
+    SeatDecision::Starts(KeyedGame {
         game: games + 1,
         pairing: Pairing {
             event,
@@ -175,7 +175,7 @@ pub fn seat(
     games: u32,
     caller: Caller,
     command: &Seat,
-) -> Seating
+) -> SeatDecision
     requires members { length members.now ≤ most_members }
     requires events { length events.now ≤ most_events }
     ensures { seating_of result ≡ by_officer caller (seat_step (members_of members.now) (events_of events.now)
@@ -183,11 +183,11 @@ pub fn seat(
         (string_bytes command.now.event) (string_bytes command.now.first) (string_bytes command.now.second)) }
 {
     if caller != Caller::Officer {
-        return Seating::Refused(Refusal::NotAllowed);
+        return SeatDecision::Refused(Refusal::NotAllowed);
     }
     let event = match find_event(events, command.event.as_str()) {
         Some(event) => event,
-        None => return Seating::Refused(Refusal::UnknownEvent),
+        None => return SeatDecision::Refused(Refusal::UnknownEvent),
     };
     let first = find_member(members, command.first.as_str());
     let second = find_member(members, command.second.as_str());

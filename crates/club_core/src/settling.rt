@@ -6,7 +6,7 @@ ghost use Rattle.club_core.specs.View.{settled_by, settled_of, answer_with, conc
 use crate::decided::Decision;
 use crate::ends::{game_end, name_of_end, rule_in, score_of_end};
 use crate::rows::{GameEnd, GameRow, Made};
-use club_requests::{Answer, Moved};
+use club_requests::{Answer, MoveAnswer};
 use club_rules::Rules;
 use squares::Score;
 
@@ -68,7 +68,7 @@ fn answer_with<R: Rules>(end: &Option<GameEnd<R::End>>, answer: Answer) -> Answe
     ensures { result ≡ answer_with R.rules end.now answer }
 {
     match answer {
-        Answer::Moved(moved) => Answer::Moved(Moved {
+        Answer::Moved(moved) => Answer::Moved(MoveAnswer {
             ply: moved.ply,
             text: moved.text,
             left: moved.left,

@@ -3,7 +3,7 @@ use Rattle.std.specs.Prelude.{ℕ, ◌-◌, List, [], ◌∷◌, Option}
 use Rattle.squares.specs.declared.sides.Score.{Score}
 use Rattle.club_core.specs.declared.rows.GameEnd.{GameEnd}
 use Rattle.club_core.specs.Game.{Entry}
-use Rattle.club_exports.specs.declared.heading.Heading.{Heading}
+use Rattle.club_exports.specs.declared.heading.RecordHeader.{RecordHeader}
 
 -- names of the event and the players, timestamp of the start, and end and score (none while the game is running)
 pub record Title (E : Type 0) : Type 0 where
@@ -14,7 +14,7 @@ pub record Title (E : Type 0) : Type 0 where
   pub end : Option (GameEnd E)
   pub result : Option Score
 
-abbrev pub title_of : {E : Type 0} → Heading E → Title E
+abbrev pub title_of : {E : Type 0} → RecordHeader E → Title E
 title_of h =
     record {
       event = h.event.now;

@@ -3,8 +3,8 @@
 ghost use Rattle.club_exports.specs.Title.{title_of};
 ghost use Rattle.club_exports.specs.PdnRecords.{IsPdnHead};
 
-use crate::exports::Exports;
-use crate::heading::Heading;
+use crate::exports::WriteRecord;
+use crate::heading::RecordHeader;
 use clocks::civil;
 use club_games::Draughts;
 use draughts_draws::DEnd;
@@ -16,7 +16,7 @@ use std::alloc::Global;
 use std::io::Write;
 
 // The PDN tags of a game. First is White.
-fn head_of<'a>(heading: &Heading<'a, DEnd>) -> PdnHead<'a>
+fn head_of<'a>(heading: &RecordHeader<'a, DEnd>) -> PdnHead<'a>
     ensures { IsPdnHead (title_of heading.now) result }
 {
     PdnHead {
@@ -28,7 +28,7 @@ fn head_of<'a>(heading: &Heading<'a, DEnd>) -> PdnHead<'a>
     }
 }
 
-impl Exports for Draughts {
+impl WriteRecord for Draughts {
     type Record = GameWriter;
 
     ghost use Rattle.club_exports.specs.PdnRecords.{IsPdnText, HasWrittenPdn};
@@ -43,7 +43,7 @@ impl Exports for Draughts {
 
     fn begin_record<W: Write>(
         alloc: Global,
-        heading: &Heading<DEnd>,
+        heading: &RecordHeader<DEnd>,
         writer: &mut W,
     ) -> Result<GameWriter, WriteFault> {
         written_moves_begin_games();

@@ -8,8 +8,8 @@ ghost use Rattle.club_exports.specs.Title.{Title, title_of, timed};
 ghost use Rattle.club_exports.specs.Written.{FitsMoves, BeginsRecord, AddsRecord};
 ghost use Rattle.club_exports.specs.Exported.{IsWritten, IsUnderWay, IsNextText};
 
-use crate::exports::Exports;
-use crate::heading::Heading;
+use crate::exports::WriteRecord;
+use crate::heading::RecordHeader;
 use clocks::Moment;
 use club_requests::values::MOST_PLIES;
 use record_writer::WriteFault;
@@ -18,7 +18,7 @@ use std::io::Write;
 
 /// A record in progress, with the position after the moves written so far.
 #[derive(Drop)]
-pub struct Export<R: Exports> {
+pub struct Export<R: WriteRecord> {
     draft: R::Record,
     position: R::Position,
     since: Moment,
@@ -26,7 +26,7 @@ pub struct Export<R: Exports> {
 }
 
 // Reads the text of a move. `None` if it is not a legal move.
-fn legal_move<R: Exports>(
+fn legal_move<R: WriteRecord>(
     alloc: Global,
     position: &R::Position,
     text: &str,
@@ -45,7 +45,7 @@ fn legal_move<R: Exports>(
     }
 }
 
-impl<R: Exports> Export<R> {
+impl<R: WriteRecord> Export<R> {
     /// Writes the part of the record before the moves.
     ///
     /// # Errors
@@ -54,7 +54,7 @@ impl<R: Exports> Export<R> {
     /// - `Writer` if the writer fails.
     pub fn start<W: Write>(
         alloc: Global,
-        heading: &Heading<R::End>,
+        heading: &RecordHeader<R::End>,
         writer: &mut W,
     ) -> Result<Export<R>, WriteFault>
         ensures written { IfOk result (λ export. IsWritten R.rules R.HasWritten (title_of heading.now) []
@@ -91,7 +91,7 @@ impl<R: Exports> Export<R> {
         moment: Moment,
     ) -> Result<bool, WriteFault>
         requires { IsUnderWay R.rules R.HasWritten (W.contents writer.old) self.old }
-        ensures goes_on { OnOk result (IsUnderWay R.rules R.HasWritten (W.contents writer.new) self.new) }
+        ensures stays_open { OnOk result (IsUnderWay R.rules R.HasWritten (W.contents writer.new) self.new) }
         ensures written { IfOk result (λ legal. (title : Title R.End) (entries : List (Entry R.Move))
             (before : Option (List ℕ)) (made : R.Move) →
             IsWritten R.rules R.HasWritten title entries before (W.contents writer.old) self.old →

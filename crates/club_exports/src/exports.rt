@@ -4,7 +4,7 @@ ghost use Rattle.std.specs.Prelude.{◌≡◌, ℕ, ◌∷◌, [], ◌++◌, Lis
 ghost use Rattle.club_exports.specs.Title.{Title, title_of};
 ghost use Rattle.club_exports.specs.Written.{made_in, FitsMoves, BeginsRecord, AddsRecord, MayFollowLegal, BeginsGames};
 
-use crate::heading::Heading;
+use crate::heading::RecordHeader;
 use club_rules::Rules;
 use record_writer::WriteFault;
 use std::alloc::Global;
@@ -13,7 +13,7 @@ use std::io::Write;
 /// A game whose records are written move by move.
 ///
 /// If a call fails, the output is a prefix of the record.
-pub trait Exports: Rules {
+pub trait WriteRecord: Rules {
     /// A record in progress.
     type Record: Drop;
 
@@ -39,7 +39,7 @@ pub trait Exports: Rules {
     /// `begun`: even after an error the output is a prefix of the record of any game with this heading.
     fn begin_record<W: Write>(
         alloc: Global,
-        heading: &Heading<Self::End>,
+        heading: &RecordHeader<Self::End>,
         writer: &mut W,
     ) -> Result<Self::Record, WriteFault>
         ensures written { IfOk result

@@ -7,10 +7,10 @@ ghost use Rattle.club_exports.specs.Written.{BeginsRecord};
 ghost use Rattle.club_exports.specs.Exported.{IsWritten};
 
 use crate::export::Export;
-use crate::exports::Exports;
+use crate::exports::WriteRecord;
 
 /// Lemma: the output so far is a prefix of the record of every game that continues it.
-pub fn written_entries_begin_games<R: Exports>()
+pub fn written_entries_begin_games<R: WriteRecord>()
     ensures { (title : Title R.End) (entries more : List (Entry R.Move)) (before now : Option (List ℕ))
         (export : Export R R.Record R.Position R.Move R.End R.Track) →
         IsWritten R.rules R.HasWritten title entries before now export →

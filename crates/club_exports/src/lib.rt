@@ -12,5 +12,5 @@ pub mod laws;
 mod shogi;
 
 pub use export::Export;
-pub use exports::Exports;
-pub use heading::Heading;
+pub use exports::WriteRecord;
+pub use heading::RecordHeader;

@@ -6,8 +6,8 @@ ghost use Rattle.club_core.specs.declared.rows.GameEnd.TheVariants as by;
 ghost use Rattle.club_exports.specs.Title.{title_of};
 ghost use Rattle.club_exports.specs.CsaRecords.{IsCsaHead, end_told, told_end};
 
-use crate::exports::Exports;
-use crate::heading::Heading;
+use crate::exports::WriteRecord;
+use crate::heading::RecordHeader;
 use club_core::GameEnd;
 use club_games::Shogi;
 use club_requests::OutsideEnd;
@@ -43,7 +43,7 @@ fn end_told(end: Option<GameEnd<SEnd>>) -> Option<CsaEnd>
     }
 }
 
-fn head_of<'a>(heading: &Heading<'a, SEnd>) -> CsaHead<'a>
+fn head_of<'a>(heading: &RecordHeader<'a, SEnd>) -> CsaHead<'a>
     ensures { IsCsaHead (title_of heading.now) result }
 {
     CsaHead {
@@ -55,7 +55,7 @@ fn head_of<'a>(heading: &Heading<'a, SEnd>) -> CsaHead<'a>
     }
 }
 
-impl Exports for Shogi {
+impl WriteRecord for Shogi {
     type Record = GameWriter;
 
     ghost use Rattle.club_exports.specs.CsaRecords.{IsCsaText, HasWrittenCsa};
@@ -70,7 +70,7 @@ impl Exports for Shogi {
 
     fn begin_record<W: Write>(
         alloc: Global,
-        heading: &Heading<SEnd>,
+        heading: &RecordHeader<SEnd>,
         writer: &mut W,
     ) -> Result<GameWriter, WriteFault> {
         written_moves_begin_games();

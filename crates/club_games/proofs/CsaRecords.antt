@@ -6,7 +6,7 @@ use Rattle.std.specs.Prelude.{slice_get, if◌then◌else◌}
 use Rattle.std.proofs.lemmas.List.{length-append}
 use Rattle.std.proofs.lemmas.Option.{slice_get-get_or}
 use Rattle.std.proofs.Math.Seq.{take-append_seam, get_or-append_seam}
-use Rattle.game_lines.proofs.Proved.{last_position-append}
+use Rattle.game_history.proofs.Proved.{last_position-append}
 use Rattle.squares.specs.declared.shogi.moves.SMove.{SMove}
 use Rattle.squares.specs.ShogiOpening.{opening}
 use Rattle.shogi_moves.specs.declared.checking.Illegal.{Illegal}
@@ -21,8 +21,8 @@ use Rattle.shogi_repetition.specs.Line.{last_position}
 use Rattle.csa.specs.declared.faults.CsaFault.{CsaFault}
 use Rattle.csa.specs.declared.faults.CsaFault.TheVariants as fault
 use Rattle.csa.specs.declared.game.CsaGame.{CsaGame}
-use Rattle.csa.specs.declared.lines.Placed.{Placed}
-use Rattle.csa.specs.declared.order.Place.TheVariants as place
+use Rattle.csa.specs.declared.lines.NumberedStatement.{NumberedStatement}
+use Rattle.csa.specs.declared.order.RecordStage.TheVariants as place
 use Rattle.csa.specs.declared.statements.Statement.{Statement}
 use Rattle.csa.specs.declared.statements.Statement.TheVariants as statement
 use Rattle.csa.specs.declared.statements.WrittenMove.{WrittenMove}
@@ -93,13 +93,13 @@ refused-next ms w after (fault.Illegal ply cause) (is, unended, inr (none_is, no
 refused-next ms w after _ h = absurd h
 
 -- a record
-even-reading : (placed : List Placed) (even : Bool) → begins_even placed ≡ even
+even-reading : (placed : List NumberedStatement) (even : Bool) → begins_even placed ≡ even
     → record_reading placed
     ≡ (if even then with_moves placed (replayed [] (written_moves placed)) else Err fault.OtherOpening)
 even-reading placed even =
     ap (λ b. if b then with_moves placed (replayed [] (written_moves placed)) else Err fault.OtherOpening)
 
-played-reading : (placed : List Placed) (ms : List SMove) (end : Option SEnd) → Plays placed ms end
+played-reading : (placed : List NumberedStatement) (ms : List SMove) (end : Option SEnd) → Plays placed ms end
     → record_reading placed ≡ with_score (says_declared (end_in placed)) ms (score_in placed ms end)
 played-reading placed ms end plays =
     let ws = written_moves placed in
@@ -108,24 +108,24 @@ played-reading placed ms end plays =
     ∙ ap (λ e. with_score (says_declared (end_in placed)) ms (score_in placed ms e))
     (sym (end-computed opening ms end plays.ends))
 
-record-read : (placed : List Placed) (g : CsaGame) → IsRecordOf placed g → record_reading placed ≡ Ok (game_of g)
+record-read : (placed : List NumberedStatement) (g : CsaGame) → IsRecordOf placed g → record_reading placed ≡ Ok (game_of g)
 record-read placed g is =
     played-reading placed g.moves.items is.end is.plays
     ∙ (λ i. with_score (sym is.declared i) g.moves.items (is.score i))
 
-end-refused : (placed : List Placed) (f : CsaFault) → EndFails placed f → record_reading placed ≡ Err f
+end-refused : (placed : List NumberedStatement) (f : CsaFault) → EndFails placed f → record_reading placed ≡ Err f
 end-refused placed f fails =
     played-reading placed fails.moves fails.end fails.plays
     ∙ ap (with_score (says_declared (end_in placed)) fails.moves) fails.score
 
-made-refused : (placed : List Placed) (f : CsaFault) → begins_even placed ≡ true → RefusesMove (written_moves placed) f
+made-refused : (placed : List NumberedStatement) (f : CsaFault) → begins_even placed ≡ true → RefusesMove (written_moves placed) f
     → record_reading placed ≡ Err f
 made-refused placed f even r =
     even-reading placed true even ∙ ap (with_moves placed) (ap (replayed []) r.parts
     ∙ replays-on [] r.before (r.refused ∷ r.after) r.moves r.played.mean r.played.played
     ∙ refused-next r.moves r.refused r.after f r.refuses)
 
-record-refused : (placed : List Placed) (f : CsaFault) → f ≢ fault.Memory → RecordFails placed f
+record-refused : (placed : List NumberedStatement) (f : CsaFault) → f ≢ fault.Memory → RecordFails placed f
     → record_reading placed ≡ Err f
 record-refused placed fault.Memory differs fails = absurd (differs refl)
 record-refused placed fault.OtherOpening differs fails = even-reading placed false fails
@@ -136,7 +136,7 @@ record-refused placed fault.ResultDiffers differs fails = end-refused placed _ f
 record-refused placed _ differs fails = absurd fails
 
 -- records one after another
-records-read : (records : List (List Placed)) (games : List CsaGame) → AreRecordsOf records games
+records-read : (records : List (List NumberedStatement)) (games : List CsaGame) → AreRecordsOf records games
     → records_reading records ≡ Ok (map game_of games)
 records-read [] [] are = refl
 records-read [] (g ∷ games) are = absurd are
@@ -144,7 +144,7 @@ records-read (placed ∷ records) [] are = absurd are
 records-read (placed ∷ records) (g ∷ games) are =
     λ i. and_more (record-read placed g are.0 i) (records-read records games are.1 i)
 
-fails-after : (before : List (List Placed)) (failing : List Placed) (after : List (List Placed)) (games : List CsaGame)
+fails-after : (before : List (List NumberedStatement)) (failing : List NumberedStatement) (after : List (List NumberedStatement)) (games : List CsaGame)
     (f : CsaFault) → AreRecordsOf before games → record_reading failing ≡ Err f
     → records_reading (before ++ failing ∷ after) ≡ Err f
 fails-after [] failing after games f read fails = ap (λ r. and_more r (records_reading after)) fails
@@ -153,12 +153,12 @@ fails-after (placed ∷ before) failing after (g ∷ games) f read fails =
     λ i. and_more (record-read placed g read.0 i) (fails-after before failing after games f read.1 fails i)
 
 -- a text
-ordered-reading : (placed : List Placed) → AreOrdered placed
+ordered-reading : (placed : List NumberedStatement) → AreOrdered placed
     → statements_reading placed (first_statement placed) ≡ records_reading (records_of placed)
 ordered-reading placed ordered =
     ap (statements_reading placed) ordered.version ∙ ap (ordered_reading placed) ordered.order
 
-some-fails : (placed : List Placed) (f : CsaFault) → f ≢ fault.Memory → SomeRecordFails placed f
+some-fails : (placed : List NumberedStatement) (f : CsaFault) → f ≢ fault.Memory → SomeRecordFails placed f
     → statements_reading placed (first_statement placed) ≡ Err f
 some-fails placed f differs fails =
     let after : FailsAfter (records_of placed) f = fails.1 in
@@ -170,7 +170,7 @@ not-version : (s : Statement) → s ≢ statement.Version → is_version s ≡ f
 not-version statement.Version differs = absurd (differs refl)
 not-version _ differs = refl
 
-statements-refused : (placed : List Placed) (f : CsaFault) → f ≢ fault.Memory → Refuses placed f
+statements-refused : (placed : List NumberedStatement) (f : CsaFault) → f ≢ fault.Memory → Refuses placed f
     → statements_reading placed (first_statement placed) ≡ Err f
 statements-refused placed fault.Memory differs refuses = absurd (differs refl)
 statements-refused placed (fault.BadText line) differs (inl (none, is)) = ap (statements_reading placed) none

@@ -3,7 +3,7 @@ use Rattle.std.proofs.Common.{◌≡◌, ◌≢◌, ℕ, List, Err, sym, ap, ◌
 use Rattle.squares.specs.declared.draughts.moves.DMove.{DMove}
 use Rattle.squares.specs.DraughtsBoard.{Position}
 use Rattle.draughts_moves.specs.declared.checking.Illegal.{Illegal}
-use Rattle.game_lines.specs.declared.faults.LineFault.TheVariants as line_fault
+use Rattle.game_history.specs.declared.faults.LineFault.TheVariants as line_fault
 use Rattle.draughts_draws.specs.Faults.{HasFault}
 use Rattle.pdn.specs.declared.faults.FenFault.TheVariants as fen_fault
 use Rattle.pdn.specs.declared.faults.MoveFault.{MoveFault}

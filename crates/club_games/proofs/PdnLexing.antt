@@ -11,8 +11,8 @@ use Rattle.pdn_games.specs.Skips.{past_skipped}
 use Rattle.pdn_games.specs.SkipGrammar.{IsSkipped, blank, comment, note, variation, marks, line_end}
 use Rattle.pdn_games.specs.Tags.{TagFront, tag_front}
 use Rattle.pdn_games.specs.Tokens.{TokenFront, tag_token, word_len, result_token, longest, token_front}
-use Rattle.pdn_games.specs.Tokens.{Front, ended, skipped, found, stuck, found_front, front_with, front_at, begins_feed}
-use Rattle.pdn_games.specs.Tokens.{lets_follow, Placed, Lexes, at_end, stops, skips, takes}
+use Rattle.pdn_games.specs.Tokens.{LexStep, ended, skipped, found, stuck, found_front, front_with, front_at, begins_feed}
+use Rattle.pdn_games.specs.Tokens.{lets_follow, PlacedToken, Lexes, at_end, stops, skips, takes}
 use Rattle.pdn_games.proofs.Proved.{skipped-parts, tag-split}
 use Rattle.club_games.specs.PdnReading.{with_token, after_front, lexed}
 
@@ -26,7 +26,7 @@ skipped-shorter line text rest (marks c run is are split) = omega (arith, simp l
 skipped-shorter line text rest (line_end c run is are split) = omega (arith, simp length-append at (ap length split))
 
 -- what follows a front is shorter
-abbrev FrontShorter : List ℕ → Front → Type 0
+abbrev FrontShorter : List ℕ → LexStep → Type 0
 FrontShorter text ended = Unit {0}
 FrontShorter text stuck = Unit {0}
 FrontShorter text (skipped rest) = length rest < length text
@@ -83,7 +83,7 @@ unfolding front_at
 front-shorter line free [] = tt
 front-shorter line free (c ∷ rest) = with-shorter line free (c ∷ rest) (past_skipped line (c ∷ rest)) refl
 
-step-lexed : (n total : ℕ) (line free : Bool) (text : List ℕ) (front : Front) → front_at line free text ≡ front
+step-lexed : (n total : ℕ) (line free : Bool) (text : List ℕ) (front : LexStep) → front_at line free text ≡ front
     → lexed (suc n) total line free text
     ≡ after_front (total - length text) (λ rest. lexed n total (begins_feed text) true rest)
     (λ token rest. lexed n total false (lets_follow token) rest) front
@@ -93,7 +93,7 @@ step-lexed n total line free text front is =
     (λ token rest. lexed n total false (lets_follow token) rest)) is
 
 -- the tokens of a text that has fewer bytes than so many
-pub lexes-lexed : (n total : ℕ) (line free : Bool) (text : List ℕ) (tokens : List Placed) (stop : Option ℕ)
+pub lexes-lexed : (n total : ℕ) (line free : Bool) (text : List ℕ) (tokens : List PlacedToken) (stop : Option ℕ)
     → Lexes total line free text tokens stop → length text < n
     → lexed n total line free text ≡ record { tokens = tokens; stop = stop }
 lexes-lexed zero total line free text tokens stop lexes few = absurd (omega (arith, few))

@@ -5,7 +5,7 @@ use Rattle.std.specs.Prelude.{codes, if◌then◌else◌}
 use Rattle.std.proofs.lemmas.Bool.{false_from_ne_true}
 use Rattle.std.proofs.lemmas.List.{length-append}
 use Rattle.std.proofs.Math.Seq.{take-append_seam}
-use Rattle.game_lines.proofs.Proved.{last_position-append}
+use Rattle.game_history.proofs.Proved.{last_position-append}
 use Rattle.squares.specs.declared.draughts.moves.DMove.{DMove}
 use Rattle.squares.specs.DraughtsOpening.{opening}
 use Rattle.draughts_moves.specs.Legal.{play}
@@ -25,7 +25,7 @@ use Rattle.pdn_games.specs.Moves.{MeanAll, RefusesNext}
 use Rattle.pdn_games.specs.Order.{bad_at}
 use Rattle.pdn_games.specs.Reading.{IsOfClub, EndFails, MoveFails, Fails, TextFails, IsTextOf, IsRefused}
 use Rattle.pdn_games.specs.Reading.{Plays, score_in}
-use Rattle.pdn_games.specs.Tokens.{Placed, TextTokens}
+use Rattle.pdn_games.specs.Tokens.{PlacedToken, TextTokens}
 use Rattle.club_rules.specs.Records.{game, refused}
 use Rattle.club_games.specs.FenReading.{is_opening}
 use Rattle.club_games.specs.PdnReading.{lexed_reading, Replayed, replay_next, replayed, with_score, with_moves}
@@ -86,31 +86,31 @@ module _ (laws : FenFormsAreTexts) where
   not-even None none = absurd (none tt)
   not-even (Some text) none = false_from_ne_true (is_opening text) (λ t. none ((tells-opening laws text).0 t))
 
-  club-reading : (tokens : List Placed) → IsOfClub tokens
+  club-reading : (tokens : List PlacedToken) → IsOfClub tokens
       → tokens_reading tokens ≡ with_moves tokens (replayed [] (move_texts tokens))
   club-reading tokens of =
       λ i. if of.kind i then Err fault.OtherType else if even (first_tag (codes "FEN") tokens) of.opening
       i then with_moves tokens (replayed [] (move_texts tokens)) else Err fault.OtherOpening
 
-  played-reading : (tokens : List Placed) (ms : List DMove) → Plays tokens ms
+  played-reading : (tokens : List PlacedToken) (ms : List DMove) → Plays tokens ms
       → tokens_reading tokens ≡ with_score ms (score_in tokens ms)
   played-reading tokens ms plays =
       let texts = move_texts tokens in
       club-reading tokens plays.of_club ∙ ap (with_moves tokens)
       (ap (replayed []) (sym (append-nil texts)) ∙ replays-on [] texts [] ms plays.moves.mean plays.moves.played)
 
-  end-refused : (tokens : List Placed) (f : PdnFault) → EndFails tokens f → tokens_reading tokens ≡ Err f
+  end-refused : (tokens : List PlacedToken) (f : PdnFault) → EndFails tokens f → tokens_reading tokens ≡ Err f
   end-refused tokens f fails =
       played-reading tokens fails.moves fails.plays ∙ ap (with_score fails.moves) fails.score
 
-  made-refused : (tokens : List Placed) (f : PdnFault) → MoveFails tokens f → tokens_reading tokens ≡ Err f
+  made-refused : (tokens : List PlacedToken) (f : PdnFault) → MoveFails tokens f → tokens_reading tokens ≡ Err f
   made-refused tokens f fails =
       let r = fails.refused in
       club-reading tokens fails.of_club ∙ ap (with_moves tokens) (ap (replayed []) r.parts
       ∙ replays-on [] r.before (r.refused ∷ r.after) r.moves r.played.mean r.played.played
       ∙ refused-next r.moves r.refused r.after f r.refuses)
 
-  tokens-refused : (tokens : List Placed) (f : PdnFault) → f ≢ fault.Memory → Fails tokens f
+  tokens-refused : (tokens : List PlacedToken) (f : PdnFault) → f ≢ fault.Memory → Fails tokens f
       → tokens_reading tokens ≡ Err f
   tokens-refused tokens fault.Memory differs fails = absurd (differs refl)
   tokens-refused tokens (fault.BadText offset) differs fails = absurd fails
@@ -126,7 +126,7 @@ module _ (laws : FenFormsAreTexts) where
   tokens-refused tokens f differs fails = made-refused tokens f fails
 
   -- a text
-  formed : (text : List ℕ) (tokens : List Placed) (stop bad : Option ℕ) → TextTokens text tokens stop
+  formed : (text : List ℕ) (tokens : List PlacedToken) (stop bad : Option ℕ) → TextTokens text tokens stop
       → bad_at tokens stop ≡ bad → pdn_reading text ≡ formed_reading tokens bad
   unfolding pdn_reading
   formed text tokens stop bad lexes is =

@@ -5,7 +5,7 @@ use Rattle.squares.specs.ShogiSets.{ShogiPosition}
 use Rattle.shogi_moves.specs.declared.checking.Illegal.{Illegal}
 use Rattle.shogi_moves.proofs.Proved.{check_of-refused}
 use Rattle.shogi_repetition.specs.declared.ends.SEnd.{SEnd}
-use Rattle.game_lines.specs.declared.faults.LineFault.TheVariants as line_fault
+use Rattle.game_history.specs.declared.faults.LineFault.TheVariants as line_fault
 use Rattle.shogi_repetition.specs.Computed.{end_of}
 use Rattle.shogi_repetition.specs.Ends.{EndsSo}
 use Rattle.shogi_repetition.specs.Faults.{HasFault}

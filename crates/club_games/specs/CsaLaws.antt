@@ -18,8 +18,8 @@ use Rattle.csa.specs.declared.end_words.EndWord.{EndWord}
 use Rattle.csa.specs.declared.end_words.EndWord.TheVariants as word
 use Rattle.csa.specs.declared.faults.CsaFault.{CsaFault}
 use Rattle.csa.specs.declared.faults.CsaFault.TheVariants as fault
-use Rattle.csa.specs.declared.lines.Placed.{Placed}
-use Rattle.csa.specs.declared.order.Place.TheVariants as place
+use Rattle.csa.specs.declared.lines.NumberedStatement.{NumberedStatement}
+use Rattle.csa.specs.declared.order.RecordStage.TheVariants as place
 use Rattle.csa.specs.declared.statements.Statement.{Statement}
 use Rattle.csa.specs.declared.statements.WrittenMove.{WrittenMove}
 use Rattle.csa.specs.Lines.{text_statements}
@@ -107,7 +107,7 @@ declared-fits (Some word.WhiteIllegal) p end s told says = cc
 declared-fits (Some word.Interrupted) p end s told says = cc
 
 -- the game that is read from a record is a game by the rules
-scored-game : (placed : List Placed) (ms : List SMove) (said : Result Score CsaFault) (r : Recorded SMove)
+scored-game : (placed : List NumberedStatement) (ms : List SMove) (said : Result Score CsaFault) (r : Recorded SMove)
     → IsPlayedLine shogi opening ms → score_in placed ms (end_of opening ms) ≡ said
     → with_score (says_declared (end_in placed)) ms said ≡ Ok r
     → IsGameByRules shogi r
@@ -123,14 +123,14 @@ scored-game placed ms (Ok s) r line told is =
       declared = λ says. declared-fits (end_in placed) (last_position opening ms) (end_of opening ms) s told says;
     })
 
-moved-game : (placed : List Placed) (read : Replayed) (r : Recorded SMove)
+moved-game : (placed : List NumberedStatement) (read : Replayed) (r : Recorded SMove)
     → ((ns : List SMove) → read ≡ Ok ns → IsPlayedLine shogi opening ns) → with_moves placed read ≡ Ok r
     → IsGameByRules shogi r
 moved-game placed (Err f) r line is = cc
 moved-game placed (Ok ms) r line is = scored-game placed ms (score_in placed ms (end_of opening ms)) r (line ms refl)
     refl is
 
-record-game : (placed : List Placed) (even : Bool) (r : Recorded SMove)
+record-game : (placed : List NumberedStatement) (even : Bool) (r : Recorded SMove)
     →
     ◌≡◌ {A = RecordRead}
     (if even then with_moves placed (replayed [] (written_moves placed)) else Err fault.OtherOpening) (Ok r)
@@ -157,7 +157,7 @@ more-games (Ok g) (Ok rs) gs first rest is = let same : g ∷ rs ≡ gs = cc in
     all g rs first rest zero r at = subst (IsGameByRules shogi) (some-same g r at) first
     all g rs first rest (suc n) r at = rest n r at
 
-records-games : (records : List (List Placed)) (gs : List (Recorded SMove)) → records_reading records ≡ Ok gs
+records-games : (records : List (List NumberedStatement)) (gs : List (Recorded SMove)) → records_reading records ≡ Ok gs
     → AreGames gs
 records-games [] gs is = let same : [] ≡ gs = cc in subst AreGames same no-games
   where
@@ -168,12 +168,12 @@ records-games (placed ∷ records) gs is =
     more-games (record_reading placed) (records_reading records) gs (record-game placed (begins_even placed))
     (records-games records) is
 
-ordered-games : (placed : List Placed) (stray : Option ℕ) (gs : List (Recorded SMove))
+ordered-games : (placed : List NumberedStatement) (stray : Option ℕ) (gs : List (Recorded SMove))
     → ordered_reading placed stray ≡ Ok gs → AreGames gs
 ordered-games placed (Some line) gs is = cc
 ordered-games placed None gs is = records-games (records_of placed) gs is
 
-version-games : (placed : List Placed) (version : Bool) (gs : List (Recorded SMove))
+version-games : (placed : List NumberedStatement) (version : Bool) (gs : List (Recorded SMove))
     →
     ◌≡◌ {A = RecordsRead}
     (if version then ordered_reading placed (first_stray place.Start placed) else Err fault.Version) (Ok gs)
@@ -181,7 +181,7 @@ version-games : (placed : List Placed) (version : Bool) (gs : List (Recorded SMo
 version-games placed true gs is = ordered-games placed (first_stray place.Start placed) gs is
 version-games placed false gs is = cc
 
-statements-games : (placed : List Placed) (first : Option Statement) (gs : List (Recorded SMove))
+statements-games : (placed : List NumberedStatement) (first : Option Statement) (gs : List (Recorded SMove))
     → statements_reading placed first ≡ Ok gs → AreGames gs
 statements-games placed None gs is = cc
 statements-games placed (Some s) gs is = version-games placed (is_version s) gs is

@@ -26,8 +26,8 @@ use Rattle.shogi_repetition.specs.Line.{last_position}
 use Rattle.csa.specs.declared.faults.CsaFault.{CsaFault}
 use Rattle.csa.specs.declared.faults.CsaFault.TheVariants as fault
 use Rattle.csa.specs.declared.game.CsaGame.{CsaGame}
-use Rattle.csa.specs.declared.lines.Placed.{Placed}
-use Rattle.csa.specs.declared.order.Place.TheVariants as place
+use Rattle.csa.specs.declared.lines.NumberedStatement.{NumberedStatement}
+use Rattle.csa.specs.declared.order.RecordStage.TheVariants as place
 use Rattle.csa.specs.declared.statements.Statement.{Statement}
 use Rattle.csa.specs.declared.statements.Statement.TheVariants as statement
 use Rattle.csa.specs.declared.statements.WrittenMove.{WrittenMove}
@@ -104,13 +104,13 @@ abbrev pub with_score : Bool → List SMove → Result Score CsaFault → Record
 with_score declared ms (Ok score) = Ok (record { moves = ms; score = score; declared = declared })
 with_score declared ms (Err f) = Err f
 
-abbrev pub with_moves : List Placed → Replayed → RecordRead
+abbrev pub with_moves : List NumberedStatement → Replayed → RecordRead
 with_moves placed (Ok ms) =
     with_score (says_declared (end_in placed)) ms (score_in placed ms (end_of opening ms))
 with_moves placed (Err f) = Err f
 
 -- the game of a record
-abbrev pub record_reading : List Placed → RecordRead
+abbrev pub record_reading : List NumberedStatement → RecordRead
 record_reading placed =
     if begins_even placed then with_moves placed (replayed [] (written_moves placed)) else Err fault.OtherOpening
 
@@ -123,11 +123,11 @@ and_more (Ok g) (Err f) = Err f
 and_more (Ok g) (Ok gs) = Ok (g ∷ gs)
 
 -- the games of the records, or the fault of the first record that is refused
-abbrev pub records_reading : List (List Placed) → RecordsRead
+abbrev pub records_reading : List (List NumberedStatement) → RecordsRead
 records_reading [] = Ok []
 records_reading (placed ∷ records) = and_more (record_reading placed) (records_reading records)
 
-abbrev pub ordered_reading : List Placed → Option ℕ → RecordsRead
+abbrev pub ordered_reading : List NumberedStatement → Option ℕ → RecordsRead
 ordered_reading placed (Some line) = Err (fault.BadText line)
 ordered_reading placed None = records_reading (records_of placed)
 
@@ -136,7 +136,7 @@ is_version statement.Version = true
 is_version _ = false
 
 -- the statements must begin with a version and be in order
-abbrev pub statements_reading : List Placed → Option Statement → RecordsRead
+abbrev pub statements_reading : List NumberedStatement → Option Statement → RecordsRead
 statements_reading placed None = Err (fault.BadText 1)
 statements_reading placed (Some first) =
     if is_version first then ordered_reading placed (first_stray place.Start placed) else Err fault.Version

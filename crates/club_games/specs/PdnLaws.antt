@@ -19,8 +19,8 @@ use Rattle.pdn_games.specs.declared.faults.PdnFault.{PdnFault}
 use Rattle.pdn_games.specs.declared.faults.PdnFault.TheVariants as fault
 use Rattle.pdn_games.specs.Contents.{first_tag, result_in, move_texts, is_other_type}
 use Rattle.pdn_games.specs.Order.{bad_at}
-use Rattle.pdn_games.specs.Reading.{said, told, agrees, ruled, settled, score_in}
-use Rattle.pdn_games.specs.Tokens.{Placed}
+use Rattle.pdn_games.specs.Reading.{score_of_result, tag_score, agrees, score_by_rules, settled, score_in}
+use Rattle.pdn_games.specs.Tokens.{PlacedToken}
 use Rattle.club_rules.specs.Line.{IsPlayedLine}
 use Rattle.club_rules.specs.Records.{Recorded, IsGameByRules, ReadsGames, Reading, game, no_part}
 use Rattle.club_rules.proofs.Proved.{IsPlayedLine-none, IsPlayedLine-append}
@@ -61,19 +61,19 @@ replay-line ms (text ∷ texts) ns line read =
 -- if the rules ended the game, the score is theirs
 settled-score : (same tag : Bool) (claim by_rule s : Score) → same_score claim by_rule ≡ same
     → ◌≡◌ {A = Result Score PdnFault} (if same && tag then Ok claim else Err fault.ResultDiffers) (Ok s) → s ≡ by_rule
-settled-score true true claim by_rule s is told = let claimed_is : claim ≡ s = cc in
+settled-score true true claim by_rule s is tag_score = let claimed_is : claim ≡ s = cc in
     sym claimed_is ∙ same_score-same claim by_rule is
-settled-score true false claim by_rule s is told = cc
-settled-score false tag claim by_rule s is told = cc
+settled-score true false claim by_rule s is tag_score = cc
+settled-score false tag claim by_rule s is tag_score = cc
 
 claim-score : (claim : Option Score) (by_rule : Score) (by_tag : Option Score) (s : Score)
     → settled claim (Some by_rule) by_tag ≡ Ok s → s ≡ by_rule
-claim-score None by_rule by_tag s told = cc
-claim-score (Some claim) by_rule by_tag s told =
-    settled-score (same_score claim by_rule) (agrees claim by_tag) claim by_rule s refl told
+claim-score None by_rule by_tag s tag_score = cc
+claim-score (Some claim) by_rule by_tag s tag_score =
+    settled-score (same_score claim by_rule) (agrees claim by_tag) claim by_rule s refl tag_score
 
 -- the game that is read from tokens is a game by the rules
-scored-game : (tokens : List Placed) (ms : List DMove) (said_is : Result Score PdnFault) (r : Recorded DMove)
+scored-game : (tokens : List PlacedToken) (ms : List DMove) (said_is : Result Score PdnFault) (r : Recorded DMove)
     → IsPlayedLine draughts opening ms → score_in tokens ms ≡ said_is → with_score ms said_is ≡ Ok r
     → IsGameByRules draughts r
 scored-game tokens ms (Err f) r line told_is is = cc
@@ -83,21 +83,21 @@ scored-game tokens ms (Ok s) r line told_is is =
     (record {
       line = line;
       score = λ end ends.
-          claim-score (said (result_in tokens)) (outcome_of end (last_position opening ms).turn)
-          (told (first_tag (codes "Result") tokens)) s
+          claim-score (score_of_result (result_in tokens)) (outcome_of end (last_position opening ms).turn)
+          (tag_score (first_tag (codes "Result") tokens)) s
           (ap
-          (λ e. settled (said (result_in tokens)) (ruled e (last_position opening ms).turn)
-          (told (first_tag (codes "Result") tokens))) (sym ends) ∙ told_is);
+          (λ e. settled (score_of_result (result_in tokens)) (score_by_rules e (last_position opening ms).turn)
+          (tag_score (first_tag (codes "Result") tokens))) (sym ends) ∙ told_is);
       declared = λ is. cc;
     })
 
-moved-game : (tokens : List Placed) (read : Replayed) (r : Recorded DMove)
+moved-game : (tokens : List PlacedToken) (read : Replayed) (r : Recorded DMove)
     → ((ns : List DMove) → read ≡ Ok ns → IsPlayedLine draughts opening ns) → with_moves tokens read ≡ Ok r
     → IsGameByRules draughts r
 moved-game tokens (Err f) r line is = cc
 moved-game tokens (Ok ms) r line is = scored-game tokens ms (score_in tokens ms) r (line ms refl) refl is
 
-kind-game : (tokens : List Placed) (other even : Bool) (r : Recorded DMove)
+kind-game : (tokens : List PlacedToken) (other even : Bool) (r : Recorded DMove)
     →
     ◌≡◌ {A = GameRead}
     (if other then Err fault.OtherType else if even then with_moves tokens (replayed [] (move_texts tokens)) else Err
@@ -107,7 +107,7 @@ kind-game tokens false false r is = cc
 kind-game tokens false true r is = moved-game tokens (replayed [] (move_texts tokens)) r
     (λ ns. replay-line [] (move_texts tokens) ns (IsPlayedLine-none draughts opening)) is
 
-formed-game : (tokens : List Placed) (bad : Option ℕ) (r : Recorded DMove) → formed_reading tokens bad ≡ Ok r
+formed-game : (tokens : List PlacedToken) (bad : Option ℕ) (r : Recorded DMove) → formed_reading tokens bad ≡ Ok r
     → IsGameByRules draughts r
 formed-game tokens (Some offset) r is = cc
 formed-game tokens None r is = kind-game tokens (is_other_type tokens) (begins_even (first_tag (codes "FEN") tokens)) r

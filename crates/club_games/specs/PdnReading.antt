@@ -15,7 +15,7 @@ use Rattle.pdn_games.specs.Contents.{first_tag, move_texts, is_other_type}
 use Rattle.pdn_games.specs.Order.{bad_at}
 use Rattle.pdn_games.specs.Reading.{score_in}
 use Rattle.pdn_games.specs.Replaying.{at_ply}
-use Rattle.pdn_games.specs.Tokens.{Token, Placed, Front, ended, skipped, found, stuck, front_at, begins_feed}
+use Rattle.pdn_games.specs.Tokens.{Token, PlacedToken, LexStep, ended, skipped, found, stuck, front_at, begins_feed}
 use Rattle.pdn_games.specs.Tokens.{lets_follow}
 use Rattle.club_rules.specs.declared.records.RecordFormat.TheVariants.{Pdn}
 use Rattle.club_rules.specs.declared.record_refusals.RecordRefusal.{RecordRefusal}
@@ -26,13 +26,13 @@ use Rattle.club_games.specs.FenReading.{is_opening}
 
 -- the tokens of a text, and the offset at which the lexer stopped, unless at the end
 pub record Lexed : Type 0 where
-  pub tokens : List Placed
+  pub tokens : List PlacedToken
   pub stop : Option ℕ
 
 abbrev pub with_token : ℕ → Token → Lexed → Lexed
 with_token at token rest = record { tokens = record { at = at; token = token } ∷ rest.tokens; stop = rest.stop }
 
-abbrev pub after_front : ℕ → (List ℕ → Lexed) → (Token → List ℕ → Lexed) → Front → Lexed
+abbrev pub after_front : ℕ → (List ℕ → Lexed) → (Token → List ℕ → Lexed) → LexStep → Lexed
 after_front at skips takes ended = record { tokens = []; stop = None }
 after_front at skips takes stuck = record { tokens = []; stop = Some at }
 after_front at skips takes (skipped rest) = skips rest
@@ -71,7 +71,7 @@ abbrev pub with_score : List DMove → Result Score PdnFault → GameRead
 with_score ms (Ok score) = Ok (record { moves = ms; score = score; declared = false })
 with_score ms (Err f) = Err f
 
-abbrev pub with_moves : List Placed → Replayed → GameRead
+abbrev pub with_moves : List PlacedToken → Replayed → GameRead
 with_moves tokens (Ok ms) = with_score ms (score_in tokens ms)
 with_moves tokens (Err f) = Err f
 
@@ -81,7 +81,7 @@ begins_even None = true
 begins_even (Some text) = is_opening text
 
 -- the game of well-formed tokens: international draughts, from the initial position
-abbrev pub tokens_reading : List Placed → GameRead
+abbrev pub tokens_reading : List PlacedToken → GameRead
 tokens_reading tokens =
     if is_other_type tokens
     then Err fault.OtherType
@@ -89,7 +89,7 @@ tokens_reading tokens =
     then with_moves tokens (replayed [] (move_texts tokens))
     else Err fault.OtherOpening
 
-abbrev pub formed_reading : List Placed → Option ℕ → GameRead
+abbrev pub formed_reading : List PlacedToken → Option ℕ → GameRead
 formed_reading tokens (Some offset) = Err (fault.BadText offset)
 formed_reading tokens None = tokens_reading tokens
 

@@ -63,7 +63,7 @@ impl Rules for Draughts {
         }
     }
 
-    fn same(a: &DMove, b: &DMove) -> bool {
+    fn is_same_move(a: &DMove, b: &DMove) -> bool {
         a == b
     }
 

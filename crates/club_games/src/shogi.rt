@@ -73,7 +73,7 @@ impl Rules for Shogi {
         }
     }
 
-    fn same(a: &SMove, b: &SMove) -> bool {
+    fn is_same_move(a: &SMove, b: &SMove) -> bool {
         is_same(a, b)
     }
 

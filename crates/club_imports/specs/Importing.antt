@@ -6,8 +6,8 @@ use Rattle.club_rules.specs.Records.{Reading, recorded_of, IsGameByRules}
 use Rattle.club_core.specs.Game.{Game, moves_of, result_of}
 use Rattle.club_core.specs.Imports.{Imported}
 use Rattle.club_requests.specs.Outcome.{Outcome, accepted, repeated, refused, game_seated}
-use Rattle.club_imports.specs.declared.imports.Importing as given_importing
-use Rattle.club_imports.specs.declared.imports.Importing.TheVariants as importing
+use Rattle.club_imports.specs.declared.imports.ImportDecision as given_importing
+use Rattle.club_imports.specs.declared.imports.ImportDecision.TheVariants as importing
 use Rattle.club_imports.specs.declared.played.PlayedGame.{PlayedGame}
 
 -- the moves and the result of the game
@@ -28,14 +28,14 @@ IsByRules rules record_is.no_part = Unit {0}
 IsByRules rules (record_is.refused refusal) = Unit {0}
 
 -- the outcome of an import
-abbrev pub importing_of : {M : Type 0} → given_importing.Importing M → Outcome (Imported M)
+abbrev pub importing_of : {M : Type 0} → given_importing.ImportDecision M → Outcome (Imported M)
 importing_of (importing.Adds new) =
     accepted (record { pairing = new.pairing; recorded = recorded_of new.recorded }) (game_seated new.game)
 importing_of (importing.Repeated id) = repeated (game_seated id)
 importing_of (importing.Refused refusal) = refused refusal
 
 -- if a game is added, its moves are legal and its score agrees with the rules
-abbrev pub AddsByRules : {P M E T : Type 0} → GameRules P M E T → given_importing.Importing M → Type 0
+abbrev pub AddsByRules : {P M E T : Type 0} → GameRules P M E T → given_importing.ImportDecision M → Type 0
 AddsByRules rules (importing.Adds new) = IsGameByRules rules (recorded_of new.recorded)
 AddsByRules rules (importing.Repeated id) = Unit {0}
 AddsByRules rules (importing.Refused refusal) = Unit {0}

@@ -16,7 +16,7 @@ ghost use Rattle.club_core.specs.Seats.{has_member_name};
 ghost use Rattle.club_imports.specs.Importing.{ShowsPlayed, IsByRules, importing_of, AddsByRules};
 
 use crate::played::{PlayedGame, reads_record_of};
-use club_core::seats::{are_two, find_event, find_member, repeated_seat};
+use club_core::seats::{are_distinct, find_event, find_member, repeated_seat};
 use club_core::{Event, KeyedGame, Member, Pairing, event_declares};
 use club_requests::values::{MOST_GAMES, MOST_RECORD_BYTES, is_name};
 use club_requests::{Caller, Import, Refusal};
@@ -35,7 +35,7 @@ pub struct NewGame<M> {
 
 /// The outcome of an import: a new game, a repeat (with the id of the game), or a refusal.
 #[derive(Drop)]
-pub enum Importing<M> {
+pub enum ImportDecision<M> {
     Adds(NewGame<M>),
     Repeated(u32),
     Refused(Refusal),
@@ -114,7 +114,7 @@ fn refusal_of_import<R: Records>(
     if under_key.is_some() {
         return Some(Refusal::Conflict);
     }
-    if !is_name(command.key.as_str()) || !are_two(first, second) || !has_part(reading) {
+    if !is_name(command.key.as_str()) || !are_distinct(first, second) || !has_part(reading) {
         return Some(Refusal::BadValue);
     }
     if games >= MOST_GAMES {
@@ -130,7 +130,7 @@ fn import_game<R: Rules>(
     second: Option<u32>,
     games: u32,
     recorded: RecordedGame<R::Move>,
-) -> Importing<R::Move>
+) -> ImportDecision<R::Move>
     requires room { games < most_games }
     requires by_rules { IsGameByRules R.rules (recorded_of recorded) }
     ensures value { importing_of result ≡ import_game event first second games (recorded_of recorded) }
@@ -138,13 +138,13 @@ fn import_game<R: Rules>(
 {
     let first = match first {
         Some(first) => first,
-        None => return Importing::Refused(Refusal::BadValue),
+        None => return ImportDecision::Refused(Refusal::BadValue),
     };
     let second = match second {
         Some(second) => second,
-        None => return Importing::Refused(Refusal::BadValue),
+        None => return ImportDecision::Refused(Refusal::BadValue),
     };
-    Importing::Adds(NewGame {
+    ImportDecision::Adds(NewGame {
         game: games + 1,
         pairing: Pairing {
             event,
@@ -180,7 +180,7 @@ fn import_between<R: Rules>(
     second: Option<u32>,
     games: u32,
     reading: RecordReading<R::Move>,
-) -> Importing<R::Move>
+) -> ImportDecision<R::Move>
     requires room { games < most_games }
     requires by_rules { IsByRules R.rules (reading_of reading) }
     ensures value { importing_of result ≡ import_between event first second games (reading_of reading) }
@@ -188,8 +188,8 @@ fn import_between<R: Rules>(
 {
     match reading {
         RecordReading::Game(recorded) => import_game::<R>(event, first, second, games, recorded),
-        RecordReading::NoPart => Importing::Refused(Refusal::BadValue),
-        RecordReading::Refused(refusal) => Importing::Refused(Refusal::Record(refusal)),
+        RecordReading::NoPart => ImportDecision::Refused(Refusal::BadValue),
+        RecordReading::Refused(refusal) => ImportDecision::Refused(Refusal::Record(refusal)),
     }
 }
 
@@ -204,7 +204,7 @@ fn import_found<R: Records>(
     played: &Option<PlayedGame<R::Move>>,
     games: u32,
     declares: bool,
-) -> Result<Importing<R::Move>, Memory>
+) -> Result<ImportDecision<R::Move>, Memory>
     ensures value { IfOk result (λ i. (old : Option (Game R.Move)) → ShowsPlayed R.rules old played.now →
         importing_of i ≡ import_step R.rules R.records (import_of command.now) event first second
         under_key old games declares) }
@@ -212,11 +212,11 @@ fn import_found<R: Records>(
 {
     let reading = read_import::<R>(alloc, command)?;
     match repeat_of_import::<R>(command, &reading, event, first, second, under_key, played) {
-        Some(game) => return Ok(Importing::Repeated(game)),
+        Some(game) => return Ok(ImportDecision::Repeated(game)),
         None => {}
     }
     match refusal_of_import::<R>(command, &reading, first, second, under_key, games) {
-        Some(refusal) => return Ok(Importing::Refused(refusal)),
+        Some(refusal) => return Ok(ImportDecision::Refused(refusal)),
         None => {}
     }
     let reading = read_in::<R>(R::format(), declares, reading);
@@ -247,7 +247,7 @@ pub fn import<R: Records>(
     games: u32,
     caller: Caller,
     command: &Import,
-) -> Result<Importing<R::Move>, Memory>
+) -> Result<ImportDecision<R::Move>, Memory>
     requires members { length members.now ≤ most_members }
     requires events { length events.now ≤ most_events }
     ensures value { IfOk result (λ i. (old : Option (Game R.Move)) → ShowsPlayed R.rules old played.now →
@@ -260,11 +260,11 @@ pub fn import<R: Records>(
     ensures by_rules { IfOk result (λ i. AddsByRules R.rules i) }
 {
     if caller != Caller::Officer {
-        return Ok(Importing::Refused(Refusal::NotAllowed));
+        return Ok(ImportDecision::Refused(Refusal::NotAllowed));
     }
     let event = match find_event(events, command.event.as_str()) {
         Some(event) => event,
-        None => return Ok(Importing::Refused(Refusal::UnknownEvent)),
+        None => return Ok(ImportDecision::Refused(Refusal::UnknownEvent)),
     };
     let declares = event_declares(events, command.event.as_str());
     let first = find_member(members, command.first.as_str());

@@ -5,6 +5,6 @@ pub mod imports;
 pub mod played;
 pub mod rows;
 
-pub use imports::{Importing, NewGame, import};
+pub use imports::{ImportDecision, NewGame, import};
 pub use played::PlayedGame;
 pub use rows::imported_row;

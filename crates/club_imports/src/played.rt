@@ -33,7 +33,7 @@ fn are_same<R: Rules>(moves: &[R::Move], others: &[R::Move]) -> bool
         return false;
     }
     for i in 0..moves.len() {
-        if !R::same(&moves[i], &others[i]) {
+        if !R::is_same_move(&moves[i], &others[i]) {
             return false;
         }
     }

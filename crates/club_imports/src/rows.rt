@@ -43,14 +43,14 @@ fn line_state_after<R: Rules>(moves: &[R::Move]) -> LineState<R>
 
 /// The seconds that both players have left.
 #[derive(Clone, Copy, Debug, PartialEq, Eq)]
-pub struct Left {
+pub struct RemainingTimes {
     pub first: u64,
     pub second: u64,
 }
 
-impl Left {
+impl RemainingTimes {
     /// The seconds that a side has left.
-    pub fn of(self, side: Side) -> u64
+    pub fn seconds_of(self, side: Side) -> u64
         ensures { (moment : ℕ) → result ≡ left_of side (clocks_with self.first self.second moment) }
     {
         match side {
@@ -60,18 +60,18 @@ impl Left {
     }
 
     /// Adds an increment (in seconds) for a side, whose move took no time.
-    pub fn with(self, side: Side, increment: u64) -> Left
+    pub fn with_increment(self, side: Side, increment: u64) -> RemainingTimes
         requires first { self.first + increment < 2 ^ 64 }
         requires second { self.second + increment < 2 ^ 64 }
         ensures { (moment : ℕ) → clocks_with result.first result.second moment
             ≡ spend increment side moment (clocks_with self.first self.second moment) }
     {
         match side {
-            Side::First => Left {
+            Side::First => RemainingTimes {
                 first: self.first + increment,
                 second: self.second,
             },
-            Side::Second => Left {
+            Side::Second => RemainingTimes {
                 first: self.first,
                 second: self.second + increment,
             },
@@ -80,20 +80,20 @@ impl Left {
 }
 
 /// The seconds left after moves that took no time, each adding the increment to the mover's clock.
-fn left_after(budget: u64, increment: u64, plies: usize) -> Left
+fn left_after(budget: u64, increment: u64, plies: usize) -> RemainingTimes
     requires budget { IsTrue (is_budget budget) }
     requires increment { IsTrue (is_increment increment) }
     requires few { plies ≤ most_plies }
     ensures { (moment : ℕ) → clocks_with result.first result.second moment
         ≡ spend_all increment First (at_moment moment plies) (clocks_with budget budget moment) }
 {
-    let mut left = Left {
+    let mut left = RemainingTimes {
         first: budget,
         second: budget,
     };
     let mut side = Side::First;
     for ply in 0..plies {
-        left = left.with(side, increment);
+        left = left.with_increment(side, increment);
         side = side.other();
     }
     left

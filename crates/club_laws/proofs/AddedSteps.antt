@@ -18,14 +18,14 @@ use Rattle.club_core.specs.declared.challenges.ChallengeState.TheVariants.{Accep
 use Rattle.club_core.specs.declared.seats.Pairing.{Pairing}
 use Rattle.club_core.specs.Members.{Member, find_id, has_name_or_key, member_tests}
 use Rattle.club_core.specs.Events.{Terms, Event, has_event_name, has_good_values, event_tests, declaring}
-use Rattle.club_core.specs.Challenges.{goes_by, put_challenge, pairing_for, standing_as}
+use Rattle.club_core.specs.Challenges.{key_of_challenge, put_challenge, pairing_for, standing_as}
 use Rattle.club_core.specs.Game.{Game, Entry, Clocks, spend, spend_all, clocks_of, left_of, turn_of}
 use Rattle.club_core.specs.State.{AnyGame, draughts, shogi, State, place, key_of, has_key, pairing_of, seated}
 use Rattle.club_core.specs.State.{seated_as}
 use Rattle.club_core.specs.State.{with_members, with_events, with_imported, with_game, with_challenge}
 use Rattle.club_core.specs.Legal.{IsLegalGame}
 use Rattle.club_core.specs.LegalState.{Each, IsLegalMember, IsLegalEvent, IsGameOf, IsLegalIn, IsLegalChallenge}
-use Rattle.club_core.specs.LegalState.{AreApart, AreApartIfAny, IsLegalState}
+use Rattle.club_core.specs.LegalState.{HaveUniqueKeys, HaveUniqueKeysIfAny, IsLegalState}
 use Rattle.club_core.proofs.Proved.{NoneHolds, IsPlayedLine-none}
 use Rattle.club_laws.proofs.GameSteps.{IsLaterGame, later-game-refl}
 use Rattle.club_laws.proofs.ImportedGames.{spend-since}
@@ -241,9 +241,9 @@ module _ {DP DM DE DT SP SM SE ST : Type 0} (kinds : ClubRules DP DM DE DT SP SM
     with-parts : (all : List (AnyGame DM SM)) (put : List Challenge) (later : IsLater kinds s
         (record s { last = moment; games = all; challenges = put }))
         → Each (IsLegalIn kinds (record s { last = moment; games = all; challenges = put })) all
-        → length all ≤ most_games → AreApartIfAny (λ g. key_of g) all
+        → length all ≤ most_games → HaveUniqueKeysIfAny (λ g. key_of g) all
         → Each (IsLegalChallenge (record s { last = moment; games = all; challenges = put })) put
-        → AreApart goes_by put → IsLegalState kinds (record s { last = moment; games = all; challenges = put })
+        → HaveUniqueKeys key_of_challenge put → IsLegalState kinds (record s { last = moment; games = all; challenges = put })
     with-parts all put later games count keys challenges numbers =
         record {
           last = within;

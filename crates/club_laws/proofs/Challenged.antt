@@ -10,7 +10,7 @@ use Rattle.club_requests.specs.declared.refusals.Refusal.TheVariants.{UnknownCha
 use Rattle.club_requests.specs.Limits.{most_games, is_challenge_number}
 use Rattle.club_requests.specs.Outcome.{Reply, challenge_opened, challenge_withdrawn, challenge_refused}
 use Rattle.club_requests.specs.Outcome.{challenge_accepted, accepted}
-use Rattle.club_core.specs.Seats.{are_two}
+use Rattle.club_core.specs.Seats.{are_distinct}
 use Rattle.club_core.specs.Challenges.{is_open, standing_as, repeat_of_opening, opening_tests, opening_refusal, opens}
 use Rattle.club_core.specs.Challenges.{opening_found, repeat_of_withdrawal, withdrawal_tests, withdrawal_refusal}
 use Rattle.club_core.specs.Challenges.{withdrawal_step, repeat_of_answer, answer_tests, answer_refusal, answers}
@@ -59,7 +59,7 @@ pub record WasOpened (caller number : ℕ) (event other : Option ℕ) (first : B
   pub answer : reply ≡ challenge_opened number
 
 opens-opened : (caller number event : ℕ) (other : Option ℕ) (first : Bool) (under : Option Challenge) (new : Challenge)
-    (reply : Reply) → is_some under ≡ false → (is_challenge_number number && are_two (Some caller) other) ≡ true
+    (reply : Reply) → is_some under ≡ false → (is_challenge_number number && are_distinct (Some caller) other) ≡ true
     → opens caller number event other first ≡ accepted new reply
     → WasOpened caller number (Some event) other first under new reply
 opens-opened caller number event None first under new reply fresh good is = cc

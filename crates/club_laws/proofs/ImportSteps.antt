@@ -15,7 +15,7 @@ use Rattle.club_core.specs.declared.seats.KeyedGame.{KeyedGame}
 use Rattle.club_core.specs.declared.seats.Pairing.{Pairing}
 use Rattle.club_core.specs.Members.{find_id}
 use Rattle.club_core.specs.Events.{Event, has_event_name, event_kind, event_declares}
-use Rattle.club_core.specs.Seats.{has_member_name, are_two, pair}
+use Rattle.club_core.specs.Seats.{has_member_name, are_distinct, pair}
 use Rattle.club_core.specs.Game.{Game}
 use Rattle.club_core.specs.Imports.{Import, Imported, imported, has_part, reading_of_import, read_in, repeat_of_import}
 use Rattle.club_core.specs.Imports.{import_tests, import_refusal, import_between, import_found}
@@ -83,7 +83,7 @@ module _ {P M E T : Type 0} (laws : GameRules P M E T) (records : GameRecords M)
       (import_refusal laws records given event first second under_key old games) _ i reply is in
       let tests = none-holds (import_tests laws records given event first second under_key old games) parts.1 in
       let read : Reading M = reading_of_import laws records given in
-      let good = three-true (is_name given.key) (are_two first second) (has_part read) (not-false _ tests.1.0) in
+      let good = three-true (is_name given.key) (are_distinct first second) (has_part read) (not-false _ tests.1.0) in
       let left = between-imported event first second (read_in records.format declares read) i reply parts.2 in
       record {
         seated = pair-seated event under_key games given.key i.pairing reply first second tests.0 good.0 good.1

@@ -9,7 +9,7 @@ use Rattle.std.specs.Str.{bytes_eq}
 use Rattle.std.proofs.lemmas.Slice.Eq.{bytes_eq-Decides}
 use Rattle.club_core.specs.Members.{find_id}
 use Rattle.club_core.specs.State.{place}
-use Rattle.club_core.specs.LegalState.{Each, AreApart, AreApartIfAny}
+use Rattle.club_core.specs.LegalState.{Each, HaveUniqueKeys, HaveUniqueKeysIfAny}
 
 pub bytes_eq-same : (a b : List ℕ) → a ≡ b → bytes_eq a b ≡ true
 bytes_eq-same a b same = (bytes_eq-Decides a b).1 same
@@ -205,9 +205,9 @@ module _ {A : Type 0} where
       (λ k. find_id-pointwise test xs ys k (λ n. same (suc n))) is)
 
 module _ {A B : Type 0} (part : A → Option B) where
-  pub are_apart_if_any-append : (xs : List A) (y : A) → AreApartIfAny part xs
+  pub are_apart_if_any-append : (xs : List A) (y : A) → HaveUniqueKeysIfAny part xs
       → ((n : ℕ) (x : A) (b : B) → slice_get xs n ≡ Some x → part x ≡ Some b → part y ≡ Some b → ⊥)
-      → AreApartIfAny part (xs ++ y ∷ [])
+      → HaveUniqueKeysIfAny part (xs ++ y ∷ [])
   are_apart_if_any-append xs y apart new =
       λ i j a b key at_i at_j key_i key_j.
       elim (got-append xs y i a at_i) [
@@ -221,8 +221,8 @@ module _ {A B : Type 0} (part : A → Option B) where
         ]
       ]
 
-pub are_apart-append : {A B : Type 0} (part : A → B) (xs : List A) (y : A) → AreApart part xs
-    → ((n : ℕ) (x : A) → slice_get xs n ≡ Some x → part x ≡ part y → ⊥) → AreApart part (xs ++ y ∷ [])
+pub are_apart-append : {A B : Type 0} (part : A → B) (xs : List A) (y : A) → HaveUniqueKeys part xs
+    → ((n : ℕ) (x : A) → slice_get xs n ≡ Some x → part x ≡ part y → ⊥) → HaveUniqueKeys part (xs ++ y ∷ [])
 are_apart-append part xs y apart new =
     λ i j a b at_i at_j same.
     are_apart_if_any-append (λ x. Some (part x)) xs y

@@ -4,8 +4,8 @@ use Rattle.std.proofs.Common.{sym, ◌∙◌, ◌⊎◌, inl, inr}
 use Rattle.std.specs.Prelude.{slice_get, ◌==◌, if◌then◌else◌}
 use Rattle.std.proofs.lemmas.Bool.{eqb-true, eq-eqb}
 use Rattle.club_core.specs.declared.challenges.Challenge.{Challenge}
-use Rattle.club_core.specs.Challenges.{goes_by, is_under, challenge_under, put_challenge}
-use Rattle.club_core.specs.LegalState.{Each, AreApart}
+use Rattle.club_core.specs.Challenges.{key_of_challenge, is_under, challenge_under, put_challenge}
+use Rattle.club_core.specs.LegalState.{Each, HaveUniqueKeys}
 use Rattle.club_laws.proofs.Lists.{both-true}
 
 pub under-key : (member number : ℕ) (c : Challenge) → is_under member number c ≡ true → (c.member ≡ member)
@@ -18,10 +18,10 @@ pub key-under : (member number : ℕ) (c : Challenge) → c.member ≡ member �
     → is_under member number c ≡ true
 key-under member number c is_member is_number = rw (eq-eqb c.member member is_member) (eq-eqb c.number number is_number)
 
-same-goes_by : (c new : Challenge) → goes_by c ≡ goes_by new → is_under new.member new.number c ≡ true
+same-goes_by : (c new : Challenge) → key_of_challenge c ≡ key_of_challenge new → is_under new.member new.number c ≡ true
 same-goes_by c new same = key-under new.member new.number c (ap (λ p. p.0) same) (ap (λ p. p.1) same)
 
-goes_by-same : (c new : Challenge) → is_under new.member new.number c ≡ true → goes_by c ≡ goes_by new
+goes_by-same : (c new : Challenge) → is_under new.member new.number c ≡ true → key_of_challenge c ≡ key_of_challenge new
 goes_by-same c new is = let same = under-key new.member new.number c is in λ i. (same.0 i, same.1 i)
 
 pub under-same : (cs : List Challenge) (member number other_member other_number : ℕ) (c : Challenge)
@@ -43,8 +43,8 @@ under-found (x ∷ xs) member number c is = here (is_under member number x) refl
     here false passes rest is = rest is
 
 -- in a list no two elements have the same there where its first differs from the others, and these from each other
-apart-cons : {A B : Type 0} (part : A → B) (x : A) (xs : List A) → AreApart part xs
-    → ((n : ℕ) (y : A) → slice_get xs n ≡ Some y → part x ≡ part y → ⊥) → AreApart part (x ∷ xs)
+apart-cons : {A B : Type 0} (part : A → B) (x : A) (xs : List A) → HaveUniqueKeys part xs
+    → ((n : ℕ) (y : A) → slice_get xs n ≡ Some y → part x ≡ part y → ⊥) → HaveUniqueKeys part (x ∷ xs)
 apart-cons part x xs apart fresh zero zero a b at_i at_j same = refl
 apart-cons part x xs apart fresh zero (suc j) a b at_i at_j same =
     let e : x ≡ a = cc in absurd (fresh j b at_j (ap part e ∙ same))
@@ -52,20 +52,20 @@ apart-cons part x xs apart fresh (suc i) zero a b at_i at_j same =
     let e : x ≡ b = cc in absurd (fresh i a at_i (ap part e ∙ sym same))
 apart-cons part x xs apart fresh (suc i) (suc j) a b at_i at_j same = ap suc (apart i j a b at_i at_j same)
 
-apart-rest : {A B : Type 0} (part : A → B) (x : A) (xs : List A) → AreApart part (x ∷ xs) → AreApart part xs
+apart-rest : {A B : Type 0} (part : A → B) (x : A) (xs : List A) → HaveUniqueKeys part (x ∷ xs) → HaveUniqueKeys part xs
 apart-rest part x xs apart i j a b at_i at_j same =
     let next : suc i ≡ suc j = apart (suc i) (suc j) a b at_i at_j same in
     cc
 
 -- A challenge is found under its member and its number wherever it stands in a list where no two go by the same. So the
 -- order of the list tells nothing.
-pub under-at : (cs : List Challenge) (n : ℕ) (c : Challenge) → AreApart goes_by cs → slice_get cs n ≡ Some c
+pub under-at : (cs : List Challenge) (n : ℕ) (c : Challenge) → HaveUniqueKeys key_of_challenge cs → slice_get cs n ≡ Some c
     → challenge_under cs c.member c.number ≡ Some c
 under-at [] n c apart at = cc
 under-at (x ∷ xs) zero c apart at = let e : x ≡ c = cc in rw (e, key-under c.member c.number c refl refl) refl
 under-at (x ∷ xs) (suc n) c apart at =
     here (is_under c.member c.number x) refl
-    (under-at xs n c (apart-rest goes_by x xs apart) at)
+    (under-at xs n c (apart-rest key_of_challenge x xs apart) at)
   where
     here : (b : Bool) → is_under c.member c.number x ≡ b → challenge_under xs c.member c.number ≡ Some c
         → (if b then Some x else challenge_under xs c.member c.number) ≡ Some c
@@ -145,22 +145,22 @@ each-put P cs new each is_so =
     λ n x at. elim (got-put cs new n x at) [ inl old ↦ each n x old | inr is ↦ rw (← is) is_so ]
 
 -- no two challenges have one member and one number, also after one was put
-pub apart-put : (cs : List Challenge) (new : Challenge) → AreApart goes_by cs → AreApart goes_by (put_challenge cs new)
-apart-put [] new apart = apart-cons goes_by new [] apart (λ n y at same. cc)
+pub apart-put : (cs : List Challenge) (new : Challenge) → HaveUniqueKeys key_of_challenge cs → HaveUniqueKeys key_of_challenge (put_challenge cs new)
+apart-put [] new apart = apart-cons key_of_challenge new [] apart (λ n y at same. cc)
 apart-put (c ∷ cs) new apart =
-    here (is_under new.member new.number c) refl (apart-put cs new (apart-rest goes_by c cs apart))
+    here (is_under new.member new.number c) refl (apart-put cs new (apart-rest key_of_challenge c cs apart))
   where
-    here : (b : Bool) → is_under new.member new.number c ≡ b → AreApart goes_by (put_challenge cs new)
-        → AreApart goes_by (if b then new ∷ cs else c ∷ put_challenge cs new)
+    here : (b : Bool) → is_under new.member new.number c ≡ b → HaveUniqueKeys key_of_challenge (put_challenge cs new)
+        → HaveUniqueKeys key_of_challenge (if b then new ∷ cs else c ∷ put_challenge cs new)
     here true is rest =
-        apart-cons goes_by new cs (apart-rest goes_by c cs apart)
+        apart-cons key_of_challenge new cs (apart-rest key_of_challenge c cs apart)
         (λ n y at same. let no : 0 ≡ suc n = apart 0 (suc n) c y refl at (goes_by-same c new is ∙ same) in cc)
     here false is rest =
-        apart-cons goes_by c (put_challenge cs new) rest
+        apart-cons key_of_challenge c (put_challenge cs new) rest
         (λ n y at same.
         elim (got-put cs new n y at) [
           | inl old ↦ let no : 0 ≡ suc n = apart 0 (suc n) c y refl old same in cc
           | inr put ↦
-              let both : true ≡ false = sym (same-goes_by c new (same ∙ ap goes_by (sym put))) ∙ is in
+              let both : true ≡ false = sym (same-goes_by c new (same ∙ ap key_of_challenge (sym put))) ∙ is in
               absurd cc
         ])

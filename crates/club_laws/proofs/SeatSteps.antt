@@ -14,7 +14,7 @@ use Rattle.club_core.specs.declared.seats.KeyedGame.{KeyedGame}
 use Rattle.club_core.specs.declared.seats.Pairing.{Pairing}
 use Rattle.club_core.specs.Members.{find_id}
 use Rattle.club_core.specs.Events.{has_event_name}
-use Rattle.club_core.specs.Seats.{has_member_name, same_seats, are_two, seat_tests, seat_refusal, pair, seat_found}
+use Rattle.club_core.specs.Seats.{has_member_name, same_seats, are_distinct, seat_tests, seat_refusal, pair, seat_found}
 use Rattle.club_core.specs.State.{AnyGame, State, place, has_key, is_key, key_of, pairing_of, keyed_at, game_under}
 use Rattle.club_core.specs.State.{seated_as, with_imported}
 use Rattle.club_core.proofs.Proved.{none-holds, not-some}
@@ -46,7 +46,7 @@ pub record WasSeated (event first second : Option ℕ) (under_key : Option Keyed
 
 module _ (event : ℕ) (under_key : Option KeyedGame) (games : ℕ) (key : List ℕ) (pairing : Pairing) (reply : Reply) where
   pub pair-seated : (first second : Option ℕ) → is_some under_key ≡ false → is_name key ≡ true
-      → are_two first second ≡ true → nat_le most_games games ≡ false
+      → are_distinct first second ≡ true → nat_le most_games games ≡ false
       → pair event first second games ≡ accepted pairing reply
       → WasSeated (Some event) first second under_key games key pairing reply
   pair-seated None second fresh named two room is = cc
@@ -74,7 +74,7 @@ was-seated (Some event) first second under_key games key pairing reply is =
     let parts = unless-accepted (same_seats event first second under_key)
     (seat_refusal under_key games key first second) (pair event first second games) pairing reply is in
     let tests = none-holds (seat_tests under_key games key first second) parts.1 in
-    let good = both-true (is_name key) (are_two first second) (not-false _ tests.1.0) in
+    let good = both-true (is_name key) (are_distinct first second) (not-false _ tests.1.0) in
     pair-seated event under_key games key pairing reply first second tests.0 good.0 good.1 tests.1.1.0 parts.2
 
 -- a game that is seated has its key and its pairing, whatever its kind

@@ -53,8 +53,8 @@ module _ {DP DM DE DT SP SM SE ST : Type 0} (rules : ClubRules DP DM DE DT SP SM
   LeavesState = (s : State DM SM) (r : Request) → is_accepted (step rules s r) ≡ false → next rules s r ≡ s
 
   -- the timestamp of the last accepted request never decreases
-  abbrev pub NeverFalls : Type 0
-  NeverFalls = (s : State DM SM) (r : Request) → s.last ≤ (next rules s r).last
+  abbrev pub TimestampsNeverDecrease : Type 0
+  TimestampsNeverDecrease = (s : State DM SM) (r : Request) → s.last ≤ (next rules s r).last
 
   -- a request with a valid timestamp keeps a legal state legal
   abbrev pub KeepsLegal : Type 0
@@ -64,8 +64,8 @@ module _ {DP DM DE DT SP SM SE ST : Type 0} (rules : ClubRules DP DM DE DT SP SM
 
   -- Idempotence: an accepted command, sent again by the same caller at any time and after any requests, is repeated
   -- with the same reply. A draw offer is repeated until the next move, a sweep never, every other command always.
-  abbrev pub AnswersAgain : Type 0
-  AnswersAgain =
+  abbrev pub IsIdempotent : Type 0
+  IsIdempotent =
       (s after : State DM SM) (r : Request) (reply : Reply) (between : List Request) (moment : ℕ) →
       IsLegalState rules s → step rules s r ≡ accepted after reply → StillRepeats (fold rules after between) r.command →
       step rules (fold rules after between) (record r { moment = moment }) ≡ repeated reply

@@ -8,7 +8,7 @@ ghost use Rattle.club_core.specs.ClubRules.{both};
 ghost use Rattle.club_core.specs.Game.{Game};
 ghost use Rattle.club_core.specs.Legal.{IsLegalGame};
 ghost use Rattle.club_core.specs.View.{Shows, ShowsPly, IsSound, terms_of};
-ghost use Rattle.club_laws.specs.Laws.{FoldsAccepted, LeavesState, NeverFalls, KeepsLegal, AnswersAgain};
+ghost use Rattle.club_laws.specs.Laws.{FoldsAccepted, LeavesState, TimestampsNeverDecrease, KeepsLegal, IsIdempotent};
 ghost use Rattle.club_laws.specs.Laws.{RefusesPassedOffers};
 
 use club_core::GameView;
@@ -20,13 +20,13 @@ pub fn accepted_suffice<D: Records, S: Records>()
 {}
 
 /// A refused or repeated request does not change the state.
-pub fn others_leave<D: Records, S: Records>()
+pub fn unaccepted_requests_change_nothing<D: Records, S: Records>()
     ensures { LeavesState (both D.rules S.rules D.records S.records) }
 {}
 
 /// The timestamp of the last accepted request never decreases.
-pub fn moments_rise<D: Records, S: Records>()
-    ensures { NeverFalls (both D.rules S.rules D.records S.records) }
+pub fn timestamps_never_decrease<D: Records, S: Records>()
+    ensures { TimestampsNeverDecrease (both D.rules S.rules D.records S.records) }
 {}
 
 /// A request with a valid timestamp (at most `Moment::LAST`) keeps a legal state legal.
@@ -38,13 +38,13 @@ pub fn requests_keep_legal<D: Records, S: Records>()
 /// any time and after any other requests.
 ///
 /// Exceptions are a sweep, and a draw offer after a later move.
-pub fn repeats_answer_again<D: Records, S: Records>()
-    ensures { AnswersAgain (both D.rules S.rules D.records S.records) }
+pub fn commands_are_idempotent<D: Records, S: Records>()
+    ensures { IsIdempotent (both D.rules S.rules D.records S.records) }
 {}
 
 /// A draw offer that is sent again after a later move is refused: 56 `GameOver` if the game has ended, otherwise 57
 /// `WrongPly`.
-pub fn passed_offers_are_refused<D: Records, S: Records>()
+pub fn outdated_offers_are_refused<D: Records, S: Records>()
     ensures { RefusesPassedOffers (both D.rules S.rules D.records S.records) }
 {}
 

@@ -4,6 +4,6 @@
 pub mod laws;
 
 pub use laws::{
-    accepted_suffice, moments_rise, others_leave, passed_offers_are_refused, repeats_answer_again,
-    requests_keep_legal, shown_is_sound,
+    accepted_suffice, commands_are_idempotent, outdated_offers_are_refused, requests_keep_legal,
+    shown_is_sound, timestamps_never_decrease, unaccepted_requests_change_nothing,
 };

@@ -1,4 +1,6 @@
-mod Lists
+pub mod BodyLemmas
 mod GameLines
+mod Lists
 mod Numbered
 mod Picked
+pub mod Proved

@@ -28,7 +28,7 @@ left_now moment side told =
     if is_running_side side told then left_of side told.clocks - (moment - told.clocks.since)
     else left_of side told.clocks
 
--- `left` is the seconds after each side's last move, `now` those at this timestamp; First comes first
+-- `seconds_left` is the seconds after each side's last move, `now` those at this timestamp; First comes first
 abbrev pub clock_text : List Member → ℕ → GameSummary → List ℕ
 clock_text members moment told =
     field (codes "{") (codes "deadline") (number_or_null (while_running told (deadline_within told)))

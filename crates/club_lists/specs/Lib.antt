@@ -1,10 +1,13 @@
 pub mod Board
+pub mod Bodies
 pub mod Clock
 pub mod Dates
 pub mod EventRecords
+pub mod GameShown
 pub mod GameSummary
 pub mod Json
 pub mod Lines
 pub mod Listing
+pub mod ShownViews
 pub mod Shows
 pub mod SummaryViews

@@ -7,7 +7,7 @@ use Rattle.club_rules.specs.declared.names.GameKind.{GameKind}
 use Rattle.club_rules.specs.declared.names.GameKind.TheVariants.{Draughts, Shogi}
 use Rattle.club_core.specs.Events.{Event}
 use Rattle.club_core.specs.Members.{Member}
-use Rattle.club_questions.specs.declared.questions.Listing.{Listing}
+use Rattle.club_requests.specs.declared.questions.Listing.{Listing}
 use Rattle.club_lists.specs.Dates.{IsUntil}
 use Rattle.club_lists.specs.Listing.{event_of, first_name, second_name, is_listed}
 use Rattle.club_lists.specs.GameSummary.{Over, GameSummary, deadline, is_over}
@@ -70,9 +70,9 @@ player_name members First told = first_name members told
 player_name members Second told = second_name members told
 
 -- `end NAME RESULT`, or `turn NAME until DEADLINE`
-abbrev pub StandsAs : List Member → GameSummary → Option Over → List ℕ → Type 0
-StandsAs members told (Some over) text = text ≡ codes "end " ++ (over.end ++ (codes " " ++ over.result))
-StandsAs members told None text = (second : List ℕ) × IsUntil (deadline told) second
+abbrev pub IsGameState : List Member → GameSummary → Option Over → List ℕ → Type 0
+IsGameState members told (Some over) text = text ≡ codes "end " ++ (over.end ++ (codes " " ++ over.result))
+IsGameState members told None text = (second : List ℕ) × IsUntil (deadline told) second
     × (text ≡ codes "turn " ++ (player_name members told.turn told ++ (codes " until " ++ second)))
 
 -- `SECOND KEY ply PLIES`, followed by the state
@@ -90,7 +90,7 @@ game_line members events told stands =
 module _ (members : List Member) (events : List Event) where
   -- line of a game
   abbrev pub IsGameLine : GameSummary → List ℕ → Type 0
-  IsGameLine told line = (stands : List ℕ) × StandsAs members told told.over stands
+  IsGameLine told line = (stands : List ℕ) × IsGameState members told told.over stands
       × (line ≡ game_line members events told stands)
 
   -- the game's line if it passes the filter, otherwise nothing

@@ -10,9 +10,9 @@ use Rattle.club_core.specs.Events.{Event, has_event_name}
 use Rattle.club_core.specs.Members.{Member}
 use Rattle.club_core.specs.Seats.{has_member_name}
 use Rattle.club_core.specs.State.{place}
-use Rattle.club_questions.specs.declared.questions.Listing.{Listing}
-use Rattle.club_questions.specs.declared.questions.Which.{Which}
-use Rattle.club_questions.specs.declared.questions.Which.TheVariants.{All, Running, Overdue}
+use Rattle.club_requests.specs.declared.questions.Listing.{Listing}
+use Rattle.club_requests.specs.declared.questions.GameFilter.{GameFilter}
+use Rattle.club_requests.specs.declared.questions.GameFilter.TheVariants.{All, Running, Overdue}
 use Rattle.club_lists.specs.GameSummary.{GameSummary, is_late, is_over}
 
 -- name of a member or event; empty if it does not exist
@@ -30,7 +30,7 @@ is_asked None name = true
 is_asked (Some asked) name = bytes_eq name asked
 
 -- the state of the game passes the filter; only `Overdue` depends on the timestamp
-abbrev pub is_which : Which → ℕ → GameSummary → Bool
+abbrev pub is_which : GameFilter → ℕ → GameSummary → Bool
 is_which All moment told = true
 is_which Running moment told = not (is_over told)
 is_which Overdue moment told = is_late moment told

@@ -17,9 +17,9 @@ use Rattle.club_lists.specs.Listing.{event_name, event_of, first_name, has_asked
 use Rattle.club_lists.specs.GameSummary.{GameSummary, is_over}
 
 -- name of the member with this key
-abbrev pub name_by : List ℕ → List Member → Option (List ℕ)
-name_by key [] = None
-name_by key (member ∷ members) = if has_member_key key member then Some member.name else name_by key members
+abbrev pub member_name_by_key : List ℕ → List Member → Option (List ℕ)
+member_name_by_key key [] = None
+member_name_by_key key (member ∷ members) = if has_member_key key member then Some member.name else member_name_by_key key members
 
 -- ---- the games of an event
 
@@ -59,8 +59,8 @@ abbrev pub other_texts : List ℕ → List Member → List (List ℕ)
 other_texts key members = map (λ m. quoted m.name) (filter (is_other key) members)
 
 -- all events, and all members except the one with this key
-abbrev pub inviting_text : List ℕ → List Member → List Event → List ℕ
-inviting_text key members events =
+abbrev pub challenge_choices_json : List ℕ → List Member → List Event → List ℕ
+challenge_choices_json key members events =
     field (codes "{") (codes "events") (array (map event_data events))
     ++ (field (codes ",") (codes "members") (array (other_texts key members)) ++ codes "}")
 
@@ -162,8 +162,8 @@ module _ (members : List Member) where
   challenge_texts events name challenges = map (challenge_text events) (filter (is_shown name) challenges)
 
 -- challenges and running games of the member with this name
-abbrev pub mine_text : List Member → List Event → List ℕ → ℕ → List Challenge → List GameSummary → List ℕ
-mine_text members events name moment challenges games =
+abbrev pub my_games_json : List Member → List Event → List ℕ → ℕ → List Challenge → List GameSummary → List ℕ
+my_games_json members events name moment challenges games =
     field (codes "{") (codes "challenges") (array (challenge_texts members events name challenges))
     ++ (field (codes ",") (codes "games") (array (own_game_texts members events name games))
     ++ (named (codes ",") (codes "member") name ++ (counted (codes ",") (codes "moment") moment ++ codes "}")))

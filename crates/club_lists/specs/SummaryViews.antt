@@ -1,15 +1,15 @@
 -- Maps the summaries of games in the code to those of the specification.
 use Rattle.std.specs.Prelude.{List, map, string_bytes}
 use Rattle.std.specs.Option.{option_map}
-use Rattle.club_lists.specs.declared.told.GameOver.{GameOver}
-use Rattle.club_lists.specs.declared.told.ToldGame.{ToldGame}
+use Rattle.club_lists.specs.declared.game_entry.GameOver.{GameOver}
+use Rattle.club_lists.specs.declared.game_entry.GameEntry.{GameEntry}
 use Rattle.club_lists.specs.GameSummary.{Over, GameSummary}
 
 abbrev pub over_by : GameOver → Over
 over_by over = record { end = string_bytes over.end; result = string_bytes over.result }
 
-abbrev pub told_by : ToldGame → GameSummary
-told_by game = record {
+abbrev pub summary_of : GameEntry → GameSummary
+summary_of game = record {
   id = game.id;
   event = game.event;
   first = game.first;
@@ -23,5 +23,5 @@ told_by game = record {
 }
 
 -- the same for a list
-abbrev pub all_by : List ToldGame → List GameSummary
-all_by games = map told_by games
+abbrev pub summaries_of : List GameEntry → List GameSummary
+summaries_of games = map summary_of games

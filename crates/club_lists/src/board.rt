@@ -3,16 +3,16 @@
 ghost use Rattle.std.specs.Prelude.{◌≡◌, ◌++◌, ◌<◌, ◌^◌, IfOk, OnOk, codes, decimal, map, string_bytes};
 ghost use Rattle.club_lists.specs.Board.{board_by, board_text, filled_with, gap, heading, line_end, move_text};
 ghost use Rattle.club_lists.specs.Board.{moves_from, side_letter, standing_line, turn_line};
-ghost use Rattle.club_lists.specs.SummaryViews.{told_by};
+ghost use Rattle.club_lists.specs.SummaryViews.{summary_of};
 
 use crate::clock::{first_now, second_now};
-use crate::told::ToldGame;
+use crate::game_entry::GameEntry;
 use clocks::Moment;
 use club_rules::GameKind;
 use squares::Side;
 use std::alloc::{AllocError, Global};
 
-/// The data of a printed game that `ToldGame` does not have.
+/// The data of a printed game that `GameEntry` does not have.
 #[derive(Debug, Drop)]
 pub struct BoardView {
     pub kind: GameKind,
@@ -53,11 +53,11 @@ fn side_letter(kind: GameKind, side: Side) -> &'static str
 // The line with the side to move and the seconds that each side has left.
 fn turn_line(
     alloc: Global,
-    game: &ToldGame,
+    game: &GameEntry,
     view: &BoardView,
     moment: Moment,
 ) -> Result<String, AllocError>
-    ensures { IfOk result (λ line. string_bytes line ≡ turn_line moment (told_by game.now) (board_by view.now)) }
+    ensures { IfOk result (λ line. string_bytes line ≡ turn_line moment (summary_of game.now) (board_by view.now)) }
 {
     let side = side_letter(view.kind, game.turn);
     let plies = game.plies;
@@ -71,12 +71,12 @@ fn turn_line(
 // The line with the state of a game: its end, or the side to move.
 fn standing_line(
     alloc: Global,
-    game: &ToldGame,
+    game: &GameEntry,
     view: &BoardView,
     moment: Moment,
 ) -> Result<String, AllocError>
     ensures { IfOk result (λ line. string_bytes line ≡
-        standing_line moment (told_by game.now) (board_by view.now) (told_by game.now).over) }
+        standing_line moment (summary_of game.now) (board_by view.now) (summary_of game.now).over) }
 {
     match &game.over {
         Some(over) => {
@@ -179,11 +179,11 @@ fn push_moves(
 /// `AllocError` if out of memory.
 pub fn board_text(
     alloc: Global,
-    game: &ToldGame,
+    game: &GameEntry,
     view: &BoardView,
     moment: Moment,
 ) -> Result<String, AllocError>
-    ensures { IfOk result (λ text. string_bytes text ≡ board_text moment (told_by game.now) (board_by view.now)) }
+    ensures { IfOk result (λ text. string_bytes text ≡ board_text moment (summary_of game.now) (board_by view.now)) }
 {
     let heading = heading(alloc, game.id, view)?;
     let standing = standing_line(alloc, game, view, moment)?;

@@ -6,19 +6,19 @@ ghost use Rattle.club_core.specs.Answer.{members_of};
 ghost use Rattle.club_lists.specs.Clock.{clock_text, deadline_within, is_running_side, left_now, while_running};
 ghost use Rattle.club_lists.specs.Json.{number_or_null, quoted_or_null};
 ghost use Rattle.club_lists.specs.Lines.{player_name};
-ghost use Rattle.club_lists.specs.SummaryViews.{told_by};
+ghost use Rattle.club_lists.specs.SummaryViews.{summary_of};
 
-use crate::json::{push_counted, push_field, quoted, two};
+use crate::game_entry::GameEntry;
+use crate::json::{push_counted, push_field, quote, two};
 use crate::lines::turn_name;
-use crate::told::ToldGame;
 use clocks::Moment;
 use club_core::Member;
 use squares::Side;
 use std::alloc::{AllocError, Global};
 
 /// The last Unix second in which a move is in time, or null if it is beyond `Moment::LAST`.
-pub(crate) fn deadline_text(alloc: Global, game: &ToldGame) -> Result<String, AllocError>
-    ensures { IfOk result (λ text. string_bytes text ≡ number_or_null (deadline_within (told_by game.now))) }
+pub(crate) fn deadline_text(alloc: Global, game: &GameEntry) -> Result<String, AllocError>
+    ensures { IfOk result (λ text. string_bytes text ≡ number_or_null (deadline_within (summary_of game.now))) }
 {
     match game.deadline() {
         Some(moment) => {
@@ -30,9 +30,9 @@ pub(crate) fn deadline_text(alloc: Global, game: &ToldGame) -> Result<String, Al
 }
 
 // The deadline of a running game; null if it has ended.
-fn running_deadline(alloc: Global, game: &ToldGame) -> Result<String, AllocError>
+fn running_deadline(alloc: Global, game: &GameEntry) -> Result<String, AllocError>
     ensures { IfOk result (λ text. string_bytes text ≡
-        number_or_null (while_running (told_by game.now) (deadline_within (told_by game.now)))) }
+        number_or_null (while_running (summary_of game.now) (deadline_within (summary_of game.now)))) }
 {
     if game.is_over() {
         return String::from_str(alloc, "null");
@@ -41,19 +41,19 @@ fn running_deadline(alloc: Global, game: &ToldGame) -> Result<String, AllocError
 }
 
 // The player to move in a running game; null if it has ended.
-fn running_turn(alloc: Global, members: &[Member], game: &ToldGame) -> Result<String, AllocError>
-    ensures { IfOk result (λ text. string_bytes text ≡ quoted_or_null (while_running (told_by game.now)
-        (Some (player_name (members_of members.now) game.now.turn (told_by game.now))))) }
+fn running_turn(alloc: Global, members: &[Member], game: &GameEntry) -> Result<String, AllocError>
+    ensures { IfOk result (λ text. string_bytes text ≡ quoted_or_null (while_running (summary_of game.now)
+        (Some (player_name (members_of members.now) game.now.turn (summary_of game.now))))) }
 {
     if game.is_over() {
         return String::from_str(alloc, "null");
     }
-    quoted(alloc, turn_name(members, game))
+    quote(alloc, turn_name(members, game))
 }
 
 // Whether the game is running and the side is to move.
-fn is_running_side(side: Side, game: &ToldGame) -> bool
-    ensures { result ≡ is_running_side side (told_by game.now) }
+fn is_running_side(side: Side, game: &GameEntry) -> bool
+    ensures { result ≡ is_running_side side (summary_of game.now) }
 {
     if game.is_over() {
         return false;
@@ -66,8 +66,8 @@ fn is_running_side(side: Side, game: &ToldGame) -> bool
 }
 
 /// The seconds that First has left at this timestamp.
-pub(crate) fn first_now(game: &ToldGame, moment: Moment) -> u64
-    ensures { result ≡ left_now moment First (told_by game.now) }
+pub(crate) fn first_now(game: &GameEntry, moment: Moment) -> u64
+    ensures { result ≡ left_now moment First (summary_of game.now) }
 {
     if is_running_side(Side::First, game) {
         let gone = moment.seconds().saturating_sub(game.since.seconds());
@@ -77,8 +77,8 @@ pub(crate) fn first_now(game: &ToldGame, moment: Moment) -> u64
 }
 
 /// The seconds that Second has left at this timestamp.
-pub(crate) fn second_now(game: &ToldGame, moment: Moment) -> u64
-    ensures { result ≡ left_now moment Second (told_by game.now) }
+pub(crate) fn second_now(game: &GameEntry, moment: Moment) -> u64
+    ensures { result ≡ left_now moment Second (summary_of game.now) }
 {
     if is_running_side(Side::Second, game) {
         let gone = moment.seconds().saturating_sub(game.since.seconds());
@@ -95,11 +95,11 @@ pub(crate) fn second_now(game: &ToldGame, moment: Moment) -> u64
 pub fn clock_text(
     alloc: Global,
     members: &[Member],
-    game: &ToldGame,
+    game: &GameEntry,
     moment: Moment,
 ) -> Result<String, AllocError>
     ensures { IfOk result (λ text. string_bytes text ≡
-        clock_text (members_of members.now) moment (told_by game.now)) }
+        clock_text (members_of members.now) moment (summary_of game.now)) }
 {
     let deadline = running_deadline(alloc, game)?;
     let left = two(alloc, game.left_first, game.left_second)?;

@@ -4,10 +4,10 @@ ghost use Rattle.std.specs.Prelude.{◌≡◌, IfOk};
 ghost use Rattle.club_core.specs.Answer.{events_of};
 ghost use Rattle.club_core.specs.Events.{event_kind};
 ghost use Rattle.club_lists.specs.EventRecords.{event_game_ids};
-ghost use Rattle.club_lists.specs.SummaryViews.{all_by};
+ghost use Rattle.club_lists.specs.SummaryViews.{summaries_of};
 
-use crate::shows::is_of_event;
-use crate::told::ToldGame;
+use crate::game_entry::GameEntry;
+use crate::member_json::is_of_event;
 use club_core::Event;
 use club_rules::GameKind;
 use std::alloc::{AllocError, Global};
@@ -33,9 +33,9 @@ pub fn event_game_ids(
     alloc: Global,
     events: &[Event],
     name: &str,
-    games: &[ToldGame],
+    games: &[GameEntry],
 ) -> Result<Vec<u32>, AllocError>
-    ensures { IfOk result (λ ids. ids.items ≡ event_game_ids (events_of events.now) name.now (all_by games.now)) }
+    ensures { IfOk result (λ ids. ids.items ≡ event_game_ids (events_of events.now) name.now (summaries_of games.now)) }
 {
     let mut ids = Vec::new(alloc);
     for game in games {

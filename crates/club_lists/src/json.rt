@@ -7,7 +7,7 @@ use std::alloc::{AllocError, Global};
 
 /// A JSON string. The text must have no characters that JSON escapes.
 #[tactic(auto, unfolding(crate::specs::Json::quoted))]
-pub(crate) fn quoted(alloc: Global, name: &str) -> Result<String, AllocError>
+pub(crate) fn quote(alloc: Global, name: &str) -> Result<String, AllocError>
     ensures { IfOk result (λ text. string_bytes text ≡ quoted name.now) }
 {
     let mut text = String::new(alloc);

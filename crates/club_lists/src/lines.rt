@@ -6,18 +6,18 @@ ghost use Rattle.club_core.specs.Answer.{event_of, members_of, events_of};
 ghost use Rattle.club_lists.specs.Dates.{IsUntil};
 ghost use Rattle.club_lists.specs.Lines.{member_lines, game_name, games_of, running_of, event_tail, event_text};
 ghost use Rattle.club_lists.specs.Lines.{event_line, game_tail};
-ghost use Rattle.club_lists.specs.Lines.{event_lines, key_text, player_name, game_line, StandsAs, IsGameLine, IsPart};
+ghost use Rattle.club_lists.specs.Lines.{event_lines, key_text, player_name, game_line, IsGameState, IsGameLine, IsPart};
 ghost use Rattle.club_lists.specs.Lines.{AreGameLines};
 ghost use Rattle.club_lists.specs.Listing.{is_listed};
 ghost use Rattle.club_lists.specs.GameSummary.{deadline, is_over};
-ghost use Rattle.club_lists.specs.SummaryViews.{told_by, all_by};
+ghost use Rattle.club_lists.specs.SummaryViews.{summary_of, summaries_of};
 
 use crate::dates::date_text;
+use crate::game_entry::GameEntry;
 use crate::listing::{event_name, is_listed, member_name};
-use crate::told::ToldGame;
 use clocks::Moment;
 use club_core::{Event, Member};
-use club_questions::Listing;
+use club_requests::Listing;
 use club_rules::GameKind;
 use squares::Side;
 use std::alloc::{AllocError, Global};
@@ -51,8 +51,8 @@ pub(crate) fn game_name(game: GameKind) -> &'static str
 }
 
 // The number of games of an event.
-fn games_of(games: &[ToldGame], event: usize) -> usize
-    ensures { result ≡ games_of event (all_by games.now) }
+fn games_of(games: &[GameEntry], event: usize) -> usize
+    ensures { result ≡ games_of event (summaries_of games.now) }
 {
     games
         .iter()
@@ -60,8 +60,8 @@ fn games_of(games: &[ToldGame], event: usize) -> usize
         .count()
 }
 
-fn is_running_in(game: &ToldGame, event: usize) -> bool
-    ensures { result ≡ ((told_by game.now).event == event && not (is_over (told_by game.now))) }
+fn is_running_in(game: &GameEntry, event: usize) -> bool
+    ensures { result ≡ ((summary_of game.now).event == event && not (is_over (summary_of game.now))) }
 {
     if game.event as usize != event {
         return false;
@@ -70,8 +70,8 @@ fn is_running_in(game: &ToldGame, event: usize) -> bool
 }
 
 // The number of running games of an event.
-fn running_of(games: &[ToldGame], event: usize) -> usize
-    ensures { result ≡ running_of event (all_by games.now) }
+fn running_of(games: &[GameEntry], event: usize) -> usize
+    ensures { result ≡ running_of event (summaries_of games.now) }
 {
     games
         .iter()
@@ -111,11 +111,11 @@ fn event_text(
 
 fn event_line(
     alloc: Global,
-    games: &[ToldGame],
+    games: &[GameEntry],
     id: usize,
     event: &Event,
 ) -> Result<String, AllocError>
-    ensures { IfOk result (λ line. string_bytes line ≡ event_line (all_by games.now) id (event_of event.now)) }
+    ensures { IfOk result (λ line. string_bytes line ≡ event_line (summaries_of games.now) id (event_of event.now)) }
 {
     let running = running_of(games, id);
     event_text(alloc, id, event, games_of(games, id), running)
@@ -129,9 +129,9 @@ fn event_line(
 pub fn events_text(
     alloc: Global,
     events: &[Event],
-    games: &[ToldGame],
+    games: &[GameEntry],
 ) -> Result<String, AllocError>
-    ensures { IfOk result (λ text. string_bytes text ≡ event_lines (all_by games.now) (events_of events.now)) }
+    ensures { IfOk result (λ text. string_bytes text ≡ event_lines (summaries_of games.now) (events_of events.now)) }
 {
     let mut text = String::new(alloc);
     let mut id: usize = 0;
@@ -144,8 +144,8 @@ pub fn events_text(
 }
 
 // The date and time of the deadline, or `never`.
-fn until_text(alloc: Global, game: &ToldGame) -> Result<String, AllocError>
-    ensures { IfOk result (λ text. IsUntil (deadline (told_by game.now)) (string_bytes text)) }
+fn until_text(alloc: Global, game: &GameEntry) -> Result<String, AllocError>
+    ensures { IfOk result (λ text. IsUntil (deadline (summary_of game.now)) (string_bytes text)) }
 {
     match game.deadline() {
         Some(moment) => date_text(alloc, moment),
@@ -154,8 +154,8 @@ fn until_text(alloc: Global, game: &ToldGame) -> Result<String, AllocError>
 }
 
 /// The name of the player to move.
-pub(crate) fn turn_name<'a>(members: &'a [Member], game: &ToldGame) -> &'a str
-    ensures { result.now ≡ player_name (members_of members.now) game.now.turn (told_by game.now) }
+pub(crate) fn turn_name<'a>(members: &'a [Member], game: &GameEntry) -> &'a str
+    ensures { result.now ≡ player_name (members_of members.now) game.now.turn (summary_of game.now) }
 {
     match game.turn {
         Side::First => member_name(members, game.first),
@@ -164,9 +164,9 @@ pub(crate) fn turn_name<'a>(members: &'a [Member], game: &ToldGame) -> &'a str
 }
 
 // The state of a game: its end, or the player to move and the deadline.
-fn stands_as(alloc: Global, members: &[Member], game: &ToldGame) -> Result<String, AllocError>
+fn stands_as(alloc: Global, members: &[Member], game: &GameEntry) -> Result<String, AllocError>
     ensures { IfOk result (λ text.
-        StandsAs (members_of members.now) (told_by game.now) (told_by game.now).over (string_bytes text)) }
+        IsGameState (members_of members.now) (summary_of game.now) (summary_of game.now).over (string_bytes text)) }
 {
     match &game.over {
         Some(over) => {
@@ -196,11 +196,11 @@ fn key_text(key: &Option<String>) -> &str
 fn game_tail(
     alloc: Global,
     members: &[Member],
-    game: &ToldGame,
+    game: &GameEntry,
     stands: &str,
 ) -> Result<String, AllocError>
     ensures { IfOk result (λ tail. string_bytes tail ≡
-        game_tail (members_of members.now) (told_by game.now) stands.now) }
+        game_tail (members_of members.now) (summary_of game.now) stands.now) }
 {
     let second = member_name(members, game.second);
     let key = key_text(&game.key);
@@ -213,11 +213,11 @@ fn game_text(
     alloc: Global,
     members: &[Member],
     events: &[Event],
-    game: &ToldGame,
+    game: &GameEntry,
     stands: &str,
 ) -> Result<String, AllocError>
     ensures { IfOk result (λ line. string_bytes line ≡
-        game_line (members_of members.now) (events_of events.now) (told_by game.now) stands.now) }
+        game_line (members_of members.now) (events_of events.now) (summary_of game.now) stands.now) }
 {
     let id = game.id;
     let event = event_name(events, game.event);
@@ -230,10 +230,10 @@ fn game_line(
     alloc: Global,
     members: &[Member],
     events: &[Event],
-    game: &ToldGame,
+    game: &GameEntry,
 ) -> Result<String, AllocError>
     ensures { IfOk result (λ line.
-        IsGameLine (members_of members.now) (events_of events.now) (told_by game.now) (string_bytes line)) }
+        IsGameLine (members_of members.now) (events_of events.now) (summary_of game.now) (string_bytes line)) }
 {
     let stands = stands_as(alloc, members, game)?;
     game_text(alloc, members, events, game, stands.as_str())
@@ -245,12 +245,12 @@ fn part_of(
     listing: &Listing,
     members: &[Member],
     events: &[Event],
-    game: &ToldGame,
+    game: &GameEntry,
     moment: Moment,
 ) -> Result<String, AllocError>
     ensures { IfOk result (λ text. IsPart (members_of members.now) (events_of events.now)
-        (is_listed (members_of members.now) (events_of events.now) listing.now moment (told_by game.now))
-        (told_by game.now) (string_bytes text)) }
+        (is_listed (members_of members.now) (events_of events.now) listing.now moment (summary_of game.now))
+        (summary_of game.now) (string_bytes text)) }
 {
     if is_listed(listing, members, events, game, moment) {
         game_line(alloc, members, events, game)
@@ -269,11 +269,11 @@ pub fn games_text(
     listing: &Listing,
     members: &[Member],
     events: &[Event],
-    games: &[ToldGame],
+    games: &[GameEntry],
     moment: Moment,
 ) -> Result<String, AllocError>
     ensures { IfOk result (λ text. AreGameLines (members_of members.now) (events_of events.now) listing.now moment
-        (all_by games.now) (string_bytes text)) }
+        (summaries_of games.now) (string_bytes text)) }
 {
     let mut text = String::new(alloc);
     for game in games {

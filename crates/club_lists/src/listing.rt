@@ -9,13 +9,12 @@ ghost use Rattle.club_core.specs.Seats.{has_member_name};
 ghost use Rattle.club_core.specs.State.{place};
 ghost use Rattle.club_lists.specs.Listing.{member_name, event_name, is_asked, has_asked, is_which, is_listed};
 ghost use Rattle.club_lists.specs.Listing.{listing_refusal};
-ghost use Rattle.club_lists.specs.SummaryViews.{told_by};
+ghost use Rattle.club_lists.specs.SummaryViews.{summary_of};
 
-use crate::told::ToldGame;
+use crate::game_entry::GameEntry;
 use clocks::Moment;
 use club_core::{Event, Member};
-use club_questions::{Listing, Which};
-use club_requests::Refusal;
+use club_requests::{GameFilter, Listing, Refusal};
 
 /// The name of the member with an id; empty if there is none.
 pub fn member_name(members: &[Member], id: u32) -> &str
@@ -54,20 +53,20 @@ fn is_asked(asked: &Option<String>, name: &str) -> bool
 }
 
 // Whether the game has the state that the filter requires.
-fn is_which(which: Which, game: &ToldGame, moment: Moment) -> bool
-    ensures { result ≡ is_which which moment (told_by game.now) }
+fn is_which(which: GameFilter, game: &GameEntry, moment: Moment) -> bool
+    ensures { result ≡ is_which which moment (summary_of game.now) }
 {
     match which {
-        Which::All => true,
-        Which::Running => !game.is_over(),
-        Which::Overdue => game.is_late(moment),
+        GameFilter::All => true,
+        GameFilter::Running => !game.is_over(),
+        GameFilter::Overdue => game.is_late(moment),
     }
 }
 
 // Whether a player of the game passes the filter by name.
-fn has_player(asked: &Option<String>, members: &[Member], game: &ToldGame) -> bool
+fn has_player(asked: &Option<String>, members: &[Member], game: &GameEntry) -> bool
     ensures { result ≡ has_asked (members_of members.now) (option_map (λ n. string_bytes n) asked.now)
-        (told_by game.now) }
+        (summary_of game.now) }
 {
     if is_asked(asked, member_name(members, game.first)) {
         return true;
@@ -80,11 +79,11 @@ pub fn is_listed(
     listing: &Listing,
     members: &[Member],
     events: &[Event],
-    game: &ToldGame,
+    game: &GameEntry,
     moment: Moment,
 ) -> bool
     ensures { result ≡ is_listed (members_of members.now) (events_of events.now) listing.now moment
-        (told_by game.now) }
+        (summary_of game.now) }
 {
     if !is_asked(&listing.event, event_name(events, game.event)) {
         return false;
@@ -96,7 +95,7 @@ pub fn is_listed(
 }
 
 /// Whether an event has this name.
-pub fn is_event(events: &[Event], name: &str) -> bool
+pub fn has_event(events: &[Event], name: &str) -> bool
     ensures { result ≡ list_any (has_event_name name.now) (events_of events.now) }
 {
     events.iter().any(|event| event.name.as_str() == name)
@@ -113,7 +112,7 @@ pub fn listing_refusal(listing: &Listing, members: &[Member], events: &[Event]) 
     ensures { result ≡ listing_refusal (members_of members.now) (events_of events.now) listing.now }
 {
     if let Some(name) = &listing.event {
-        if !is_event(events, name.as_str()) {
+        if !has_event(events, name.as_str()) {
             return Some(Refusal::UnknownEvent);
         }
     }

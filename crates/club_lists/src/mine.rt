@@ -3,15 +3,15 @@
 ghost use Rattle.std.specs.Prelude.{◌≡◌, ◌++◌, IfOk, OnOk, map, string_bytes};
 ghost use Rattle.club_core.specs.Answer.{events_of, members_of};
 ghost use Rattle.club_lists.specs.Json.{number_or_null};
-ghost use Rattle.club_lists.specs.Shows.{challenge_text, challenge_texts, first_of, is_shown, mine_text};
+ghost use Rattle.club_lists.specs.Shows.{challenge_text, challenge_texts, first_of, is_shown, my_games_json};
 ghost use Rattle.club_lists.specs.Shows.{second_of, started, state_text, is_open, is_accepted};
 ghost use Rattle.club_lists.specs.Shows.{challenge_back, challenge_front};
-ghost use Rattle.club_lists.specs.SummaryViews.{all_by};
+ghost use Rattle.club_lists.specs.SummaryViews.{summaries_of};
 
+use crate::game_entry::GameEntry;
 use crate::json::{array, push_counted, push_field, push_named};
 use crate::listing::{event_name, member_name};
-use crate::shows::own_game_texts;
-use crate::told::ToldGame;
+use crate::member_json::own_game_texts;
 use clocks::Moment;
 use club_core::{Challenge, ChallengeState, Event, Member};
 use std::alloc::{AllocError, Global};
@@ -185,17 +185,17 @@ fn challenge_texts(
 /// # Errors
 ///
 /// `AllocError` if out of memory.
-pub fn mine_text(
+pub fn my_games_json(
     alloc: Global,
     members: &[Member],
     events: &[Event],
     name: &str,
     moment: Moment,
     challenges: &[Challenge],
-    games: &[ToldGame],
+    games: &[GameEntry],
 ) -> Result<String, AllocError>
-    ensures { IfOk result (λ text. string_bytes text ≡ mine_text (members_of members.now) (events_of events.now)
-        name.now moment challenges.now (all_by games.now)) }
+    ensures { IfOk result (λ text. string_bytes text ≡ my_games_json (members_of members.now) (events_of events.now)
+        name.now moment challenges.now (summaries_of games.now)) }
 {
     let challenges = challenge_texts(alloc, members, events, name, challenges)?;
     let challenges = array(alloc, &challenges)?;

@@ -2,7 +2,7 @@
 use Rattle.std.proofs.Common.{◌≡◌, ℕ, List, take, Option, Bool, subst}
 use Rattle.std.proofs.KnownBytes.{Appends-trans}
 use Rattle.std.specs.Io.KnownBytes.{Appends}
-use Rattle.club_words.specs.declared.words.Task.{Task}
+use Rattle.cli.specs.declared.words.Task.{Task}
 use Rattle.club_orders.specs.declared.report.Report.{Report}
 use Rattle.club_orders.specs.Report.{report_text, IsFaultTold}
 use Rattle.club_orders.specs.Explained.{explained_at, second_line, IsFaultExplained, IsRefusalExplained}

@@ -3,8 +3,8 @@ use Rattle.std.proofs.Common.{◌≡◌, ◌⊎◌, inl, inr, ℕ, ◌≤◌, Li
 use Rattle.std.proofs.Common.{ap, subst, ◌∙◌}
 use Rattle.std.specs.Prelude.{IfSome}
 use Rattle.club_requests.specs.declared.refusals.Refusal.{Refusal}
-use Rattle.club_questions.specs.declared.questions.Question.{Question}
-use Rattle.club_answers.specs.AnswerTexts.{HasShown}
+use Rattle.club_requests.specs.declared.questions.Question.{Question}
+use Rattle.club_answers.specs.AnswerTexts.{HasWrittenAnswer}
 use Rattle.club_rows.specs.Club.{ClubState}
 use Rattle.store.specs.declared.fault.AskFault.TheVariants as ask_fault
 use Rattle.store.specs.declared.fault.StoreFault.{StoreFault}
@@ -12,12 +12,12 @@ use Rattle.store.specs.declared.fault.StoreFault.TheVariants as store_fault
 use Rattle.store.specs.Runs.{club_outcomes}
 use Rattle.club_requests.specs.declared.requests.Request.{Request}
 use Rattle.club_core.specs.Answer.{answered, outcome_of, request_of}
-use Rattle.club_words.specs.declared.batches.Batch.{Batch}
-use Rattle.club_orders.specs.declared.batched.Batched.{Batched}
+use Rattle.cli.specs.declared.batches.Batch.{Batch}
+use Rattle.club_orders.specs.declared.batched.BatchResults.{BatchResults}
 use Rattle.club_orders.specs.Batches.{AreAsked, AreGiven, IsAsked}
 
 pub asked_of : (s : ClubState) (moment : ℕ) (question : Question) (before now : Option (List ℕ))
-    (refusal : Option Refusal) → HasShown s moment question refusal before now → IsAsked s moment question refusal
+    (refusal : Option Refusal) → HasWrittenAnswer s moment question refusal before now → IsAsked s moment question refusal
 asked_of s moment question before now None shown = (shown.0, shown.1)
 asked_of s moment question before now (Some why) shown = shown.0
 
@@ -47,7 +47,7 @@ module _ (s : ClubState) (moment : ℕ) (all left next : List Question) (questio
       on (Some why) (subst (λ l. AreAsked s moment l (Some why)) (sym at) (inr (why, one, refl)))
 
 -- orders that were given as a run of these requests
-module _ (s : ClubState) (batch : Batch) (batched : Batched) (requests : List Request)
+module _ (s : ClubState) (batch : Batch) (batched : BatchResults) (requests : List Request)
     (at : requests ≡ batch.requests.items) where
   pub given_of : batched.numbers.items ≡ batch.numbers.items
       → length batched.outcomes.items ≤ length requests

@@ -2,8 +2,8 @@
 use Rattle.std.proofs.Common.{◌≡◌, ◌⊎◌, inl, inr, ℕ, List, Option, Some, None, Result, Ok, Err, refl}
 use Rattle.std.specs.Prelude.{IfOk, IfErr}
 use Rattle.club_requests.specs.declared.refusals.Refusal.{Refusal}
-use Rattle.club_questions.specs.declared.questions.Question.{Question}
-use Rattle.club_answers.specs.AnswerTexts.{HasShown, HasShownSome}
+use Rattle.club_requests.specs.declared.questions.Question.{Question}
+use Rattle.club_answers.specs.AnswerTexts.{HasWrittenAnswer, HasShownSome}
 use Rattle.club_rows.specs.Club.{ClubState}
 use Rattle.store.specs.declared.fault.AskFault.{AskFault}
 use Rattle.store.specs.declared.fault.AskFault.TheVariants as ask_fault
@@ -20,7 +20,7 @@ not_reopen (inr (inr e)) = cc
 
 pub shows : (s : ClubState) (moment : ℕ) (question : Question) (before now : Option (List ℕ))
     (answered : Result (Option Refusal) AskFault)
-    → IfOk answered (λ refusal. HasShown s moment question refusal before now)
+    → IfOk answered (λ refusal. HasWrittenAnswer s moment question refusal before now)
     → HasShownSome s moment question before now
     → IfErr answered (λ fault. (fault ≡ ask_fault.Output)
     ⊎ ((fault ≡ ask_fault.Club store_fault.Store) ⊎ (fault ≡ ask_fault.Club store_fault.Memory)))

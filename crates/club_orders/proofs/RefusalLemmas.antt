@@ -4,14 +4,14 @@ use Rattle.sqlite.specs.Effect.{Database}
 use Rattle.sqlite.specs.State.{State}
 use Rattle.store_tables.specs.declared.names.Version.TheVariants.{Current}
 use Rattle.club_rows.specs.Club.{ClubState, IsClub}
-use Rattle.club_opening.specs.Refused.{HoldClub}
-use Rattle.club_opening.specs.Versions.{HasClub}
-use Rattle.club_opening.specs.declared.fault.OpenFault.{OpenFault}
+use Rattle.club_check.specs.Refused.{HoldClub}
+use Rattle.club_check.specs.Versions.{HasClub}
+use Rattle.club_check.specs.declared.fault.OpenFault.{OpenFault}
 use Rattle.club_orders.specs.declared.report.Report.{Report}
-use Rattle.club_orders.specs.declared.report.Report.TheVariants.{Ready, Sound, Answered, Shown, Unwritten}
-use Rattle.club_orders.specs.declared.report.Report.TheVariants.{Unopened, Stopped, InUse, NotOpened, NoMoment, Unread}
-use Rattle.club_orders.specs.declared.report.Report.TheVariants.{Listening, Unbound, NoMemory, Upgraded}
-use Rattle.club_orders.specs.declared.report.Report.TheVariants.{AlreadyUpgraded, Batched, Copied, Uncopied}
+use Rattle.club_orders.specs.declared.report.Report.TheVariants.{Ready, Sound, Answered, Shown, OutputFailed}
+use Rattle.club_orders.specs.declared.report.Report.TheVariants.{Unopened, StoreFailed, InUse, NotOpened, NoClock, InputFailed}
+use Rattle.club_orders.specs.declared.report.Report.TheVariants.{Listening, PortUnavailable, NoMemory, Upgraded}
+use Rattle.club_orders.specs.declared.report.Report.TheVariants.{AlreadyUpgraded, Batched, Copied, BackupFailed}
 use Rattle.club_orders.specs.Report.{IfUnopened}
 
 -- no tables were refused
@@ -24,16 +24,16 @@ taken_over P Copied taken = tt
 taken_over P (Answered outcome) taken = tt
 taken_over P (Batched batched) taken = tt
 taken_over P Shown taken = tt
-taken_over P Unwritten taken = tt
-taken_over P Uncopied taken = tt
+taken_over P OutputFailed taken = tt
+taken_over P BackupFailed taken = tt
 taken_over P (Unopened fault) taken = absurd taken
-taken_over P (Stopped fault) taken = tt
+taken_over P (StoreFailed fault) taken = tt
 taken_over P InUse taken = tt
 taken_over P NotOpened taken = tt
-taken_over P NoMoment taken = tt
-taken_over P Unread taken = tt
+taken_over P NoClock taken = tt
+taken_over P InputFailed taken = tt
 taken_over P (Listening port) taken = tt
-taken_over P Unbound taken = tt
+taken_over P PortUnavailable taken = tt
 taken_over P NoMemory taken = tt
 
 -- what stands behind an examination stood before it

@@ -4,17 +4,17 @@ use Rattle.std.specs.Prelude.{IfOk, IfErr}
 use Rattle.sqlite.specs.State.{State}
 use Rattle.store_tables.specs.Contents as of_schema
 use Rattle.store_tables.specs.Contents.{Content}
-use Rattle.store_tables.specs.Over.{HasRows, IsBesideThem, IsFirstBeside, Neighbours}
+use Rattle.store_tables.specs.Over.{HasRows, HoldsClubAmong, IsFirstBeside, Neighbours}
 use Rattle.store_tables.specs.Placed.{HasTablesOf}
 use Rattle.store_tables.specs.Reading.{KeepsContent}
 use Rattle.store_tables.specs.Room.{IsWithoutClub, LeavesNoClub}
 use Rattle.store_tables.specs.declared.names.Version.TheVariants.{First, Current}
 use Rattle.store_tables.proofs.Proved.{rows_beside, still_beside}
 use Rattle.sqlite.specs.Schema.{Schema}
-use Rattle.table_shapes.specs.Shapes.{is_of_club}
+use Rattle.schema_match.specs.Shapes.{is_of_club}
 use Rattle.club_rows.specs.Club.{ClubState, tables}
 use Rattle.club_rows.specs.FirstSchema.{first_tables}
-use Rattle.club_opening.specs.Versions.{HoldsRows}
+use Rattle.club_check.specs.Versions.{HoldsRows}
 use Rattle.club_orders.specs.declared.report.Report.{Report}
 use Rattle.club_orders.specs.declared.report.Report.TheVariants.{Unopened}
 use Rattle.club_orders.specs.Refused.{HasFirst}
@@ -28,7 +28,7 @@ IsExact s = (schema : Schema) (content : Content) → of_schema.Leaves schema co
     → of_schema.IsExactly schema content s
 
 module _ (club : ClubState) (s : State) (exact : IsExact s) (has : HasState club s.committed.trees) where
-  pub stands_beside : IsBesideThem has.them (tables club) s
+  pub stands_beside : HoldsClubAmong has.them (tables club) s
   stands_beside = record { clear = has.leaves.clear; exactly = exact _ _ has.leaves.leaves }
 
   -- what a taker of such clubs promises

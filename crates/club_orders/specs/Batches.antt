@@ -11,16 +11,16 @@ use Rattle.club_requests.specs.declared.requests.Request.{Request}
 use Rattle.club_requests.specs.AnswerText.{outcome_text}
 use Rattle.club_core.specs.Answer.{answered, outcome_of, request_of}
 use Rattle.club_rows.specs.Club.{ClubState}
-use Rattle.club_questions.specs.declared.questions.Question.{Question}
+use Rattle.club_requests.specs.declared.questions.Question.{Question}
 use Rattle.club_answers.specs.AnswerTexts.{IsRefused, IsText}
-use Rattle.club_opening.specs.declared.fault.OpenFault.TheVariants as open_fault
+use Rattle.club_check.specs.declared.fault.OpenFault.TheVariants as open_fault
 use Rattle.store.specs.declared.fault.StoreFault.{StoreFault}
 use Rattle.store.specs.declared.fault.StoreFault.TheVariants as store_fault
 use Rattle.store.specs.FaultText.{store_fault_text}
-use Rattle.store.specs.Histories.{Chapter, session_of}
+use Rattle.store.specs.Histories.{HistoryStep, session_of}
 use Rattle.store.specs.Runs.{club_outcomes}
-use Rattle.club_words.specs.declared.batches.Batch.{Batch}
-use Rattle.club_orders.specs.declared.batched.Batched.{Batched}
+use Rattle.cli.specs.declared.batches.Batch.{Batch}
+use Rattle.club_orders.specs.declared.batched.BatchResults.{BatchResults}
 use Rattle.club_orders.specs.declared.report.Report.{Report}
 use Rattle.club_orders.specs.declared.report.Report.TheVariants as report
 
@@ -36,7 +36,7 @@ answer_lines [] outcomes = []
 answer_lines (number ∷ numbers) [] = []
 answer_lines (number ∷ numbers) (outcome ∷ outcomes) = answer_line number outcome ++ answer_lines numbers outcomes
 
-abbrev pub lines_of : Batched → List ℕ
+abbrev pub lines_of : BatchResults → List ℕ
 lines_of batched = answer_lines batched.numbers.items batched.outcomes.items
 
 abbrev pub fault_text : StoreFault → List ℕ
@@ -57,7 +57,7 @@ status_of (Some fault) any_refused = 3
 status_of None true = 1
 status_of None false = 0
 
-abbrev pub batch_status : Batched → ℕ
+abbrev pub batch_status : BatchResults → ℕ
 batch_status batched = status_of batched.fault (list_any is_refused batched.outcomes.items)
 
 -- a text, or a prefix of it if the writer failed, was written
@@ -83,7 +83,7 @@ pub record IsUnprinted (before now : Option (List ℕ)) : Type 0 where
 
 -- The output of a batch with exit status 3: the lines of all executed requests and then the fault, or a prefix of these
 -- lines and why the rest is missing.
-abbrev pub IsBatchTold : Batched → (out out_now err err_now : Option (List ℕ)) → Type 0
+abbrev pub IsBatchTold : BatchResults → (out out_now err err_now : Option (List ℕ)) → Type 0
 IsBatchTold batched out out_now err err_now =
     (Appends out out_now (lines_of batched) × IfSome batched.fault (λ fault. IsFaultToldOf fault err err_now)
     × IsSome batched.fault)
@@ -104,7 +104,7 @@ AreAsked s moment (question ∷ questions) refusal =
     ⊎ ((why : Refusal) × IsAsked s moment question (Some why) × (refusal ≡ Some why))
 
 -- The requests were executed in turn, all of them or up to a fault, with the outcomes of the specification.
-pub record AreGiven (s : ClubState) (batch : Batch) (batched : Batched) : Type 0 where
+pub record AreGiven (s : ClubState) (batch : Batch) (batched : BatchResults) : Type 0 where
   pub numbers : batched.numbers.items ≡ batch.numbers.items
   pub within : length batched.outcomes.items ≤ length batch.requests.items
   pub outcomes : map outcome_of batched.outcomes.items ≡ map answered
@@ -120,11 +120,11 @@ AnswersBatch s moment batch (report.Batched batched) =
 AnswersBatch s moment batch (report.Answered (outcome.Refused refusal)) =
     AreAsked s moment batch.questions.items (Some refusal)
 AnswersBatch s moment batch (report.Unopened fault) = (fault ≡ open_fault.Store) ⊎ (fault ≡ open_fault.Memory)
-AnswersBatch s moment batch (report.Stopped fault) = (fault ≡ store_fault.Store) ⊎ (fault ≡ store_fault.Memory)
+AnswersBatch s moment batch (report.StoreFailed fault) = (fault ≡ store_fault.Store) ⊎ (fault ≡ store_fault.Memory)
 AnswersBatch s moment batch _ = ⊥
 
 -- the requests are one session, which ends at the fault if there is one; without requests there is no session
-abbrev pub batch_sessions : List Request → Report → List Chapter
+abbrev pub batch_sessions : List Request → Report → List HistoryStep
 batch_sessions requests (report.Batched batched) =
     session_of requests (record { outcomes = batched.outcomes; fault = batched.fault }) ∷ []
 batch_sessions requests _ = []

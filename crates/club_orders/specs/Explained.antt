@@ -2,30 +2,30 @@
 use Rattle.std.specs.Prelude.{ℕ, ◌==◌, List, [], ◌++◌, take, Option, Some, None, Bool, true, false}
 use Rattle.std.specs.Prelude.{if◌then◌else◌, pos, negsuc, ℤ}
 use Rattle.std.specs.Io.KnownBytes.{Appends}
-use Rattle.club_questions.specs.declared.questions.Question.{Question}
-use Rattle.club_questions.specs.declared.questions.Question.TheVariants.{Games}
+use Rattle.club_requests.specs.declared.questions.Question.{Question}
+use Rattle.club_requests.specs.declared.questions.Question.TheVariants.{Games}
 use Rattle.club_requests.specs.declared.refusals.Refusal.{Refusal}
 use Rattle.club_requests.specs.declared.refusals.Refusal.TheVariants.{BadValue}
 use Rattle.club_requests.specs.declared.answers.Outcome.{Outcome}
 use Rattle.club_requests.specs.declared.answers.Outcome.TheVariants as outcome
-use Rattle.club_words.specs.declared.words.Task.{Task}
-use Rattle.club_words.specs.declared.words.Task.TheVariants as task
-use Rattle.club_opening.specs.declared.fault.OpenFault.{OpenFault}
-use Rattle.club_opening.specs.declared.fault.OpenFault.TheVariants as open_fault
+use Rattle.cli.specs.declared.words.Task.{Task}
+use Rattle.cli.specs.declared.words.Task.TheVariants as task
+use Rattle.club_check.specs.declared.fault.OpenFault.{OpenFault}
+use Rattle.club_check.specs.declared.fault.OpenFault.TheVariants as open_fault
 use Rattle.store.specs.declared.fault.StoreFault.{StoreFault}
 use Rattle.store.specs.declared.fault.StoreFault.TheVariants as store_fault
-use Rattle.explanations.specs.Causes.{refusal_explained}
-use Rattle.explanations.specs.Lines.{line_of}
-use Rattle.explanations.specs.declared.causes.Explanation.{Explanation}
-use Rattle.explanations.specs.declared.causes.Explanation.TheVariants as explanation
-use Rattle.explanations.specs.declared.causes.ExplainedFault.{ExplainedFault}
-use Rattle.explanations.specs.declared.causes.ExplainedFault.TheVariants as fault
-use Rattle.explanations.specs.declared.causes.WrongValue.TheVariants.{ListedMember}
+use Rattle.club_orders.specs.Causes.{refusal_explained}
+use Rattle.club_orders.specs.Lines.{line_of}
+use Rattle.club_orders.specs.declared.causes.Explanation.{Explanation}
+use Rattle.club_orders.specs.declared.causes.Explanation.TheVariants as explanation
+use Rattle.club_orders.specs.declared.causes.ExplainedFault.{ExplainedFault}
+use Rattle.club_orders.specs.declared.causes.ExplainedFault.TheVariants as fault
+use Rattle.club_orders.specs.declared.causes.WrongValue.TheVariants.{ListedMember}
 use Rattle.club_orders.specs.declared.report.Report.{Report}
-use Rattle.club_orders.specs.declared.report.Report.TheVariants.{Ready, Sound, Answered, Shown, Unwritten}
-use Rattle.club_orders.specs.declared.report.Report.TheVariants.{Unopened, Stopped, InUse, NotOpened, NoMoment, Unread}
-use Rattle.club_orders.specs.declared.report.Report.TheVariants.{Listening, Unbound, NoMemory, Upgraded}
-use Rattle.club_orders.specs.declared.report.Report.TheVariants.{AlreadyUpgraded, Batched, Copied, Uncopied}
+use Rattle.club_orders.specs.declared.report.Report.TheVariants.{Ready, Sound, Answered, Shown, OutputFailed}
+use Rattle.club_orders.specs.declared.report.Report.TheVariants.{Unopened, StoreFailed, InUse, NotOpened, NoClock, InputFailed}
+use Rattle.club_orders.specs.declared.report.Report.TheVariants.{Listening, PortUnavailable, NoMemory, Upgraded}
+use Rattle.club_orders.specs.declared.report.Report.TheVariants.{AlreadyUpgraded, Batched, Copied, BackupFailed}
 use Rattle.club_orders.specs.Report.{report_status, report_text, IsFaultText}
 
 -- a list of games names a member who does not exist
@@ -73,14 +73,14 @@ answer_explained task _ = None
 abbrev pub report_explained : Task → Report → Option Explanation
 report_explained task (Answered outcome) = answer_explained task outcome
 report_explained task (Unopened fault) = Some (explanation.Fault (opening_explained task fault))
-report_explained task (Stopped fault) = Some (explanation.Fault (stop_explained fault))
-report_explained task Unwritten = Some (explanation.Fault fault.NoOutput)
-report_explained task Uncopied = Some (explanation.Fault fault.NoCopy)
+report_explained task (StoreFailed fault) = Some (explanation.Fault (stop_explained fault))
+report_explained task OutputFailed = Some (explanation.Fault fault.NoOutput)
+report_explained task BackupFailed = Some (explanation.Fault fault.NoCopy)
 report_explained task InUse = Some (explanation.Fault fault.InUse)
 report_explained task NotOpened = Some (explanation.Fault fault.NotOpened)
-report_explained task NoMoment = Some (explanation.Fault fault.NoClock)
-report_explained task Unread = Some (explanation.Fault fault.NoRecord)
-report_explained task Unbound = Some (explanation.Fault fault.NoPort)
+report_explained task NoClock = Some (explanation.Fault fault.NoClock)
+report_explained task InputFailed = Some (explanation.Fault fault.NoRecord)
+report_explained task PortUnavailable = Some (explanation.Fault fault.NoPort)
 report_explained task NoMemory = Some (explanation.Fault fault.Memory)
 report_explained task Ready = None
 report_explained task Sound = None

@@ -1,4 +1,6 @@
 pub mod Batches
-pub mod Report
+pub mod Causes
 pub mod Explained
+pub mod Lines
 pub mod Refused
+pub mod Report

@@ -3,25 +3,25 @@ use Rattle.std.specs.Prelude.{◌≡◌, ◌≢◌, ◌⊎◌, List, pos, true, 
 use Rattle.sqlite.specs.Tree.{Trees}
 use Rattle.sqlite.specs.State.{State, Opens}
 use Rattle.store_tables.specs.Placed.{HasClubTables}
-use Rattle.store_tables.specs.Over.{HasRows, IsBesideThem, LeavesFirst, Neighbours}
+use Rattle.store_tables.specs.Over.{HasRows, HoldsClubAmong, LeavesFirst, Neighbours}
 use Rattle.store_tables.specs.declared.names.Version.TheVariants.{First}
 use Rattle.club_rows.specs.Club.{ClubState, tables}
 use Rattle.club_rows.specs.FirstSchema.{IsFirstClub, first_tables}
-use Rattle.table_shapes.specs.Shapes.{is_of_club}
-use Rattle.club_opening.specs.Blames.{Names}
-use Rattle.club_opening.specs.Refused.{HoldClub, IsKept}
-use Rattle.club_opening.specs.RightTables.{NamesFirst}
-use Rattle.club_opening.specs.declared.fault.OpenFault.{OpenFault}
-use Rattle.club_opening.specs.declared.fault.OpenFault.TheVariants.{Schema, Store, Memory}
-use Rattle.store.specs.Histories.{Chapter, HasState, IsHistory, IsReachable}
-use Rattle.club_words.specs.declared.words.Task.{Task}
-use Rattle.club_words.specs.declared.words.Task.TheVariants as task
+use Rattle.schema_match.specs.Shapes.{is_of_club}
+use Rattle.club_check.specs.ReasonIsRight.{IsRightFault}
+use Rattle.club_check.specs.Refused.{HoldClub, IsKept}
+use Rattle.club_check.specs.RightTables.{NamesFirstDamaged}
+use Rattle.club_check.specs.declared.fault.OpenFault.{OpenFault}
+use Rattle.club_check.specs.declared.fault.OpenFault.TheVariants.{Schema, Store, Memory}
+use Rattle.store.specs.Histories.{HistoryStep, HasState, IsHistory, IsReachable}
+use Rattle.cli.specs.declared.words.Task.{Task}
+use Rattle.cli.specs.declared.words.Task.TheVariants as task
 
 -- The tables were not upgraded. An upgrade accepts both versions; if a call of the database failed, it may have begun
 -- to write.
 pub record IsUpgradeRefusal (old new : State) (fault : OpenFault) : Type 0 where
-  pub blames : HasClubTables old.now.schema → Names First old.now fault
-  pub first : HasClubTables old.now.schema → NamesFirst old.now fault
+  pub blames : HasClubTables old.now.schema → IsRightFault First old.now fault
+  pub first : HasClubTables old.now.schema → NamesFirstDamaged old.now fault
   pub kept : fault ≢ Store → Opens old → IsKept old new
 
 -- schema 1 is rejected by its number; or a call of the database failed, or memory ran out
@@ -40,18 +40,18 @@ pub record HasFirst (them : Neighbours) (s : ClubState) (trees : Trees) : Type 0
 pub record IsTakenOver (old new : State) : Type 0 where
   pub newer : (them : Neighbours) (s : ClubState) → ¬ HasFirst them s old.committed.trees
   pub legal : HasClubTables old.now.schema → HoldClub old.committed.trees
-  pub stands : (s : ClubState) → (has : HasState s old.committed.trees) → IsBesideThem has.them (tables s) new
+  pub stands : (s : ClubState) → (has : HasState s old.committed.trees) → HoldsClubAmong has.them (tables s) new
   pub rows : (s : ClubState) → HasState s old.committed.trees → HasRows (tables s) new
-  pub history : (them : Neighbours) (sessions : List Chapter) → IsReachable them sessions old.committed.trees
+  pub history : (them : Neighbours) (sessions : List HistoryStep) → IsReachable them sessions old.committed.trees
       → IsHistory them sessions new
-  pub leads : (them : Neighbours) (sessions : List Chapter) → IsReachable them sessions old.committed.trees
+  pub leads : (them : Neighbours) (sessions : List HistoryStep) → IsReachable them sessions old.committed.trees
       → (db : Trees) → new.may_leave db → IsReachable them sessions db
 
 -- every task opens a club, except its creation and its upgrade
-abbrev pub IfTakesOver : Task → Type 0 → Type 0
-IfTakesOver task.Init Holds = ⊤
-IfTakesOver task.Upgrade Holds = ⊤
-IfTakesOver _ Holds = Holds
+abbrev pub IfOpensClub : Task → Type 0 → Type 0
+IfOpensClub task.Init Holds = ⊤
+IfOpensClub task.Upgrade Holds = ⊤
+IfOpensClub _ Holds = Holds
 
 abbrev pub IfUpgrade : Task → Type 0 → Type 0
 IfUpgrade task.Upgrade Holds = Holds

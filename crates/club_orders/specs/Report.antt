@@ -18,24 +18,24 @@ use Rattle.club_rows.specs.Club.{ClubState, tables}
 use Rattle.club_rows.specs.FirstSchema.{first_tables}
 use Rattle.store.specs.declared.fault.AskFault.{AskFault}
 use Rattle.store.specs.declared.fault.AskFault.TheVariants as ask_fault
-use Rattle.club_opening.specs.declared.fault.OpenFault.{OpenFault}
-use Rattle.club_opening.specs.declared.fault.OpenFault.TheVariants as open_fault
+use Rattle.club_check.specs.declared.fault.OpenFault.{OpenFault}
+use Rattle.club_check.specs.declared.fault.OpenFault.TheVariants as open_fault
 use Rattle.store.specs.declared.fault.StoreFault.TheVariants as store_fault
-use Rattle.club_opening.specs.FaultText.{open_fault_text}
+use Rattle.club_check.specs.FaultText.{open_fault_text}
 use Rattle.store.specs.FaultText.{store_fault_text}
-use Rattle.store.specs.Histories.{Chapter, IsReachable, answered_session, cut_session, upgraded}
+use Rattle.store.specs.Histories.{HistoryStep, IsReachable, answered_session, cut_session, upgraded}
 use Rattle.club_changes.specs.Steps.{request}
-use Rattle.club_questions.specs.declared.questions.Question.{Question}
-use Rattle.club_answers.specs.AnswerTexts.{HasShown, HasShownSome}
+use Rattle.club_requests.specs.declared.questions.Question.{Question}
+use Rattle.club_answers.specs.AnswerTexts.{HasWrittenAnswer, HasShownSome}
 use Rattle.club_orders.specs.declared.report.Report.{Report}
-use Rattle.club_orders.specs.declared.report.Report.TheVariants.{Ready, Sound, Answered, Shown, Unwritten}
-use Rattle.club_orders.specs.declared.report.Report.TheVariants.{Unopened, Stopped, InUse, NotOpened, NoMoment, Unread}
-use Rattle.club_orders.specs.declared.report.Report.TheVariants.{Listening, Unbound, NoMemory, Upgraded}
-use Rattle.club_orders.specs.declared.report.Report.TheVariants.{AlreadyUpgraded, Batched, Copied, Uncopied}
+use Rattle.club_orders.specs.declared.report.Report.TheVariants.{Ready, Sound, Answered, Shown, OutputFailed}
+use Rattle.club_orders.specs.declared.report.Report.TheVariants.{Unopened, StoreFailed, InUse, NotOpened, NoClock, InputFailed}
+use Rattle.club_orders.specs.declared.report.Report.TheVariants.{Listening, PortUnavailable, NoMemory, Upgraded}
+use Rattle.club_orders.specs.declared.report.Report.TheVariants.{AlreadyUpgraded, Batched, Copied, BackupFailed}
 use Rattle.club_orders.specs.Batches.{batch_sessions, batch_status, fault_line}
-use Rattle.club_words.specs.declared.batches.Batch.{Batch}
-use Rattle.club_words.specs.declared.words.Task.{Task}
-use Rattle.club_words.specs.declared.words.Task.TheVariants as task
+use Rattle.cli.specs.declared.batches.Batch.{Batch}
+use Rattle.cli.specs.declared.words.Task.{Task}
+use Rattle.cli.specs.declared.words.Task.TheVariants as task
 
 -- the line that is printed; the answer to a query and the lines of a batch are printed separately
 abbrev pub report_text : Report → List ℕ
@@ -47,16 +47,16 @@ report_text Copied = codes "copied\n"
 report_text (Answered outcome) = outcome_text outcome ++ codes "\n"
 report_text (Batched batched) = fault_line batched.fault
 report_text Shown = []
-report_text Unwritten = codes "store 77 Output\n"
-report_text Uncopied = codes "store 77 Output\n"
+report_text OutputFailed = codes "store 77 Output\n"
+report_text BackupFailed = codes "store 77 Output\n"
 report_text (Unopened fault) = codes "store " ++ open_fault_text fault ++ codes "\n"
-report_text (Stopped fault) = codes "store " ++ store_fault_text fault ++ codes "\n"
+report_text (StoreFailed fault) = codes "store " ++ store_fault_text fault ++ codes "\n"
 report_text InUse = codes "store 73 Store\n"
 report_text NotOpened = codes "store 73 Store\n"
-report_text NoMoment = codes "store 76 Input\n"
-report_text Unread = codes "store 76 Input\n"
+report_text NoClock = codes "store 76 Input\n"
+report_text InputFailed = codes "store 76 Input\n"
 report_text (Listening port) = codes "listening 127.0.0.1:" ++ decimal port ++ codes "\n"
-report_text Unbound = codes "store 76 Input\n"
+report_text PortUnavailable = codes "store 76 Input\n"
 report_text NoMemory = codes "store 75 Memory\n"
 
 abbrev pub outcome_status : Outcome → ℕ
@@ -74,16 +74,16 @@ report_status Copied = 0
 report_status (Answered outcome) = outcome_status outcome
 report_status (Batched batched) = batch_status batched
 report_status Shown = 0
-report_status Unwritten = 3
-report_status Uncopied = 3
+report_status OutputFailed = 3
+report_status BackupFailed = 3
 report_status (Unopened fault) = 3
-report_status (Stopped fault) = 3
+report_status (StoreFailed fault) = 3
 report_status InUse = 3
 report_status NotOpened = 3
-report_status NoMoment = 3
-report_status Unread = 3
+report_status NoClock = 3
+report_status InputFailed = 3
 report_status (Listening port) = 0
-report_status Unbound = 3
+report_status PortUnavailable = 3
 report_status NoMemory = 3
 
 -- the error line with exit status 3: the report itself, out of memory, or that the output failed after a success
@@ -106,19 +106,19 @@ abbrev pub given : Command → ℕ → Request
 given command moment = request Officer command moment
 
 -- the session of one request in the report: answered, or cut off by a fault
-abbrev pub request_sessions : Request → Report → List Chapter
+abbrev pub request_sessions : Request → Report → List HistoryStep
 request_sessions asked (Answered outcome) = answered_session asked outcome ∷ []
-request_sessions asked (Stopped fault) = cut_session asked ∷ []
+request_sessions asked (StoreFailed fault) = cut_session asked ∷ []
 request_sessions asked _ = []
 
 -- the upgrade in the report: answered or cut off
-abbrev pub upgrade_of : Report → Chapter
+abbrev pub upgrade_of : Report → HistoryStep
 upgrade_of Upgraded = upgraded true
 upgrade_of AlreadyUpgraded = upgraded true
 upgrade_of _ = upgraded false
 
 -- creating a club and reading add no step
-abbrev pub task_sessions : Task → ℕ → Report → List Chapter
+abbrev pub task_sessions : Task → ℕ → Report → List HistoryStep
 task_sessions (task.Request command) moment report = request_sessions (given command moment) report
 task_sessions task.Upgrade moment report = upgrade_of report ∷ []
 task_sessions (task.Batch batch) moment report = batch_sessions batch.requests.items report
@@ -128,7 +128,7 @@ task_sessions _ moment report = []
 abbrev pub Answers : Report → (Outcome → Type 0) → Type 0
 Answers (Answered outcome) Holds = Holds outcome
 Answers (Unopened fault) Holds = (fault ≡ open_fault.Store) ⊎ (fault ≡ open_fault.Memory)
-Answers (Stopped fault) Holds = (fault ≡ store_fault.Store) ⊎ (fault ≡ store_fault.Memory)
+Answers (StoreFailed fault) Holds = (fault ≡ store_fault.Store) ⊎ (fault ≡ store_fault.Memory)
 Answers _ Holds = ⊥
 
 -- ---- properties of one kind of task
@@ -160,19 +160,19 @@ writes _ = false
 abbrev pub ask_report : Result (Option Refusal) AskFault → Report
 ask_report (Ok None) = Shown
 ask_report (Ok (Some refusal)) = Answered (outcome.Refused refusal)
-ask_report (Err ask_fault.Output) = Unwritten
-ask_report (Err (ask_fault.Club fault)) = Stopped fault
+ask_report (Err ask_fault.Output) = OutputFailed
+ask_report (Err (ask_fault.Club fault)) = StoreFailed fault
 
 -- The answer to the query was written; or it is refused and nothing was; or the writer or a call failed, or memory ran
 -- out, and a prefix of the answer was written.
 abbrev pub Shows : ClubState → (moment : ℕ) → Question → Option (List ℕ) → Option (List ℕ) → Report → Type 0
-Shows s moment question before now Shown = HasShown s moment question None before now
+Shows s moment question before now Shown = HasWrittenAnswer s moment question None before now
 Shows s moment question before now (Answered (outcome.Refused refusal)) =
-    HasShown s moment question (Some refusal) before now
-Shows s moment question before now Unwritten = HasShownSome s moment question before now
+    HasWrittenAnswer s moment question (Some refusal) before now
+Shows s moment question before now OutputFailed = HasShownSome s moment question before now
 Shows s moment question before now (Unopened fault) =
     ((fault ≡ open_fault.Store) ⊎ (fault ≡ open_fault.Memory)) × (now ≡ before)
-Shows s moment question before now (Stopped fault) =
+Shows s moment question before now (StoreFailed fault) =
     ((fault ≡ store_fault.Store) ⊎ (fault ≡ store_fault.Memory)) × HasShownSome s moment question before now
 Shows s moment question before now _ = ⊥
 
@@ -189,8 +189,8 @@ IsPassed _ = ⊥
 -- the copy was made; or a call of the copy's or of the club's database failed, or memory ran out
 abbrev pub IsOfCopy : Report → Type 0
 IsOfCopy Copied = ⊤
-IsOfCopy Uncopied = ⊤
-IsOfCopy (Stopped fault) = (fault ≡ store_fault.Store) ⊎ (fault ≡ store_fault.Memory)
+IsOfCopy BackupFailed = ⊤
+IsOfCopy (StoreFailed fault) = (fault ≡ store_fault.Store) ⊎ (fault ≡ store_fault.Memory)
 IsOfCopy _ = ⊥
 
 -- ---- upgrade
@@ -207,7 +207,7 @@ AreCarried them s Upgraded trees = LeavesBeside them (tables s) trees
 AreCarried them s _ trees = LeavesFirst them (first_tables s) trees ⊎ LeavesBeside them (tables s) trees
 
 -- the result of the upgrade of a club of schema 1, beside the same foreign tables
-pub record IsCarriedOver (them : Neighbours) (s : ClubState) (report : Report) (new : State) : Type 0 where
+pub record IsUpgradeResult (them : Neighbours) (s : ClubState) (report : Report) (new : State) : Type 0 where
   pub answer : IsUpgraded report
   pub leaves : (db : Trees) → new.may_leave db → AreCarried them s report db
 

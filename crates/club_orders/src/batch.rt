@@ -8,13 +8,12 @@ ghost use Rattle.store_tables.specs.Reading.{Reads};
 ghost use Rattle.club_rows.specs.Club.{ClubState, IsClub, tables};
 ghost use Rattle.club_orders.specs.Batches.{batch_sessions, AnswersBatch, AreAsked, IsAsked};
 
-use crate::batched::Batched;
+use crate::batched::BatchResults;
+use crate::open_club::Execute;
 use crate::report::Report;
-use crate::taking::ClubTask;
+use cli::Batch;
 use clocks::Moment;
-use club_questions::Question;
-use club_requests::{Outcome, Refusal};
-use club_words::Batch;
+use club_requests::{Outcome, Question, Refusal};
 use sqlite::Alter;
 use std::alloc::Global;
 use std::io::{Write, sink};
@@ -29,7 +28,7 @@ fn refusal_of<S: Alter>(
 ) -> Result<Option<Refusal>, StoreFault>
     requires { club.old.needs_reopening ≡ false }
     ensures ready { OnOk result (club.new.needs_reopening ≡ false) }
-    ensures named { IfErr result (λ fault. (fault ≡ StoreFault.Store) ⊎ (fault ≡ StoreFault.Memory)) }
+    ensures possible_faults { IfErr result (λ fault. (fault ≡ StoreFault.Store) ⊎ (fault ≡ StoreFault.Memory)) }
     ensures reads { Reads (is_ok result) (state S.Store club.old.connection) (state S.Store club.new.connection) }
     ensures asked { HasCleanDisk (state S.Store club.new.connection) → IfOk result (λ refusal. (s : ClubState) →
         IsClub s → HasRows (tables s) (state S.Store club.old.connection) → IsAsked s moment question.now refusal) }
@@ -51,7 +50,7 @@ fn refusal_among<S: Alter>(
 ) -> Result<Option<Refusal>, StoreFault>
     requires { club.old.needs_reopening ≡ false }
     ensures ready { OnOk result (club.new.needs_reopening ≡ false) }
-    ensures named { IfErr result (λ fault. (fault ≡ StoreFault.Store) ⊎ (fault ≡ StoreFault.Memory)) }
+    ensures possible_faults { IfErr result (λ fault. (fault ≡ StoreFault.Store) ⊎ (fault ≡ StoreFault.Memory)) }
     ensures reads { Reads (is_ok result) (state S.Store club.old.connection) (state S.Store club.new.connection) }
     ensures asked { HasCleanDisk (state S.Store club.new.connection) → IfOk result (λ refusal. (s : ClubState) →
         IsClub s → HasRows (tables s) (state S.Store club.old.connection) →
@@ -67,7 +66,7 @@ fn refusal_among<S: Alter>(
     Ok(None)
 }
 
-impl ClubTask for Batch {
+impl Execute for Batch {
     ghost IsAnswer = { λ batch s moment before now report. AnswersBatch s moment batch report };
 
     ghost chapters = { λ batch moment report. batch_sessions batch.requests.items report };
@@ -77,7 +76,7 @@ impl ClubTask for Batch {
     ghost no_chapter = { λ batch moment fault. refl };
 
     // Runs the queries; if none is refused, executes the requests up to the first fault.
-    fn do_in<S: Alter, W: Write>(
+    fn execute<S: Alter, W: Write>(
         &self,
         alloc: Global,
         club: &mut Club<S>,
@@ -87,15 +86,15 @@ impl ClubTask for Batch {
         // The numbers are copied first: no outcome may be lost for want of memory.
         let numbers = match Vec::from_slice(alloc, self.numbers.as_slice()) {
             Ok(numbers) => numbers,
-            Err(_) => return Report::Stopped(StoreFault::Memory),
+            Err(_) => return Report::StoreFailed(StoreFault::Memory),
         };
         match refusal_among(alloc, club, self.questions.as_slice(), moment) {
             Ok(None) => {}
             Ok(Some(refusal)) => return Report::Answered(Outcome::Refused(refusal)),
-            Err(fault) => return Report::Stopped(fault),
+            Err(fault) => return Report::StoreFailed(fault),
         }
         let Run { outcomes, fault } = club.session(alloc, self.requests.as_slice());
-        Report::Batched(Batched {
+        Report::Batched(BatchResults {
             numbers,
             outcomes,
             fault,

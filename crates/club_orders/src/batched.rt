@@ -6,7 +6,7 @@ ghost use Rattle.std.specs.List.{list_any};
 ghost use Rattle.club_orders.specs.Batches.{answer_line, answer_lines, batch_status, fault_line, is_refused};
 ghost use Rattle.club_orders.specs.Batches.{lines_of, IsBatchTold, IsBegunWith, IsFaultToldOf};
 
-use crate::report::{DONE, FAULT, REFUSED, unprinted};
+use crate::report::{DONE, FAULT, REFUSED, report_output_failure};
 use crate::written::write_out;
 use club_requests::Outcome;
 use std::alloc::AllocError;
@@ -15,7 +15,7 @@ use store::StoreFault;
 
 /// The results of a batch.
 #[derive(Debug, Drop)]
-pub struct Batched {
+pub struct BatchResults {
     /// The line number of each request, also of those that were not executed.
     pub numbers: Vec<u64>,
     /// The outcomes of the requests that were executed, in order.
@@ -54,7 +54,7 @@ fn any_refused(outcomes: &[Outcome]) -> bool
     outcomes.iter().any(|outcome| is_refused(outcome))
 }
 
-impl Batched {
+impl BatchResults {
     /// The exit status: `FAULT` after a fault, `REFUSED` if a request was refused, else `DONE`.
     pub fn status(&self) -> u8
         ensures { result ≡ batch_status self.now }
@@ -129,7 +129,7 @@ fn print_answers<O: Write>(
         };
         match print_answer(line, number, outcome, out) {
             Ok(()) => {}
-            Err(unprinted) => return Err(unprinted),
+            Err(report_output_failure) => return Err(report_output_failure),
         }
     }
     Ok(())
@@ -144,7 +144,7 @@ fn tell_fault<E: Write>(line: String, fault: &StoreFault, err: &mut E) -> u8
     line.clear();
     match writeln!(line, "store {fault}") {
         Ok(()) => {}
-        Err(_) => return unprinted(err, "store 75 Memory\n"),
+        Err(_) => return report_output_failure(err, "store 75 Memory\n"),
     }
     let _is_told = write_out(err, line.as_bytes());
     FAULT
@@ -160,7 +160,7 @@ fn tell_fault<E: Write>(line: String, fault: &StoreFault, err: &mut E) -> u8
 /// `printed`, `quiet`: without a fault standard output gets every line, and standard error nothing.
 pub fn print_batch<O: Write, E: Write>(
     line: String,
-    batched: &Batched,
+    batched: &BatchResults,
     out: &mut O,
     err: &mut E,
 ) -> u8
@@ -178,8 +178,8 @@ pub fn print_batch<O: Write, E: Write>(
         out,
     ) {
         Ok(()) => {}
-        Err(Unprinted::Memory) => return unprinted(err, "store 75 Memory\n"),
-        Err(Unprinted::Output) => return unprinted(err, "store 77 Output\n"),
+        Err(Unprinted::Memory) => return report_output_failure(err, "store 75 Memory\n"),
+        Err(Unprinted::Output) => return report_output_failure(err, "store 77 Output\n"),
     }
     match &batched.fault {
         Some(fault) => tell_fault(line, fault, err),

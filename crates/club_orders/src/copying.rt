@@ -12,19 +12,19 @@ ghost use Rattle.store_tables.specs.Reading.{KeepsContent};
 ghost use Rattle.club_orders.specs.Report.{IsOfCopy};
 
 use crate::report::Report;
-use club_copies::{CopyFault, copy_tables};
 use sqlite::{Alter, Connection};
 use std::alloc::Global;
 use store::StoreFault;
+use store_sql::{CopyFault, copy_tables};
 
 /// Copies a verified club into an empty database, in one transaction with one commit. The club is only read.
-/// Reports `Report::Copied`, or `Report::Uncopied` if writing the copy failed, or `Report::Stopped` if reading the club
+/// Reports `Report::Copied`, or `Report::BackupFailed` if writing the copy failed, or `Report::StoreFailed` if reading the club
 /// failed or memory ran out.
 ///
 /// # Guarantees
 ///
-/// `copied`: a reported copy has exactly the club's tables. `cut_off`: after an error or a crash the copy is empty or
-/// complete. `untouched`: after `Stopped` the copy was not touched.
+/// `copy`: a reported copy has exactly the club's tables. `after_crash`: after an error or a crash the copy is empty or
+/// complete. `untouched`: after `StoreFailed` the copy was not touched.
 pub fn back_up<S: Alter, T: Alter>(
     alloc: Global,
     club: &mut Connection<S>,
@@ -34,21 +34,21 @@ pub fn back_up<S: Alter, T: Alter>(
     ensures idle { copy.new.in_transaction ≡ false }
     ensures reads { OnlyReads (state S.Store club.old) (state S.Store club.new) }
     ensures clean { doubt (state T.Store copy.old).is_clean ≤ doubt (state T.Store copy.new).is_clean }
-    ensures named { IsOfCopy result }
+    ensures possible_faults { IsOfCopy result }
     ensures copied { HasCleanDisk (state S.Store club.new) → HasCleanDisk (state T.Store copy.new) →
         result ≡ Report.Copied → (content : _) → HasRows content (state S.Store club.old) →
         IsExactlyEmpty (state T.Store copy.old) → IsExactly content (state T.Store copy.new) }
-    ensures cut_off { HasCleanDisk (state S.Store club.new) → HasCleanDisk (state T.Store copy.new) →
+    ensures after_crash { HasCleanDisk (state S.Store club.new) → HasCleanDisk (state T.Store copy.new) →
         (content : _) → HasRows content (state S.Store club.old) → IsExactlyEmpty (state T.Store copy.old) →
         (db : _) → (state T.Store copy.new).may_leave db → IsEmpty db ⊎ Leaves content db }
-    ensures goes_on { HasCleanDisk (state S.Store club.new) → result ≡ Report.Uncopied →
+    ensures stays_open { HasCleanDisk (state S.Store club.new) → result ≡ Report.BackupFailed →
         KeepsContent (state S.Store club.old) (state S.Store club.new) }
-    ensures untouched { (fault : _) → result ≡ Report.Stopped fault → copy.new ≡ copy.old }
+    ensures untouched { (fault : _) → result ≡ Report.StoreFailed fault → copy.new ≡ copy.old }
 {
     match copy_tables(alloc, club, copy) {
         Ok(()) => Report::Copied,
-        Err(CopyFault::Club) => Report::Stopped(StoreFault::Store),
-        Err(CopyFault::Copy) => Report::Uncopied,
-        Err(CopyFault::Memory) => Report::Stopped(StoreFault::Memory),
+        Err(CopyFault::Club) => Report::StoreFailed(StoreFault::Store),
+        Err(CopyFault::Copy) => Report::BackupFailed,
+        Err(CopyFault::Memory) => Report::StoreFailed(StoreFault::Memory),
     }
 }

@@ -9,10 +9,9 @@ ghost use Rattle.club_orders.specs.Report.{report_status, report_text};
 
 use crate::report::{DONE, Report, print};
 use crate::written::write_out;
-use club_questions::Question;
-use club_requests::{Outcome, Refusal};
-use club_words::Task;
-use explanations::{ExplainedFault, Explanation, WrongValue, refused};
+use crate::{ExplainedFault, Explanation, WrongValue, explain_refusal};
+use cli::Task;
+use club_requests::{Outcome, Question, Refusal};
 use std::io::Write;
 use store::{OpenFault, StoreFault};
 
@@ -32,7 +31,7 @@ fn task_explained(task: &Task, refusal: Refusal) -> Explanation
     ensures { result ≡ task_explained task.now refusal }
 {
     match task {
-        Task::Request(command) => refused(refusal, command),
+        Task::Request(command) => explain_refusal(refusal, command),
         Task::Ask(question) => question_explained(question, refusal),
         _ => Explanation::Refusal(refusal),
     }
@@ -82,14 +81,14 @@ fn report_explained(task: &Task, report: &Report) -> Option<Explanation>
     match report {
         Report::Answered(outcome) => answer_explained(task, outcome),
         Report::Unopened(fault) => Some(Explanation::Fault(opening_explained(task, *fault))),
-        Report::Stopped(fault) => Some(Explanation::Fault(stop_explained(*fault))),
-        Report::Unwritten => Some(Explanation::Fault(ExplainedFault::NoOutput)),
-        Report::Uncopied => Some(Explanation::Fault(ExplainedFault::NoCopy)),
+        Report::StoreFailed(fault) => Some(Explanation::Fault(stop_explained(*fault))),
+        Report::OutputFailed => Some(Explanation::Fault(ExplainedFault::NoOutput)),
+        Report::BackupFailed => Some(Explanation::Fault(ExplainedFault::NoCopy)),
         Report::InUse => Some(Explanation::Fault(ExplainedFault::InUse)),
         Report::NotOpened => Some(Explanation::Fault(ExplainedFault::NotOpened)),
-        Report::NoMoment => Some(Explanation::Fault(ExplainedFault::NoClock)),
-        Report::Unread => Some(Explanation::Fault(ExplainedFault::NoRecord)),
-        Report::Unbound => Some(Explanation::Fault(ExplainedFault::NoPort)),
+        Report::NoClock => Some(Explanation::Fault(ExplainedFault::NoClock)),
+        Report::InputFailed => Some(Explanation::Fault(ExplainedFault::NoRecord)),
+        Report::PortUnavailable => Some(Explanation::Fault(ExplainedFault::NoPort)),
         Report::NoMemory => Some(Explanation::Fault(ExplainedFault::Memory)),
         Report::Ready => None,
         Report::Sound => None,

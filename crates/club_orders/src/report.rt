@@ -4,7 +4,7 @@ ghost use Rattle.std.specs.Prelude.{◌≡◌, ◌≢◌, ◌⊎◌, ◌++◌, �
 ghost use Rattle.std.specs.Io.KnownBytes.{Appends};
 ghost use Rattle.club_orders.specs.Report.{report_status, report_text, IsFaultTold};
 
-use crate::batched::{Batched, write_fault};
+use crate::batched::{BatchResults, write_fault};
 use crate::written::write_out;
 use club_requests::Outcome;
 use std::alloc::AllocError;
@@ -31,7 +31,7 @@ pub enum Report {
     /// A command has this outcome, or a query was refused.
     Answered(Outcome),
     /// A batch was executed, up to the first fault.
-    Batched(Batched),
+    Batched(BatchResults),
     /// The file holds a legal club.
     Sound,
     /// The file was of schema 1 and is now of schema 2.
@@ -43,25 +43,25 @@ pub enum Report {
     /// The answer to a query was written.
     Shown,
     /// The writer of a query's answer failed.
-    Unwritten,
+    OutputFailed,
     /// The file of a backup was not created or not written.
-    Uncopied,
+    BackupFailed,
     /// No club was created or opened.
     Unopened(OpenFault),
     /// A call on the open club failed.
-    Stopped(StoreFault),
+    StoreFailed(StoreFault),
     /// The file was not opened: another program uses it.
     InUse,
     /// The file was not opened for another reason.
     NotOpened,
     /// The system clock is missing or outside 0..=253402300799.
-    NoMoment,
+    NoClock,
     /// The record to import cannot be read.
-    Unread,
+    InputFailed,
     /// The server listens on this port.
     Listening(u16),
     /// The port cannot be bound.
-    Unbound,
+    PortUnavailable,
     /// Out of memory before anything was done.
     NoMemory,
 }
@@ -82,16 +82,16 @@ impl Report {
             Report::Answered(Outcome::Refused(_)) => REFUSED,
             Report::Batched(batched) => batched.status(),
             Report::Shown => DONE,
-            Report::Unwritten => FAULT,
-            Report::Uncopied => FAULT,
+            Report::OutputFailed => FAULT,
+            Report::BackupFailed => FAULT,
             Report::Unopened(_) => FAULT,
-            Report::Stopped(_) => FAULT,
+            Report::StoreFailed(_) => FAULT,
             Report::InUse => FAULT,
             Report::NotOpened => FAULT,
-            Report::NoMoment => FAULT,
-            Report::Unread => FAULT,
+            Report::NoClock => FAULT,
+            Report::InputFailed => FAULT,
             Report::Listening(_) => DONE,
-            Report::Unbound => FAULT,
+            Report::PortUnavailable => FAULT,
             Report::NoMemory => FAULT,
         }
     }
@@ -111,22 +111,22 @@ fn write_report(text: &mut String, report: &Report) -> Result<(), AllocError>
         Report::Answered(outcome) => writeln!(text, "{outcome}"),
         Report::Batched(batched) => write_fault(text, &batched.fault),
         Report::Shown => Ok(()),
-        Report::Unwritten => writeln!(text, "store 77 Output"),
-        Report::Uncopied => writeln!(text, "store 77 Output"),
+        Report::OutputFailed => writeln!(text, "store 77 Output"),
+        Report::BackupFailed => writeln!(text, "store 77 Output"),
         Report::Unopened(fault) => writeln!(text, "store {fault}"),
-        Report::Stopped(fault) => writeln!(text, "store {fault}"),
+        Report::StoreFailed(fault) => writeln!(text, "store {fault}"),
         Report::InUse => writeln!(text, "store 73 Store"),
         Report::NotOpened => writeln!(text, "store 73 Store"),
-        Report::NoMoment => writeln!(text, "store 76 Input"),
-        Report::Unread => writeln!(text, "store 76 Input"),
+        Report::NoClock => writeln!(text, "store 76 Input"),
+        Report::InputFailed => writeln!(text, "store 76 Input"),
         Report::Listening(port) => writeln!(text, "listening 127.0.0.1:{port}"),
-        Report::Unbound => writeln!(text, "store 76 Input"),
+        Report::PortUnavailable => writeln!(text, "store 76 Input"),
         Report::NoMemory => writeln!(text, "store 75 Memory"),
     }
 }
 
 /// Prints an error line instead of one that could not be built or printed; returns `FAULT`.
-pub(crate) fn unprinted<E: Write>(err: &mut E, line: &str) -> u8
+pub(crate) fn report_output_failure<E: Write>(err: &mut E, line: &str) -> u8
     ensures status { result ≡ 3 }
     ensures told { (n : ℕ) × Appends (E.contents err.old) (E.contents err.new) (take n line.now) }
 {
@@ -149,14 +149,14 @@ pub fn print<O: Write, E: Write>(line: String, report: &Report, out: &mut O, err
     let mut line = line;
     match write_report(&mut line, report) {
         Ok(()) => {}
-        Err(_) => return unprinted(err, "store 75 Memory\n"),
+        Err(_) => return report_output_failure(err, "store 75 Memory\n"),
     }
     let status = report.status();
     if status == DONE {
         if write_out(out, line.as_bytes()) {
             return DONE;
         }
-        return unprinted(err, "store 77 Output\n");
+        return report_output_failure(err, "store 77 Output\n");
     }
     if write_out(err, line.as_bytes()) {
         status

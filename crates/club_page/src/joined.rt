@@ -107,9 +107,9 @@ pub fn page_1() -> &'static str
      border-radius:var(--round)}table{border-collapse:collapse;background:var(--raised);\
      font-variant-numeric:tabular-nums}td,th{padding:.35rem .6rem;border:1px solid var(--line);\
      text-align:center;overflow-wrap:normal}thead th{background:var(--sunk);font-size:.9rem}\
-     tbody th{position:sticky;left:0;max-width:11rem;background:var(--raised);text-align:start;\
-     overflow-wrap:anywhere}tr.mine > *{background:var(--wash)}.cell{min-width:2.4rem;padding:0;\
-     white-space:nowrap}.cell a{display:inline-block;min-width:1.6rem;padding:.35rem .2rem;\
+     tbody th{position:sticky;left:0;min-width:5.5rem;max-width:11rem;background:var(--raised);\
+     text-align:start;overflow-wrap:anywhere}tr.mine > *{background:var(--wash)}.cell{min-width:2.4rem;\
+     padding:0;white-space:nowrap}.cell a{display:inline-block;min-width:1.6rem;padding:.35rem .2rem;\
      text-decoration:none}.cell .running{color:var(--faint)}td.self{background:var(--sunk)}\
      .points{font-weight:700}.game h1{margin:.5rem 0;font-size:1.15rem}\
      #game{--board:max(min(100dvh - 12.5rem,46rem),17rem);display:grid;\
@@ -192,7 +192,7 @@ pub fn page_1() -> &'static str
      #steps [aria-disabled=true]{color:var(--faint);border-color:var(--line)}\
      #steps [value=start] .icon,#steps [value=back] .icon,#steps [value=on] .icon,#steps [value=present] \
      .icon{fill:currentColor}#moves{position:relative;display:grid;align-content:start;margin:0;\
-     height:max(12rem,var(--board) - 14rem);overflow:auto;padding:.4rem;background:var(--raised);\
+     height:max(12rem,var(--board) - 16rem);overflow:auto;padding:.4rem;background:var(--raised);\
      border:1px solid var(--line);border-radius:var(--round);list-style:none;\
      font-variant-numeric:tabular-nums;counter-reset:pair}\
      #moves.pairs,#moves.plies{grid-template-columns:repeat(auto-fit,minmax(max(8rem,40%),1fr))}\
@@ -303,7 +303,7 @@ pub fn page_1() -> &'static str
      if(canNotify()&&!document.hasFocus())fresh.forEach(notify)}const mayNotify=async()=>\
      await window.Notification?.requestPermission()==='granted';\
      function writeManifest(){const address=location.origin+location.pathname;\
-     const manifest={name:'Gathlwy"
+     const manifest={name:'Gathlwyro',id:address,start_url:address,"
 }
 
 /// Part 2 of the page, in ASCII.
@@ -311,8 +311,8 @@ pub fn page_1() -> &'static str
 pub fn page_2() -> &'static str
     ensures { result.now ≡ page_2 }
 {
-    "ro',id:address,start_url:address,scope:address,display:'standalone',background_color:'#f5f2ea',the\
-     me_color:'#1d5f4b',icons:[{src:byId('icon').href,sizes:'any',type:'image/svg+xml'}]};\
+    "scope:address,display:'standalone',background_color:'#f5f2ea',theme_color:'#1d5f4b',icons:[{src:by\
+     Id('icon').href,sizes:'any',type:'image/svg+xml'}]};\
      const href=`data:application/manifest+json,${encodeURIComponent(JSON.stringify(manifest))}`;\
      document.head.append(make('link',{rel:'manifest',href}))}\
      const TEXTS={code:['en','de','nl','ja','fr'],language:['English','Deutsch','Nederlands','\\u65e5\\u67\
@@ -356,17 +356,17 @@ pub fn page_2() -> &'static str
      \\u2019autorise pas les notifications de cette page.'],lettersChoice:['Western letters on shogi piec\
      es','Lateinische Buchstaben auf Shogi-Steinen','Westerse letters op shogistukken','\\u5c06\\u68cb\\u30\
      6e\\u99d2\\u3092\\u30a2\\u30eb\\u30d5\\u30a1\\u30d9\\u30c3\\u30c8\\u3067\\u8868\\u793a\\u3059\\u308b','Lettres la\
-     tines sur les pi\\u00e8ces de shogi'],loading:['Loading \\u2026','Wird geladen \\u2026','Laden \\u2026'\
-     ,'\\u8aad\\u307f\\u8fbc\\u307f\\u4e2d\\u2026','Chargement \\u2026'],missing:['The address may be wrong, or \
-     belong to another club.','Vielleicht ist die Adresse falsch oder geh\\u00f6rt zu einem anderen Club.\
-     ','Misschien is het adres onjuist of van een andere club.','\\u30a2\\u30c9\\u30ec\\u30b9\\u304c\\u9593\\u9\
-     055\\u3063\\u3066\\u3044\\u308b\\u304b\\u3001\\u5225\\u306e\\u30af\\u30e9\\u30d6\\u306e\\u3082\\u306e\\u3067\\u3059\
-     \\u3002','L\\u2019adresse est peut-\\u00eatre erron\\u00e9e ou celle d\\u2019un autre club.'],news:['Gam\
-     es with your move: {moves}. Challenges: {challenges}.','Partien, in denen Sie am Zug sind: {moves}\
-     . Herausforderungen: {challenges}.','Partijen waarin u aan zet bent: {moves}\
-     . Uitdagingen: {challenges}.','\\u624b\\u756a\\u306e\\u5bfe\\u5c40: {moves}\
-     \\u3002\\u6311\\u6226: {challenges}\\u3002','Parties o\\u00f9 vous \\u00eates au trait\\u00a0: {moves}\
-     . D\\u00e9fis\\u00a0: {challenges}\
+     tines sur les pi\\u00e8ces de shogi'],loading:['Loading\\u2026','Wird geladen\\u00a0\\u2026','Laden\\u20\
+     26','\\u8aad\\u307f\\u8fbc\\u307f\\u4e2d\\u2026','Chargement\\u2026'],missing:['The address may be wrong, \
+     or belong to another club.','Vielleicht ist die Adresse falsch oder geh\\u00f6rt zu einem anderen Cl\
+     ub.','Misschien is het adres onjuist of van een andere club.','\\u30a2\\u30c9\\u30ec\\u30b9\\u304c\\u9593\
+     \\u9055\\u3063\\u3066\\u3044\\u308b\\u304b\\u3001\\u5225\\u306e\\u30af\\u30e9\\u30d6\\u306e\\u3082\\u306e\\u3067\\u3\
+     059\\u3002','L\\u2019adresse est peut-\\u00eatre erron\\u00e9e ou celle d\\u2019un autre club.'],news:['\
+     Games with your move: {moves}. Challenges: {challenges}\
+     .','Partien, in denen Sie am Zug sind: {moves}. Herausforderungen: {challenges}\
+     .','Partijen waarin u aan zet bent: {moves}. Uitdagingen: {challenges}\
+     .','\\u624b\\u756a\\u306e\\u5bfe\\u5c40: {moves}\\u3002\\u6311\\u6226: {challenges}\
+     \\u3002','Parties o\\u00f9 vous \\u00eates au trait\\u00a0: {moves}. D\\u00e9fis\\u00a0: {challenges}\
      .'],toClaim:['Opponent out of time','Gegner hat die Zeit \\u00fcberschritten','Tegenstander heeft de \
      tijd overschreden','\\u76f8\\u624b\\u306e\\u6642\\u9593\\u5207\\u308c','Temps de l\\u2019adversaire d\\u00e9\
      pass\\u00e9'],toMove:['Your move','Sie sind am Zug','U bent aan zet','\\u3042\\u306a\\u305f\\u306e\\u624b\
@@ -437,8 +437,8 @@ pub fn page_2() -> &'static str
      \\uff1a\\u9001\\u4fe1\\u3057\\u307e\\u3059\\u304b\\uff1f','{move}\
      \\u00a0: envoyer ce coup\\u00a0?'],confirm:['Confirm move','Zug best\\u00e4tigen','Zet bevestigen','\\u\
      6307\\u3057\\u624b\\u3092\\u78ba\\u5b9a','Confirmer le coup'],takeBack:['Take back','Zur\\u00fccknehmen',\
-     'Terugnemen','\\u53d6\\u308a\\u6d88\\u3059','Annuler le coup'],sending:['Sending \\u2026','Wird gesendet \
-     \\u2026','Wordt verzonden \\u2026','\\u9001\\u4fe1\\u4e2d\\u2026','Envoi \\u2026'],unsent:['Game {game}\
+     'Terugnemen','\\u53d6\\u308a\\u6d88\\u3059','Annuler le coup'],sending:['Sending\\u2026','Wird gesendet\\\
+     u00a0\\u2026','Wordt verzonden\\u2026','\\u9001\\u4fe1\\u4e2d\\u2026','Envoi\\u2026'],unsent:['Game {game}\
      : your move {as} was not sent. Sending it again is safe.','Partie {game}: Ihr Zug {as} \
      wurde nicht gesendet. Sie k\\u00f6nnen ihn bedenkenlos erneut senden.','Partij {game}: uw zet {as} \
      is niet verzonden. Opnieuw verzenden kan geen kwaad.','\\u5bfe\\u5c40{game}\\uff1a{as}\
@@ -454,20 +454,20 @@ pub fn page_2() -> &'static str
      \\uff09\\u3002\\u3082\\u3046\\u4e00\\u5ea6\\u304a\\u8a66\\u3057\\u304f\\u3060\\u3055\\u3044\\u3002\\u4e8c\\u91cd\\u3\
      06b\\u306f\\u306a\\u308a\\u307e\\u305b\\u3093\\u3002','Non effectu\\u00e9\\u00a0: {why}\
      . R\\u00e9essayez\\u00a0; \
-     rien ne sera fait deux fois.'],retrying:['Trying again \\u2026','Neuer Versuch l\\u00e4uft \\u2026','N\
-     ieuwe poging \\u2026','\\u518d\\u63a5\\u7d9a\\u4e2d\\u2026','Nouvel essai \\u2026'],running:['in progress'\
-     ,'l\\u00e4uft','loopt','\\u5bfe\\u5c40\\u4e2d','en cours'],runningGames:['Games in progress','Laufende \
-     Partien','Lopende partijen','\\u5bfe\\u5c40\\u4e2d','Parties en cours'],endedGames:['Finished games','\
-     Beendete Partien','Afgelopen partijen','\\u7d42\\u4e86\\u3057\\u305f\\u5bfe\\u5c40','Parties termin\\u00e9\
-     es'],noEnded:['None yet.','Noch keine.','Nog geen.','\\u307e\\u3060\\u3042\\u308a\\u307e\\u305b\\u3093\\u30\
-     02','Aucune pour l\\u2019instant.'],noGamesYet:['No games yet. They begin when members accept challe\
-     nges or the officer makes pairings.','Noch keine Partien. Sie beginnen, sobald Mitglieder Herausfor\
-     derungen annehmen oder der Turnierleiter Paarungen ansetzt.','Nog geen partijen. Ze beginnen zodra \
-     leden uitdagingen aannemen of de wedstrijdleider de indeling maakt.','\\u307e\\u3060\\u5bfe\\u5c40\\u306\
-     f\\u3042\\u308a\\u307e\\u305b\\u3093\\u3002\\u6311\\u6226\\u304c\\u6210\\u7acb\\u3059\\u308b\\u304b\\u3001\\u4fc2\\u\
-     304c\\u7d44\\u307f\\u5408\\u308f\\u305b\\u3092\\u6c7a\\u3081\\u308b\\u3068\\u59cb\\u307e\\u308a\\u307e\\u3059\\u300\
-     2','Pas encore de partie. Elles commencent quand un d\\u00e9fi est accept\\u00e9 ou que le responsabl\
-     e fait les appariements.'],scoring:['a win counts 2, a draw 1; \
+     rien ne sera fait deux fois.'],retrying:['Trying again\\u2026','Neuer Versuch l\\u00e4uft\\u00a0\\u2026\
+     ','Nieuwe poging\\u2026','\\u518d\\u63a5\\u7d9a\\u4e2d\\u2026','Nouvel essai\\u2026'],running:['in progres\
+     s','l\\u00e4uft','loopt','\\u5bfe\\u5c40\\u4e2d','en cours'],runningGames:['Games in progress','Laufend\
+     e Partien','Lopende partijen','\\u5bfe\\u5c40\\u4e2d','Parties en cours'],endedGames:['Finished games'\
+     ,'Beendete Partien','Afgelopen partijen','\\u7d42\\u4e86\\u3057\\u305f\\u5bfe\\u5c40','Parties termin\\u00\
+     e9es'],noEnded:['None yet.','Noch keine.','Nog geen.','\\u307e\\u3060\\u3042\\u308a\\u307e\\u305b\\u3093\\u\
+     3002','Aucune pour l\\u2019instant.'],noGamesYet:['No games yet. They begin when members accept chal\
+     lenges or the officer makes pairings.','Noch keine Partien. Sie beginnen, sobald Mitglieder Herausf\
+     orderungen annehmen oder der Turnierleiter Paarungen ansetzt.','Nog geen partijen. Ze beginnen zodr\
+     a leden uitdagingen aannemen of de wedstrijdleider de indeling maakt.','\\u307e\\u3060\\u5bfe\\u5c40\\u3\
+     06f\\u3042\\u308a\\u307e\\u305b\\u3093\\u3002\\u6311\\u6226\\u304c\\u6210\\u7acb\\u3059\\u308b\\u304b\\u3001\\u4fc2\
+     \\u304c\\u7d44\\u307f\\u5408\\u308f\\u305b\\u3092\\u6c7a\\u3081\\u308b\\u3068\\u59cb\\u307e\\u308a\\u307e\\u3059\\u3\
+     002','Pas encore de partie. Elles commencent quand un d\\u00e9fi est accept\\u00e9 ou que le responsa\
+     ble fait les appariements.'],scoring:['a win counts 2, a draw 1; \
      a dot is a game in progress','Sieg 2 Punkte, Remis 1; \
      \\u2022 ist eine laufende Partie','winst telt 2, remise 1; \
      \\u2022 is een lopende partij','\\u52dd\\u30612\\u70b9\\u3001\\u5f15\\u304d\\u5206\\u30511\\u70b9\\u3002\\u2022\
@@ -508,42 +508,40 @@ pub fn page_2() -> &'static str
      \\u624b','{count} coups'],oneMove:['{count} move','{count} Zug','{count} zet','{count}\
      \\u624b','{count} coup'],empty:['empty','leer','leeg','\\u7a7a\\u304d','vide'],piece:['{side} {kind}\
      ','{kind} ({side})','{kind} van {side}','{side}\\u306e{kind}','{kind} ({side}\
-     )'],promoted:['promoted {kind}','{kind} (bef\\u00f6rdert)','{kind} (gepromoveerd)','\\u6210{kind}\
-     ','{kind} \
-     (pi\\u00e8ce promue)'],hand:['in hand','in der Hand','in de hand','\\u6301\\u3061\\u99d2','en main'],la\
-     st:['last move','letzter Zug','laatste zet','\\u76f4\\u524d\\u306e\\u624b','dernier coup'],tried:['to b\
-     e confirmed','zu best\\u00e4tigen','te bevestigen','\\u672a\\u78ba\\u5b9a','\\u00e0 confirmer'],touched:\
-     ['touched','ausgew\\u00e4hlt','gekozen','\\u9078\\u629e\\u4e2d','choisi'],target:['may go here','kann h\
-     ierher','kan hierheen','\\u79fb\\u52d5\\u3067\\u304d\\u308b','peut aller ici'],movable:['may move','kann \
-     ziehen','kan spelen','\\u52d5\\u304b\\u305b\\u308b','peut jouer'],check:['in check','im Schach','staat \
-     schaak','\\u738b\\u624b','en \\u00e9chec'],which:['Which move?','Welcher Zug?','Welke zet?','\\u3069\\u3\
-     06e\\u624b\\u306b\\u3057\\u307e\\u3059\\u304b\\uff1f','Quel coup\\u00a0?'],start:['First position','Anfangs\
-     stellung','Beginstand','\\u6700\\u521d\\u306e\\u5c40\\u9762','Position de d\\u00e9part'],back:['Previous \
-     move','Ein Zug zur\\u00fcck','Vorige zet','\\u4e00\\u624b\\u623b\\u308b','Coup pr\\u00e9c\\u00e9dent'],on:\
-     ['Next move','Ein Zug vor','Volgende zet','\\u4e00\\u624b\\u9032\\u3080','Coup suivant'],present:['Late\
-     st position','Neueste Stellung','Laatste stand','\\u6700\\u65b0\\u306e\\u5c40\\u9762','Derni\\u00e8re pos\
-     ition'],flip:['Turn the board','Brett drehen','Bord draaien','\\u76e4\\u3092\\u53cd\\u8ee2','Retourner \
-     le plateau'],offer:['Offer a draw','Remis anbieten','Remise aanbieden','\\u5f15\\u304d\\u5206\\u3051\\u3\
-     092\\u63d0\\u6848','Proposer la remise'],accept:['Accept the draw','Remis annehmen','Remise aannemen'\
-     ,'\\u5f15\\u304d\\u5206\\u3051\\u306b\\u5fdc\\u3058\\u308b','Accepter la remise'],resign:['Resign','Aufgebe\
-     n','Opgeven','\\u6295\\u4e86','Abandonner'],resignWhen:['You can resign when it is your turn','Aufgeb\
-     en k\\u00f6nnen Sie, wenn Sie am Zug sind','Opgeven kan als u aan zet bent','\\u6295\\u4e86\\u3067\\u304\
-     d\\u308b\\u306e\\u306f\\u81ea\\u5206\\u306e\\u624b\\u756a\\u306e\\u3068\\u304d\\u3060\\u3051\\u3067\\u3059','On ne \
-     peut abandonner qu\\u2019\\u00e0 son tour'],claim:['Claim the win on time','Zeit\\u00fcberschreitung r\
-     eklamieren','Winst op tijd claimen','\\u6642\\u9593\\u5207\\u308c\\u52dd\\u3061\\u3092\\u7533\\u8acb','R\\u00\
-     e9clamer le gain au temps'],declare:['Declare the entered king','Eingetretenen K\\u00f6nig erkl\\u00e\
-     4ren','Koning in promotiezone verklaren','\\u5165\\u7389\\u5ba3\\u8a00','D\\u00e9clarer l\\u2019entr\\u00e\
-     9e du roi'],cancel:['Cancel','Abbrechen','Annuleren','\\u30ad\\u30e3\\u30f3\\u30bb\\u30eb','Annuler'],re\
-     cord:['Download the record','Notation herunterladen','Notatie downloaden','\\u68cb\\u8b5c\\u3092\\u4fdd\
-     \\u5b58','T\\u00e9l\\u00e9charger la notation'],draughts:['draughts','Dame','dammen','\\u56fd\\u969b\\u30\
-     c9\\u30e9\\u30d5\\u30c4','dames'],shogi:['shogi','Shogi','shogi','\\u5c06\\u68cb','shogi'],white:['white\
-     ','Wei\\u00df','wit','\\u767d','blancs'],black:['black','Schwarz','zwart','\\u9ed2','noirs'],sente:['b\
-     lack','Schwarz','zwart','\\u5148\\u624b','noirs'],gote:['white','Wei\\u00df','wit','\\u5f8c\\u624b','bla\
-     ncs'],silent:['The server does not answer','Der Server antwortet nicht','De server antwoordt niet',\
-     '\\u30b5\\u30fc\\u30d0\\u30fc\\u304c\\u5fdc\\u7b54\\u3057\\u307e\\u305b\\u3093','Le serveur ne r\\u00e9pond pas\
-     '],refused:['The club refuses: {name} ({number})','Der Club lehnt ab: {name} ({number}\
-     )','De club weigert: {name} ({number})','\\u62d2\\u5426\\u3055\\u308c\\u307e\\u3057\\u305f\\uff1a{name} \
-     ({number})','Le club refuse\\u00a0: {name} ({number}\
+     )'],hand:['in hand','in der Hand','in de hand','\\u6301\\u3061\\u99d2','en main'],last:['last move','l\
+     etzter Zug','laatste zet','\\u76f4\\u524d\\u306e\\u624b','dernier coup'],tried:['to be confirmed','zu b\
+     est\\u00e4tigen','te bevestigen','\\u672a\\u78ba\\u5b9a','\\u00e0 confirmer'],touched:['touched','ausgew\
+     \\u00e4hlt','gekozen','\\u9078\\u629e\\u4e2d','choisi'],target:['may go here','kann hierher','kan hierh\
+     een','\\u79fb\\u52d5\\u3067\\u304d\\u308b','peut aller ici'],movable:['may move','kann ziehen','kan spel\
+     en','\\u52d5\\u304b\\u305b\\u308b','peut jouer'],check:['in check','im Schach','staat schaak','\\u738b\\u\
+     624b','en \\u00e9chec'],which:['Which move?','Welcher Zug?','Welke zet?','\\u3069\\u306e\\u624b\\u306b\\u\
+     3057\\u307e\\u3059\\u304b\\uff1f','Quel coup\\u00a0?'],start:['First position','Anfangsstellung','Begins\
+     tand','\\u6700\\u521d\\u306e\\u5c40\\u9762','Position de d\\u00e9part'],back:['Previous move','Ein Zug zu\
+     r\\u00fcck','Vorige zet','\\u4e00\\u624b\\u623b\\u308b','Coup pr\\u00e9c\\u00e9dent'],on:['Next move','Ein \
+     Zug vor','Volgende zet','\\u4e00\\u624b\\u9032\\u3080','Coup suivant'],present:['Latest position','Neue\
+     ste Stellung','Laatste stand','\\u6700\\u65b0\\u306e\\u5c40\\u9762','Derni\\u00e8re position'],flip:['Tur\
+     n the board','Brett drehen','Bord draaien','\\u76e4\\u3092\\u53cd\\u8ee2','Retourner le plateau'],offer\
+     :['Offer a draw','Remis anbieten','Remise aanbieden','\\u5f15\\u304d\\u5206\\u3051\\u3092\\u63d0\\u6848','\
+     Proposer la remise'],accept:['Accept the draw','Remis annehmen','Remise aannemen','\\u5f15\\u304d\\u52\
+     06\\u3051\\u306b\\u5fdc\\u3058\\u308b','Accepter la remise'],resign:['Resign','Aufgeben','Opgeven','\\u62\
+     95\\u4e86','Abandonner'],resignWhen:['You can resign when it is your turn','Aufgeben k\\u00f6nnen Sie\
+     , wenn Sie am Zug sind','Opgeven kan als u aan zet bent','\\u6295\\u4e86\\u3067\\u304d\\u308b\\u306e\\u306\
+     f\\u81ea\\u5206\\u306e\\u624b\\u756a\\u306e\\u3068\\u304d\\u3060\\u3051\\u3067\\u3059','On ne peut abandonner q\
+     u\\u2019\\u00e0 son tour'],claim:['Claim the win on time','Zeit\\u00fcberschreitung reklamieren','Wins\
+     t op tijd claimen','\\u6642\\u9593\\u5207\\u308c\\u52dd\\u3061\\u3092\\u7533\\u8acb','R\\u00e9clamer le gain \
+     au temps'],declare:['Declare the entered king','Eingetretenen K\\u00f6nig erkl\\u00e4ren','Koning in \
+     promotiezone verklaren','\\u5165\\u7389\\u5ba3\\u8a00','D\\u00e9clarer l\\u2019entr\\u00e9e du roi'],cance\
+     l:['Cancel','Abbrechen','Annuleren','\\u30ad\\u30e3\\u30f3\\u30bb\\u30eb','Annuler'],record:['Download t\
+     he record','Notation herunterladen','Notatie downloaden','\\u68cb\\u8b5c\\u3092\\u4fdd\\u5b58','T\\u00e9l\
+     \\u00e9charger la notation'],draughts:['draughts','Dame','dammen','\\u56fd\\u969b\\u30c9\\u30e9\\u30d5\\u3\
+     0c4','dames'],shogi:['shogi','Shogi','shogi','\\u5c06\\u68cb','shogi'],white:['white','Wei\\u00df','wi\
+     t','\\u767d','blancs'],black:['black','Schwarz','zwart','\\u9ed2','noirs'],sente:['black','Schwarz','\
+     zwart','\\u5148\\u624b','noirs'],gote:['white','Wei\\u00df','wit','\\u5f8c\\u624b','blancs'],silent:['Th\
+     e server does not answer','Der Server antwortet nicht','De server antwoordt niet','\\u30b5\\u30fc\\u30\
+     d0\\u30fc\\u304c\\u5fdc\\u7b54\\u3057\\u307e\\u305b\\u3093','Le serveur ne r\\u00e9pond pas'],refused:['The \
+     club refuses: {name} ({number})','Der Club lehnt ab: {name} ({number})','De club weigert: {name} \
+     ({number})','\\u62d2\\u5426\\u3055\\u308c\\u307e\\u3057\\u305f\\uff1a{name} ({number}\
+     )','Le club refuse\\u00a0: {name} ({number}\
      )'],illegal:['The rules forbid this move','Die Regeln verbieten diesen Zug','De spelregels verbiede\
      n deze zet','\\u305d\\u306e\\u624b\\u306f\\u53cd\\u5247\\u3067\\u3059','Les r\\u00e8gles interdisent ce coup\
      '],50:['No member has this key','Kein Mitglied hat diesen Schl\\u00fcssel','Geen lid heeft deze sleu\
@@ -578,7 +576,9 @@ pub fn page_2() -> &'static str
      u30bf\\u304c\\u58ca\\u308c\\u3066\\u3044\\u307e\\u3059','Le fichier du club est endommag\\u00e9'],73:['The \
      club is unavailable','Der Club ist gerade nicht verf\\u00fcgbar','De club is even niet beschikbaar',\
      '\\u30af\\u30e9\\u30d6\\u306f\\u73fe\\u5728\\u5229\\u7528\\u3067\\u304d\\u307e\\u305b\\u3093','Le club est momen\
-     tan\\u00"
+     tan\\u00e9ment indisponible'],won:['{name} won','{name} hat gewonnen','{name} won','{name}\
+     \\u306e\\u52dd\\u3061','{name} \
+     a gagn\\u00e9'],youWon:['You won','Sie haben gewonnen','U hebt gewonnen','\\u3042\\u306a\\u305"
 }
 
 /// Part 3 of the page, in ASCII.
@@ -586,43 +586,42 @@ pub fn page_2() -> &'static str
 pub fn page_3() -> &'static str
     ensures { result.now ≡ page_3 }
 {
-    "e9ment indisponible'],won:['{name} won','{name} hat gewonnen','{name} won','{name}\
-     \\u306e\\u52dd\\u3061','{name} \
-     a gagn\\u00e9'],youWon:['You won','Sie haben gewonnen','U hebt gewonnen','\\u3042\\u306a\\u305f\\u306e\\u\
-     52dd\\u3061','Vous avez gagn\\u00e9'],youLost:['You lost','Sie haben verloren','U hebt verloren','\\u3\
-     042\\u306a\\u305f\\u306e\\u8ca0\\u3051','Vous avez perdu'],drawn:['Draw','Remis','Remise','\\u5f15\\u304d\\\
-     u5206\\u3051','Remise'],NoMove:['no move left','kein Zug mehr m\\u00f6glich','geen zet meer mogelijk'\
-     ,'\\u6307\\u305b\\u308b\\u624b\\u304c\\u306a\\u3044','plus de coup possible'],Mate:['checkmate','Matt','ma\
-     t','\\u8a70\\u307f','mat'],Repetition:['threefold repetition','dreifache Stellungswiederholung','drie\
-     maal dezelfde stand','\\u540c\\u4e00\\u5c40\\u97623\\u56de','triple r\\u00e9p\\u00e9tition'],KingMoves:['2\
-     5 moves by kings only','25 Z\\u00fcge nur mit Damen','25 zetten met alleen dammen','\\u6210\\u99d2\\u30\
-     6e\\u307f25\\u624b','25 coups de dames sans prise'],ThreeToOne:['three pieces against a king','drei S\
-     teine gegen eine Dame','drie om \\u00e9\\u00e9n','\\u4e09\\u5bfe\\u4e00','trois pi\\u00e8ces contre une d\
-     ame'],TwoToOne:['two pieces against a king','zwei Steine gegen eine Dame','twee om \\u00e9\\u00e9n','\
-     \\u4e8c\\u5bfe\\u4e00','deux pi\\u00e8ces contre une dame'],PlyLimit:['limit of 600 plies','Grenze von \
-     600 Halbz\\u00fcgen','grens van 600 halve zetten','\\u6700\\u9577\\u624b\\u6570\\uff08600\\u624b\\uff09','l\
-     imite de 600 demi-coups'],PerpetualCheck:['perpetual check','Dauerschach','eeuwig schaak','\\u9023\\u\
-     7d9a\\u738b\\u624b\\u306e\\u5343\\u65e5\\u624b','\\u00e9chec perp\\u00e9tuel'],Fourfold:['fourfold repetiti\
-     on','vierfache Stellungswiederholung','viermaal dezelfde stand','\\u5343\\u65e5\\u624b','quadruple r\\u\
-     00e9p\\u00e9tition'],Agreed:['by agreement','durch Vereinbarung','in onderling overleg','\\u5408\\u610\
-     f','d\\u2019un commun accord'],Resigned:['by resignation','durch Aufgabe','door opgave','\\u6295\\u4e8\
-     6','par abandon'],Time:['on time','durch Zeit\\u00fcberschreitung','op tijd','\\u6642\\u9593\\u5207\\u30\
-     8c','au temps'],Declared:['by the entered king','durch den eingetretenen K\\u00f6nig','door de konin\
-     g in de promotiezone','\\u5165\\u7389\\u5ba3\\u8a00','par l\\u2019entr\\u00e9e du roi'],Recorded:['as rec\
-     orded','laut Notation','volgens notatie','\\u68cb\\u8b5c\\u306b\\u3088\\u308b','selon la notation'],man:\
-     ['man','Stein','schijf','\\u4e26\\u99d2','pion'],king:['king','Dame','dam','\\u6210\\u99d2','dame'],K:[\
-     'king','K\\u00f6nig','koning','\\u7389','roi'],R:['rook','Turm','toren','\\u98db\\u8eca','tour'],B:['bi\
-     shop','L\\u00e4ufer','loper','\\u89d2','fou'],G:['gold','Goldgeneral','gouden generaal','\\u91d1','g\\u\
-     00e9n\\u00e9ral d\\u2019or'],S:['silver','Silbergeneral','zilveren generaal','\\u9280','g\\u00e9n\\u00e9\
-     ral d\\u2019argent'],N:['knight','Springer','paard','\\u6842\\u99ac','cavalier'],L:['lance','Lanze','l\
-     ans','\\u9999\\u8eca','lance'],P:['pawn','Bauer','pion','\\u6b69','pion'],'+R':['dragon','Drache','dra\
-     ak','\\u7adc','dragon'],'+B':['horse','Pferd','gepromoveerde loper','\\u99ac','cheval'],'+P':['tokin'\
-     ,'Tokin','tokin','\\u3068\\u91d1','tokin']};const DAY=86400;\
-     const UNITS={day:DAY,hour:3600,minute:60,second:1};let language=0;\
+    "f\\u306e\\u52dd\\u3061','Vous avez gagn\\u00e9'],youLost:['You lost','Sie haben verloren','U hebt verl\
+     oren','\\u3042\\u306a\\u305f\\u306e\\u8ca0\\u3051','Vous avez perdu'],drawn:['Draw','Remis','Remise','\\u5\
+     f15\\u304d\\u5206\\u3051','Remise'],NoMove:['no move left','kein Zug mehr m\\u00f6glich','geen zet meer \
+     mogelijk','\\u6307\\u305b\\u308b\\u624b\\u304c\\u306a\\u3044','plus de coup possible'],Mate:['checkmate','\
+     Matt','mat','\\u8a70\\u307f','mat'],Repetition:['threefold repetition','dreifache Stellungswiederholu\
+     ng','driemaal dezelfde stand','\\u540c\\u4e00\\u5c40\\u97623\\u56de','triple r\\u00e9p\\u00e9tition'],King\
+     Moves:['25 moves by kings only','25 Z\\u00fcge nur mit Damen','25 zetten met alleen dammen','\\u6210\\\
+     u99d2\\u306e\\u307f25\\u624b','25 coups de dames sans prise'],ThreeToOne:['three pieces against a king\
+     ','drei Steine gegen eine Dame','drie om \\u00e9\\u00e9n','\\u4e09\\u5bfe\\u4e00','trois pi\\u00e8ces con\
+     tre une dame'],TwoToOne:['two pieces against a king','zwei Steine gegen eine Dame','twee om \\u00e9\\\
+     u00e9n','\\u4e8c\\u5bfe\\u4e00','deux pi\\u00e8ces contre une dame'],PlyLimit:['limit of 600 plies','Gr\
+     enze von 600 Halbz\\u00fcgen','grens van 600 halve zetten','\\u6700\\u9577\\u624b\\u6570\\uff08600\\u624b\\\
+     uff09','limite de 600 demi-coups'],PerpetualCheck:['perpetual check','Dauerschach','eeuwig schaak',\
+     '\\u9023\\u7d9a\\u738b\\u624b\\u306e\\u5343\\u65e5\\u624b','\\u00e9chec perp\\u00e9tuel'],Fourfold:['fourfold \
+     repetition','vierfache Stellungswiederholung','viermaal dezelfde stand','\\u5343\\u65e5\\u624b','quadr\
+     uple r\\u00e9p\\u00e9tition'],Agreed:['by agreement','durch Vereinbarung','in onderling overleg','\\u5\
+     408\\u610f','d\\u2019un commun accord'],Resigned:['by resignation','durch Aufgabe','door opgave','\\u6\
+     295\\u4e86','par abandon'],Time:['on time','durch Zeit\\u00fcberschreitung','op tijd','\\u6642\\u9593\\u\
+     5207\\u308c','au temps'],Declared:['by the entered king','durch den eingetretenen K\\u00f6nig','door \
+     de koning in de promotiezone','\\u5165\\u7389\\u5ba3\\u8a00','par l\\u2019entr\\u00e9e du roi'],Recorded:\
+     ['as recorded','laut Notation','volgens notatie','\\u68cb\\u8b5c\\u306b\\u3088\\u308b','selon la notatio\
+     n'],man:['man','Stein','schijf','\\u4e26\\u99d2','pion'],king:['king','Dame','dam','\\u6210\\u99d2','da\
+     me'],K:['king','K\\u00f6nig','koning','\\u7389','roi'],R:['rook','Turm','toren','\\u98db\\u8eca','tour'\
+     ],B:['bishop','L\\u00e4ufer','loper','\\u89d2','fou'],G:['gold','Goldgeneral','gouden generaal','\\u91\
+     d1','g\\u00e9n\\u00e9ral d\\u2019or'],S:['silver','Silbergeneral','zilveren generaal','\\u9280','g\\u00e\
+     9n\\u00e9ral d\\u2019argent'],N:['knight','Springer','paard','\\u6842\\u99ac','cavalier'],L:['lance','L\
+     anze','lans','\\u9999\\u8eca','lance'],P:['pawn','Bauer','pion','\\u6b69','pion'],'+R':['dragon','Drac\
+     he','draak','\\u7adc','dragon'],'+B':['horse','Pferd','gepromoveerde loper','\\u99ac','cheval'],'+S':\
+     ['promoted silver','bef\\u00f6rderter Silbergeneral','gepromoveerde zilveren generaal','\\u6210\\u9280\
+     ','g\\u00e9n\\u00e9ral d\\u2019argent promu'],'+N':['promoted knight','bef\\u00f6rderter Springer','gep\
+     romoveerd paard','\\u6210\\u6842','cavalier promu'],'+L':['promoted lance','bef\\u00f6rderte Lanze','g\
+     epromoveerde lans','\\u6210\\u9999','lance promue'],'+P':['tokin','Tokin','tokin','\\u3068\\u91d1','tok\
+     in']};const DAY=86400;const UNITS={day:DAY,hour:3600,minute:60,second:1};let language=0;\
      function text(name,values,other){const columns=TEXTS[name]??TEXTS[other]??[String(name)];\
      return(columns[language]??columns[0]).replace(/\\{(\\w+)\\}/g,(_,it)=>values[it])}\
-     const isJapanese=()=>text('code')==='ja';const kindName=(kind)=>\
-     (TEXTS[kind]?text(kind):text('promoted',{kind:text(kind[1])}));const locale=()=>\
+     const isJapanese=()=>text('code')==='ja';const kindName=(kind)=>text(kind);const locale=()=>\
      navigator.languages.find((it)=>it.startsWith(text('code')))??text('code');\
      function moment(seconds){const how={weekday:'short',day:'numeric',month:'short',hour:'numeric',minu\
      te:'2-digit'};return seconds?new Date(seconds*1000).toLocaleString(locale(),how):''}\
@@ -887,8 +886,7 @@ pub fn page_3() -> &'static str
      for(const[item]of rank.matchAll(/\\d|\\+?[a-z]/gi)){if(item>0)file-=item;else board[`${file--}\
      ${RANKS[down]}`]=item}});\
      for(const[,count,piece]of pieces.matchAll(/(\\d*)([a-z])/gi))hand[piece]=Number(count||1);\
-     return{board,hand}},play(position,move,side){const[from,to]=this.squares(move);\
-     const board={...position.board};const ha"
+     return{board,hand}},play(position,move,side){const[from,to]=this.squa"
 }
 
 /// Part 4 of the page, in ASCII.
@@ -896,11 +894,11 @@ pub fn page_3() -> &'static str
 pub fn page_4() -> &'static str
     ensures { result.now ≡ page_4 }
 {
-    "nd={...position.hand};const own=(piece)=>(side?piece.toLowerCase():piece.toUpperCase());\
-     const change=(piece,by)=>{hand[own(piece)]=(hand[own(piece)]??0)+by};\
-     if(board[to])change(board[to].at(-1),1);if(from[1]==='*')change(from[0],-1);\
-     board[to]=from[1]==='*'?own(from[0]):(move[4]??'')+board[from];delete board[from];\
-     return{board,hand}},squares:(move)=>\
+    "res(move);const board={...position.board};const hand={...position.hand};const own=(piece)=>\
+     (side?piece.toLowerCase():piece.toUpperCase());const change=(piece,by)=>\
+     {hand[own(piece)]=(hand[own(piece)]??0)+by};if(board[to])change(board[to].at(-1),1);\
+     if(from[1]==='*')change(from[0],-1);board[to]=from[1]==='*'?own(from[0]):(move[4]??'')+board[from];\
+     delete board[from];return{board,hand}},squares:(move)=>\
      [move.slice(0,2),move.slice(2,4)],side:ownerOf,hasEntered({board}\
      ,side){return Object.keys(board).some((it)=>board[it]==='Kk'[side]&&FAR[side].includes(it[1]))}\
      ,kind:(piece)=>piece.toUpperCase(),checked({board},side){const king=Object.keys(board).find((it)=>\
@@ -1217,7 +1215,7 @@ pub fn page_4() -> &'static str
 pub fn policy() -> &'static str
     ensures { result.now ≡ policy }
 {
-    "default-src 'none'; style-src 'sha256-gCM/5T0ZpNRV2HqH6JqZIEoD/3zje1+Z1OIesp5Z7cw='; \
-     script-src 'sha256-4hLqKHNJQ5KILMsoJU9SPoPcWjEn/kw6EBI9JFHLVD0='; connect-src 'self'; \
+    "default-src 'none'; style-src 'sha256-72GCgPIbp3UsPalvtz9+kEoAkabtuVaO+25wTInZm7o='; \
+     script-src 'sha256-2zrAt2yfB9R7DHbDdpQTO0/YZ2xfWUAFHoih67VivNU='; connect-src 'self'; \
      img-src data:; manifest-src data:; base-uri 'none'; form-action 'none'; frame-ancestors 'none'"
 }

@@ -3,12 +3,12 @@ use Rattle.std.proofs.Common.{◌≡◌, ◌⊎◌, ◌≤◌, ℕ, inl, inr, sy
 use Rattle.club_requests.specs.declared.answers.Outcome.{Outcome}
 use Rattle.club_requests.specs.declared.answers.Outcome.TheVariants as outcome
 use Rattle.club_orders.specs.declared.report.Report.{Report}
-use Rattle.club_orders.specs.declared.report.Report.TheVariants.{Ready, Sound, Answered, Shown, Unwritten}
-use Rattle.club_orders.specs.declared.report.Report.TheVariants.{Unopened, Stopped, InUse, NotOpened, NoMoment, Unread}
-use Rattle.club_orders.specs.declared.report.Report.TheVariants.{Listening, Unbound, NoMemory, Upgraded}
-use Rattle.club_orders.specs.declared.report.Report.TheVariants.{AlreadyUpgraded, Batched, Copied, Uncopied}
+use Rattle.club_orders.specs.declared.report.Report.TheVariants.{Ready, Sound, Answered, Shown, OutputFailed}
+use Rattle.club_orders.specs.declared.report.Report.TheVariants.{Unopened, StoreFailed, InUse, NotOpened, NoClock, InputFailed}
+use Rattle.club_orders.specs.declared.report.Report.TheVariants.{Listening, PortUnavailable, NoMemory, Upgraded}
+use Rattle.club_orders.specs.declared.report.Report.TheVariants.{AlreadyUpgraded, Batched, Copied, BackupFailed}
 use Rattle.club_orders.specs.Batches.{batch_status, is_refused, status_of}
-use Rattle.club_orders.specs.declared.batched.Batched as batch_report
+use Rattle.club_orders.specs.declared.batched.BatchResults as batch_report
 use Rattle.club_orders.specs.Report.{outcome_status, report_status}
 use Rattle.store.specs.declared.fault.StoreFault.{StoreFault}
 use Rattle.std.specs.Prelude.{Bool, true, false, Option, Some, None}
@@ -33,20 +33,20 @@ status_small Copied = omega (arith)
 status_small (Answered o) = outcome_small o
 status_small (Batched batched) = batch_small batched.fault (list_any is_refused batched.outcomes.items)
 status_small Shown = omega (arith)
-status_small Unwritten = omega (arith)
-status_small Uncopied = omega (arith)
+status_small OutputFailed = omega (arith)
+status_small BackupFailed = omega (arith)
 status_small (Unopened fault) = omega (arith)
-status_small (Stopped fault) = omega (arith)
+status_small (StoreFailed fault) = omega (arith)
 status_small InUse = omega (arith)
 status_small NotOpened = omega (arith)
-status_small NoMoment = omega (arith)
-status_small Unread = omega (arith)
+status_small NoClock = omega (arith)
+status_small InputFailed = omega (arith)
 status_small (Listening port) = omega (arith)
-status_small Unbound = omega (arith)
+status_small PortUnavailable = omega (arith)
 status_small NoMemory = omega (arith)
 
 -- what `print_batch` gives
-pub batch_printed_small : (batched : batch_report.Batched) (status : ℕ)
+pub batch_printed_small : (batched : batch_report.BatchResults) (status : ℕ)
     → (status ≡ batch_status batched) ⊎ (status ≡ 3) → status ≤ 3
 batch_printed_small batched status (inl is) =
     let P : ℕ → Type 0 = λ n. n ≤ 3 in

@@ -2,7 +2,7 @@
 use Rattle.std.specs.Prelude.{◌++◌, ◌==◌, List, ℕ, [], if◌then◌else◌}
 use Rattle.club_orders.specs.declared.report.Report.{Report}
 use Rattle.club_orders.specs.Report.{report_status, report_text}
-use Rattle.officer_door.specs.Printed.{Print}
+use Rattle.control_socket.specs.Printed.{Print}
 
 -- the answer to a query, which a command does not have, then the line of the report
 abbrev pub report_print : (shown : List ℕ) → Report → Print

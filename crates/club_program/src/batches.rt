@@ -5,12 +5,14 @@ ghost use Rattle.std.specs.Prelude.{◌≤◌};
 use crate::orders::run_order;
 use crate::printing::{print_report, print_text, refuse_words};
 use crate::records::{read_batch, read_record};
+use cli::{BadWords, Batch, BatchOptions, BatchOrder, Order, RoundRobin, Task, give_text};
 use clocks::Moment;
-use club_batches::{Numbered, Unseated, batch_for, push_order, read_orders, seat_lines, seats_of};
+use club_batches::{
+    BatchLine, SeatError, batch_for, push_order, read_orders, seat_lines, seats_of,
+};
 use club_orders::Report;
 use club_requests::Outcome;
-use club_words::{BadWords, Batch, BatchWords, Line, Order, RoundRobin, Task, give_text};
-use http_port::clock;
+use server::clock;
 use std::alloc::AllocError;
 
 // Why a batch was not started.
@@ -39,13 +41,13 @@ impl From<Report> for Unbegun {
     }
 }
 
-impl From<Unseated> for Unbegun {
-    fn from(unseated: Unseated) -> Unbegun {
+impl From<SeatError> for Unbegun {
+    fn from(unseated: SeatError) -> Unbegun {
         match unseated {
-            Unseated::Refused(refusal) => Unbegun::Report(Report::Answered(Outcome::Refused(
+            SeatError::Refused(refusal) => Unbegun::Report(Report::Answered(Outcome::Refused(
                 refusal,
             ))),
-            Unseated::Memory => Unbegun::Report(Report::NoMemory),
+            SeatError::Memory => Unbegun::Report(Report::NoMemory),
         }
     }
 }
@@ -54,11 +56,11 @@ impl From<Unseated> for Unbegun {
 fn add_order(
     rt: &HostRuntime,
     batch: &mut Batch,
-    order: Numbered,
+    order: BatchLine,
     moment: Moment,
 ) -> Result<(), Unbegun> {
-    let Numbered { number, line } = order;
-    let Line {
+    let BatchLine { number, line } = order;
+    let BatchOrder {
         mut command,
         record,
     } = line;
@@ -84,7 +86,7 @@ fn batch_in(rt: &HostRuntime, path: &str, moment: Moment) -> Result<Batch, Unbeg
 fn moment_for(rt: &HostRuntime, now: Option<Moment>) -> Result<Moment, Unbegun> {
     match now.or(clock(rt)) {
         Some(moment) => Ok(moment),
-        None => Err(Unbegun::Report(Report::NoMoment)),
+        None => Err(Unbegun::Report(Report::NoClock)),
     }
 }
 
@@ -98,7 +100,7 @@ fn order_for(file: String, moment: Moment, batch: Batch, explains: bool) -> Orde
     }
 }
 
-fn batch_order(rt: &HostRuntime, words: BatchWords) -> Result<Order, Unbegun> {
+fn batch_order(rt: &HostRuntime, words: BatchOptions) -> Result<Order, Unbegun> {
     let moment = moment_for(rt, words.now)?;
     let batch = batch_in(rt, words.orders.as_str(), moment)?;
     Ok(order_for(words.file, moment, batch, words.explains))
@@ -122,7 +124,7 @@ fn print_unbegun(rt: &HostRuntime, unbegun: Unbegun, explains: bool) -> u8
 }
 
 /// Executes a batch of commands; returns the exit status.
-pub(crate) fn run_batch(rt: &HostRuntime, words: BatchWords) -> u8
+pub(crate) fn run_batch(rt: &HostRuntime, words: BatchOptions) -> u8
     ensures { result ≤ 3 }
 {
     let explains = words.explains;

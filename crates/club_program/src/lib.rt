@@ -4,22 +4,22 @@
 
 ghost use Rattle.std.specs.Prelude.{◌≤◌};
 
-mod at_desk;
 mod batches;
 mod course;
+mod on_server;
 mod orders;
 mod printing;
 mod records;
 mod service;
 mod words;
 
-pub use at_desk::is_printed_alike;
 use batches::{run_batch, run_round_robin};
-use club_words::Words;
+use cli::Invocation;
+pub use on_server::is_printed_alike;
 use orders::run_with_record;
 use printing::refuse_words;
 use service::run_service;
-use words::{given_words, said};
+use words::{given_words, parse_words};
 
 /// Parses the command line, executes it, prints the result, and returns the exit status.
 ///
@@ -31,11 +31,11 @@ pub fn run(rt: &HostRuntime) -> u8
         Ok(words) => words,
         Err(bad) => return refuse_words(rt, bad),
     };
-    match said(rt, words.as_slice()) {
-        Ok(Words::Order(order)) => run_with_record(rt, words.as_slice(), order),
-        Ok(Words::Batch(batch)) => run_batch(rt, batch),
-        Ok(Words::RoundRobin(robin)) => run_round_robin(rt, robin),
-        Ok(Words::Serve(service)) => run_service(rt, &service),
+    match parse_words(rt, words.as_slice()) {
+        Ok(Invocation::Order(order)) => run_with_record(rt, words.as_slice(), order),
+        Ok(Invocation::Batch(batch)) => run_batch(rt, batch),
+        Ok(Invocation::RoundRobin(robin)) => run_round_robin(rt, robin),
+        Ok(Invocation::Serve(service)) => run_service(rt, &service),
         Err(bad) => refuse_words(rt, bad),
     }
 }

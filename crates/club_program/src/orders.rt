@@ -2,34 +2,34 @@
 
 ghost use Rattle.std.specs.Prelude.{◌≤◌};
 
-use crate::at_desk::done_at_desk;
+use crate::on_server::run_on_server;
 use crate::printing::{line_room, print_in, print_report, print_without_room};
 use crate::records::record_in;
-use club_files::{back_up, give_up, obey};
+use cli::{Order, Task};
 use club_orders::Report;
-use club_words::{Order, Task};
-use http_port::clock;
-use officer_door::ask_for;
+use club_session::{back_up, discard_files, execute_order};
+use control_socket::request_lease;
+use server::clock;
 use sqlite_disk::Wary;
 
 fn backed_up(rt: &HostRuntime, file: &str, copy: &str) -> Report {
-    give_up(back_up(rt, file, copy, Wary, Wary)).into_report()
+    discard_files(back_up(rt, file, copy, Wary, Wary)).into_report()
 }
 
 // Executes a command at the timestamp of the command line or of the system clock.
-fn obeyed(rt: &HostRuntime, order: &Order) -> Report {
+fn run_on_file(rt: &HostRuntime, order: &Order) -> Report {
     match order.now.or(clock(rt)) {
-        Some(moment) => give_up(obey(rt, order, moment, Wary, &mut rt.stdout())),
-        None => Report::NoMoment,
+        Some(moment) => discard_files(execute_order(rt, order, moment, Wary, &mut rt.stdout())),
+        None => Report::NoClock,
     }
 }
 
 /// Executes a command over the file; a server that holds it releases it meanwhile.
-pub(crate) fn done(rt: &HostRuntime, order: &Order) -> Report {
-    let _leave = ask_for(rt, order.file.as_str());
+pub(crate) fn run_order_on_file(rt: &HostRuntime, order: &Order) -> Report {
+    let _leave = request_lease(rt, order.file.as_str());
     match &order.task {
         Task::Backup(copy) => backed_up(rt, order.file.as_str(), copy.as_str()),
-        _ => obeyed(rt, order),
+        _ => run_on_file(rt, order),
     }
 }
 
@@ -42,7 +42,7 @@ pub(crate) fn run_order(rt: &HostRuntime, order: &Order) -> u8
         Ok(line) => line,
         Err(_) => return print_without_room(rt, &order.task, order.explains),
     };
-    let report = done(rt, order);
+    let report = run_order_on_file(rt, order);
     print_in(rt, line, &order.task, &report, order.explains)
 }
 
@@ -53,7 +53,7 @@ fn run_words(rt: &HostRuntime, words: &[String], order: &Order) -> u8
     if order.explains {
         return run_order(rt, order);
     }
-    match done_at_desk(rt, words, order) {
+    match run_on_server(rt, words, order) {
         Some(status) => status,
         None => run_order(rt, order),
     }
@@ -67,7 +67,7 @@ pub(crate) fn run_with_record(rt: &HostRuntime, words: &[String], order: Order) 
         Ok(None) => run_words(rt, words, &order),
         Ok(Some(text)) => {
             let mut order = order;
-            order.give_text(text);
+            order.set_record(text);
             run_words(rt, words, &order)
         }
         Err(report) => print_report(rt, &order.task, &report, order.explains),

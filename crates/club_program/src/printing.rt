@@ -2,8 +2,8 @@
 
 ghost use Rattle.std.specs.Prelude.{◌≡◌, ◌≤◌, [], IfOk, string_bytes};
 
+use cli::{BadWords, Task};
 use club_orders::{BAD_WORDS, DONE, Report, print_batch, print_explained};
-use club_words::{BadWords, Task};
 use std::alloc::AllocError;
 use std::io::Write;
 
@@ -78,7 +78,7 @@ pub(crate) fn print_text(rt: &HostRuntime, text: &str) -> u8
 {
     match rt.stdout().write_all(text.as_bytes()) {
         Ok(()) => DONE,
-        Err(_) => print_report(rt, &Task::Verify, &Report::Unwritten, false),
+        Err(_) => print_report(rt, &Task::Verify, &Report::OutputFailed, false),
     }
 }
 
@@ -87,7 +87,7 @@ fn print_version(rt: &HostRuntime, line: String) -> u8
 {
     match rt.print(line) {
         Ok(()) => DONE,
-        Err(_) => print_report(rt, &Task::Verify, &Report::Unwritten, false),
+        Err(_) => print_report(rt, &Task::Verify, &Report::OutputFailed, false),
     }
 }
 

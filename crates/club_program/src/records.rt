@@ -2,9 +2,9 @@
 
 ghost use Rattle.std.specs.Prelude.{◌≡◌, IfOk, IfSome, take};
 
+use cli::Order;
 use club_batches::BATCH_BYTES;
 use club_orders::Report;
-use club_words::Order;
 use std::fs::File;
 use std::io::{ErrorKind, Read};
 
@@ -22,7 +22,7 @@ fn read_bytes<I: Read + Drop>(rt: &HostRuntime, input: I, most: u64) -> Result<V
     match input.take(most).read_to_end(&mut bytes) {
         Ok(_) => Ok(bytes),
         Err(error) if error.kind() == ErrorKind::OutOfMemory => Err(Report::NoMemory),
-        Err(_) => Err(Report::Unread),
+        Err(_) => Err(Report::InputFailed),
     }
 }
 
@@ -33,7 +33,7 @@ fn read_path(rt: &HostRuntime, path: &str, most: u64) -> Result<Vec<u8>, Report>
     }
     match File::open(rt, path) {
         Ok(file) => read_bytes(rt, file, most),
-        Err(_) => Err(Report::Unread),
+        Err(_) => Err(Report::InputFailed),
     }
 }
 
@@ -42,7 +42,7 @@ fn read_path(rt: &HostRuntime, path: &str, most: u64) -> Result<Vec<u8>, Report>
 /// # Errors
 ///
 /// - `NoMemory` if out of memory.
-/// - `Unread` if it cannot be read.
+/// - `InputFailed` if it cannot be read.
 pub(crate) fn read_record(rt: &HostRuntime, path: &str) -> Result<Vec<u8>, Report> {
     read_path(rt, path, RECORD_BYTES)
 }
@@ -52,7 +52,7 @@ pub(crate) fn read_record(rt: &HostRuntime, path: &str) -> Result<Vec<u8>, Repor
 /// # Errors
 ///
 /// - `NoMemory` if out of memory.
-/// - `Unread` if it cannot be read.
+/// - `InputFailed` if it cannot be read.
 pub(crate) fn read_batch(rt: &HostRuntime, path: &str) -> Result<Vec<u8>, Report> {
     read_path(rt, path, ORDERS_BYTES)
 }
@@ -62,7 +62,7 @@ pub(crate) fn read_batch(rt: &HostRuntime, path: &str) -> Result<Vec<u8>, Report
 /// # Errors
 ///
 /// - `NoMemory` if out of memory.
-/// - `Unread` if it cannot be read.
+/// - `InputFailed` if it cannot be read.
 pub(crate) fn record_in(rt: &HostRuntime, order: &Order) -> Result<Option<Vec<u8>>, Report> {
     match &order.record {
         Some(path) => {

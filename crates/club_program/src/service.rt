@@ -2,15 +2,15 @@
 
 ghost use Rattle.std.specs.Prelude.{◌≤◌};
 
-use crate::course::{Course, course_of, lasts};
-use crate::orders::done;
+use crate::course::{AfterSession, after_session, is_permanent};
+use crate::orders::run_order_on_file;
 use crate::printing::{print_report, print_without_room};
-use club_files::{give_up, serve_files};
+use cli::{Order, ServeOptions, Task};
 use club_orders::{DONE, Report};
-use club_words::{Order, Service, Task};
+use club_session::{discard_files, serve_files};
+use control_socket::{FileLease, request_lease};
 use http_desk::ClubFault;
-use http_port::{Callers, Terms, serve_closed};
-use officer_door::{Leave, ask_for};
+use server::{Server, ServerOptions, serve_unavailable};
 use sqlite_disk::Wary;
 use std::alloc::AllocError;
 use std::time::Duration;
@@ -25,11 +25,11 @@ const AGAIN_MILLISECONDS: u64 = 100;
 const PATIENCE: u32 = 10;
 
 // Opens the control socket, or leases the file if another server has one.
-fn ask_or_open(rt: &HostRuntime, file: &str, callers: &mut Callers<'_>) -> Option<Leave> {
+fn ask_or_open(rt: &HostRuntime, file: &str, callers: &mut Server<'_>) -> Option<FileLease> {
     if callers.has_door() {
         return None;
     }
-    let leave = ask_for(rt, file);
+    let leave = request_lease(rt, file);
     if leave.is_none() {
         callers.open_door(file);
     }
@@ -37,92 +37,92 @@ fn ask_or_open(rt: &HostRuntime, file: &str, callers: &mut Callers<'_>) -> Optio
 }
 
 // Runs one serving session.
-fn serve_stretch(rt: &HostRuntime, file: &str, callers: &mut Callers<'_>) -> Course {
+fn serve_stretch(rt: &HostRuntime, file: &str, callers: &mut Server<'_>) -> AfterSession {
     let _leave = ask_or_open(rt, file, callers);
     callers.begin();
-    course_of(give_up(serve_files(rt, file, Wary, callers)))
+    after_session(discard_files(serve_files(rt, file, Wary, callers)))
 }
 
 // Answers requests with the fault: those that are ready, and for a lasting fault also those that follow for a while.
-fn tell(rt: &HostRuntime, callers: &mut Callers<'_>, fault: ClubFault) {
-    if lasts(fault) {
+fn report_unavailable(rt: &HostRuntime, callers: &mut Server<'_>, fault: ClubFault) {
+    if is_permanent(fault) {
         callers.begin();
     } else {
-        callers.begin_with_these();
+        callers.serve_queued_only();
     }
-    serve_closed(rt.alloc(), callers, fault);
+    serve_unavailable(rt.alloc(), callers, fault);
 }
 
 // Receives clients until there is something to do, after so many attempts to open the file; `false` if no more
 // connections will follow.
-fn hear(callers: &mut Callers<'_>, tries: u32) -> bool {
+fn wait_for_work(callers: &mut Server<'_>, tries: u32) -> bool {
     if tries > PATIENCE {
         return callers.await_for(Duration::from_millis(AGAIN_MILLISECONDS));
     }
     if tries > 0 {
-        return callers.hear(Duration::from_millis(AGAIN_MILLISECONDS));
+        return callers.receive_for(Duration::from_millis(AGAIN_MILLISECONDS));
     }
-    if callers.is_awaited() && !callers.has_door() {
-        return callers.hear(Duration::from_millis(GIVEN_UP_MILLISECONDS));
+    if callers.has_work() && !callers.has_door() {
+        return callers.receive_for(Duration::from_millis(GIVEN_UP_MILLISECONDS));
     }
-    callers.await_next()
+    callers.wait_for_request()
 }
 
 // Leases the file to a waiting process, or leaves it released for a while; `false` if no more connections will
 // follow.
-fn give_way(callers: &mut Callers<'_>) -> bool {
-    callers.lend() || callers.hear(Duration::from_millis(GIVEN_UP_MILLISECONDS))
+fn give_way(callers: &mut Server<'_>) -> bool {
+    callers.release_file() || callers.receive_for(Duration::from_millis(GIVEN_UP_MILLISECONDS))
 }
 
 // Serves over a file until no more connections will follow.
-fn serve(rt: &HostRuntime, file: &str, callers: &mut Callers<'_>) {
+fn serve(rt: &HostRuntime, file: &str, callers: &mut Server<'_>) {
     let mut tries: u32 = 0;
     for _ in 0..u64::MAX {
-        if !hear(callers, tries) {
+        if !wait_for_work(callers, tries) {
             return;
         }
         match serve_stretch(rt, file, callers) {
-            Course::GoesOn => {
+            AfterSession::GoesOn => {
                 tries = 0;
                 if !give_way(callers) {
                     return;
                 }
             }
-            Course::IsTold(fault) => {
+            AfterSession::Unavailable(fault) => {
                 tries = 0;
-                tell(rt, callers, fault);
+                report_unavailable(rt, callers, fault);
             }
-            Course::IsKept => {
+            AfterSession::WaitsForFile => {
                 if tries >= PATIENCE {
-                    tell(rt, callers, ClubFault::Store);
+                    report_unavailable(rt, callers, ClubFault::Store);
                 }
                 tries = tries.saturating_add(1);
             }
         }
-        let _lent = callers.lend();
+        let _lent = callers.release_file();
     }
 }
 
-fn told(rt: &HostRuntime, service: &Service, report: &Report) -> u8
+fn print_service_report(rt: &HostRuntime, service: &ServeOptions, report: &Report) -> u8
     ensures { result ≤ 3 }
 {
     print_report(rt, &Task::Verify, report, service.explains)
 }
 
 // Listens on the port, prints that, and serves; returns the exit status.
-fn listen(rt: &HostRuntime, service: &Service) -> u8
+fn listen(rt: &HostRuntime, service: &ServeOptions) -> u8
     ensures { result ≤ 3 }
 {
-    let terms = Terms {
+    let terms = ServerOptions {
         now: service.now,
         is_logged: service.log,
         count: service.count,
     };
-    let mut callers = match Callers::listen(rt, service.port, terms) {
+    let mut callers = match Server::listen(rt, service.port, terms) {
         Ok(callers) => callers,
-        Err(_) => return told(rt, service, &Report::Unbound),
+        Err(_) => return print_service_report(rt, service, &Report::PortUnavailable),
     };
-    let status = told(rt, service, &Report::Listening(service.port));
+    let status = print_service_report(rt, service, &Report::Listening(service.port));
     if status == DONE {
         let file = service.file.as_str();
         callers.open_door(file);
@@ -133,7 +133,7 @@ fn listen(rt: &HostRuntime, service: &Service) -> u8
 }
 
 // The order that verifies the file.
-fn test_of(rt: &HostRuntime, service: &Service) -> Result<Order, AllocError> {
+fn test_of(rt: &HostRuntime, service: &ServeOptions) -> Result<Order, AllocError> {
     Ok(Order {
         file: service.file.clone()?,
         now: service.now,
@@ -144,15 +144,15 @@ fn test_of(rt: &HostRuntime, service: &Service) -> Result<Order, AllocError> {
 }
 
 /// Verifies the file, then serves over it; returns the exit status.
-pub(crate) fn run_service(rt: &HostRuntime, service: &Service) -> u8
+pub(crate) fn run_service(rt: &HostRuntime, service: &ServeOptions) -> u8
     ensures { result ≤ 3 }
 {
     let order = match test_of(rt, service) {
         Ok(order) => order,
         Err(_) => return print_without_room(rt, &Task::Verify, service.explains),
     };
-    match done(rt, &order) {
+    match run_order_on_file(rt, &order) {
         Report::Sound => listen(rt, service),
-        report => told(rt, service, &report),
+        report => print_service_report(rt, service, &report),
     }
 }

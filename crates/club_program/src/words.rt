@@ -1,6 +1,6 @@
 //! The command line: the words given to the program, and their parsing.
 
-use club_words::{BadWords, Words, read_words};
+use cli::{BadWords, Invocation, read_words};
 use std::alloc::AllocError;
 use std::io::ErrorKind;
 
@@ -78,7 +78,7 @@ fn with_file<'a>(
 /// # Errors
 ///
 /// `BadWords` if it is malformed, asks for help or the version, or if out of memory.
-pub(crate) fn said(rt: &HostRuntime, words: &[String]) -> Result<Words, BadWords> {
+pub(crate) fn parse_words(rt: &HostRuntime, words: &[String]) -> Result<Invocation, BadWords> {
     let words = texts(rt, words)?;
     let Some(at) = dashes_at(words.as_slice()) else {
         return read_words(rt.alloc(), words.as_slice());

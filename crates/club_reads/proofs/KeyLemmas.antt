@@ -12,7 +12,7 @@ use Rattle.club_core.specs.State.{place, caller_found, has_member_key}
 use Rattle.club_laws.proofs.Proved.{find_id-found}
 use Rattle.club_rows.specs.Club.{ClubState, IsClub, tables}
 use Rattle.club_rows.specs.Tables.{member_row}
-use Rattle.club_reads.specs.Keys.{caller_name, holder_of}
+use Rattle.club_reads.specs.Keys.{caller_name, member_by_key}
 use Rattle.club_changes.proofs.Proved.{numbered_had, with_some, with_none}
 
 -- rows of one id are of that id
@@ -24,7 +24,7 @@ module _ (s : ClubState) (is_club : IsClub s) (key : List ℕ) where
   -- the row that is found for a key has its holder's name
   pub holder_some : (found : List Row) (z : Row) (name : List ℕ)
       → AreThose (2 ∷ []) (Null ∷ Null ∷ Text key ∷ []) (tables s 1) found → Has found z
-      → ((id : ℕ) (m : Member) → z ≡ member_row id m → name ≡ m.name) → Some name ≡ holder_of s key
+      → ((id : ℕ) (m : Member) → z ≡ member_row id m → name ≡ m.name) → Some name ≡ member_by_key s key
   holder_some found z name those has tells =
       let those_z = those.sound z has in
       let (n, m, at, is) = numbered_had member_row 1 s.members z those_z.0 in
@@ -37,7 +37,7 @@ module _ (s : ClubState) (is_club : IsClub s) (key : List ℕ) where
       ∙ ap (caller_name s.members) called)
 
   pub holder_none : (found : List Row) → AreThose (2 ∷ []) (Null ∷ Null ∷ Text key ∷ []) (tables s 1) found
-      → found ≡ [] → None ≡ holder_of s key
+      → found ≡ [] → None ≡ member_by_key s key
   holder_none found those none = ap (caller_name s.members) (with_none s is_club key found those none)
 
 module _ (s : ClubState) (key : List ℕ) where
@@ -50,5 +50,5 @@ module _ (s : ClubState) (key : List ℕ) where
 
   -- one whom the machine takes for a member has a name
   pub holder_named : is_some (caller_found (find_id (has_member_key key) s.members)) ≡ true
-      → is_some (holder_of s key) ≡ true
+      → is_some (member_by_key s key) ≡ true
   holder_named is = named (find_id (has_member_key key) s.members) refl is

@@ -13,5 +13,5 @@ caller_name members (Some Officer) = None
 caller_name members (Some (CalledMember id)) = option_map (λ (m : Member). m.name) (place members id)
 
 -- the name of the member with this key, if there is one
-abbrev pub holder_of : ClubState → List ℕ → Option (List ℕ)
-holder_of s key = caller_name s.members (caller_of s.members (key_holder key))
+abbrev pub member_by_key : ClubState → List ℕ → Option (List ℕ)
+member_by_key s key = caller_name s.members (caller_of s.members (key_holder key))

@@ -11,7 +11,7 @@ ghost use Rattle.store_tables.specs.Cells.{challenge_cells};
 ghost use Rattle.store_tables.specs.Over.{HasRows};
 ghost use Rattle.store_tables.specs.Reading.{Reads};
 
-use crate::fault::CallFault;
+use crate::fault::LookupFault;
 use crate::found::first;
 use club_core::Challenge;
 use club_rows::challenge_of;
@@ -21,12 +21,12 @@ use store_sql::{ChallengeNumber, find};
 use store_tables::ChallengeRow;
 
 // Converts a row; `Store` if it is invalid.
-fn challenge_in(row: &ChallengeRow) -> Result<Challenge, CallFault>
+fn challenge_in(row: &ChallengeRow) -> Result<Challenge, LookupFault>
     ensures { IfOk result (λ c. challenge_cells row.now ≡ challenge_row c) }
 {
     match challenge_of(row) {
         Some(challenge) => Ok(challenge),
-        None => Err(CallFault::Store),
+        None => Err(LookupFault::Store),
     }
 }
 
@@ -56,7 +56,7 @@ pub fn challenge_by<S: Alter>(
     conn: &mut Connection<S>,
     member: Option<u32>,
     number: u64,
-) -> Result<Option<Challenge>, CallFault>
+) -> Result<Option<Challenge>, LookupFault>
     ensures reads { Reads (is_ok result) (state S.Store conn.old) (state S.Store conn.new) }
     ensures found { HasCleanDisk (state S.Store conn.new) → IfOk result (λ c. (s : ClubState) → IsClub s →
         HasRows (tables s) (state S.Store conn.old) → c ≡ challenge_by s.challenges member number) }

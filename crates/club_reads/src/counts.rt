@@ -20,18 +20,18 @@ ghost use Rattle.store_tables.specs.Contents.{Content};
 ghost use Rattle.store_tables.specs.Reading.{Reads};
 ghost use Rattle.store_tables.specs.Names.{tree_of};
 ghost use Rattle.store_tables.specs.declared.names.Table.TheVariants.{Scores};
-ghost use Rattle.club_changes.specs.Steps.{TellsSeen, IsSeenAfter, HasTwoPlayers, AreScoresAfter, PutsScores};
+ghost use Rattle.club_changes.specs.Steps.{FindsSeenRows, IsSeenAfter, HasTwoPlayers, AreScoresAfter, PutsScores};
 ghost use Rattle.club_changes.specs.Steps.{score_list};
 
-use crate::fault::CallFault;
+use crate::fault::LookupFault;
 use crate::found::first;
 use club_core::Decision;
-use club_rows::{ScorePair, Stood, score_after, seen_after, stood_in};
+use club_rows::{Occurrences, ScoreRows, occurrences_in, score_after, seen_after};
 use club_rules::Rules;
 use sqlite::{Alter, Connection};
 use squares::Score;
 use std::alloc::Global;
-use store_sql::{ScorePair as PairOf, SeenPosition, find};
+use store_sql::{ScoreKey, SeenPosition, find};
 use store_tables::{ScoreRow, SeenRow};
 
 // The row of a position after a ply: its present row with the count incremented, or a new one.
@@ -41,10 +41,10 @@ fn seen_at<R: Rules, S: Alter>(
     game: u32,
     position: &R::Position,
     ply: u32,
-) -> Result<SeenRow, CallFault>
+) -> Result<SeenRow, LookupFault>
     ensures reads { Reads (is_ok result) (state S.Store conn.old) (state S.Store conn.new) }
     ensures seen { HasCleanDisk (state S.Store conn.new) → IfOk result (λ row. (content : Content) (old : Game R.Move)
-        (e : Entry R.Move) → HasRows content (state S.Store conn.old) → TellsSeen R.rules game old content →
+        (e : Entry R.Move) → HasRows content (state S.Store conn.old) → FindsSeenRows R.rules game old content →
         position.now ≡ last_position R.rules (with_entry old e) → length old.entries ≤ 600 →
         ply ≡ length old.entries + 1 →
         IsSeenRow R.rules game (with_entry old e) (R.rules.write_position position.now) (seen_cells row)) }
@@ -66,18 +66,18 @@ fn seen_at<R: Rules, S: Alter>(
 ///
 /// - `Store` if a call of the database fails, or a row is invalid.
 /// - `Memory` if out of memory.
-pub fn seen_by<R: Rules, S: Alter>(
+pub fn seen_row_of_decision<R: Rules, S: Alter>(
     alloc: Global,
     conn: &mut Connection<S>,
     game: u32,
     decision: &Decision<R>,
     plies: u32,
-) -> Result<Option<SeenRow>, CallFault>
+) -> Result<Option<SeenRow>, LookupFault>
     requires { plies ≤ 600 }
     ensures reads { Reads (is_ok result) (state S.Store conn.old) (state S.Store conn.new) }
     ensures seen { HasCleanDisk (state S.Store conn.new) → IfOk result (λ seen. (content : Content) (terms : core.Terms)
         (old : Game R.Move) (moment : ℕ) (who : _) (command : machine.GameCommand) →
-        HasRows content (state S.Store conn.old) → TellsSeen R.rules game old content →
+        HasRows content (state S.Store conn.old) → FindsSeenRows R.rules game old content →
         IsLegalGame R.rules terms old → plies ≡ length old.entries →
         HasMade R.rules old (game_step R.rules terms old moment who command) decision.now →
         IsSeenAfter R.rules game (game_step R.rules terms old moment who command) decision.now seen) }
@@ -99,7 +99,7 @@ pub fn seen_by<R: Rules, S: Alter>(
 }
 
 /// The position's repetition count and first ply; zeros (unused) if there is no row.
-pub fn stood_by<R: Rules>(seen: &Option<SeenRow>) -> Stood
+pub fn occurrences_of<R: Rules>(seen: &Option<SeenRow>) -> Occurrences
     ensures { (row : SeenRow) → seen.now ≡ Some row → (id : ℕ) (game : Game R.Move) →
         IsLegalLine R.rules R.rules.start (moves_of game) →
         IsSeenRow R.rules id game (R.rules.write_position (last_position R.rules game)) (seen_cells row) →
@@ -107,20 +107,20 @@ pub fn stood_by<R: Rules>(seen: &Option<SeenRow>) -> Stood
         × FirstStands R.rules R.rules.start (moves_of game) result.first_ply }
 {
     match seen {
-        Some(row) => stood_in::<R>(row),
-        None => Stood {
+        Some(row) => occurrences_in::<R>(row),
+        None => Occurrences {
             times: 0,
             first_ply: 0,
         },
     }
 }
 
-fn pair_of(event: u32, member: u32, opponent: u32) -> PairOf
+fn pair_of(event: u32, member: u32, opponent: u32) -> ScoreKey
     ensures event { result.event ≡ pos event }
     ensures member { result.member ≡ pos member }
     ensures opponent { result.opponent ≡ pos opponent }
 {
-    PairOf {
+    ScoreKey {
         event: i64::from(event),
         member: i64::from(member),
         opponent: i64::from(opponent),
@@ -134,7 +134,7 @@ fn score_of<S: Alter>(
     event: u32,
     member: u32,
     opponent: u32,
-) -> Result<Option<ScoreRow>, CallFault>
+) -> Result<Option<ScoreRow>, LookupFault>
     ensures reads { Reads (is_ok result) (state S.Store conn.old) (state S.Store conn.new) }
     ensures found { HasCleanDisk (state S.Store conn.new) → IfOk result (λ row. (content : Content) →
         HasRows content (state S.Store conn.old) →
@@ -151,14 +151,14 @@ fn score_of<S: Alter>(
 ///
 /// - `Store` if a call of the database fails, a row is invalid, or a sum overflows.
 /// - `Memory` if out of memory.
-pub fn scores_with<S: Alter>(
+pub fn score_rows_after<S: Alter>(
     alloc: Global,
     conn: &mut Connection<S>,
     event: u32,
     one: u32,
     other: u32,
     score: Score,
-) -> Result<ScorePair, CallFault>
+) -> Result<ScoreRows, LookupFault>
     ensures reads { Reads (is_ok result) (state S.Store conn.old) (state S.Store conn.new) }
     ensures puts { HasCleanDisk (state S.Store conn.new) → IfOk result (λ pair. (content : Content) →
         HasRows content (state S.Store conn.old) → one ≢ other →
@@ -168,7 +168,7 @@ pub fn scores_with<S: Alter>(
     let seconds = score_of(alloc, conn, event, other, one)?;
     match score_after(event, one, other, score, firsts.as_ref(), seconds.as_ref()) {
         Some(pair) => Ok(pair),
-        None => Err(CallFault::Store),
+        None => Err(LookupFault::Store),
     }
 }
 
@@ -178,11 +178,11 @@ pub fn scores_with<S: Alter>(
 ///
 /// - `Store` if a call of the database fails, a row is invalid, or a sum overflows.
 /// - `Memory` if out of memory.
-pub fn scores_by<R: Rules, S: Alter>(
+pub fn score_rows_of_decision<R: Rules, S: Alter>(
     alloc: Global,
     conn: &mut Connection<S>,
     decision: &Decision<R>,
-) -> Result<Option<ScorePair>, CallFault>
+) -> Result<Option<ScoreRows>, LookupFault>
     ensures reads { Reads (is_ok result) (state S.Store conn.old) (state S.Store conn.new) }
     ensures scores { HasCleanDisk (state S.Store conn.new) → IfOk result (λ scores. (content : Content) →
         HasRows content (state S.Store conn.old) → HasTwoPlayers decision.now →
@@ -198,7 +198,7 @@ pub fn scores_by<R: Rules, S: Alter>(
     };
     match row.result {
         Some(score) => {
-            let pair = scores_with(alloc, conn, row.event, row.first, row.second, score)?;
+            let pair = score_rows_after(alloc, conn, row.event, row.first, row.second, score)?;
             Ok(Some(pair))
         }
         None => Ok(None),

@@ -15,7 +15,7 @@ ghost use Rattle.club_changes.specs.Stored.{IsStoredGame, IsFoundGame};
 ghost use Rattle.std.specs.Prelude.{Option};
 
 use crate::events::event_with;
-use crate::fault::CallFault;
+use crate::fault::LookupFault;
 use crate::found::first;
 use club_changes::{StoredGame, terms_of};
 use club_core::{KeyedGame, Pairing};
@@ -23,14 +23,14 @@ use club_rows::numbers::id;
 use sqlite::{Alter, Connection};
 use std::alloc::Global;
 use store_sql::{GameKey, count, find, find_by_first};
-use store_tables::GameRecord;
+use store_tables::GameTableRow;
 
 /// The ids in the row of a game: its own, its event's and its players'.
 ///
 /// # Errors
 ///
 /// `Store` if an id is out of range.
-pub fn ids_in(row: &GameRecord) -> Result<KeyedGame, CallFault>
+pub fn ids_in(row: &GameTableRow) -> Result<KeyedGame, LookupFault>
     ensures { IfOk result (λ k. (s : ClubState) (id : ℕ) (game : ClubGame) →
         game_cells row.now ≡ game_in s id game →
         Some k ≡ keyed_game (Some game) id) }
@@ -41,7 +41,7 @@ pub fn ids_in(row: &GameRecord) -> Result<KeyedGame, CallFault>
         id(row.first),
         id(row.second),
     ) else {
-        return Err(CallFault::Store);
+        return Err(LookupFault::Store);
     };
     Ok(KeyedGame {
         game,
@@ -63,7 +63,7 @@ pub fn game_under<S: Alter>(
     alloc: Global,
     conn: &mut Connection<S>,
     key: &str,
-) -> Result<Option<KeyedGame>, CallFault>
+) -> Result<Option<KeyedGame>, LookupFault>
     ensures reads { Reads (is_ok result) (state S.Store conn.old) (state S.Store conn.new) }
     ensures found { HasCleanDisk (state S.Store conn.new) → IfOk result (λ k. (s : ClubState) → IsClub s →
         HasRows (tables s) (state S.Store conn.old) →
@@ -79,8 +79,8 @@ pub fn game_under<S: Alter>(
 pub(crate) fn read_game<S: Alter>(
     alloc: Global,
     conn: &mut Connection<S>,
-    row: GameRecord,
-) -> Result<StoredGame, CallFault>
+    row: GameTableRow,
+) -> Result<StoredGame, LookupFault>
     ensures reads { Reads (is_ok result) (state S.Store conn.old) (state S.Store conn.new) }
     ensures found { HasCleanDisk (state S.Store conn.new) → IfOk result (λ stored. (s : ClubState) (id : ℕ)
         (game : ClubGame) → IsClub s → place s.games id ≡ Some game → game_cells row ≡ game_in s id game →
@@ -106,7 +106,7 @@ pub fn stored_game<S: Alter>(
     alloc: Global,
     conn: &mut Connection<S>,
     game: u64,
-) -> Result<Option<StoredGame>, CallFault>
+) -> Result<Option<StoredGame>, LookupFault>
     ensures reads { Reads (is_ok result) (state S.Store conn.old) (state S.Store conn.new) }
     ensures found { HasCleanDisk (state S.Store conn.new) → IfOk result (λ found. (s : ClubState) → IsClub s →
         HasRows (tables s) (state S.Store conn.old) → IsFoundGame s game found) }
@@ -114,7 +114,7 @@ pub fn stored_game<S: Alter>(
     let Ok(id) = i64::try_from(game) else {
         return Ok(None);
     };
-    match first(find_by_first::<GameRecord, S>(alloc, conn, &id)?) {
+    match first(find_by_first::<GameTableRow, S>(alloc, conn, &id)?) {
         Some(row) => {
             let stored = read_game(alloc, conn, row)?;
             Ok(Some(stored))
@@ -128,13 +128,13 @@ pub fn stored_game<S: Alter>(
 /// # Errors
 ///
 /// `Store` if a call of the database fails, or the count does not fit in 32 bits.
-pub fn games_in<S: Alter>(conn: &mut Connection<S>) -> Result<u32, CallFault>
+pub fn count_games<S: Alter>(conn: &mut Connection<S>) -> Result<u32, LookupFault>
     ensures reads { Reads (is_ok result) (state S.Store conn.old) (state S.Store conn.new) }
     ensures count { HasCleanDisk (state S.Store conn.new) → IfOk result (λ games. (s : ClubState) →
         HasRows (tables s) (state S.Store conn.old) → games ≡ length s.games) }
 {
-    match u32::try_from(count::<GameRecord, S>(conn)?) {
+    match u32::try_from(count::<GameTableRow, S>(conn)?) {
         Ok(games) => Ok(games),
-        Err(_) => Err(CallFault::Store),
+        Err(_) => Err(LookupFault::Store),
     }
 }

@@ -10,11 +10,11 @@ ghost use Rattle.store_tables.specs.Reading.{Reads};
 ghost use Rattle.club_changes.specs.Importing.{IsUnder, IsKnown};
 
 use crate::events::all_events;
-use crate::fault::CallFault;
+use crate::fault::LookupFault;
 use crate::found::first;
-use crate::games::{games_in, ids_in, read_game};
+use crate::games::{count_games, ids_in, read_game};
 use crate::people::all_members;
-use club_changes::{Known, StoredGame};
+use club_changes::{ImportContext, StoredGame};
 use club_core::KeyedGame;
 use sqlite::{Alter, Connection};
 use std::alloc::Global;
@@ -25,7 +25,7 @@ pub(crate) fn stored_under<S: Alter>(
     alloc: Global,
     conn: &mut Connection<S>,
     key: &str,
-) -> Result<Option<StoredGame>, CallFault>
+) -> Result<Option<StoredGame>, LookupFault>
     ensures reads { Reads (is_ok result) (state S.Store conn.old) (state S.Store conn.new) }
     ensures found { HasCleanDisk (state S.Store conn.new) → IfOk result (λ found. (s : ClubState) → IsClub s →
         HasRows (tables s) (state S.Store conn.old) → IsUnder s key.now found) }
@@ -39,7 +39,7 @@ pub(crate) fn stored_under<S: Alter>(
     }
 }
 
-fn keyed(under: &Option<StoredGame>) -> Result<Option<KeyedGame>, CallFault>
+fn keyed(under: &Option<StoredGame>) -> Result<Option<KeyedGame>, LookupFault>
     ensures { IfOk result (λ k. (s : ClubState) (key : List ℕ) → IsUnder s key under.now →
         k ≡ game_under s.games key) }
 {
@@ -60,7 +60,7 @@ pub fn read_known<S: Alter>(
     alloc: Global,
     conn: &mut Connection<S>,
     key: &str,
-) -> Result<Known, CallFault>
+) -> Result<ImportContext, LookupFault>
     ensures reads { Reads (is_ok result) (state S.Store conn.old) (state S.Store conn.new) }
     ensures members { IfOk result (λ known. length known.members.items ≤ 200) }
     ensures events { IfOk result (λ known. length known.events.items ≤ 50) }
@@ -69,10 +69,10 @@ pub fn read_known<S: Alter>(
 {
     let under = stored_under(alloc, conn, key)?;
     let keyed = keyed(&under)?;
-    let games = games_in(conn)?;
+    let games = count_games(conn)?;
     let members = all_members(alloc, conn)?;
     let events = all_events(alloc, conn)?;
-    Ok(Known {
+    Ok(ImportContext {
         members,
         events,
         keyed,

@@ -16,13 +16,13 @@ mod played;
 mod shown;
 
 pub use challenges::challenge_by;
-pub use counts::{scores_by, scores_with, seen_by, stood_by};
+pub use counts::{occurrences_of, score_rows_after, score_rows_of_decision, seen_row_of_decision};
 pub use events::{all_events, event_with};
-pub use fault::CallFault;
+pub use fault::LookupFault;
 pub use found::first;
-pub use games::{game_under, games_in, ids_in, stored_game};
+pub use games::{count_games, game_under, ids_in, stored_game};
 pub use known::read_known;
 pub use meta::last_moment;
-pub use people::{all_members, caller_by, holder_of, name_of};
+pub use people::{all_members, identify_caller, member_by_key, name_of};
 pub use played::played_under;
-pub use shown::{asked_view, row_of, view};
+pub use shown::{row_of, view, view_at_ply};

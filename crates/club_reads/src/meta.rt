@@ -9,21 +9,21 @@ ghost use Rattle.store_tables.specs.Over.{HasRows};
 ghost use Rattle.store_tables.specs.Reading.{Reads};
 ghost use Rattle.club_rows.specs.Club.{ClubState, tables};
 
-use crate::fault::CallFault;
+use crate::fault::LookupFault;
 use crate::found::first;
 use clocks::Moment;
-use club_rows::numbers::moment as moment_of;
+use club_rows::numbers::to_moment;
 use sqlite::{Alter, Connection};
 use std::alloc::Global;
 use store_sql::list;
 use store_tables::MetaRow;
 
-fn last_in(row: &MetaRow) -> Result<Moment, CallFault>
+fn last_in(row: &MetaRow) -> Result<Moment, LookupFault>
     ensures { IfOk result (λ last. (n : ℕ) → meta_cells row.now ≡ meta_row 2 n → last ≡ n) }
 {
-    match moment_of(row.last) {
+    match to_moment(row.last) {
         Some(last) => Ok(last),
-        None => Err(CallFault::Store),
+        None => Err(LookupFault::Store),
     }
 }
 
@@ -33,13 +33,13 @@ fn last_in(row: &MetaRow) -> Result<Moment, CallFault>
 ///
 /// - `Store` if a call of the database fails, or a row is invalid.
 /// - `Memory` if out of memory.
-pub fn last_moment<S: Alter>(alloc: Global, conn: &mut Connection<S>) -> Result<Moment, CallFault>
+pub fn last_moment<S: Alter>(alloc: Global, conn: &mut Connection<S>) -> Result<Moment, LookupFault>
     ensures reads { Reads (is_ok result) (state S.Store conn.old) (state S.Store conn.new) }
     ensures last { HasCleanDisk (state S.Store conn.new) → IfOk result (λ last. (s : ClubState) →
         HasRows (tables s) (state S.Store conn.old) → last ≡ s.last) }
 {
     match first(list::<MetaRow, S>(alloc, conn)?) {
         Some(row) => Ok(last_in(&row)?),
-        None => Err(CallFault::Store),
+        None => Err(LookupFault::Store),
     }
 }

@@ -17,9 +17,9 @@ ghost use Rattle.club_core.specs.Answer.{who_of};
 ghost use Rattle.club_core.specs.Members.{find_id};
 ghost use Rattle.club_core.specs.State.{caller_found, caller_of, has_member_key};
 ghost use Rattle.std.specs.Prelude.{Err, option_map};
-ghost use Rattle.club_reads.specs.Keys.{holder_of};
+ghost use Rattle.club_reads.specs.Keys.{member_by_key};
 
-use crate::fault::CallFault;
+use crate::fault::LookupFault;
 use crate::found::first;
 use club_core::Member;
 use club_requests::values::MOST_MEMBERS;
@@ -31,13 +31,13 @@ use store_sql::{MemberKey, find, find_by_first, list};
 use store_tables::MemberRow;
 
 // Converts the rows of all members, in the order of ids.
-fn members_of(alloc: Global, rows: &[MemberRow]) -> Result<Vec<Member>, CallFault>
+fn members_of(alloc: Global, rows: &[MemberRow]) -> Result<Vec<Member>, LookupFault>
     ensures room { IfOk result (λ members. length members.items ≤ 200) }
     ensures values { IfOk result (λ members. (all : List core_members.Member) →
         map member_cells rows.now ≡ numbered_from member_row 1 all → members_of members.items ≡ all) }
 {
     if rows.len() > MOST_MEMBERS {
-        return Err(CallFault::Store);
+        return Err(LookupFault::Store);
     }
     let mut members = Vec::new(alloc);
     for row in rows {
@@ -58,7 +58,7 @@ fn members_of(alloc: Global, rows: &[MemberRow]) -> Result<Vec<Member>, CallFaul
 pub fn all_members<S: Alter>(
     alloc: Global,
     conn: &mut Connection<S>,
-) -> Result<Vec<Member>, CallFault>
+) -> Result<Vec<Member>, LookupFault>
     ensures reads { Reads (is_ok result) (state S.Store conn.old) (state S.Store conn.new) }
     ensures room { IfOk result (λ members. length members.items ≤ 200) }
     ensures values { HasCleanDisk (state S.Store conn.new) → IfOk result (λ members. (s : ClubState) →
@@ -69,13 +69,13 @@ pub fn all_members<S: Alter>(
 }
 
 // The caller with the id of the row.
-fn member_in(row: &MemberRow) -> Result<Caller, CallFault>
+fn member_in(row: &MemberRow) -> Result<Caller, LookupFault>
     ensures { IfOk result (λ caller. (id : ℕ) (member : core_members.Member) →
         member_cells row.now ≡ member_row id member → caller ≡ Caller.Member id) }
 {
     match id(row.id) {
         Some(id) => Ok(Caller::Member(id)),
-        None => Err(CallFault::Store),
+        None => Err(LookupFault::Store),
     }
 }
 
@@ -84,7 +84,7 @@ pub(crate) fn member_with<S: Alter>(
     alloc: Global,
     conn: &mut Connection<S>,
     key: &str,
-) -> Result<Option<Caller>, CallFault>
+) -> Result<Option<Caller>, LookupFault>
     ensures reads { Reads (is_ok result) (state S.Store conn.old) (state S.Store conn.new) }
     ensures found { HasCleanDisk (state S.Store conn.new) → IfOk result (λ caller. (s : ClubState) → IsClub s →
         HasRows (tables s) (state S.Store conn.old) →
@@ -102,11 +102,11 @@ pub(crate) fn member_with<S: Alter>(
 ///
 /// - `Store` if a call of the database fails, or a row is invalid.
 /// - `Memory` if out of memory.
-pub fn caller_by<S: Alter>(
+pub fn identify_caller<S: Alter>(
     alloc: Global,
     conn: &mut Connection<S>,
     who: &Who,
-) -> Result<Option<Caller>, CallFault>
+) -> Result<Option<Caller>, LookupFault>
     ensures reads { Reads (is_ok result) (state S.Store conn.old) (state S.Store conn.new) }
     ensures found { HasCleanDisk (state S.Store conn.new) → IfOk result (λ caller. (s : ClubState) → IsClub s →
         HasRows (tables s) (state S.Store conn.old) → caller ≡ caller_of s.members (who_of who.now)) }
@@ -130,7 +130,7 @@ pub fn name_of<S: Alter>(
     alloc: Global,
     conn: &mut Connection<S>,
     member: u32,
-) -> Result<String, CallFault>
+) -> Result<String, LookupFault>
     ensures reads { Reads (is_ok result) (state S.Store conn.old) (state S.Store conn.new) }
     ensures found { HasCleanDisk (state S.Store conn.new) → IfOk result (λ name. (s : ClubState) →
         HasRows (tables s) (state S.Store conn.old) → (known : core_members.Member) →
@@ -139,7 +139,7 @@ pub fn name_of<S: Alter>(
     let number = i64::from(member);
     match first(find_by_first::<MemberRow, S>(alloc, conn, &number)?) {
         Some(row) => Ok(row.name),
-        None => Err(CallFault::Store),
+        None => Err(LookupFault::Store),
     }
 }
 
@@ -149,14 +149,14 @@ pub fn name_of<S: Alter>(
 ///
 /// - `Store` if a call of the database fails, or a row is invalid.
 /// - `Memory` if out of memory.
-pub fn holder_of<S: Alter>(
+pub fn member_by_key<S: Alter>(
     alloc: Global,
     conn: &mut Connection<S>,
     key: &str,
-) -> Result<Option<String>, CallFault>
+) -> Result<Option<String>, LookupFault>
     ensures reads { Reads (is_ok result) (state S.Store conn.old) (state S.Store conn.new) }
     ensures held { HasCleanDisk (state S.Store conn.new) → IfOk result (λ name. (s : ClubState) → IsClub s →
-        HasRows (tables s) (state S.Store conn.old) → option_map string_bytes name ≡ holder_of s key.now) }
+        HasRows (tables s) (state S.Store conn.old) → option_map string_bytes name ≡ member_by_key s key.now) }
 {
     match first(find(alloc, conn, &MemberKey { key })?) {
         Some(row) => Ok(Some(row.name)),

@@ -12,7 +12,7 @@ ghost use Rattle.store_tables.specs.Reading.{Reads};
 ghost use Rattle.club_changes.specs.Importing.{IsOfKind, TellsLine};
 ghost use Rattle.club_changes.specs.Steps.{IsRecordOf};
 
-use crate::fault::CallFault;
+use crate::fault::LookupFault;
 use club_changes::{StoredGame, played_of};
 use club_imports::PlayedGame;
 use club_rules::{GameKind, Rules};
@@ -26,7 +26,7 @@ pub(crate) fn played_in<R: Rules, S: Alter>(
     alloc: Global,
     conn: &mut Connection<S>,
     stored: &StoredGame,
-) -> Result<PlayedGame<R::Move>, CallFault>
+) -> Result<PlayedGame<R::Move>, LookupFault>
     ensures reads { Reads (is_ok result) (state S.Store conn.old) (state S.Store conn.new) }
     ensures played { HasCleanDisk (state S.Store conn.new) → IfOk result (λ played. (content : Content)
         (game : Game R.Move) → HasRows content (state S.Store conn.old) →
@@ -38,7 +38,7 @@ pub(crate) fn played_in<R: Rules, S: Alter>(
     let rows = find_by_first::<MoveRow, S>(alloc, conn, &id)?;
     match played_of::<R>(alloc, stored.terms, stored.id, &stored.row, &rows)? {
         Some(played) => Ok(played),
-        None => Err(CallFault::Store),
+        None => Err(LookupFault::Store),
     }
 }
 
@@ -53,7 +53,7 @@ pub fn played_under<R: Rules, S: Alter>(
     conn: &mut Connection<S>,
     kind: GameKind,
     under: &Option<StoredGame>,
-) -> Result<Option<PlayedGame<R::Move>>, CallFault>
+) -> Result<Option<PlayedGame<R::Move>>, LookupFault>
     ensures reads { Reads (is_ok result) (state S.Store conn.old) (state S.Store conn.new) }
     ensures played { HasCleanDisk (state S.Store conn.new) → IfOk result (λ played. (content : Content)
         (old : Option (Game R.Move)) → HasRows content (state S.Store conn.old) →

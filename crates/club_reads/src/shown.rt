@@ -14,14 +14,14 @@ ghost use Rattle.store_tables.specs.Cells.{move_cells};
 ghost use Rattle.store_tables.specs.Over.{HasRows};
 ghost use Rattle.store_tables.specs.Contents.{Content};
 ghost use Rattle.store_tables.specs.Reading.{Reads};
-ghost use Rattle.club_changes.specs.Steps.{IsRecordOf, TellsMoves, TellsSeen};
+ghost use Rattle.club_changes.specs.Steps.{IsRecordOf, FindsMoveRows, FindsSeenRows};
 
-use crate::fault::CallFault;
+use crate::fault::LookupFault;
 use crate::found::first;
 use club_changes::StoredGame;
 use club_core::GameView;
 use club_requests::values::MOST_PLIES;
-use club_rows::{PlyRows, Stood, ask_rows, stood_in, view_of_row};
+use club_rows::{Occurrences, PlyRows, occurrences_in, view_of_row, with_ply};
 use club_rules::Rules;
 use sqlite::{Alter, Connection};
 use std::alloc::Global;
@@ -39,22 +39,22 @@ fn position_of<'a>(game: u32, position: &'a str) -> SeenPosition<'a>
 }
 
 // The repetition count and first ply of the game's last position.
-fn last_stood<R: Rules, S: Alter>(
+fn last_occurrences<R: Rules, S: Alter>(
     alloc: Global,
     conn: &mut Connection<S>,
     stored: &StoredGame,
-) -> Result<Stood, CallFault>
+) -> Result<Occurrences, LookupFault>
     ensures reads { Reads (is_ok result) (state S.Store conn.old) (state S.Store conn.new) }
     ensures stood { HasCleanDisk (state S.Store conn.new) →
         IfOk result (λ stood. (content : Content) (game : Game R.Move) →
-        HasRows content (state S.Store conn.old) → TellsSeen R.rules stored.now.id game content →
+        HasRows content (state S.Store conn.old) → FindsSeenRows R.rules stored.now.id game content →
         IsRecordOf R.rules (terms_given stored.now.terms) stored.now.id stored.now.row game →
         HasLastStood R.rules game stood) }
 {
     let question = position_of(stored.id, stored.row.position.as_str());
     match first(find(alloc, conn, &question)?) {
-        Some(row) => Ok(stood_in::<R>(&row)),
-        None => Err(CallFault::Store),
+        Some(row) => Ok(occurrences_in::<R>(&row)),
+        None => Err(LookupFault::Store),
     }
 }
 
@@ -79,10 +79,10 @@ pub fn row_of<R: Rules, S: Alter>(
     conn: &mut Connection<S>,
     game: u32,
     ply: u32,
-) -> Result<Option<MoveRow>, CallFault>
+) -> Result<Option<MoveRow>, LookupFault>
     ensures reads { Reads (is_ok result) (state S.Store conn.old) (state S.Store conn.new) }
     ensures found { HasCleanDisk (state S.Store conn.new) → IfOk result (λ row. (content : Content) (terms : core.Terms)
-        (old : Game R.Move) → HasRows content (state S.Store conn.old) → TellsMoves R.rules terms game old content →
+        (old : Game R.Move) → HasRows content (state S.Store conn.old) → FindsMoveRows R.rules terms game old content →
         option_map move_cells row ≡ row_at R.rules terms game old ply) }
 {
     let question = ply_of(game, ply);
@@ -106,11 +106,11 @@ fn rows_at<R: Rules, S: Alter>(
     conn: &mut Connection<S>,
     game: u32,
     ply: u64,
-) -> Result<PlyRows, CallFault>
+) -> Result<PlyRows, LookupFault>
     ensures reads { Reads (is_ok result) (state S.Store conn.old) (state S.Store conn.new) }
     ensures found { HasCleanDisk (state S.Store conn.new) →
         IfOk result (λ rows. (content : Content) (terms : core.Terms)
-        (old : Game R.Move) → HasRows content (state S.Store conn.old) → TellsMoves R.rules terms game old content →
+        (old : Game R.Move) → HasRows content (state S.Store conn.old) → FindsMoveRows R.rules terms game old content →
         IsLegalGame R.rules terms old → AreRowsAt R.rules terms game old ply rows) }
 {
     if ply == 0 {
@@ -134,19 +134,19 @@ pub fn view<R: Rules, S: Alter>(
     alloc: Global,
     conn: &mut Connection<S>,
     stored: &StoredGame,
-) -> Result<GameView<R>, CallFault>
+) -> Result<GameView<R>, LookupFault>
     ensures reads { Reads (is_ok result) (state S.Store conn.old) (state S.Store conn.new) }
     ensures sound { IfOk result (IsSound R.rules) }
     ensures terms { IfOk result (λ view. terms_of view ≡ terms_given stored.now.terms) }
     ensures shows { HasCleanDisk (state S.Store conn.new) →
         IfOk result (λ view. (content : Content) (game : Game R.Move) →
-        HasRows content (state S.Store conn.old) → TellsSeen R.rules stored.now.id game content →
+        HasRows content (state S.Store conn.old) → FindsSeenRows R.rules stored.now.id game content →
         IsRecordOf R.rules (terms_given stored.now.terms) stored.now.id stored.now.row game → Shows R.rules game view) }
 {
-    let stood = last_stood::<R, S>(alloc, conn, stored)?;
+    let stood = last_occurrences::<R, S>(alloc, conn, stored)?;
     match view_of_row::<R>(alloc, &stored.row, stored.terms, stood)? {
         Some(view) => Ok(view),
-        None => Err(CallFault::Store),
+        None => Err(LookupFault::Store),
     }
 }
 
@@ -156,24 +156,24 @@ pub fn view<R: Rules, S: Alter>(
 ///
 /// - `Store` if a call of the database fails, or a row is invalid.
 /// - `Memory` if out of memory.
-pub fn asked_view<R: Rules, S: Alter>(
+pub fn view_at_ply<R: Rules, S: Alter>(
     alloc: Global,
     conn: &mut Connection<S>,
     stored: &StoredGame,
     ply: u64,
-) -> Result<GameView<R>, CallFault>
+) -> Result<GameView<R>, LookupFault>
     ensures reads { Reads (is_ok result) (state S.Store conn.old) (state S.Store conn.new) }
     ensures sound { IfOk result (IsSound R.rules) }
     ensures terms { IfOk result (λ view. terms_of view ≡ terms_given stored.now.terms) }
     ensures shows { HasCleanDisk (state S.Store conn.new) →
         IfOk result (λ view. (content : Content) (game : Game R.Move) →
-        HasRows content (state S.Store conn.old) → TellsSeen R.rules stored.now.id game content →
-        TellsMoves R.rules (terms_given stored.now.terms) stored.now.id game content →
+        HasRows content (state S.Store conn.old) → FindsSeenRows R.rules stored.now.id game content →
+        FindsMoveRows R.rules (terms_given stored.now.terms) stored.now.id game content →
         IsRecordOf R.rules (terms_given stored.now.terms) stored.now.id stored.now.row game →
         Shows R.rules game view × ShowsPly R.rules game ply view) }
 {
     let view = view::<R, S>(alloc, conn, stored)?;
     let rows = rows_at::<R, S>(alloc, conn, stored.id, ply)?;
-    let asked = ask_rows(alloc, view, ply, &rows)?;
+    let asked = with_ply(alloc, view, ply, &rows)?;
     Ok(asked)
 }

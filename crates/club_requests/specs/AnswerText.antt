@@ -5,7 +5,7 @@ use Rattle.club_rules.specs.declared.names.EndName.{EndName}
 use Rattle.club_rules.specs.EndName.{end_text}
 use Rattle.club_requests.specs.declared.answers.Answer.{Answer}
 use Rattle.club_requests.specs.declared.answers.Answer.TheVariants as answer
-use Rattle.club_requests.specs.declared.answers.Moved.{Moved}
+use Rattle.club_requests.specs.declared.answers.MoveAnswer.{MoveAnswer}
 use Rattle.club_requests.specs.declared.answers.Outcome.{Outcome}
 use Rattle.club_requests.specs.declared.answers.Outcome.TheVariants as outcome
 use Rattle.club_requests.specs.OutsideEnd.{outside_text}
@@ -16,7 +16,7 @@ abbrev pub end_tail : Option EndName → List ℕ
 end_tail None = []
 end_tail (Some end) = codes " end " ++ end_text end
 
-abbrev pub moved_text : Moved → List ℕ
+abbrev pub moved_text : MoveAnswer → List ℕ
 moved_text moved = codes "ply " ++ decimal moved.ply ++ codes " " ++ string_bytes moved.text ++ end_tail moved.end
 
 abbrev pub answer_text : Answer → List ℕ

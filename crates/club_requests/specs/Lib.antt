@@ -1,5 +1,5 @@
-pub mod Limits
-pub mod Refusal
-pub mod OutsideEnd
-pub mod Outcome
 pub mod AnswerText
+pub mod Limits
+pub mod Outcome
+pub mod OutsideEnd
+pub mod Refusal

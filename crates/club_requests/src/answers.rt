@@ -9,7 +9,7 @@ use std::fmt;
 /// The answer to a move: its notation, the mover's seconds left after it, the position after it as text, and the end of
 /// the game that the rules gave.
 #[derive(Debug, Drop)]
-pub struct Moved {
+pub struct MoveAnswer {
     pub ply: u32,
     pub text: String,
     pub left: u64,
@@ -23,7 +23,7 @@ pub enum Answer {
     Member(u32),
     Event(u32),
     Game(u32),
-    Moved(Moved),
+    Moved(MoveAnswer),
     /// A draw was offered at this ply.
     Offered { ply: u32 },
     /// The game ended for a reason outside its rules, with this result.
@@ -83,7 +83,7 @@ impl fmt::Display for Answer {
 }
 
 /// Writes the ply, the move and the end that the rules gave: `ply 8 9-4 end Repetition`.
-impl fmt::Display for Moved {
+impl fmt::Display for MoveAnswer {
     ghost use Rattle.std.specs.Prelude.{Some};
     ghost use Rattle.club_requests.specs.AnswerText.{moved_text};
 

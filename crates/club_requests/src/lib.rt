@@ -1,15 +1,16 @@
-//! The requests that a club accepts and its answers: commands, callers, outcomes, refusals, and the limits of their
-//! values.
+//! The commands and queries that a club accepts, who gives them, its outcomes and refusals, and the limits of values.
 #![tactic(auto)]
 
 pub mod answers;
 pub mod outside_end;
+pub mod questions;
 pub mod refusals;
 pub mod requests;
 pub mod values;
 
-pub use answers::{Answer, Moved, Outcome};
+pub use answers::{Answer, MoveAnswer, Outcome};
 pub use outside_end::OutsideEnd;
+pub use questions::{GameFilter, Listing, Question};
 pub use refusals::Refusal;
 pub use requests::{
     AddEvent, AddMember, AnswerChallenge, Caller, Command, GameCommand, Import, OnGame,

@@ -7,8 +7,8 @@ use Rattle.sqlite.specs.Order.{Row, column}
 use Rattle.sqlite_rules.specs.Lists.{Has}
 use Rattle.sqlite_rules.proofs.ListLemmas.{has_got}
 use Rattle.club_core.specs.declared.challenges.Challenge.{Challenge}
-use Rattle.club_core.specs.Challenges.{goes_by, is_under, challenge_under, put_challenge}
-use Rattle.club_core.specs.LegalState.{AreApart}
+use Rattle.club_core.specs.Challenges.{key_of_challenge, is_under, challenge_under, put_challenge}
+use Rattle.club_core.specs.LegalState.{HaveUniqueKeys}
 use Rattle.club_laws.proofs.Proved.{under-key, key-under, under-at, under-found, under-each, under-put, got-put}
 use Rattle.club_laws.proofs.Proved.{apart-put}
 use Rattle.store_tables.specs.Cells.{challenge_cells}
@@ -57,7 +57,7 @@ keys-told : (a b : Row) (c d m n : ℕ) → column a 0 ≡ number c → column a
 keys-told a b c d m n p q r t same = (same-numbers a b c m p r same, same-seconds a b d n q t same)
 
 -- no two rows of challenges that go by different numbers have one key
-pub challenge-rows-apart : (cs : List Challenge) → AreApart goes_by cs → (z w : Row) → Has (map challenge_row cs) z
+pub challenge-rows-apart : (cs : List Challenge) → HaveUniqueKeys key_of_challenge cs → (z w : Row) → Has (map challenge_row cs) z
     → Has (map challenge_row cs) w → same_key (0 ∷ 1 ∷ []) z w ≡ true → z ≡ w
 challenge-rows-apart cs apart z w h k same =
     let (m, c, at, z_is) = challenge-had cs z h in
@@ -69,7 +69,7 @@ challenge-rows-apart cs apart z w h k same =
     rw (z_is, w_is, one)
 
 -- where no challenge is put, the table stays
-pub challenges-unaltered : (cs : List Challenge) → AreApart goes_by cs
+pub challenges-unaltered : (cs : List Challenge) → HaveUniqueKeys key_of_challenge cs
     → Alters (0 ∷ 1 ∷ []) [] (map challenge_row cs) (map challenge_row cs)
 challenges-unaltered cs apart = unaltered (0 ∷ 1 ∷ []) (map challenge_row cs) (challenge-rows-apart cs apart)
 
@@ -95,7 +95,7 @@ others-stand (x ∷ xs) new (suc k) c at other = elim (cases_Bool (is_under new.
 
 -- The row of a challenge, put for the one with its member and its number, makes the rows of the challenges with this
 -- one.
-pub challenge-alters : (cs : List Challenge) (new : Challenge) → AreApart goes_by cs
+pub challenge-alters : (cs : List Challenge) (new : Challenge) → HaveUniqueKeys key_of_challenge cs
     → Alters (0 ∷ 1 ∷ []) (challenge_row new ∷ []) (map challenge_row cs) (map challenge_row (put_challenge cs new))
 challenge-alters cs new apart = record {
   among = λ z h. elim h [
@@ -126,7 +126,7 @@ challenge-alters cs new apart = record {
   one = challenge-rows-apart (put_challenge cs new) (apart-put cs new apart);
 }
 
-pub challenge-put : (cs : List Challenge) (new : Challenge) → AreApart goes_by cs
+pub challenge-put : (cs : List Challenge) (new : Challenge) → HaveUniqueKeys key_of_challenge cs
     → HaveSame (put (0 ∷ 1 ∷ []) (challenge_row new) (map challenge_row cs)) (map challenge_row (put_challenge cs new))
 challenge-put cs new apart = altered (0 ∷ 1 ∷ []) (challenge_row new ∷ []) (map challenge_row cs)
     (map challenge_row (put_challenge cs new)) (challenge-alters cs new apart)
@@ -144,7 +144,7 @@ pub challenge-not-shown : (rows : List Row) (member own_number : ℕ)
 challenge-not-shown rows member own_number those row has same = those.complete row has same
 
 -- a row that was found is that of the member's challenge under the number
-pub challenge-told : (cs : List Challenge) (member own_number : ℕ) (row : ChallengeRow) → AreApart goes_by cs
+pub challenge-told : (cs : List Challenge) (member own_number : ℕ) (row : ChallengeRow) → HaveUniqueKeys key_of_challenge cs
     → IsChallengeFound (map challenge_row cs) member own_number (Some row)
     → (c : Challenge) × (challenge_under cs member own_number ≡ Some c) × (challenge_cells row ≡ challenge_row c)
 challenge-told cs member own_number row apart (has, same) =

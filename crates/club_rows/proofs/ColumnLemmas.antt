@@ -24,7 +24,7 @@ use Rattle.club_core.specs.View.{IsRowOf}
 use Rattle.club_core.proofs.Proved.{line-grows}
 use Rattle.club_laws.proofs.Proved.{room-for}
 use Rattle.store_tables.specs.Cells.{game_cells}
-use Rattle.store_tables.specs.declared.rows.GameRecord.{GameRecord}
+use Rattle.store_tables.specs.declared.rows.GameTableRow.{GameTableRow}
 use Rattle.club_rows.specs.Tables.{game_row}
 use Rattle.club_rows.specs.Columns.{Columns, AreColumns, HasOffer, IsEndIn, IsOutsideIn, IsReadAs, columns_for}
 use Rattle.club_rows.specs.Columns.{columns_of, stored_cells}
@@ -42,7 +42,7 @@ columns-alike a b is = grind arith
 -- ---- a record and its columns
 
 -- the record has these columns
-pub record HasColumns (stored : GameRecord) (c : Columns) : Type 0 where
+pub record HasColumns (stored : GameTableRow) (c : Columns) : Type 0 where
   pub id : stored.id ≡ pos c.id
   pub key : option_map (λ s. string_bytes s) stored.key ≡ c.key
   pub event : stored.event ≡ pos c.event
@@ -61,24 +61,24 @@ pub record HasColumns (stored : GameRecord) (c : Columns) : Type 0 where
   pub track_second : stored.track_b ≡ pos c.track.1
 
 -- its values are those of its columns
-pub columns-cells : (stored : GameRecord) (c : Columns) → HasColumns stored c → game_cells stored ≡ stored_cells c
+pub columns-cells : (stored : GameTableRow) (c : Columns) → HasColumns stored c → game_cells stored ≡ stored_cells c
 columns-cells stored c has = grind arith
 
 -- and tell them
-pub cells-told : (stored : GameRecord) (c : Columns) → game_cells stored ≡ stored_cells c → HasColumns stored c
+pub cells-told : (stored : GameTableRow) (c : Columns) → game_cells stored ≡ stored_cells c → HasColumns stored c
 cells-told stored c is = grind arith
 
 -- ---- the columns of a game
 
 -- a row with the ids, the start, the key and the result of a game
-pub record HasIds (stored : GameRecord) (game_id event_id first_id second_id moment : ℕ) : Type 0 where
+pub record HasIds (stored : GameTableRow) (game_id event_id first_id second_id moment : ℕ) : Type 0 where
   pub id : stored.id ≡ pos game_id
   pub event : stored.event ≡ pos event_id
   pub first : stored.first ≡ pos first_id
   pub second : stored.second ≡ pos second_id
   pub start : stored.start ≡ pos moment
 
-pub record IsToldBy {P M E T : Type 0} (rules : GameRules P M E T) (id : ℕ) (game : Game M) (stored : GameRecord) : Type
+pub record IsToldBy {P M E T : Type 0} (rules : GameRules P M E T) (id : ℕ) (game : Game M) (stored : GameTableRow) : Type
     0 where
   pub numbers : HasIds stored id game.event game.first game.second game.start
   pub key : option_map (λ s. string_bytes s) stored.key ≡ game.key
@@ -111,13 +111,13 @@ module _ {P M E T : Type 0} (rules : GameRules P M E T) (terms : Terms) (id : �
   columns-stored game row is = grind arith
 
   -- a record that has the columns of the machine's row is the game's
-  pub record-cells : (game : Game M) (row : GameRow E) → IsRowOf rules terms game row → (stored : GameRecord)
+  pub record-cells : (game : Game M) (row : GameRow E) → IsRowOf rules terms game row → (stored : GameTableRow)
       → HasColumns stored (columns_for rules id row) → game_cells stored ≡ game_row rules terms id game
   record-cells game row is stored has =
       columns-cells stored (columns_for rules id row) has
       ∙ (ap stored_cells (columns-stored game row is) ∙ sym (row-columns game))
 
-  pub columns-told : (game : Game M) (stored : GameRecord) → game_cells stored ≡ game_row rules terms id game
+  pub columns-told : (game : Game M) (stored : GameTableRow) → game_cells stored ≡ game_row rules terms id game
       → IsToldBy rules id game stored
   columns-told game stored is =
       let told = cells-told stored (columns_of rules terms id game) (is ∙ row-columns game) in assumption
@@ -128,7 +128,7 @@ module _ {P M E T : Type 0} (rules : GameRules P M E T) (terms : Terms) (id : �
   columns-read game row c is read =
       columns-alike c (columns_of rules terms id game) (sym read ∙ (is ∙ row-columns game))
 
-  module _ (game : Game M) (stored : GameRecord) (is : IsRecordOf rules terms id stored game) where
+  module _ (game : Game M) (stored : GameTableRow) (is : IsRecordOf rules terms id stored game) where
     -- the same by all that is known of the row
     pub columns-are : (c : Columns) → game_cells stored ≡ stored_cells c → c ≡ columns_of rules terms id game
     columns-are c read = columns-read game (game_cells stored) c is.row read

@@ -12,7 +12,7 @@ use Rattle.club_core.specs.Events.{Terms}
 use Rattle.club_core.specs.Game.{Entry, Game, rule_end}
 use Rattle.club_core.specs.View.{IsRowOf, Shows, IsSound, terms_of}
 use Rattle.store_tables.specs.Cells.{game_cells, move_cells}
-use Rattle.store_tables.specs.declared.rows.GameRecord.{GameRecord}
+use Rattle.store_tables.specs.declared.rows.GameTableRow.{GameTableRow}
 use Rattle.store_tables.specs.declared.rows.MoveRow.{MoveRow}
 use Rattle.club_rows.specs.Replay.{WasReplayed, IsPlayedAs, Replays, game_from}
 use Rattle.club_rows.specs.Tally.{IsTallyOf}
@@ -22,7 +22,7 @@ use Rattle.club_rows.specs.Columns.{Columns, AreColumns, HasReplayed, IsOutsideI
 use Rattle.club_rows.specs.Columns.{stored_cells}
 use Rattle.club_rows.specs.MayStand.{may_declare}
 use Rattle.club_rows.specs.declared.replay.Replayed.{Replayed}
-use Rattle.club_rows.specs.declared.view.Played.{Played}
+use Rattle.club_rows.specs.declared.view.CheckedGame.{CheckedGame}
 use Rattle.club_rows.specs.declared.view.CheckedRows.{CheckedRows}
 use Rattle.club_rows.specs.declared.view.CheckedRows.TheVariants as shown
 use Rattle.club_rows.proofs.ColumnLemmas.{cells-told, columns-read, columns-stored, none-read, outside-told}
@@ -31,8 +31,8 @@ use Rattle.club_rows.proofs.StandLemmas.{declares, row-stands, stands-legal, leg
 use Rattle.club_rows.proofs.WholeLemmas.{none-played, played-count, rows-alike}
 
 -- what is known of a view that was made of rows with these columns
-pub record WasViewed {R P M E T : Type 0} (rules : GameRules P M E T) (terms : Terms) (stored : GameRecord)
-    (moves : List MoveRow) (c : Columns) (replayed : Replayed R P M E T) (full : Played R P M E T) : Type 0 where
+pub record WasViewed {R P M E T : Type 0} (rules : GameRules P M E T) (terms : Terms) (stored : GameTableRow)
+    (moves : List MoveRow) (c : Columns) (replayed : Replayed R P M E T) (full : CheckedGame R P M E T) : Type 0 where
   pub read : game_cells stored ≡ stored_cells c
   pub budget : IsTrue (is_budget terms.budget)
   pub increment : IsTrue (is_increment terms.increment)
@@ -49,7 +49,7 @@ pub record WasViewed {R P M E T : Type 0} (rules : GameRules P M E T) (terms : T
 
 -- ---- what is wrong
 
-module _ {P M E T : Type 0} (rules : GameRules P M E T) (terms : Terms) (stored : GameRecord) (moves : List MoveRow)
+module _ {P M E T : Type 0} (rules : GameRules P M E T) (terms : Terms) (stored : GameTableRow) (moves : List MoveRow)
   where
     module _ (number from : ℕ) (id_is : stored.id ≡ pos number) (start_is : stored.start ≡ pos from) where
       -- rows that are those of no game's moves are wrong
@@ -89,8 +89,8 @@ module _ {P M E T : Type 0} (rules : GameRules P M E T) (terms : Terms) (stored 
 
 -- ---- what is shown
 
-module _ {R P M E T : Type 0} {rules : GameRules P M E T} {terms : Terms} {stored : GameRecord} {moves : List MoveRow}
-    {c : Columns} {replayed : Replayed R P M E T} {full : Played R P M E T}
+module _ {R P M E T : Type 0} {rules : GameRules P M E T} {terms : Terms} {stored : GameTableRow} {moves : List MoveRow}
+    {c : Columns} {replayed : Replayed R P M E T} {full : CheckedGame R P M E T}
     (known : WasViewed rules terms stored moves c replayed full) where
   abbrev view : GameView R P M E T
   view = full.view

@@ -9,7 +9,7 @@ pub mod NextLemmas
 pub mod ReplayLemmas
 pub mod ScoreAfter
 pub mod ScoreLemmas
-pub mod ScoreRows
+pub mod ScoreRowLemmas
 pub mod LegalRowsLemmas
 pub mod SumLemmas
 pub mod PlainTexts

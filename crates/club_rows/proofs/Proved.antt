@@ -13,9 +13,9 @@ pub use Rattle.club_rows.proofs.RowViewLemmas.{position-text}
 pub use Rattle.club_rows.proofs.ScoreAfter.{fit, gained, scores_few}
 pub use Rattle.club_rows.proofs.ScoreLemmas.{found_none, found_some, met_ended, met_running, scores_added, scores_next}
 pub use Rattle.club_rows.proofs.ScoreLemmas.{scores_seated, scores_stay, scores_typed}
-pub use Rattle.club_rows.proofs.ScoreRows.{keys_agree, keys_same, mapped_had, mapped_has, pair_itself, pair_key}
-pub use Rattle.club_rows.proofs.ScoreRows.{pair_same, pairs_of, rows_alter, rows_had, rows_has, scores_append}
-pub use Rattle.club_rows.proofs.ScoreRows.{scores_none}
+pub use Rattle.club_rows.proofs.ScoreRowLemmas.{keys_agree, keys_same, mapped_had, mapped_has, pair_itself, pair_key}
+pub use Rattle.club_rows.proofs.ScoreRowLemmas.{pair_same, pairs_of, rows_alter, rows_had, rows_has, scores_append}
+pub use Rattle.club_rows.proofs.ScoreRowLemmas.{scores_none}
 pub use Rattle.club_rows.proofs.SeenAfter.{times-none}
 pub use Rattle.club_rows.proofs.SeenGame.{map-more, seen-id}
 pub use Rattle.club_rows.proofs.SeenLemmas.{entry-alters, same-numbers, seen-added, seen-found, seen-row-stays}

@@ -19,13 +19,13 @@ use Rattle.club_core.specs.View.{IsAsked, track_of_game}
 use Rattle.club_core.proofs.Proved.{AreRules, tracked-end}
 use Rattle.club_laws.proofs.Proved.{map-at}
 use Rattle.store_tables.specs.Cells.{move_cells}
-use Rattle.store_tables.specs.declared.rows.GameRecord.{GameRecord}
+use Rattle.store_tables.specs.declared.rows.GameTableRow.{GameTableRow}
 use Rattle.store_tables.specs.declared.rows.MoveRow.{MoveRow}
 use Rattle.club_rows.specs.Tables.{at_start, move_rows}
 use Rattle.club_rows.specs.Columns.{Columns, columns_of}
 use Rattle.club_rows.specs.RowView.{HasLastStood, IsPlayed, row_at}
 use Rattle.club_rows.specs.LegalRows.{IsRecordOf}
-use Rattle.club_rows.specs.declared.tally.Stood.{Stood}
+use Rattle.club_rows.specs.declared.tally.Occurrences.{Occurrences}
 use Rattle.club_rows.proofs.NextLemmas.{six-parts}
 use Rattle.club_rows.proofs.ColumnLemmas.{cells-told, row-columns}
 use Rattle.club_rows.proofs.TallyLemmas.{last-stood}
@@ -33,7 +33,7 @@ use Rattle.club_rows.proofs.WholeLemmas.{rows-from, rows-count, line-at, legal-a
 
 -- ---- the row of a game
 
-module _ {P M E T : Type 0} (rules : GameRules P M E T) (terms : Terms) (id : ℕ) (stored : GameRecord) (game : Game M)
+module _ {P M E T : Type 0} (rules : GameRules P M E T) (terms : Terms) (id : ℕ) (stored : GameTableRow) (game : Game M)
     (is : IsRecordOf rules terms id stored game) where
   pub position-text : string_bytes stored.position ≡ rules.write_position (last_position rules game)
   position-text =
@@ -42,7 +42,7 @@ module _ {P M E T : Type 0} (rules : GameRules P M E T) (terms : Terms) (id : �
 -- the end that a track gives, and the track, by the columns of the game
 module _ {P M E T : Type 0} (rules : GameRules P M E T) (terms : Terms) (id : ℕ) (game : Game M)
     (legal : IsLegalGame rules terms game) (c : Columns) (same : c ≡ columns_of rules terms id game) where
-  pub ruled-is : TracksTellEnds rules → NumbersGiveTracks rules → (stood : Stood) → HasLastStood rules game stood
+  pub ruled-is : TracksTellEnds rules → NumbersGiveTracks rules → (stood : Occurrences) → HasLastStood rules game stood
       → (position : P) → position ≡ last_position rules game
       → rules.track_end (rules.track_of c.track.0 c.track.1) position c.plies stood.times stood.first_ply
       ≡ rule_end rules game

@@ -14,10 +14,10 @@ use Rattle.club_rows.specs.Scores.{Meeting, same_pair, scores_of, score_row, sco
 use Rattle.club_rows.specs.Scores.{meetings, own_first, own_second}
 use Rattle.club_rows.specs.declared.scores.Pair.{Pair}
 use Rattle.club_rows.specs.declared.scores.OwnScore.{OwnScore}
-use Rattle.club_rows.specs.declared.scores.ScorePair.{ScorePair}
+use Rattle.club_rows.specs.declared.scores.ScoreRows.{ScoreRows}
 use Rattle.club_rows.proofs.ColumnLemmas.{same-pos}
-use Rattle.club_rows.proofs.ScoreRows.{pair_same, pair_itself, row_in, sums_in, rows_had, rows_has, keys_same}
-use Rattle.club_rows.proofs.ScoreRows.{keys_agree, scores_append, scores_between, scores_none}
+use Rattle.club_rows.proofs.ScoreRowLemmas.{pair_same, pair_itself, row_in, sums_in, rows_had, rows_has, keys_same}
+use Rattle.club_rows.proofs.ScoreRowLemmas.{keys_agree, scores_append, scores_between, scores_none}
 
 sums_row : (other : Pair) (ss : List OwnScore) (row : ScoreRow) → score_cells row ≡ score_row other ss
     → sums_found (Some row) ≡ sums_over ss
@@ -109,7 +109,7 @@ module _ (event first second : ℕ) (score : Score) (apart : first ≢ second) w
   of_second : scores_of seconds_pair new ≡ own_second score ∷ []
   of_second = rw (ways_apart event first second apart, pair_itself seconds_pair)
 
-  pub next_rows : (firsts seconds : Option ScoreRow) (rows : ScorePair)
+  pub next_rows : (firsts seconds : Option ScoreRow) (rows : ScoreRows)
       → rows.first ≡ row_with firsts_pair (plus_sums (sums_found firsts) (gains_of (own_first score)))
       → rows.second ≡ row_with seconds_pair (plus_sums (sums_found seconds) (gains_of (own_second score)))
       → AreNext event first second score firsts seconds rows

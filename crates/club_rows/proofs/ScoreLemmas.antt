@@ -18,8 +18,8 @@ use Rattle.club_core.specs.State.{AnyGame}
 use Rattle.club_rows.specs.NextScores.{AreNext, IsFound, pair_cells, pair_of}
 use Rattle.club_rows.specs.Scores.{Meeting, meetings, meetings_if, meetings_of, meetings_in, score_rows, scores_in}
 use Rattle.club_rows.specs.declared.scores.Pair.{Pair}
-use Rattle.club_rows.specs.declared.scores.ScorePair.{ScorePair}
-use Rattle.club_rows.proofs.ScoreRows.{rows_alter, rows_had, met_between, met_alike, met_last}
+use Rattle.club_rows.specs.declared.scores.ScoreRows.{ScoreRows}
+use Rattle.club_rows.proofs.ScoreRowLemmas.{rows_alter, rows_had, met_between, met_alike, met_last}
 
 -- ---- one game
 
@@ -67,7 +67,7 @@ module _ {DP DM DE DT SP SM SE ST : Type 0} (kinds : ClubRules DP DM DE DT SP SM
       rw is (grind arith))
 
   module _ (games : List (AnyGame DM SM)) (event first second : ℕ) (score : Score) (firsts seconds : Option ScoreRow)
-      (rows : ScorePair)
+      (rows : ScoreRows)
       (firsts_is : IsFound (scores_in kinds games) (pair_of event first second) firsts)
       (seconds_is : IsFound (scores_in kinds games) (pair_of event second first) seconds)
       (next : AreNext event first second score firsts seconds rows) where

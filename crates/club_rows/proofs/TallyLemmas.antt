@@ -12,10 +12,10 @@ use Rattle.club_rules.specs.Line.{position_after, positions, IsLegalLine, times_
 use Rattle.club_laws.proofs.Proved.{bytes_eq-same, same-bytes_eq}
 use Rattle.club_rows.specs.Tally.{IsTallyOf, PositionText, IsStood, HasStood, HasNotStood, same_text, seen_at}
 use Rattle.club_rows.specs.Tally.{stood_then, stood_seldom}
-use Rattle.club_rows.specs.declared.tally.Stood.{Stood}
-use Rattle.club_rows.specs.declared.tally.Tally.{Tally}
+use Rattle.club_rows.specs.declared.tally.Occurrences.{Occurrences}
+use Rattle.club_rows.specs.declared.tally.PositionCounts.{PositionCounts}
 
-pub few-seldom : (seen : Option Stood) (plies : ℕ) → IfSome seen (λ s. s.times ≤ plies + 1) → plies ≤ 600
+pub few-seldom : (seen : Option Occurrences) (plies : ℕ) → IfSome seen (λ s. s.times ≤ plies + 1) → plies ≤ 600
     → stood_seldom seen
 few-seldom seen plies few low = grind arith
 
@@ -27,7 +27,7 @@ module _ {P M E T : Type 0} (rules : GameRules P M E T) where
   positions-append p (n ∷ ms) m = ap (λ ps. p ∷ ps) (positions-append (rules.play p n) ms m)
 
   -- what is told of the last position of a line
-  pub last-stood : (ms : List M) (s : Stood) → HasStood rules ms (position_after rules rules.start ms) s
+  pub last-stood : (ms : List M) (s : Occurrences) → HasStood rules ms (position_after rules rules.start ms) s
       → (s.times ≡ times_stood rules rules.start ms) × FirstStands rules rules.start ms s.first_ply
   last-stood ms s is = (is.times, record { within = is.within; stands = is.stands; earliest = is.earliest })
 
@@ -65,12 +65,12 @@ module _ {P M E T : Type 0} (rules : GameRules P M E T) where
           ap (count_by (λ p. rules.same_position p q)) (positions-append rules.start ms m) ∙ omega (arith, parts)
 
       -- the last position stood once more
-      stood-last : (q : P) (seen : Option Stood) → last ≡ q → IsStood rules ms q seen
+      stood-last : (q : P) (seen : Option Occurrences) → last ≡ q → IsStood rules ms q seen
           → HasStood rules more q (stood_then seen (length ms + 1))
       stood-last q seen is stood = grind (arith, once-more q, same-yes last q is, longer, begun, whole)
 
       -- and each other one as often as before
-      stood-other : (q : P) (seen : Option Stood) → (last ≡ q → ⊥) → IsStood rules ms q seen → IsStood rules more q seen
+      stood-other : (q : P) (seen : Option Occurrences) → (last ≡ q → ⊥) → IsStood rules ms q seen → IsStood rules more q seen
       stood-other q seen not stood = grind (arith, once-more q, same-no last q not, longer, begun, whole)
 
     -- ---- tallies
@@ -92,7 +92,7 @@ module _ {P M E T : Type 0} (rules : GameRules P M E T) where
           both_ways _ differ (bytes_eq-same _ _ (one_is ∙ (ap rules.write_position same ∙ sym other_is)))
 
       -- a tally of the line without a move
-      pub tally-start : (tally : Tally) (text : PositionText) (stood : Stood) → IsTextOf text []
+      pub tally-start : (tally : PositionCounts) (text : PositionText) (stood : Occurrences) → IsTextOf text []
           → stood ≡ stood_then None 0
           → ((other : PositionText) → seen_at tally other ≡ cond (same_text text other) (Some stood) None)
           → IsTallyOf rules [] tally × HasStood rules [] rules.start stood
@@ -118,7 +118,7 @@ module _ {P M E T : Type 0} (rules : GameRules P M E T) where
             never = elim [ zero ↦ λ low here. not here | k ↦ λ low here. not here ];
           }
 
-      module _ (ms : List M) (m : M) (legal : IsLegalLine rules rules.start (ms ++ m ∷ [])) (old : Tally)
+      module _ (ms : List M) (m : M) (legal : IsLegalLine rules rules.start (ms ++ m ∷ [])) (old : PositionCounts)
           (is : IsTallyOf rules ms old) (text : PositionText) (text_is : IsTextOf text (ms ++ m ∷ [])) where
         -- how often the position stands that a move leads to
         pub stood-then : HasStood rules (ms ++ m ∷ []) (position_after rules rules.start (ms ++ m ∷ []))
@@ -126,7 +126,7 @@ module _ {P M E T : Type 0} (rules : GameRules P M E T) where
         stood-then = stood-last ms m _ (seen_at old text) refl (is.stood (ms ++ m ∷ []) text legal text_is)
 
         -- a tally of the line with one move more
-        pub tally-more : (new : Tally) (stood : Stood) → stood ≡ stood_then (seen_at old text) (length ms + 1)
+        pub tally-more : (new : PositionCounts) (stood : Occurrences) → stood ≡ stood_then (seen_at old text) (length ms + 1)
             →
             ((other : PositionText) → seen_at new other ≡ cond (same_text text other) (Some stood) (seen_at old other))
             → IsTallyOf rules (ms ++ m ∷ []) new
@@ -145,6 +145,6 @@ module _ {P M E T : Type 0} (rules : GameRules P M E T) where
         }
 
 -- what was not seen stands for the first time
-pub seen-none : (seen : Option Stood) (stood : Stood) (ply : ℕ) → seen ≡ None
+pub seen-none : (seen : Option Occurrences) (stood : Occurrences) (ply : ℕ) → seen ≡ None
     → (stood_seldom seen → stood ≡ stood_then seen ply) → stood ≡ stood_then None ply
 seen-none seen stood ply none is = rw none at is tt

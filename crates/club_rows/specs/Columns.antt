@@ -19,9 +19,9 @@ use Rattle.club_core.specs.declared.rows.Offer.{Offer}
 use Rattle.club_core.specs.Events.{Terms}
 use Rattle.club_core.specs.Game.{Entry, Game, clocks_of, moves_of, last_position, end_of, result_of, end_with}
 use Rattle.club_core.specs.View.{CanGrow}
-use Rattle.store_tables.specs.declared.rows.GameRecord.{GameRecord}
+use Rattle.store_tables.specs.declared.rows.GameTableRow.{GameTableRow}
 use Rattle.club_rows.specs.Tables.{number, side_number, end_name_text}
-use Rattle.club_rows.specs.declared.columns.StoredGame.{StoredGame}
+use Rattle.club_rows.specs.declared.columns.GameColumns.{GameColumns}
 
 -- the typed columns of a game's row
 pub record Columns : Type 0 where
@@ -78,7 +78,7 @@ pub record AreColumns (c : Columns) : Type 0 where
   pub track : CanGrow c.track
 
 -- the columns of a converted row
-abbrev pub columns_in : StoredGame → Columns
+abbrev pub columns_in : GameColumns → Columns
 columns_in told =
     record {
       id = told.id;
@@ -99,12 +99,12 @@ columns_in told =
     }
 
 -- A row is converted to its columns; None only if some value is out of range.
-abbrev pub IsReadAs : Row → Option StoredGame → Type 0
+abbrev pub IsReadAs : Row → Option GameColumns → Type 0
 IsReadAs row (Some told) = (row ≡ stored_cells (columns_in told)) × AreColumns (columns_in told)
 IsReadAs row None = (c : Columns) → AreColumns c → ¬ (row ≡ stored_cells c)
 
 -- the row has this offer, or none
-abbrev pub HasOffer : GameRecord → Option Offer → Type 0
+abbrev pub HasOffer : GameTableRow → Option Offer → Type 0
 HasOffer stored offer =
     (stored.offer_side ≡ option_map (λ o. pos (side_number o.side)) offer)
     × (stored.offer_ply ≡ option_map (λ o. pos o.ply) offer)

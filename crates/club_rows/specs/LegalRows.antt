@@ -11,11 +11,11 @@ use Rattle.club_rows.specs.Columns.{Columns, HasReplayed}
 use Rattle.club_rows.specs.MayStand.{may_declare, may_stand}
 use Rattle.club_core.specs.View.{Shows, IsSound, terms_of}
 use Rattle.store_tables.specs.Cells.{game_cells, move_cells}
-use Rattle.store_tables.specs.declared.rows.GameRecord.{GameRecord}
+use Rattle.store_tables.specs.declared.rows.GameTableRow.{GameTableRow}
 use Rattle.store_tables.specs.declared.rows.MoveRow.{MoveRow}
 use Rattle.club_rows.specs.Tables.{game_row, move_rows}
 use Rattle.club_rows.specs.Tally.{IsTallyOf}
-use Rattle.club_rows.specs.declared.view.Played.{Played}
+use Rattle.club_rows.specs.declared.view.CheckedGame.{CheckedGame}
 use Rattle.club_rows.specs.declared.view.CheckedRows.{CheckedRows}
 use Rattle.club_rows.specs.declared.view.CheckedRows.TheVariants as shown
 
@@ -30,7 +30,7 @@ pub record FitsTables {M : Type 0} (number : ℕ) (game : Game M) : Type 0 where
   pub entries : Each (λ e. e.moment ≤ last_moment) game.entries
 
 -- the row is that of this legal game, whose values fit the tables
-pub record IsRecordOf {P M E T : Type 0} (rules : GameRules P M E T) (terms : Terms) (id : ℕ) (stored : GameRecord)
+pub record IsRecordOf {P M E T : Type 0} (rules : GameRules P M E T) (terms : Terms) (id : ℕ) (stored : GameTableRow)
     (game : Game M) : Type 0 where
   pub budget : IsTrue (is_budget terms.budget)
   pub increment : IsTrue (is_increment terms.increment)
@@ -39,7 +39,7 @@ pub record IsRecordOf {P M E T : Type 0} (rules : GameRules P M E T) (terms : Te
   pub row : game_cells stored ≡ game_row rules terms id game
 
 -- the rows are those of this legal game with this id and these terms
-pub record AreRowsOf {P M E T : Type 0} (rules : GameRules P M E T) (terms : Terms) (id : ℕ) (stored : GameRecord)
+pub record AreRowsOf {P M E T : Type 0} (rules : GameRules P M E T) (terms : Terms) (id : ℕ) (stored : GameTableRow)
     (stored_moves : List MoveRow) (game : Game M) : Type 0 where
   pub budget : IsTrue (is_budget terms.budget)
   pub increment : IsTrue (is_increment terms.increment)
@@ -49,7 +49,7 @@ pub record AreRowsOf {P M E T : Type 0} (rules : GameRules P M E T) (terms : Ter
   pub moves : map move_cells stored_moves ≡ move_rows rules terms id game
 
 -- the rows are those of the moves of some legal game with the id and start of this row
-pub record HaveGameFrom {P M E T : Type 0} (rules : GameRules P M E T) (terms : Terms) (stored : GameRecord)
+pub record HaveGameFrom {P M E T : Type 0} (rules : GameRules P M E T) (terms : Terms) (stored : GameTableRow)
     (stored_moves : List MoveRow) : Type 0 where
   pub id : ℕ
   pub start : ℕ
@@ -61,12 +61,12 @@ pub record HaveGameFrom {P M E T : Type 0} (rules : GameRules P M E T) (terms : 
   pub played : IsPlayedAs rules terms id start stored_moves game
 
 -- there are no moves, or they are those of such a game
-abbrev pub AreMovesOf : {P M E T : Type 0} → GameRules P M E T → Terms → GameRecord → List MoveRow → Type 0
+abbrev pub AreMovesOf : {P M E T : Type 0} → GameRules P M E T → Terms → GameTableRow → List MoveRow → Type 0
 AreMovesOf rules terms stored stored_moves = (stored_moves ≡ []) ⊎ HaveGameFrom rules terms stored stored_moves
 
 -- the moves are the game's, and the repetition counts are those of its line
 pub record IsHistoryOf {R P M E T : Type 0} (rules : GameRules P M E T) (game : Game M)
-    (played : Played R P M E T) : Type 0 where
+    (played : CheckedGame R P M E T) : Type 0 where
   pub line : played.line.items ≡ moves_of game
   pub tally : IsTallyOf rules (moves_of game) played.tally
 
@@ -78,7 +78,7 @@ ShowsGame rules terms game shown.WrongMoves = ⊥
 ShowsGame rules terms game shown.WrongGame = ⊥
 
 -- if the outcome is a view, the rows are those of a legal game, and the view is that game's
-abbrev pub IsSoundIfShown : {R P M E T : Type 0} → GameRules P M E T → Terms → GameRecord → List MoveRow
+abbrev pub IsSoundIfShown : {R P M E T : Type 0} → GameRules P M E T → Terms → GameTableRow → List MoveRow
     → CheckedRows R P M E T → Type 0
 IsSoundIfShown {R} {P} {M} {E} {T} rules terms row moves (shown.Game played) =
     (id : ℕ) × (game : Game M) × AreRowsOf rules terms id row moves game × (terms_of played.view ≡ terms)
@@ -87,7 +87,7 @@ IsSoundIfShown rules terms row moves shown.WrongMoves = Unit {0}
 IsSoundIfShown rules terms row moves shown.WrongGame = Unit {0}
 
 -- `WrongMoves` only if the moves are wrong; `WrongGame` only if the moves are right and the row is wrong
-abbrev pub IsWrongAsTold : {R P M E T : Type 0} → GameRules P M E T → Terms → GameRecord → List MoveRow
+abbrev pub IsWrongAsTold : {R P M E T : Type 0} → GameRules P M E T → Terms → GameTableRow → List MoveRow
     → CheckedRows R P M E T → Type 0
 IsWrongAsTold rules terms row moves (shown.Game played) = Unit {0}
 IsWrongAsTold rules terms row moves shown.WrongMoves = ¬ AreMovesOf rules terms row moves
@@ -100,7 +100,7 @@ IsNoGame shown.WrongMoves = Unit {0}
 IsNoGame shown.WrongGame = Unit {0}
 
 -- `WrongMoves` if the moves are wrong, else `WrongGame`
-abbrev pub AreMovesTold : {R P M E T : Type 0} → GameRules P M E T → Terms → GameRecord → List MoveRow
+abbrev pub AreMovesTold : {R P M E T : Type 0} → GameRules P M E T → Terms → GameTableRow → List MoveRow
     → CheckedRows R P M E T → Type 0
 AreMovesTold rules terms row moves (shown.Game played) = ⊥
 AreMovesTold rules terms row moves shown.WrongMoves = ¬ AreMovesOf rules terms row moves
@@ -113,7 +113,7 @@ IsUnstarted moves shown.WrongMoves = moves ≢ []
 IsUnstarted moves shown.WrongGame = moves ≡ []
 
 -- the outcome is a game if its row is possible and has the stored columns
-abbrev pub StandsAs : {R P M E T : Type 0} → GameRules P M E T → Columns → Played R P M E T → CheckedRows R P M E T
+abbrev pub StandsAs : {R P M E T : Type 0} → GameRules P M E T → Columns → CheckedGame R P M E T → CheckedRows R P M E T
     → Type 0
 StandsAs rules c played (shown.Game p) =
     (p ≡ played) × (may_stand rules.has_draw_offers (may_declare rules played.view) played.view.row ≡ true)

@@ -13,8 +13,8 @@ use Rattle.club_rows.specs.Scores.{Meeting, meetings, wins, draws, losses, point
 use Rattle.club_rows.specs.declared.scores.Pair.{Pair}
 use Rattle.club_rows.specs.declared.scores.OwnScore.{OwnScore}
 use Rattle.club_rows.specs.declared.scores.OwnScore.TheVariants.{Won, Drew, Lost}
-use Rattle.club_rows.specs.declared.scores.ScorePair.{ScorePair}
-use Rattle.club_rows.specs.declared.scores.Sums.{Sums}
+use Rattle.club_rows.specs.declared.scores.ScoreRows.{ScoreRows}
+use Rattle.club_rows.specs.declared.scores.ScoreSums.{ScoreSums}
 
 -- ---- the lookup of a pair's row, and the two rows of a game
 
@@ -31,7 +31,7 @@ IsFound rows pair (Some found) = Has rows (score_cells found)
     × (same_key (0 ∷ 1 ∷ 2 ∷ []) (score_cells found) (pair_cells pair) ≡ true)
 
 -- the rows of First and Second sum up these ended games
-pub record AreScoresOf (ms : List Meeting) (event first second : ℕ) (rows : ScorePair) : Type 0 where
+pub record AreScoresOf (ms : List Meeting) (event first second : ℕ) (rows : ScoreRows) : Type 0 where
   pub of_first : score_cells rows.first ≡ score_row (pair_of event first second)
       (scores_of (pair_of event first second) ms)
   pub of_second : score_cells rows.second ≡ score_row (pair_of event second first)
@@ -43,7 +43,7 @@ pub record AreFound (event first second : ℕ) (firsts seconds : Option ScoreRow
   pub of_second : IsFound (score_rows ms) (pair_of event second first) seconds
 
 -- if the rows found sum up any ended games, the new rows sum up these and one more
-abbrev pub AreNext : (event first second : ℕ) → Score → (firsts seconds : Option ScoreRow) → ScorePair → Type 0
+abbrev pub AreNext : (event first second : ℕ) → Score → (firsts seconds : Option ScoreRow) → ScoreRows → Type 0
 AreNext event first second score firsts seconds rows =
     (before after : List Meeting) → AreFound event first second firsts seconds (before ++ after)
     → AreScoresOf (before ++ (meetings (pos event) (pos first) (pos second) score ++ after)) event first second rows
@@ -51,7 +51,7 @@ AreNext event first second score firsts seconds rows =
 -- ---- sums in the tables
 
 -- the sums of results
-abbrev pub sums_over : List OwnScore → Sums
+abbrev pub sums_over : List OwnScore → ScoreSums
 sums_over scores =
     record {
       points = pos (points scores);
@@ -61,12 +61,12 @@ sums_over scores =
     }
 
 -- the sums of one result
-abbrev pub gains_of : OwnScore → Sums
+abbrev pub gains_of : OwnScore → ScoreSums
 gains_of Won = record { points = pos 2; wins = pos 1; draws = pos 0; losses = pos 0 }
 gains_of Drew = record { points = pos 1; wins = pos 0; draws = pos 1; losses = pos 0 }
 gains_of Lost = record { points = pos 0; wins = pos 0; draws = pos 0; losses = pos 1 }
 
-abbrev pub plus_sums : Sums → Sums → Sums
+abbrev pub plus_sums : ScoreSums → ScoreSums → ScoreSums
 plus_sums a b =
     record {
       points = a.points +ℤ b.points;
@@ -75,21 +75,21 @@ plus_sums a b =
       losses = a.losses +ℤ b.losses;
     }
 
-pub record Fit (sums : Sums) : Type 0 where
+pub record Fit (sums : ScoreSums) : Type 0 where
   pub points : FitsSigned w64 sums.points
   pub wins : FitsSigned w64 sums.wins
   pub draws : FitsSigned w64 sums.draws
   pub losses : FitsSigned w64 sums.losses
 
-abbrev pub no_sums : Sums
+abbrev pub no_sums : ScoreSums
 no_sums = record { points = pos 0; wins = pos 0; draws = pos 0; losses = pos 0 }
 
 -- the sums of a row; zeros if there is none
-abbrev pub sums_found : Option ScoreRow → Sums
+abbrev pub sums_found : Option ScoreRow → ScoreSums
 sums_found None = no_sums
 sums_found (Some row) = record { points = row.points; wins = row.wins; draws = row.draws; losses = row.losses }
 
-abbrev pub row_with : Pair → Sums → ScoreRow
+abbrev pub row_with : Pair → ScoreSums → ScoreRow
 row_with pair sums =
     record {
       event = pair.event;

@@ -10,10 +10,10 @@ use Rattle.store_tables.specs.Cells.{move_cells}
 use Rattle.club_rows.specs.Tables.{move_rows}
 use Rattle.club_rows.specs.Tally.{HasStood}
 use Rattle.club_rows.specs.declared.row_view.PlyRows.{PlyRows}
-use Rattle.club_rows.specs.declared.tally.Stood.{Stood}
+use Rattle.club_rows.specs.declared.tally.Occurrences.{Occurrences}
 
 -- the repetition count and first ply of the game's last position
-abbrev pub HasLastStood : {P M E T : Type 0} → GameRules P M E T → Game M → Stood → Type 0
+abbrev pub HasLastStood : {P M E T : Type 0} → GameRules P M E T → Game M → Occurrences → Type 0
 HasLastStood rules game stood = HasStood rules (moves_of game) (last_position rules game) stood
 
 -- this move was played at the ply in that position, with this remaining time

@@ -14,7 +14,7 @@ use clocks::Moment;
 use club_core::Offer;
 use club_requests::values::MOST_PLIES;
 use squares::Score;
-use store_tables::GameRecord;
+use store_tables::GameTableRow;
 
 /// The greatest track number. One below the type's limit, so that it can be incremented.
 const MOST_TRACK: u32 = u32::MAX - 1;
@@ -22,7 +22,7 @@ const MOST_TRACK: u32 = u32::MAX - 1;
 /// The row of a game with its columns converted; texts are borrowed from the row.
 /// Timestamps and remaining times are in seconds.
 #[derive(Clone, Copy)]
-pub struct StoredGame<'a> {
+pub struct GameColumns<'a> {
     pub id: u32,
     pub key: Option<&'a str>,
     pub event: u32,
@@ -43,7 +43,7 @@ pub struct StoredGame<'a> {
     pub track: (u32, u32),
 }
 
-fn lent(text: &Option<String>) -> Option<&str>
+fn as_deref(text: &Option<String>) -> Option<&str>
     ensures { option_map (λ s. s.now) result ≡ option_map (λ s. string_bytes s) text.now }
 {
     match text {
@@ -54,7 +54,7 @@ fn lent(text: &Option<String>) -> Option<&str>
 
 // Parses the columns of the draw offer; Some(None) if there is no offer. None if only one column is NULL, or a value is
 // out of range.
-fn offer_in(row: &GameRecord) -> Option<Option<Offer>>
+fn offer_in(row: &GameTableRow) -> Option<Option<Offer>>
     ensures some { IfSome result (HasOffer row.now) }
     ensures range { IfSome result (λ offer. IfSome offer (λ o. o.ply < 2 ^ 32)) }
     ensures none { result ≡ None → (offer : Option Offer) → IfSome offer (λ o. o.ply < 2 ^ 32) →
@@ -77,7 +77,7 @@ fn offer_in(row: &GameRecord) -> Option<Option<Offer>>
 }
 
 // Parses column `result`; Some(None) if it is NULL. None if the text is not a score.
-fn result_in(row: &GameRecord) -> Option<Option<Score>>
+fn result_in(row: &GameTableRow) -> Option<Option<Score>>
     ensures some { IfSome result (λ score. option_map (λ s. string_bytes s) row.now.result
         ≡ option_map score_text score) }
     ensures none { result ≡ None → (score : Option Score) → option_map (λ s. string_bytes s) row.now.result
@@ -93,25 +93,25 @@ fn result_in(row: &GameRecord) -> Option<Option<Score>>
 }
 
 /// Converts the row of a game. None if a value is out of range.
-pub fn stored_game(row: &GameRecord) -> Option<StoredGame<'_>>
+pub fn stored_game(row: &GameTableRow) -> Option<GameColumns<'_>>
     ensures { IsReadAs (game_cells row.now) result }
 {
     let id = numbers::id(row.id)?;
     let event = numbers::id(row.event)?;
     let first = numbers::id(row.first)?;
     let second = numbers::id(row.second)?;
-    let start = numbers::moment(row.start)?;
-    let since = numbers::moment(row.since)?;
+    let start = numbers::to_moment(row.start)?;
+    let since = numbers::to_moment(row.since)?;
     let plies = numbers::at_most(row.plies, MOST_PLIES)?;
-    let left_first = numbers::counted(row.left1)?;
-    let left_second = numbers::counted(row.left2)?;
+    let left_first = numbers::to_u64(row.left1)?;
+    let left_second = numbers::to_u64(row.left2)?;
     let offer = offer_in(row)?;
     let result = result_in(row)?;
     let track_first = numbers::at_most(row.track_a, MOST_TRACK)?;
     let track_second = numbers::at_most(row.track_b, MOST_TRACK)?;
-    Some(StoredGame {
+    Some(GameColumns {
         id,
-        key: lent(&row.key),
+        key: as_deref(&row.key),
         event,
         first,
         second,
@@ -121,7 +121,7 @@ pub fn stored_game(row: &GameRecord) -> Option<StoredGame<'_>>
         left_first,
         left_second,
         offer,
-        end: lent(&row.end),
+        end: as_deref(&row.end),
         result,
         position: row.position.as_str(),
         track: (track_first, track_second),

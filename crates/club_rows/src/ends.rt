@@ -61,7 +61,7 @@ pub fn score_of(text: &str) -> Option<Score>
 
 /// Parses an end that the rules do not decide (resignation, agreement, time, declaration, record). None if it is no
 /// such name, or a recorded end has no score.
-pub fn outside_of(name: &str, score: Option<Score>) -> Option<OutsideEnd>
+pub fn parse_outside_end(name: &str, score: Option<Score>) -> Option<OutsideEnd>
     ensures found { (end : OutsideEnd) → name.now ≡ outside_text end → ((s : Score) → end ≡ Recorded s →
         score ≡ Some s) → result ≡ Some end }
     ensures only { IfSome result (λ end. (name.now ≡ outside_text end) ×

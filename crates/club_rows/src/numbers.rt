@@ -6,7 +6,7 @@ ghost use Rattle.club_rows.specs.Tables.{declares_number};
 use clocks::Moment;
 
 /// Converts a number to a column; `i64::MAX` if it is too large.
-pub fn stored(number: u64) -> i64
+pub fn to_i64(number: u64) -> i64
     ensures { number < 2 ^ 63 → result ≡ pos number }
 {
     match i64::try_from(number) {
@@ -16,7 +16,7 @@ pub fn stored(number: u64) -> i64
 }
 
 /// Converts a column to a number. None if it is negative.
-pub fn counted(number: i64) -> Option<u64>
+pub fn to_u64(number: i64) -> Option<u64>
     ensures some { IfSome result (λ n. pos n ≡ number) }
     ensures range { IfSome result (λ n. n < 2 ^ 63) }
     ensures none { result ≡ None → (n : ℕ) → number ≢ pos n }
@@ -52,12 +52,12 @@ pub fn at_most(number: i64, most: u32) -> Option<u32>
 }
 
 /// Converts a column to a timestamp in Unix seconds. None if it is outside 0..=253402300799.
-pub fn moment(seconds: i64) -> Option<Moment>
+pub fn to_moment(seconds: i64) -> Option<Moment>
     ensures some { IfSome result (λ m. pos m ≡ seconds) }
     ensures range { IfSome result (λ m. m ≤ 253_402_300_799) }
     ensures none { result ≡ None → (n : ℕ) → n ≤ 253_402_300_799 → seconds ≢ pos n }
 {
-    match counted(seconds) {
+    match to_u64(seconds) {
         Some(seconds) => Moment::new(seconds),
         None => None,
     }

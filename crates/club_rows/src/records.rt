@@ -12,22 +12,22 @@ ghost use Rattle.club_rows.specs.Made.{made_row};
 ghost use Rattle.club_rows.specs.Tables.{number, side_number, game_row, end_name_text};
 
 use crate::ends::{end_name, side_number};
-use crate::numbers::stored;
+use crate::numbers::to_i64;
 use clocks::Moment;
 use club_core::rows::copy_key;
 use club_core::{GameRow, Offer};
-use club_requests::Moved;
+use club_requests::MoveAnswer;
 use club_rules::{Memory, Rules};
 use squares::Score;
 use std::alloc::Global;
-use store_tables::{GameRecord, MoveRow};
+use store_tables::{GameTableRow, MoveRow};
 
 /// Copies an optional text.
 ///
 /// # Errors
 ///
 /// `Memory` if out of memory.
-pub fn owned(alloc: Global, text: Option<&str>) -> Result<Option<String>, Memory>
+pub fn to_owned_text(alloc: Global, text: Option<&str>) -> Result<Option<String>, Memory>
     ensures { IfOk result (λ copy. option_map (λ s. string_bytes s) copy ≡ option_map (λ s. s.now) text.entry) }
 {
     match text {
@@ -83,7 +83,7 @@ pub fn record_of<R: Rules>(
     alloc: Global,
     id: u32,
     row: &GameRow<R::End>,
-) -> Result<GameRecord, Memory>
+) -> Result<GameTableRow, Memory>
     // Seconds below 2^63 are stored exactly.
     ensures { IfOk result (λ r. row.now.left_first < 2 ^ 63 → row.now.left_second < 2 ^ 63 →
         (terms : Terms) (game : Game R.Move) → IsRowOf R.rules terms game row.now →
@@ -93,17 +93,17 @@ pub fn record_of<R: Rules>(
     let end = end_text::<R>(alloc, row)?;
     let result = score_text(alloc, row.result)?;
     let position = row.position.clone()?;
-    Ok(GameRecord {
+    Ok(GameTableRow {
         id: i64::from(id),
         key,
         event: i64::from(row.event),
         first: i64::from(row.first),
         second: i64::from(row.second),
-        start: stored(row.start.seconds()),
-        since: stored(row.since.seconds()),
+        start: to_i64(row.start.seconds()),
+        since: to_i64(row.since.seconds()),
         plies: i64::from(row.plies),
-        left1: stored(row.left_first),
-        left2: stored(row.left_second),
+        left1: to_i64(row.left_first),
+        left2: to_i64(row.left_second),
         offer_side: offer_side(row.offer),
         offer_ply: offer_ply(row.offer),
         end,
@@ -119,7 +119,7 @@ pub fn record_of<R: Rules>(
 /// # Errors
 ///
 /// `Memory` if out of memory.
-pub fn move_row(game: u32, moved: &Moved, moment: Moment) -> Result<MoveRow, Memory>
+pub fn move_row(game: u32, moved: &MoveAnswer, moment: Moment) -> Result<MoveRow, Memory>
     // Seconds below 2^63 are stored exactly.
     ensures { IfOk result (λ r. moved.now.left < 2 ^ 63 →
         move_cells r ≡ made_row game (move_reply_of moved.now) moment) }
@@ -130,8 +130,8 @@ pub fn move_row(game: u32, moved: &Moved, moment: Moment) -> Result<MoveRow, Mem
         game: i64::from(game),
         ply: i64::from(moved.ply),
         text,
-        moment: stored(moment.seconds()),
-        left: stored(moved.left),
+        moment: to_i64(moment.seconds()),
+        left: to_i64(moved.left),
         position,
     })
 }

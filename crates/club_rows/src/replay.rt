@@ -12,8 +12,8 @@ ghost use Rattle.club_rows.specs.Tally.{PositionText, same_text, seen_at, stood_
 ghost use Rattle.club_rows.specs.Replay.{IsCounted, IsReplayed, TakesTime, IsNext, Replays, Follows, WasReplayed};
 ghost use Rattle.club_rows.specs.Replay.{IsPlayedAs, left_in, clocks_replayed, terms_with, terms_given};
 
-use crate::numbers::{moment, stored};
-use crate::tally::{Stood, Tally};
+use crate::numbers::{to_i64, to_moment};
+use crate::tally::{Occurrences, PositionCounts};
 use clocks::{Clock, Moment};
 use club_requests::values::{MOST_PLIES, is_budget, is_increment};
 use club_rules::{Memory, Rules};
@@ -40,9 +40,9 @@ pub struct Replayed<R: Rules> {
     pub since: Moment,
     /// The state that the rules keep beside the position.
     pub track: R::Track,
-    pub tally: Tally,
+    pub tally: PositionCounts,
     /// The repetition count of the last position.
-    pub stood: Stood,
+    pub stood: Occurrences,
 }
 
 /// A legal next move and the state after it.
@@ -109,7 +109,7 @@ fn start<R: Rules>(alloc: Global, budget: u64, start: Moment) -> Result<Replayed
 {
     let position = R::start();
     let text = R::write_position(alloc, &position)?;
-    let mut tally = Tally::new(alloc);
+    let mut tally = PositionCounts::new(alloc);
     let stood = tally.add(text, 0)?;
     Ok(Replayed {
         track: R::track_start(&position),
@@ -135,7 +135,7 @@ fn clock_after<R: Rules>(
     ensures some { IfSome result (λ after. TakesTime game.now turn increment row.now after.0 after.1) }
     ensures none { result ≡ None → (moment left : ℕ) → ¬ TakesTime game.now turn increment row.now moment left }
 {
-    let moment = match moment(row.moment) {
+    let moment = match to_moment(row.moment) {
         Some(moment) => moment,
         None => return None,
     };
@@ -147,7 +147,7 @@ fn clock_after<R: Rules>(
         Ok(after) => after,
         Err(_) => return None,
     };
-    if stored(after.left) != row.left {
+    if to_i64(after.left) != row.left {
         return None;
     }
     Some((moment, after.left))
@@ -157,7 +157,7 @@ fn clock_after<R: Rules>(
 pub(crate) fn end_of<R: Rules>(game: &Replayed<R>) -> Option<R::End>
     requires line { IsPlayedLine R.rules R.rules.start game.now.line.items }
     requires position { game.now.position ≡ position_after R.rules R.rules.start game.now.line.items }
-    requires counted { IsCounted R.rules game.now }
+    requires to_u64 { IsCounted R.rules game.now }
     ensures { result ≡ R.rules.judge R.rules.start game.now.line.items }
 {
     let plies = game.line.len();
@@ -184,7 +184,7 @@ fn next_of<R: Rules>(
     requires plies { length game.now.line.items < 600 }
     requires line { IsPlayedLine R.rules R.rules.start game.now.line.items }
     requires position { game.now.position ≡ position_after R.rules R.rules.start game.now.line.items }
-    requires counted { IsCounted R.rules game.now }
+    requires to_u64 { IsCounted R.rules game.now }
     ensures some { IfOk result (λ found. IfSome found (λ next. IsNext R.rules increment id game.now row.now next.made
         next.moment next.left)) }
     ensures after { IfOk result (λ found. IfSome found (λ next. next.position
@@ -201,7 +201,7 @@ fn next_of<R: Rules>(
     if row.game != i64::from(id) {
         return Ok(None);
     }
-    if row.ply != stored(game.line.len() as u64 + 1) {
+    if row.ply != to_i64(game.line.len() as u64 + 1) {
         return Ok(None);
     }
     let made = match move_of::<R>(alloc, &game.position, row.text.as_str())? {

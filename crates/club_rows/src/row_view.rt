@@ -13,24 +13,24 @@ ghost use Rattle.club_rows.specs.Columns.{columns_in, columns_of};
 ghost use Rattle.club_rows.specs.RowView.{HasLastStood, AreRowsAt, IsPlayed};
 ghost use Rattle.club_rows.specs.LegalRows.{IsRecordOf};
 
-use crate::columns::{StoredGame, stored_game};
-use crate::numbers::counted;
-use crate::records::owned;
+use crate::columns::{GameColumns, stored_game};
+use crate::numbers::to_u64;
+use crate::records::to_owned_text;
 use crate::replay::{Terms, move_of};
-use crate::tally::Stood;
+use crate::tally::Occurrences;
 use crate::view::{end_in, score_of_end};
 use club_core::{Asked, GameRow, GameView};
 use club_requests::values::{MOST_PLIES, is_increment};
 use club_rules::{Memory, Rules};
 use std::alloc::Global;
-use store_tables::{GameRecord, MoveRow};
+use store_tables::{GameTableRow, MoveRow};
 
 // Converts the stored row to the row of the game logic; `stood` is the repetition count of the last position.
 fn row_in<R: Rules>(
     alloc: Global,
-    stored: &StoredGame<'_>,
+    stored: &GameColumns<'_>,
     position: &R::Position,
-    stood: Stood,
+    stood: Occurrences,
 ) -> Result<GameRow<R::End>, Memory>
     ensures plies { IfOk result (λ new. new.plies ≡ stored.now.plies) }
     ensures left_first { IfOk result (λ new. new.left_first ≡ stored.now.left_first) }
@@ -52,7 +52,7 @@ fn row_in<R: Rules>(
     let end = end_in(stored, ruled);
     let result = score_of_end::<R>(&end, R::turn(position));
     Ok(GameRow {
-        key: owned(alloc, stored.key)?,
+        key: to_owned_text(alloc, stored.key)?,
         event: stored.event,
         first: stored.first,
         second: stored.second,
@@ -81,9 +81,9 @@ fn row_in<R: Rules>(
 /// `shows`: if this is the row of a legal game, the view is that game's; `found`: then there is a view.
 pub fn view_of_row<R: Rules>(
     alloc: Global,
-    row: &GameRecord,
+    row: &GameTableRow,
     terms: Terms,
-    stood: Stood,
+    stood: Occurrences,
 ) -> Result<Option<GameView<R>>, Memory>
     ensures sound { IfOk result (λ found. IfSome found (IsSound R.rules)) }
     ensures terms { IfOk result (λ found. IfSome found (λ view. terms_of view ≡ terms_given terms)) }
@@ -154,7 +154,7 @@ fn seconds_in(row: &MoveRow) -> Option<u64>
     ensures some { IfSome result (λ n. row.now.left ≡ pos n) }
     ensures none { result ≡ None → (n : ℕ) → row.now.left ≢ pos n }
 {
-    match counted(row.left) {
+    match to_u64(row.left) {
         Some(left) => Some(left),
         None => None,
     }
@@ -220,7 +220,7 @@ fn asked_by<R: Rules>(alloc: Global, ply: u64, rows: &PlyRows) -> Result<Option<
 /// # Guarantees
 ///
 /// `ply`: if these are the game's rows, the view has the move of the ply, or None if it was not played.
-pub fn ask_rows<R: Rules>(
+pub fn with_ply<R: Rules>(
     alloc: Global,
     view: GameView<R>,
     ply: u64,

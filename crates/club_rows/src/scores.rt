@@ -8,7 +8,7 @@ ghost use Rattle.club_rows.specs.Pairs.{firsts_pair, pair_in, seconds_pair};
 ghost use Rattle.club_rows.specs.Scores.{Meeting, own_first, own_second};
 
 use squares::Score;
-use store_tables::{GameRecord, ScoreRow};
+use store_tables::{GameTableRow, ScoreRow};
 
 /// The key of a row of `scores`: a member and an opponent in an event.
 #[derive(Clone, Copy, Debug, PartialEq, Eq, Hash)]
@@ -30,7 +30,7 @@ pub fn pair_in(row: &ScoreRow) -> Pair
 }
 
 /// The key of the row of First's score in a game.
-pub fn firsts_pair(game: &GameRecord) -> Pair
+pub fn firsts_pair(game: &GameTableRow) -> Pair
     ensures { result ≡ firsts_pair game.now }
 {
     Pair {
@@ -41,7 +41,7 @@ pub fn firsts_pair(game: &GameRecord) -> Pair
 }
 
 /// The key of the row of Second's score in a game.
-pub fn seconds_pair(game: &GameRecord) -> Pair
+pub fn seconds_pair(game: &GameTableRow) -> Pair
     ensures { result ≡ seconds_pair game.now }
 {
     Pair {
@@ -85,14 +85,14 @@ impl OwnScore {
 
 /// The rows of a game's two players: First against Second, and Second against First.
 #[derive(Debug, PartialEq, Drop)]
-pub struct ScorePair {
+pub struct ScoreRows {
     pub first: ScoreRow,
     pub second: ScoreRow,
 }
 
 /// Sums of points (2 for a win, 1 for a draw), wins, draws and losses.
 #[derive(Clone, Copy)]
-pub struct Sums {
+pub struct ScoreSums {
     pub points: i64,
     pub wins: i64,
     pub draws: i64,
@@ -100,7 +100,7 @@ pub struct Sums {
 }
 
 /// The sums of one result.
-pub fn gains(score: OwnScore) -> Sums
+pub fn gains(score: OwnScore) -> ScoreSums
     ensures { result ≡ gains_of score }
 {
     let (points, wins, draws, losses) = match score {
@@ -108,7 +108,7 @@ pub fn gains(score: OwnScore) -> Sums
         OwnScore::Drew => (1, 0, 1, 0),
         OwnScore::Lost => (0, 0, 0, 1),
     };
-    Sums {
+    ScoreSums {
         points,
         wins,
         draws,
@@ -117,17 +117,17 @@ pub fn gains(score: OwnScore) -> Sums
 }
 
 /// The sums of a row; zeros if there is none.
-pub fn sums_of(row: Option<&ScoreRow>) -> Sums
+pub fn sums_of(row: Option<&ScoreRow>) -> ScoreSums
     ensures { result ≡ sums_found (option_map (λ r. r.now) row.entry) }
 {
     match row {
-        Some(row) => Sums {
+        Some(row) => ScoreSums {
             points: row.points,
             wins: row.wins,
             draws: row.draws,
             losses: row.losses,
         },
-        None => Sums {
+        None => ScoreSums {
             points: 0,
             wins: 0,
             draws: 0,
@@ -137,7 +137,7 @@ pub fn sums_of(row: Option<&ScoreRow>) -> Sums
 }
 
 /// Adds sums. None on overflow.
-pub fn plus(sums: Sums, more: Sums) -> Option<Sums>
+pub fn add_sums(sums: ScoreSums, more: ScoreSums) -> Option<ScoreSums>
     ensures some { IfSome result (λ s. s ≡ plus_sums sums more) }
     ensures none { result ≡ None → ¬ Fit (plus_sums sums more) }
 {
@@ -145,7 +145,7 @@ pub fn plus(sums: Sums, more: Sums) -> Option<Sums>
     let wins = sums.wins.checked_add(more.wins)?;
     let draws = sums.draws.checked_add(more.draws)?;
     let losses = sums.losses.checked_add(more.losses)?;
-    Some(Sums {
+    Some(ScoreSums {
         points,
         wins,
         draws,
@@ -160,7 +160,7 @@ fn row_after(pair: Pair, found: Option<&ScoreRow>, score: OwnScore) -> Option<Sc
     ensures none { result ≡ None →
         ¬ Fit (plus_sums (sums_found (option_map (λ r. r.now) found.entry)) (gains_of score)) }
 {
-    let sums = plus(sums_of(found), gains(score))?;
+    let sums = add_sums(sums_of(found), gains(score))?;
     Some(ScoreRow {
         event: pair.event,
         member: pair.member,
@@ -195,7 +195,7 @@ pub fn score_after(
     score: Score,
     firsts: Option<&ScoreRow>,
     seconds: Option<&ScoreRow>,
-) -> Option<ScorePair>
+) -> Option<ScoreRows>
     ensures some { IfSome result (λ rows. first ≢ second →
         AreNext event first second score (option_map (λ r. r.now) firsts.entry)
         (option_map (λ r. r.now) seconds.entry) rows) }
@@ -207,7 +207,7 @@ pub fn score_after(
     let first_row = row_after(firsts_pair, firsts, OwnScore::of_first(score))?;
     let seconds_pair = pair_of(event, second, first);
     let second_row = row_after(seconds_pair, seconds, OwnScore::of_second(score))?;
-    Some(ScorePair {
+    Some(ScoreRows {
         first: first_row,
         second: second_row,
     })

@@ -9,7 +9,7 @@ ghost use Rattle.store_tables.specs.Cells.{seen_cells};
 ghost use Rattle.club_rows.specs.Seen.{seen_row, seen_rows, IsSeenRow, IsFound};
 ghost use Rattle.club_rows.specs.Tables.{with_entry};
 
-use crate::tally::Stood;
+use crate::tally::Occurrences;
 use club_rules::{Memory, Rules};
 use std::alloc::Global;
 use store_tables::SeenRow;
@@ -109,13 +109,13 @@ fn first_ply_in(row: &SeenRow) -> usize
 /// # Guarantees
 ///
 /// For the row of a game's last position these are the numbers by which the rules judge repetition.
-pub fn stood_in<R: Rules>(row: &SeenRow) -> Stood
+pub fn occurrences_in<R: Rules>(row: &SeenRow) -> Occurrences
     ensures { (id : ℕ) (game : Game R.Move) → IsLegalLine R.rules R.rules.start (moves_of game) →
         IsSeenRow R.rules id game (R.rules.write_position (last_position R.rules game)) (seen_cells row.now) →
         (result.times ≡ times_stood R.rules R.rules.start (moves_of game))
         × FirstStands R.rules R.rules.start (moves_of game) result.first_ply }
 {
-    Stood {
+    Occurrences {
         times: times_in(row),
         first_ply: first_ply_in(row),
     }

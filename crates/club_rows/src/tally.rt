@@ -11,37 +11,37 @@ use std::collections::HashMap;
 
 /// The repetition count of a position and the ply after which it first occurred.
 #[derive(Clone, Copy, Debug, PartialEq, Eq)]
-pub struct Stood {
+pub struct Occurrences {
     pub times: usize,
     pub first_ply: usize,
 }
 
 /// The repetition count of each position of a line, in a hash map: one lookup for each position.
 #[derive(Drop)]
-pub struct Tally {
-    seen: HashMap<String, Stood>,
+pub struct PositionCounts {
+    seen: HashMap<String, Occurrences>,
 }
 
-impl Tally {
+impl PositionCounts {
     /// An empty count.
-    pub fn new(alloc: Global) -> Tally
+    pub fn new(alloc: Global) -> PositionCounts
         ensures { (text : PositionText) → seen_at result text ≡ None }
     {
-        Tally {
+        PositionCounts {
             seen: HashMap::new(alloc),
         }
     }
 
     // The count of a position if it occurs once more, after that ply.
-    fn with(&self, text: &String, ply: usize) -> Stood
+    fn with(&self, text: &String, ply: usize) -> Occurrences
         ensures { stood_seldom (seen_at self.now text.now) → result ≡ stood_then (seen_at self.now text.now) ply }
     {
         match self.seen.get(text).copied() {
-            Some(stood) => Stood {
+            Some(stood) => Occurrences {
                 times: stood.times.saturating_add(1),
                 first_ply: stood.first_ply,
             },
-            None => Stood {
+            None => Occurrences {
                 times: 1,
                 first_ply: ply,
             },
@@ -53,7 +53,7 @@ impl Tally {
     /// # Errors
     ///
     /// `Memory` if out of memory.
-    pub fn add(&mut self, text: String, ply: usize) -> Result<Stood, Memory>
+    pub fn add(&mut self, text: String, ply: usize) -> Result<Occurrences, Memory>
         ensures stood { IfOk result (λ stood. stood_seldom (seen_at self.old text) →
             stood ≡ stood_then (seen_at self.old text) ply) }
         ensures adds { IfOk result (λ stood. (other : PositionText) →
@@ -69,7 +69,7 @@ impl Tally {
     /// # Guarantees
     ///
     /// Equal to the rules' `times_stood` for a legal line of at most 600 plies.
-    pub fn stood_after<R: Rules>(&self, position: &String, ply: usize) -> Stood
+    pub fn occurrences_after<R: Rules>(&self, position: &String, ply: usize) -> Occurrences
         ensures { (line : List R.Move) (made : R.Move) → IsTallyOf R.rules line self.now → length line ≤ 600 →
             IsLegalLine R.rules R.rules.start (line ++ made ∷ []) → ply ≡ length line + 1 →
             string_bytes position.now ≡ R.rules.write_position

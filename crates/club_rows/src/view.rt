@@ -16,32 +16,32 @@ ghost use Rattle.club_rows.specs.LegalRows.{AreMovesTold, AreRowsOf, IsNoGame, I
 ghost use Rattle.club_rows.specs.LegalRows.{IsWrongAsTold, ShowsGame, StandsAs};
 ghost use Rattle.club_rows.specs.MayStand.{may_have_key, may_have_offer, may_have_end, may_declare, may_stand};
 
-use crate::columns::{StoredGame, stored_game};
-use crate::ends::{end_name, outside_of};
-use crate::numbers::{id, moment};
-use crate::records::owned;
+use crate::columns::{GameColumns, stored_game};
+use crate::ends::{end_name, parse_outside_end};
+use crate::numbers::{id, to_moment};
+use crate::records::to_owned_text;
 use crate::replay::{Replayed, Terms, end_of, replay};
-use crate::tally::Tally;
+use crate::tally::PositionCounts;
 use club_core::{GameEnd, GameRow, GameView};
 use club_requests::{OutsideEnd, is_name};
 use club_rules::{Memory, Rules};
 use squares::{Score, Side};
 use std::alloc::Global;
-use store_tables::{GameRecord, MoveRow};
+use store_tables::{GameTableRow, MoveRow};
 
 // The end in the row that the rules do not decide.
-fn outside_in(stored: &StoredGame<'_>) -> Option<OutsideEnd>
+fn outside_in(stored: &GameColumns<'_>) -> Option<OutsideEnd>
     ensures { IsNamedIn (columns_in stored.now) result }
 {
     match stored.end {
-        Some(name) => outside_of(name, stored.result),
+        Some(name) => parse_outside_end(name, stored.result),
         None => None,
     }
 }
 
 // The end of a game: that of the rules if they give one, else that of the row.
 pub(crate) fn end_in<E: Copy + Drop>(
-    stored: &StoredGame<'_>,
+    stored: &GameColumns<'_>,
     ruled: Option<E>,
 ) -> Option<GameEnd<E>>
     ensures { IsEndIn (columns_in stored.now) ruled result }
@@ -72,17 +72,17 @@ pub(crate) fn score_of_end<R: Rules>(end: &Option<GameEnd<R::End>>, turn: Side) 
 
 /// A replayed game: its view, its moves and its repetition counts.
 #[derive(Drop)]
-pub struct Played<R: Rules> {
+pub struct CheckedGame<R: Rules> {
     pub view: GameView<R>,
     pub line: Vec<R::Move>,
-    pub tally: Tally,
+    pub tally: PositionCounts,
 }
 
 /// The outcome of the check of a game's rows.
 #[derive(Drop)]
 pub enum CheckedRows<R: Rules> {
     /// The rows are those of this legal game.
-    Game(Played<R>),
+    Game(CheckedGame<R>),
     /// The rows of the moves are wrong.
     WrongMoves,
     /// The moves are legal, but the row in `games` is wrong.
@@ -92,13 +92,13 @@ pub enum CheckedRows<R: Rules> {
 // The row of the game logic for a replayed game, with key, players, offer and end from the stored row.
 fn row_replayed<R: Rules>(
     alloc: Global,
-    stored: &StoredGame<'_>,
+    stored: &GameColumns<'_>,
     game: &Replayed<R>,
 ) -> Result<GameRow<R::End>, Memory>
     requires plies { length game.now.line.items ≤ 600 }
     requires line { IsPlayedLine R.rules R.rules.start game.now.line.items }
     requires position { game.now.position ≡ position_after R.rules R.rules.start game.now.line.items }
-    requires counted { IsCounted R.rules game.now }
+    requires to_u64 { IsCounted R.rules game.now }
     ensures plies { IfOk result (λ row. row.plies ≡ length game.now.line.items) }
     ensures left_first { IfOk result (λ row. row.left_first ≡ game.now.left_first) }
     ensures left_second { IfOk result (λ row. row.left_second ≡ game.now.left_second) }
@@ -111,7 +111,7 @@ fn row_replayed<R: Rules>(
     let end = end_in(stored, end_of(game));
     let result = score_of_end::<R>(&end, R::turn(&game.position));
     Ok(GameRow {
-        key: owned(alloc, stored.key)?,
+        key: to_owned_text(alloc, stored.key)?,
         event: stored.event,
         first: stored.first,
         second: stored.second,
@@ -131,10 +131,10 @@ fn row_replayed<R: Rules>(
 // The view of a replayed game.
 fn viewed<R: Rules>(
     alloc: Global,
-    stored: &StoredGame<'_>,
+    stored: &GameColumns<'_>,
     terms: Terms,
     game: Replayed<R>,
-) -> Result<Played<R>, Memory>
+) -> Result<CheckedGame<R>, Memory>
     requires increment { terms.increment ≤ 2592000 }
     requires plies { length game.line.items ≤ 600 }
     requires game { IsReplayed R.rules terms.increment (length game.line.items) game }
@@ -158,7 +158,7 @@ fn viewed<R: Rules>(
         track: game.track,
         asked: None,
     };
-    Ok(Played {
+    Ok(CheckedGame {
         view,
         line: game.line,
         tally: game.tally,
@@ -265,7 +265,7 @@ fn is_end<R: Rules>(end: &Option<GameEnd<R::End>>, stored: Option<&str>) -> bool
 }
 
 // Whether the stored row has the values that follow from the replayed moves.
-fn has_replayed<R: Rules>(row: &GameRow<R::End>, stored: &StoredGame<'_>) -> bool
+fn has_replayed<R: Rules>(row: &GameRow<R::End>, stored: &GameColumns<'_>) -> bool
     ensures sound { result ≡ true → HasReplayed R.rules row.now (columns_in stored.now) }
     ensures complete { HasReplayed R.rules row.now (columns_in stored.now) → result ≡ true }
 {
@@ -281,7 +281,7 @@ fn has_replayed<R: Rules>(row: &GameRow<R::End>, stored: &StoredGame<'_>) -> boo
 }
 
 // Checks the stored row against the replayed game.
-fn stands<R: Rules>(stored: &StoredGame<'_>, played: Played<R>) -> CheckedRows<R>
+fn stands<R: Rules>(stored: &GameColumns<'_>, played: CheckedGame<R>) -> CheckedRows<R>
     requires { played.view.row.plies ≤ 600 }
     ensures { StandsAs R.rules (columns_in stored.now) played result }
 {
@@ -309,7 +309,7 @@ fn shown_without_start<R: Rules>(moves: &[MoveRow]) -> CheckedRows<R>
 // The outcome if the row is invalid: whether the moves are legal for its id and start.
 fn without_row<R: Rules>(
     alloc: Global,
-    row: &GameRecord,
+    row: &GameTableRow,
     terms: Terms,
     moves: &[MoveRow],
 ) -> Result<CheckedRows<R>, Memory>
@@ -321,7 +321,7 @@ fn without_row<R: Rules>(
         Some(number) => number,
         None => return Ok(shown_without_start(moves)),
     };
-    let start = match moment(row.start) {
+    let start = match to_moment(row.start) {
         Some(start) => start,
         None => return Ok(shown_without_start(moves)),
     };
@@ -343,7 +343,7 @@ fn without_row<R: Rules>(
 /// - `wrong`: `WrongMoves` takes precedence, whatever else is wrong with the row.
 pub fn view_of<R: Rules>(
     alloc: Global,
-    row: &GameRecord,
+    row: &GameTableRow,
     terms: Terms,
     moves: &[MoveRow],
 ) -> Result<CheckedRows<R>, Memory>

@@ -2,7 +2,7 @@
 use Rattle.std.proofs.Common.{◌≡◌, ℕ, zero, suc, List, [], ◌∷◌, ◌++◌, take, Some, Ok, ap, ◌∙◌, rules, drop}
 use Rattle.std.proofs.Common.{get_or, sym, drop-cons, add-one, ◌+◌, ◌<◌, length}
 use Rattle.std.specs.Prelude.{slice_get}
-use Rattle.game_lines.proofs.Proved.{last_position-append}
+use Rattle.game_history.proofs.Proved.{last_position-append}
 use Rattle.squares.specs.Sides.{other}
 use Rattle.club_rules.specs.GameRules.{GameRules}
 use Rattle.club_rules.specs.Line.{position_after, IsLegalLine}

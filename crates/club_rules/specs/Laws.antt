@@ -34,7 +34,7 @@ module _ {P M E T : Type 0} (rules : GameRules P M E T) where
   abbrev pub ReadsBack : Type 0
   ReadsBack = (p : P) (m : M) → rules.check p m ≡ Ok tt → rules.read_move p (rules.write_move p m) ≡ Ok m
 
-  -- `same` is equality of moves
+  -- `is_same_move` is equality of moves
   abbrev pub SameIs : Type 0
   SameIs = (a b : M) → (rules.same a b ≡ true) ↔ (a ≡ b)
 

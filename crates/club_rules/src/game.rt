@@ -56,7 +56,7 @@ pub trait Rules {
         ensures { IfOk result (λ moves. IsLegalList rules position.now moves.items) };
 
     /// Whether two moves are equal.
-    fn same(a: &Self::Move, b: &Self::Move) -> bool
+    fn is_same_move(a: &Self::Move, b: &Self::Move) -> bool
         ensures { result ≡ rules.same a.now b.now };
 
     /// The position after a legal move.
@@ -160,7 +160,7 @@ pub trait Rules {
     /// The text written for a legal move is read as that move.
     ghost reads_back: { ReadsBack rules };
 
-    /// `same` is equality of moves.
+    /// `is_same_move` is equality of moves.
     ghost same_is: { SameIs rules };
 
     /// `same_position` of the specification is equality of positions.

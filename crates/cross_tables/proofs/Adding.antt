@@ -12,8 +12,8 @@ use Rattle.std.proofs.lemmas.List.{get_or-set_same}
 use Rattle.std.proofs.lemmas.List.Sums.{sum_by-cons, sum_by-set, sum_by-remove, sum_by_push, sum_by-take-le}
 use Rattle.std.proofs.lemmas.List.Sums.{get_or-le-sum_by}
 use Rattle.std.proofs.lemmas.List.Sorted.{sum_by-IsPermutation}
-use Rattle.cross_tables.specs.declared.sums.Sums.{Sums}
-use Rattle.cross_tables.specs.declared.sums.Scored.{Scored}
+use Rattle.cross_tables.specs.declared.sums.ScoreTotals.{ScoreTotals}
+use Rattle.cross_tables.specs.declared.sums.OpponentScore.{OpponentScore}
 use Rattle.cross_tables.specs.declared.standings.Standing.{Standing}
 use Rattle.cross_tables.specs.Totals.{AreTotals, Fit, IsEachOnce, plus_sums, raised, total, totals, shown, times}
 
@@ -45,7 +45,7 @@ pub stands-here : (m : ℕ) (xs : List Standing) (i : ℕ) (d : Standing) → i 
 stands-here m xs i d h is =
     grind (arith, common_steps, get_or-le-sum_by (λ s. if s.member == m then 1 else 0) xs i d h)
 
-none-shown : (part : Sums → ℕ) (m : ℕ) (xs : List Standing) → times m xs ≡ 0 → shown part m xs ≡ 0
+none-shown : (part : ScoreTotals → ℕ) (m : ℕ) (xs : List Standing) → times m xs ≡ 0 → shown part m xs ≡ 0
 none-shown part m [] h = refl
 none-shown part m (x ∷ xs) h = grind (
   arith,
@@ -64,9 +64,9 @@ position-none p xs e = none-counted p xs (grind (arith, common_steps))
 
 -- ---- at a place
 
-module _ (xs : List Standing) (rows : List Scored) (t : AreTotals xs rows) (i : ℕ) (d : Standing)
+module _ (xs : List Standing) (rows : List OpponentScore) (t : AreTotals xs rows) (i : ℕ) (d : Standing)
     (h : i < length xs) where
-  part-at : (part : Sums → ℕ) → ((member : ℕ) → shown part member xs ≡ total part member rows)
+  part-at : (part : ScoreTotals → ℕ) → ((member : ℕ) → shown part member xs ≡ total part member rows)
       → part (get_or xs i d).sums ≡ total part (get_or xs i d).member rows
   part-at part e =
       let m = (get_or xs i d).member in
@@ -91,7 +91,7 @@ module _ (xs : List Standing) (rows : List Scored) (t : AreTotals xs rows) (i : 
       }
 
 -- what does not fit in a beginning does not fit in the whole
-pub Fit-take : (rows : List Scored) (i m : ℕ) → Fit (totals m rows) → Fit (totals m (take i rows))
+pub Fit-take : (rows : List OpponentScore) (i m : ℕ) → Fit (totals m rows) → Fit (totals m (take i rows))
 Fit-take rows i m fit =
     record {
       points = omega (arith, sum_by-take-le (λ r. if r.member == m then r.sums.points else 0) rows i, fit.points);
@@ -102,8 +102,8 @@ Fit-take rows i m fit =
 
 -- ---- in another order
 
-module _ (xs ys : List Standing) (rows : List Scored) (same : IsPermutation xs ys) (t : AreTotals xs rows) where
-  shown-same : (part : Sums → ℕ) (member : ℕ) → shown part member ys ≡ shown part member xs
+module _ (xs ys : List Standing) (rows : List OpponentScore) (same : IsPermutation xs ys) (t : AreTotals xs rows) where
+  shown-same : (part : ScoreTotals → ℕ) (member : ℕ) → shown part member ys ≡ shown part member xs
   shown-same part member = sum_by-IsPermutation (λ s. if s.member == member then part s.sums else 0) xs ys same
 
   pub AreTotals-permutation : AreTotals ys rows
@@ -121,16 +121,16 @@ module _ (xs ys : List Standing) (rows : List Scored) (same : IsPermutation xs y
 -- ---- with one row more
 
 -- standings with the row's sums, those of its member being among them
-module _ (xs ys : List Standing) (rows : List Scored) (row : Scored) (t : AreTotals xs rows) (once : IsEachOnce ys)
+module _ (xs ys : List Standing) (rows : List OpponentScore) (row : OpponentScore) (t : AreTotals xs rows) (once : IsEachOnce ys)
     (stand : (m : ℕ) → (0 < times m xs + adds (row.member == m) 1 → 0 < times m ys)
     × (0 < times m ys → 0 < times m xs + adds (row.member == m) 1))
-    (grown : (part : Sums → ℕ) → ((a b : Sums) → part (plus_sums a b) ≡ part a + part b) → (m : ℕ)
+    (grown : (part : ScoreTotals → ℕ) → ((a b : ScoreTotals) → part (plus_sums a b) ≡ part a + part b) → (m : ℕ)
     → shown part m ys ≡ shown part m xs + adds (row.member == m) (part row.sums)) where
-  total-more : (part : Sums → ℕ) (m : ℕ)
+  total-more : (part : ScoreTotals → ℕ) (m : ℕ)
       → total part m (rows ++ row ∷ []) ≡ total part m rows + adds (row.member == m) (part row.sums)
   total-more part m = sum_by_push (λ r. if r.member == m then part r.sums else 0) rows row
 
-  part-more : (part : Sums → ℕ) → ((a b : Sums) → part (plus_sums a b) ≡ part a + part b)
+  part-more : (part : ScoreTotals → ℕ) → ((a b : ScoreTotals) → part (plus_sums a b) ≡ part a + part b)
       → ((m : ℕ) → shown part m xs ≡ total part m rows) → (m : ℕ)
       → shown part m ys ≡ total part m (rows ++ row ∷ [])
   part-more part e before m = omega (arith, grown part e m, before m, total-more part m)
@@ -148,12 +148,12 @@ module _ (xs ys : List Standing) (rows : List Scored) (row : Scored) (t : AreTot
       }
 
 -- a member who stands
-module _ (xs : List Standing) (rows : List Scored) (row : Scored) (i : ℕ) (d : Standing) (h : i < length xs)
+module _ (xs : List Standing) (rows : List OpponentScore) (row : OpponentScore) (i : ℕ) (d : Standing) (h : i < length xs)
     (same : (get_or xs i d).member ≡ row.member) (t : AreTotals xs rows) where
   abbrev now : Standing
   now = raised (get_or xs i d) row.sums
 
-  shown-raised : (part : Sums → ℕ) (more : ℕ) → part now.sums ≡ part (get_or xs i d).sums + more → (m : ℕ)
+  shown-raised : (part : ScoreTotals → ℕ) (more : ℕ) → part now.sums ≡ part (get_or xs i d).sums + more → (m : ℕ)
       → shown part m (set xs i now) ≡ shown part m xs + adds (row.member == m) more
   shown-raised part more e m =
       grind (arith, common_steps, e, same, sum_by-set (λ s. if s.member == m then part s.sums else 0) xs i now d h)
@@ -177,12 +177,12 @@ module _ (xs : List Standing) (rows : List Scored) (row : Scored) (i : ℕ) (d :
       subst Fit (sym is) (subst (λ m. Fit (totals m (rows ++ row ∷ []))) (sym same) fit)
 
 -- a member who does not stand yet
-module _ (xs : List Standing) (rows : List Scored) (row : Scored) (absent : times row.member xs ≡ 0)
+module _ (xs : List Standing) (rows : List OpponentScore) (row : OpponentScore) (absent : times row.member xs ≡ 0)
     (t : AreTotals xs rows) where
   abbrev entered : List Standing
   entered = xs ++ record { member = row.member; sums = row.sums } ∷ []
 
-  shown-more : (part : Sums → ℕ) (m : ℕ)
+  shown-more : (part : ScoreTotals → ℕ) (m : ℕ)
       → shown part m entered ≡ shown part m xs + adds (row.member == m) (part row.sums)
   shown-more part m = sum_by_push (λ s. if s.member == m then part s.sums else 0) xs _
 

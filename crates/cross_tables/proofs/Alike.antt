@@ -4,7 +4,7 @@ use Rattle.std.proofs.Common.{ap, subst, arith}
 use Rattle.std.specs.Cmp.{IsStrictWeakOrder}
 use Rattle.std.proofs.lemmas.Grind.{common_steps}
 use Rattle.std.proofs.lemmas.List.Sorted.{sorted_far}
-use Rattle.cross_tables.specs.declared.sums.Scored.{Scored}
+use Rattle.cross_tables.specs.declared.sums.OpponentScore.{OpponentScore}
 use Rattle.cross_tables.specs.declared.standings.Standing.{Standing}
 use Rattle.cross_tables.specs.Totals.{AreTotals, totals, times}
 use Rattle.cross_tables.specs.Places.{AreRanked, precedes}
@@ -21,7 +21,7 @@ precedes_is_order =
 ties-member : (x y : Standing) → precedes x y ≡ false → precedes y x ≡ false → x.member ≡ y.member
 ties-member x y = grind (arith, common_steps)
 
-module _ (rows : List Scored) where
+module _ (rows : List OpponentScore) where
   -- each says what its member scored, and of any two the later one does not come before the other
   record AreInOrder (xs : List Standing) : Type 0 where
     own : (i : ℕ) (d : Standing) → i < length xs → (get_or xs i d).sums ≡ totals (get_or xs i d).member rows
@@ -77,7 +77,7 @@ module _ (rows : List Scored) where
 one-or-none : (n k : ℕ) → n ≤ 1 → k ≤ 1 → (0 < n → 0 < k) → (0 < k → 0 < n) → n ≡ k
 one-or-none n k low few to back = grind (arith, to, back)
 
-pub only-one : (xs ys : List Standing) (rows : List Scored) → AreTotals xs rows → AreTotals ys rows → AreRanked xs
+pub only-one : (xs ys : List Standing) (rows : List OpponentScore) → AreTotals xs rows → AreTotals ys rows → AreRanked xs
     → AreRanked ys → xs ≡ ys
 only-one xs ys rows tx ty rx ry =
     alike rows xs ys (in-order rows xs tx rx) (in-order rows ys ty ry)

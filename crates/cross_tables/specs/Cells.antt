@@ -2,20 +2,20 @@
 use Rattle.std.specs.Prelude.{◌==◌, ◌&&◌, ℕ, List, Option, Some, None, codes, if◌then◌else◌}
 use Rattle.std.specs.List.{find}
 use Rattle.std.specs.Fmt.{decimal}
-use Rattle.cross_tables.specs.declared.sums.Scored.{Scored}
+use Rattle.cross_tables.specs.declared.sums.OpponentScore.{OpponentScore}
 use Rattle.cross_tables.specs.declared.cells.Cell.{Cell}
 use Rattle.cross_tables.specs.declared.cells.Cell.TheVariants.{Oneself, Unplayed, Points}
 
 -- The cell of a score row, or `Unplayed` if there is none.
-abbrev pub points_cell : Option Scored → Cell
+abbrev pub points_cell : Option OpponentScore → Cell
 points_cell None = Unplayed
 points_cell (Some row) = Points row.sums.points
 
 -- The score row of a member against another one, among the rows of an event.
-abbrev pub row_of : List Scored → ℕ → ℕ → Option Scored
+abbrev pub row_of : List OpponentScore → ℕ → ℕ → Option OpponentScore
 row_of rows member other = find (λ row. row.member == member && row.opponent == other) rows
 
-abbrev pub cell_of : List Scored → ℕ → ℕ → Cell
+abbrev pub cell_of : List OpponentScore → ℕ → ℕ → Cell
 cell_of rows member other = if member == other then Oneself else points_cell (row_of rows member other)
 
 abbrev pub cell_text : Cell → List ℕ

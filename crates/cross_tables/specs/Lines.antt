@@ -2,7 +2,7 @@
 use Rattle.std.specs.Prelude.{◌-◌, ℕ, List, ◌++◌, length, codes}
 use Rattle.std.specs.List.{flat_map, repeat}
 use Rattle.std.specs.Fmt.{decimal}
-use Rattle.cross_tables.specs.declared.sums.Sums.{Sums}
+use Rattle.cross_tables.specs.declared.sums.ScoreTotals.{ScoreTotals}
 use Rattle.cross_tables.specs.declared.cells.Cell.{Cell}
 use Rattle.cross_tables.specs.Totals.{games}
 use Rattle.cross_tables.specs.Cells.{cell_text}
@@ -21,7 +21,7 @@ abbrev pub number_in : ℕ → ℕ → List ℕ
 number_in width number = right_in width (decimal number)
 
 -- Points, games, wins, draws and losses.
-abbrev pub sums_text : Sums → List ℕ
+abbrev pub sums_text : ScoreTotals → List ℕ
 sums_text sums =
     number_in 6 sums.points
     ++ (number_in 6 (games sums) ++ (number_in 6 sums.wins ++ (number_in 6 sums.draws ++ number_in 6 sums.losses)))
@@ -33,6 +33,6 @@ abbrev pub header_text : List ℕ → List ℕ
 header_text event = codes "Event " ++ event
 
 -- Place, name, totals, and a cell for each member of the table.
-abbrev pub line_text : ℕ → List ℕ → Sums → List Cell → List ℕ
+abbrev pub line_text : ℕ → List ℕ → ScoreTotals → List Cell → List ℕ
 line_text place name sums cells =
     number_in 3 place ++ (codes " " ++ (left_in 24 name ++ (sums_text sums ++ cells_text cells)))

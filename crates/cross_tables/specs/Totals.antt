@@ -1,10 +1,10 @@
 -- The totals of the members of an event.
 use Rattle.std.specs.Prelude.{◌≡◌, ◌+◌, ◌<◌, ◌≤◌, ◌^◌, ◌==◌, ℕ, List, sum_by, count_by, if◌then◌else◌}
-use Rattle.cross_tables.specs.declared.sums.Sums.{Sums}
-use Rattle.cross_tables.specs.declared.sums.Scored.{Scored}
+use Rattle.cross_tables.specs.declared.sums.ScoreTotals.{ScoreTotals}
+use Rattle.cross_tables.specs.declared.sums.OpponentScore.{OpponentScore}
 use Rattle.cross_tables.specs.declared.standings.Standing.{Standing}
 
-abbrev pub plus_sums : Sums → Sums → Sums
+abbrev pub plus_sums : ScoreTotals → ScoreTotals → ScoreTotals
 plus_sums a b =
     record {
       points = a.points + b.points;
@@ -14,23 +14,23 @@ plus_sums a b =
     }
 
 -- Each of the four numbers fits in 32 bits.
-pub record Fit (sums : Sums) : Type 0 where
+pub record Fit (sums : ScoreTotals) : Type 0 where
   pub points : sums.points < 2 ^ 32
   pub wins : sums.wins < 2 ^ 32
   pub draws : sums.draws < 2 ^ 32
   pub losses : sums.losses < 2 ^ 32
 
-abbrev pub games : Sums → ℕ
+abbrev pub games : ScoreTotals → ℕ
 games sums = sums.wins + sums.draws + sums.losses
 
 -- The score rows of a member.
 
 -- One of the four numbers, summed over a member's rows.
-abbrev pub total : (Sums → ℕ) → ℕ → List Scored → ℕ
+abbrev pub total : (ScoreTotals → ℕ) → ℕ → List OpponentScore → ℕ
 total part member rows = sum_by (λ row. if row.member == member then part row.sums else 0) rows
 
 -- The totals of a member.
-abbrev pub totals : ℕ → List Scored → Sums
+abbrev pub totals : ℕ → List OpponentScore → ScoreTotals
 totals member rows =
     record {
       points = total (λ s. s.points) member rows;
@@ -40,7 +40,7 @@ totals member rows =
     }
 
 -- The number of a member's rows.
-abbrev pub rows_of : ℕ → List Scored → ℕ
+abbrev pub rows_of : ℕ → List OpponentScore → ℕ
 rows_of member rows = count_by (λ row. row.member == member) rows
 
 -- Standings.
@@ -53,11 +53,11 @@ abbrev pub IsEachOnce : List Standing → Type 0
 IsEachOnce standings = (member : ℕ) → times member standings ≤ 1
 
 -- One of the four numbers in a member's standings.
-abbrev pub shown : (Sums → ℕ) → ℕ → List Standing → ℕ
+abbrev pub shown : (ScoreTotals → ℕ) → ℕ → List Standing → ℕ
 shown part member standings = sum_by (λ s. if s.member == member then part s.sums else 0) standings
 
 -- Each member with a score row is in the standings once, with its totals, and no other member is.
-pub record AreTotals (standings : List Standing) (rows : List Scored) : Type 0 where
+pub record AreTotals (standings : List Standing) (rows : List OpponentScore) : Type 0 where
   pub once : IsEachOnce standings
   pub listed : (member : ℕ) → 0 < rows_of member rows → 0 < times member standings
   pub scored : (member : ℕ) → 0 < times member standings → 0 < rows_of member rows
@@ -67,5 +67,5 @@ pub record AreTotals (standings : List Standing) (rows : List Scored) : Type 0 w
   pub losses : (member : ℕ) → shown (λ s. s.losses) member standings ≡ total (λ s. s.losses) member rows
 
 -- A standing with more sums added.
-abbrev pub raised : Standing → Sums → Standing
+abbrev pub raised : Standing → ScoreTotals → Standing
 raised standing more = record { member = standing.member; sums = plus_sums standing.sums more }

@@ -3,11 +3,11 @@
 ghost use Rattle.std.specs.Prelude.{◌≡◌, ◌==◌, List, IfOk, map};
 ghost use Rattle.std.specs.List.{filter};
 ghost use Rattle.std.specs.Option.{option_map};
-ghost use Rattle.cross_tables.specs.declared.sums.Scored.{Scored};
+ghost use Rattle.cross_tables.specs.declared.sums.OpponentScore.{OpponentScore};
 ghost use Rattle.cross_tables.specs.Cells.{cell_of, points_cell, row_of};
 
 use crate::standings::{Standing, Standings};
-use crate::sums::Scored;
+use crate::sums::OpponentScore;
 use memory::Memory;
 use std::alloc::Global;
 use std::fmt;
@@ -39,7 +39,7 @@ impl fmt::Display for Cell {
 }
 
 // The cell of a score row, or `Unplayed` if there is none.
-fn points_cell(row: Option<&Scored>) -> Cell
+fn points_cell(row: Option<&OpponentScore>) -> Cell
     ensures { result ≡ points_cell (option_map (λ r. r.now) row.entry) }
 {
     match row {
@@ -49,7 +49,7 @@ fn points_cell(row: Option<&Scored>) -> Cell
 }
 
 // The score row of a member against another one.
-fn row_of<'a>(member: u32, other: u32, rows: &'a [Scored]) -> Option<&'a Scored>
+fn row_of<'a>(member: u32, other: u32, rows: &'a [OpponentScore]) -> Option<&'a OpponentScore>
     ensures { option_map (λ r. r.now) result ≡ row_of rows.now member other }
 {
     rows.iter()
@@ -57,7 +57,7 @@ fn row_of<'a>(member: u32, other: u32, rows: &'a [Scored]) -> Option<&'a Scored>
 }
 
 /// The cell of a member against another one, from the score rows of the event.
-pub fn cell_of(member: u32, other: u32, rows: &[Scored]) -> Cell
+pub fn cell_of(member: u32, other: u32, rows: &[OpponentScore]) -> Cell
     ensures { result ≡ cell_of rows.now member other }
 {
     if member == other {
@@ -71,7 +71,7 @@ fn cells_against(
     alloc: Global,
     member: u32,
     others: &[Standing],
-    rows: &[Scored],
+    rows: &[OpponentScore],
 ) -> Result<Vec<Cell>, Memory>
     ensures { IfOk result (λ cells. cells.items ≡ map (λ s. cell_of rows.now member s.member) others.now) }
 {
@@ -96,11 +96,11 @@ pub fn cells_of(
     alloc: Global,
     member: u32,
     standings: &Standings,
-    rows: &[Scored],
+    rows: &[OpponentScore],
 ) -> Result<Vec<Cell>, Memory>
     ensures cells { IfOk result (λ cells. cells.items ≡ map (λ s. cell_of rows.now member s.member) standings.now) }
     // The member's own rows are enough.
-    ensures own { IfOk result (λ cells. (all : List Scored) → rows.now ≡ filter (λ row. row.member == member) all →
+    ensures own { IfOk result (λ cells. (all : List OpponentScore) → rows.now ≡ filter (λ row. row.member == member) all →
         cells.items ≡ map (λ s. cell_of all member s.member) standings.now) }
 {
     let cells = cells_against(alloc, member, standings.as_slice(), rows)?;

@@ -9,4 +9,4 @@ pub mod sums;
 pub use cells::{Cell, cell_of, cells_of};
 pub use lines::{header, line};
 pub use standings::{Standing, Standings, StandingsFault};
-pub use sums::{Scored, Sums};
+pub use sums::{OpponentScore, ScoreTotals};

@@ -6,7 +6,7 @@ ghost use Rattle.cross_tables.specs.Lines.{sums_text, cells_text, header_text, l
 ghost use Rattle.cross_tables.specs.Cells.{cell_text};
 
 use crate::cells::Cell;
-use crate::sums::Sums;
+use crate::sums::ScoreTotals;
 use memory::Memory;
 use std::alloc::Global;
 
@@ -47,7 +47,7 @@ fn push_number(alloc: Global, line: &mut String, width: usize, number: u64) -> R
 }
 
 // Appends points, games, wins, draws and losses.
-fn push_sums(alloc: Global, line: &mut String, sums: &Sums) -> Result<(), Memory>
+fn push_sums(alloc: Global, line: &mut String, sums: &ScoreTotals) -> Result<(), Memory>
     ensures { OnOk result (string_bytes line.new ≡ string_bytes line.old ++ sums_text sums.now) }
 {
     push_number(alloc, line, 6, u64::from(sums.points))?;
@@ -94,7 +94,7 @@ pub fn line(
     alloc: Global,
     place: u64,
     name: &str,
-    sums: &Sums,
+    sums: &ScoreTotals,
     cells: &[Cell],
 ) -> Result<String, Memory>
     ensures { IfOk result (λ text. string_bytes text ≡ line_text place name.now sums.now cells.now) }

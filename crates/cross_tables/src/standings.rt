@@ -7,11 +7,11 @@ ghost use Rattle.std.specs.List.Sorted.{IsPermutation};
 ghost use Rattle.std.specs.Ordering.{is_lt};
 ghost use Rattle.cross_tables.specs.declared.standings.Standing.{Standing};
 ghost use Rattle.cross_tables.specs.declared.standings.StandingsFault.TheVariants as fault;
-ghost use Rattle.cross_tables.specs.declared.sums.Scored.{Scored};
+ghost use Rattle.cross_tables.specs.declared.sums.OpponentScore.{OpponentScore};
 ghost use Rattle.cross_tables.specs.Totals.{AreTotals, Fit, plus_sums, raised, totals};
 ghost use Rattle.cross_tables.specs.Places.{AreRanked, precedes};
 
-use crate::sums::{Scored, Sums};
+use crate::sums::{OpponentScore, ScoreTotals};
 use memory::Memory;
 use std::alloc::{AllocFailed, Global};
 use std::cmp::Ordering;
@@ -23,7 +23,7 @@ use std::marker::Model;
 #[derive(Clone, Copy, Debug, PartialEq, Eq)]
 pub struct Standing {
     pub member: u32,
-    pub sums: Sums,
+    pub sums: ScoreTotals,
 }
 
 /// Why a score row was not added.
@@ -107,7 +107,7 @@ impl Standings {
     /// # Guarantees
     ///
     /// `ranked` and `only`: the result is the one list of these totals in the order of places.
-    pub fn of_rows(alloc: Global, rows: &[Scored]) -> Result<Standings, StandingsFault>
+    pub fn of_rows(alloc: Global, rows: &[OpponentScore]) -> Result<Standings, StandingsFault>
         ensures totals { IfOk result (λ standings. AreTotals standings rows.now) }
         ensures ranked { IfOk result AreRanked }
         // Each standing has its member's totals.
@@ -135,7 +135,7 @@ impl Standings {
     }
 
     /// The standing at an index, from 0.
-    pub fn at(&self, place: usize) -> Option<Standing>
+    pub fn standing_at(&self, place: usize) -> Option<Standing>
         ensures { result ≡ slice_get self.now place }
     {
         self.standings.get(place).copied()
@@ -149,7 +149,7 @@ impl Standings {
     }
 
     // Adds sums to the standing at an index.
-    fn raise(&mut self, place: usize, more: Sums) -> Result<(), StandingsFault>
+    fn raise(&mut self, place: usize, more: ScoreTotals) -> Result<(), StandingsFault>
         requires { place < length self.old }
         ensures ok { OnOk result ((d : Standing) →
             self.new ≡ slice_set self.old place (raised (slice_index_or self.old place d) more)) }
@@ -169,7 +169,7 @@ impl Standings {
     }
 
     // Appends a member.
-    fn enter(&mut self, member: u32, sums: Sums) -> Result<(), StandingsFault>
+    fn enter(&mut self, member: u32, sums: ScoreTotals) -> Result<(), StandingsFault>
         ensures ok { OnOk result (self.new ≡ self.old ++ record { member = member; sums = sums } ∷ []) }
         ensures err { OnErr result (self.new ≡ self.old) }
         ensures fault { result ≢ Err fault.TooMany }
@@ -188,11 +188,11 @@ impl Standings {
     /// # Guarantees
     ///
     /// `kept`: after an error the standings are unchanged.
-    pub fn add(&mut self, scored: &Scored) -> Result<(), StandingsFault>
-        ensures adds { OnOk result ((rows : List Scored) → AreTotals self.old rows →
+    pub fn add(&mut self, scored: &OpponentScore) -> Result<(), StandingsFault>
+        ensures adds { OnOk result ((rows : List OpponentScore) → AreTotals self.old rows →
             AreTotals self.new (rows ++ scored.now ∷ [])) }
         ensures kept { OnErr result (self.new ≡ self.old) }
-        ensures too_many { result ≡ Err fault.TooMany → (rows : List Scored) → AreTotals self.old rows →
+        ensures too_many { result ≡ Err fault.TooMany → (rows : List OpponentScore) → AreTotals self.old rows →
             ¬ Fit (totals scored.now.member (rows ++ scored.now ∷ [])) }
     {
         match self.place_of(scored.member) {
@@ -204,7 +204,7 @@ impl Standings {
     /// Sorts the standings by place.
     pub fn rank(&mut self)
         ensures same { IsPermutation self.old self.new }
-        ensures totals { (rows : List Scored) → AreTotals self.old rows → AreTotals self.new rows }
+        ensures totals { (rows : List OpponentScore) → AreTotals self.old rows → AreTotals self.new rows }
         ensures ranked { AreRanked self.new }
     {
         self.standings

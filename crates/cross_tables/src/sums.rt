@@ -5,7 +5,7 @@ ghost use Rattle.cross_tables.specs.Totals.{Fit, plus_sums, games};
 
 /// The points, wins, draws and losses of finished games.
 #[derive(Clone, Copy, Debug, PartialEq, Eq)]
-pub struct Sums {
+pub struct ScoreTotals {
     pub points: u32,
     pub wins: u32,
     pub draws: u32,
@@ -14,15 +14,15 @@ pub struct Sums {
 
 /// A score row: the totals of a member against one opponent in an event.
 #[derive(Clone, Copy, Debug, PartialEq, Eq)]
-pub struct Scored {
+pub struct OpponentScore {
     pub member: u32,
     pub opponent: u32,
-    pub sums: Sums,
+    pub sums: ScoreTotals,
 }
 
-impl Sums {
+impl ScoreTotals {
     /// The sum of both, or `None` if one of the numbers overflows.
-    pub fn plus(self, more: Sums) -> Option<Sums>
+    pub fn plus(self, more: ScoreTotals) -> Option<ScoreTotals>
         ensures some { IfSome result (λ sums. sums ≡ plus_sums self more) }
         ensures none { result ≡ None → ¬ Fit (plus_sums self more) }
     {
@@ -30,7 +30,7 @@ impl Sums {
         let wins = self.wins.checked_add(more.wins)?;
         let draws = self.draws.checked_add(more.draws)?;
         let losses = self.losses.checked_add(more.losses)?;
-        Some(Sums {
+        Some(ScoreTotals {
             points,
             wins,
             draws,

@@ -18,8 +18,8 @@ use Rattle.shogi_repetition.specs.Faults.{IsPlayed}
 use Rattle.csa.specs.declared.end_words.EndWord.{EndWord}
 use Rattle.csa.specs.declared.end_words.EndWord.TheVariants as word
 use Rattle.csa.specs.declared.head.CsaEnd.{CsaEnd}
-use Rattle.csa.specs.declared.lines.Placed.{Placed}
-use Rattle.csa.specs.declared.order.Place.TheVariants as place
+use Rattle.csa.specs.declared.lines.NumberedStatement.{NumberedStatement}
+use Rattle.csa.specs.declared.order.RecordStage.TheVariants as place
 use Rattle.csa.specs.declared.statements.Statement.TheVariants as statement
 use Rattle.csa.specs.declared.statements.WrittenMove.{WrittenMove}
 use Rattle.csa.specs.EndWords.{word_text}
@@ -38,7 +38,7 @@ use Rattle.csa.proofs.BackMoveLemmas.{move-read, decimal-digits, seconds-read}
 -- ---- the moves and the end
 
 -- statements of a record after its head, that write moves from a position and end with a word
-record Continues (p : ShogiPosition) (ms : List SMove) (word : EndWord) (ss : List Placed) : Type 0 where
+record Continues (p : ShogiPosition) (ms : List SMove) (word : EndWord) (ss : List NumberedStatement) : Type 0 where
   mean : MeanAll p (written_moves ss) ms
   sided : first_stray place.Sided ss ≡ None
   moved : first_stray place.Moved ss ≡ None
@@ -125,7 +125,7 @@ entries-read p (e ∷ es) n word last legal end =
 -- ---- the head
 
 -- the statements of a head, and those of a rest
-abbrev with_head : List Placed → List Placed
+abbrev with_head : List NumberedStatement → List NumberedStatement
 with_head rest =
     record { line = 1; statement = statement.Version } ∷ record { line = 2; statement = statement.Header }
     ∷ record { line = 3; statement = statement.Header }
@@ -169,17 +169,17 @@ head-then event black white at rest event_in black_in white_in =
 -- ---- the whole
 
 -- statements of one record, which begins evenly, writes these moves and ends with that word
-pub record IsWhole (ms : List SMove) (word : EndWord) (ss : List Placed) : Type 0 where
+pub record IsWhole (ms : List SMove) (word : EndWord) (ss : List NumberedStatement) : Type 0 where
   pub ordered : AreOrdered ss
   pub alone : records_of ss ≡ ss ∷ []
   pub even : begins_even ss ≡ true
   pub mean : MeanAll opening (written_moves ss) ms
   pub end : end_in ss ≡ Some word
 
-with-head : (ms : List SMove) (word : EndWord) (rest : List Placed) → Continues opening ms word rest
+with-head : (ms : List SMove) (word : EndWord) (rest : List NumberedStatement) → Continues opening ms word rest
     → IsWhole ms word (with_head rest)
 with-head ms word rest c =
-    let ss : List Placed = with_head rest in
+    let ss : List NumberedStatement = with_head rest in
     let no_parting : Every (λ each. is_parting each.statement ≡ false) ss =
     (refl, (refl, (refl, (refl, (refl, (refl, (refl, c.whole))))))) in
     record {

@@ -23,7 +23,7 @@ use Rattle.csa.specs.declared.faults.CsaFault.TheVariants as fault
 use Rattle.csa.specs.declared.game.CsaGame.{CsaGame}
 use Rattle.csa.specs.declared.head.CsaEnd.{CsaEnd}
 use Rattle.csa.specs.declared.head.CsaEnd.TheVariants as csa_end
-use Rattle.csa.specs.declared.lines.Placed.{Placed}
+use Rattle.csa.specs.declared.lines.NumberedStatement.{NumberedStatement}
 use Rattle.csa.specs.Endings.{claimed, fits_rules, agrees, claim_settled, ending, says_declared}
 use Rattle.csa.specs.Lines.{text_statements}
 use Rattle.csa.specs.Records.{Plays, score_in, IsRecordOf, RecordFails}
@@ -92,7 +92,7 @@ declared-back _ p = refl
 -- ---- the game
 
 -- the record of a kept game plays its moves to the end that the rules give them
-plays : (event black white : List ℕ) (end : Option CsaEnd) (es : List (SMove × ℕ)) (w : EndWord) (ss : List Placed)
+plays : (event black white : List ℕ) (end : Option CsaEnd) (es : List (SMove × ℕ)) (w : EndWord) (ss : List NumberedStatement)
     (kept : IsKept event black white end es) → IsWhole (moves_of es) w ss → Plays ss (moves_of es) kept.fits.0
 plays event black white end es w ss kept whole = record {
   even = whole.even;
@@ -102,7 +102,7 @@ plays event black white end es w ss kept whole = record {
 
 pub written-back : CanDeclareIs → WrittenIsRead
 written-back declares = λ event black white start end es text game kept is of.
-    let ss : List Placed = text_statements text in
+    let ss : List NumberedStatement = text_statements text in
     let ms : List SMove = moves_of es in
     let last : ShogiPosition = last_position opening ms in
     let turn : Side = last.turn in
@@ -126,7 +126,7 @@ abbrev IsUnfinished : CsaFault → Type 0
 IsUnfinished f = (f ≡ fault.Memory) ⊎ (f ≡ fault.Unfinished)
 
 -- the fault of the one record
-of-one : (ss failing : List Placed) (before after : List (List Placed)) (games : List CsaGame) (f : CsaFault)
+of-one : (ss failing : List NumberedStatement) (before after : List (List NumberedStatement)) (games : List CsaGame) (f : CsaFault)
     → ss ∷ [] ≡ before ++ failing ∷ after → RecordFails failing f → RecordFails ss f
 of-one ss failing [] after games f parts fails = let is : ss ≡ failing = cc in
     subst (λ l. RecordFails l f) (sym is) fails
@@ -134,12 +134,12 @@ of-one ss failing (b ∷ []) after games f parts fails = let never : [] ≡ fail
 of-one ss failing (b ∷ c ∷ before) after games f parts fails = let never : [] ≡ c ∷ (before ++ failing ∷ after) = cc in
     absurd (cc)
 
-one-fails : (ms : List SMove) (w : EndWord) (ss : List Placed) (f : CsaFault) → IsWhole ms w ss
+one-fails : (ms : List SMove) (w : EndWord) (ss : List NumberedStatement) (f : CsaFault) → IsWhole ms w ss
     → FailsAfter (records_of ss) f → RecordFails ss f
 one-fails ms w ss f whole h = of-one ss h.failing h.before h.after h.games f (sym whole.alone ∙ h.parts) h.fails
 
 text-unfinished : CheckIs → NoLineHasTwoEnds
-    → (ms : List SMove) (w : EndWord) (ss : List Placed) (given : Option SEnd) (f : CsaFault)
+    → (ms : List SMove) (w : EndWord) (ss : List NumberedStatement) (given : Option SEnd) (f : CsaFault)
     → IsWhole ms w ss → Plays ss ms given → score_in ss ms given ≡ Err fault.Unfinished → Refuses ss f → IsUnfinished f
 text-unfinished laws one ms w ss given f whole p said h = elim (text-refuses ss f whole.ordered h) [
   | inl memory ↦ inl memory
@@ -154,7 +154,7 @@ text-unfinished laws one ms w ss given f whole p said h = elim (text-refuses ss 
 
 pub running-back : CheckIs → NoLineHasTwoEnds → RunningIsRefused
 running-back laws one = λ event black white start es text kept is.
-    let ss : List Placed = text_statements text in
+    let ss : List NumberedStatement = text_statements text in
     let ms : List SMove = moves_of es in
     let last : ShogiPosition = last_position opening ms in
     let whole : IsWhole ms word.Interrupted ss = text-whole event black white start None es text kept is in

@@ -6,7 +6,7 @@ use Rattle.std.proofs.lemmas.List.Splits.{slice_split_at, slice_split_none, leng
 use Rattle.std.specs.Prelude.{◌==◌}
 use Rattle.std.specs.List.{All, slice_split}
 use Rattle.std.specs.Str.Lines.{lines, lines_of_parts, strip_carriage_return}
-use Rattle.csa.specs.declared.lines.Placed.{Placed}
+use Rattle.csa.specs.declared.lines.NumberedStatement.{NumberedStatement}
 use Rattle.csa.specs.declared.statements.Statement.{Statement}
 use Rattle.csa.specs.declared.statements.Statement.TheVariants as statement
 use Rattle.csa.specs.Statements.{statement_of}
@@ -52,7 +52,7 @@ lines-then x rest within =
     ∙ first-of x (slice_split (λ b. b == 10) rest) (omega (arith, parts))
 
 -- a line of one statement, and those after it
-pub statement-then : (n : ℕ) (x rest : List ℕ) (said : Statement) (after : List Placed) → Every IsOfLine x
+pub statement-then : (n : ℕ) (x rest : List ℕ) (said : Statement) (after : List NumberedStatement) → Every IsOfLine x
     → statements_on n (strip_carriage_return x) ≡ record { line = n; statement = said } ∷ []
     → statements_from (suc n) (lines rest) ≡ after
     → statements_from n (lines (x ++ 10 ∷ rest)) ≡ record { line = n; statement = said } ∷ after
@@ -77,8 +77,8 @@ pub alone : (n c : ℕ) (x : List ℕ) → Every IsWithin (c ∷ x) → is_comme
     → statements_on n (strip_carriage_return (c ∷ x)) ≡ record { line = n; statement = statement_of (c ∷ x) } ∷ []
 alone n c x e comment header =
     let text : List ℕ = c ∷ x in
-    let parts : List Placed = placed_all n (slice_split (λ b. b == 44) text) in
-    let above : List Placed = record { line = n; statement = statement.Header } ∷ [] in
+    let parts : List NumberedStatement = placed_all n (slice_split (λ b. b == 44) text) in
+    let above : List NumberedStatement = record { line = n; statement = statement.Header } ∷ [] in
     ap (statements_on n) (no-return text e)
     ∙ ap (λ b. cond b [] (cond (is_header text) above parts)) comment
     ∙ ap (λ b. cond b above parts) header
@@ -88,7 +88,7 @@ alone n c x e comment header =
 
 -- ---- headers
 
-abbrev header_at : ℕ → List Placed
+abbrev header_at : ℕ → List NumberedStatement
 header_at n = record { line = n; statement = statement.Header } ∷ []
 
 less-one : (k : ℕ) → suc k - 1 ≡ k
@@ -110,7 +110,7 @@ header-line n c d (e ∷ l) other is =
     ]
 
 -- a statement alone on its line, and the lines after it
-pub alone-then : (n c : ℕ) (x rest : List ℕ) (said : Statement) (after : List Placed) → Every IsWithin (c ∷ x)
+pub alone-then : (n c : ℕ) (x rest : List ℕ) (said : Statement) (after : List NumberedStatement) → Every IsWithin (c ∷ x)
     → is_comment (c ∷ x) ≡ false → is_header (c ∷ x) ≡ false → statement_of (c ∷ x) ≡ said
     → statements_from (suc n) (lines rest) ≡ after
     → statements_from n (lines (c ∷ (x ++ 10 ∷ rest))) ≡ record { line = n; statement = said } ∷ after

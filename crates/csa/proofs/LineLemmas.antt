@@ -5,7 +5,7 @@ use Rattle.std.specs.Str.Lines.{lines_of_parts, strip_carriage_return}
 use Rattle.std.proofs.lemmas.Bool.{lt-ltb}
 use Rattle.std.proofs.lemmas.Grind.{common_steps}
 use Rattle.std.proofs.Math.Dec.{eqb-suc-zero}
-use Rattle.csa.specs.declared.lines.Placed.{Placed}
+use Rattle.csa.specs.declared.lines.NumberedStatement.{NumberedStatement}
 use Rattle.csa.specs.Lines.{statements_on, statements_from, line_at}
 
 -- an empty last part has no statement, as it is no line
@@ -31,12 +31,12 @@ lines-step (x ∷ parts) (suc i) n h =
     down i n = grind (arith, common_steps)
 
 -- one line more
-pub lines-grow : (parts : List (List ℕ)) (i : ℕ) (old new whole : List Placed) → i < length parts
+pub lines-grow : (parts : List (List ℕ)) (i : ℕ) (old new whole : List NumberedStatement) → i < length parts
     → new ≡ old ++ statements_on (i + 1) (line_at parts i)
     → old ++ statements_from (i + 1) (lines_of_parts (drop i parts)) ≡ whole
     → new ++ statements_from (i + 1 + 1) (lines_of_parts (drop (i + 1) parts)) ≡ whole
 lines-grow parts i old new whole h grown kept =
-    let here : List Placed = statements_on (i + 1) (line_at parts i) in
+    let here : List NumberedStatement = statements_on (i + 1) (line_at parts i) in
     ap (λ l. l ++ statements_from (i + 1 + 1) (lines_of_parts (drop (i + 1) parts))) grown
     ∙ append_assoc old here _
     ∙ (λ j. old ++ (here ++ statements_from (add-one (i + 1) j) (lines_of_parts (drop (add-one i j) parts))))

@@ -30,7 +30,7 @@ use Rattle.csa.proofs.ReplayLemmas.{legal-unbroken}
 use Rattle.squares.specs.declared.sides.Score.{Score}
 use Rattle.shogi_repetition.specs.declared.ends.SEnd.{SEnd}
 use Rattle.csa.specs.declared.game.CsaGame.{CsaGame}
-use Rattle.csa.specs.declared.lines.Placed.{Placed}
+use Rattle.csa.specs.declared.lines.NumberedStatement.{NumberedStatement}
 use Rattle.csa.specs.declared.statements.Statement.TheVariants as statement
 use Rattle.csa.specs.Lines.{text_statements}
 use Rattle.csa.specs.Records.{Plays, score_in, IsRecordOf, RecordFails}
@@ -145,14 +145,14 @@ moves-unrefused laws one ws ms f are r =
 -- ---- the games
 
 -- what a record comes to is one: its moves, and what its end says
-pub same-score : NoLineHasTwoEnds → (placed : List Placed) (ms ns : List SMove) (d e : Option SEnd) → Plays placed ms d
+pub same-score : NoLineHasTwoEnds → (placed : List NumberedStatement) (ms ns : List SMove) (d e : Option SEnd) → Plays placed ms d
     → Plays placed ns e → (ms ≡ ns) × (score_in placed ms d ≡ score_in placed ns e)
 same-score one placed ms ns d e a b =
     let moves : ms ≡ ns = mean-one opening (written_moves placed) ms ns a.moves.mean b.moves.mean in
     let ends : d ≡ e = one opening ns d e (subst (λ l. EndsSo opening l d) moves a.ends) b.ends in
     (moves, ap (λ l. score_in placed l d) moves ∙ ap (λ x. score_in placed ns x) ends)
 
-record-one : NoLineHasTwoEnds → (placed : List Placed) (g h : CsaGame) → IsRecordOf placed g → IsRecordOf placed h
+record-one : NoLineHasTwoEnds → (placed : List NumberedStatement) (g h : CsaGame) → IsRecordOf placed g → IsRecordOf placed h
     → SameGame g h
 record-one one placed g h a b =
     let same = same-score one placed g.moves.items h.moves.items a.end b.end a.plays b.plays in
@@ -160,14 +160,14 @@ record-one one placed g h a b =
     let score : g.score ≡ h.score = cc in
     (same.0, score, a.declared ∙ sym b.declared)
 
-pub records-one : NoLineHasTwoEnds → (rs : List (List Placed)) (gs hs : List CsaGame) → AreRecordsOf rs gs
+pub records-one : NoLineHasTwoEnds → (rs : List (List NumberedStatement)) (gs hs : List CsaGame) → AreRecordsOf rs gs
     → AreRecordsOf rs hs → SameGames gs hs
 records-one one [] [] [] a b = tt
 records-one one (r ∷ rs) (g ∷ gs) (h ∷ hs) a b = (record-one one r g h a.0 b.0, records-one one rs gs hs a.1 b.1)
 records-one one _ _ _ a b = search
 
 -- the faults of a record whose moves are played: memory, or that of its end
-pub record-refuses : CheckIs → NoLineHasTwoEnds → (placed : List Placed) (ms : List SMove) (end : Option SEnd)
+pub record-refuses : CheckIs → NoLineHasTwoEnds → (placed : List NumberedStatement) (ms : List SMove) (end : Option SEnd)
     (f : CsaFault) → Plays placed ms end → RecordFails placed f
     → (f ≡ fault.Memory) ⊎ (score_in placed ms end ≡ Err f)
 record-refuses laws one placed ms end fault.Memory p h = inl refl
@@ -183,21 +183,21 @@ record-refuses laws one placed ms end fault.ResultDiffers p h =
 record-refuses laws one placed ms end (fault.BadText line) p h = absurd h
 record-refuses laws one placed ms end fault.Version p h = absurd h
 
-record-unrefused : CheckIs → NoLineHasTwoEnds → (placed : List Placed) (g : CsaGame) (f : CsaFault)
+record-unrefused : CheckIs → NoLineHasTwoEnds → (placed : List NumberedStatement) (g : CsaGame) (f : CsaFault)
     → IsRecordOf placed g → RecordFails placed f → f ≡ fault.Memory
 record-unrefused laws one placed g f a h = elim (record-refuses laws one placed g.moves.items a.end f a.plays h) [
   | inl memory ↦ memory
   | inr bad ↦ let never : ◌≡◌ {A = Result Score CsaFault} (Ok g.score) (Err f) = sym a.score ∙ bad in absurd (cc)
 ]
 
-game-at : (before after : List (List Placed)) (r : List Placed) (gs : List CsaGame)
+game-at : (before after : List (List NumberedStatement)) (r : List NumberedStatement) (gs : List CsaGame)
     → AreRecordsOf (before ++ r ∷ after) gs → (g : CsaGame) × IsRecordOf r g
 game-at [] after r (g ∷ gs) a = (g, a.0)
 game-at (b ∷ before) after r (g ∷ gs) a = game-at before after r gs a.1
 game-at _ after r _ a = absurd a
 
 -- the faults of an ordered text: memory, or that of a record
-pub text-refuses : (ss : List Placed) (f : CsaFault) → AreOrdered ss → Refuses ss f
+pub text-refuses : (ss : List NumberedStatement) (f : CsaFault) → AreOrdered ss → Refuses ss f
     → (f ≡ fault.Memory) ⊎ FailsAfter (records_of ss) f
 text-refuses ss fault.Memory o h = inl refl
 text-refuses ss (fault.BadText line) o (inl empty) =

@@ -6,20 +6,20 @@ use Rattle.std.proofs.Math.Seq.{drop-cons}
 use Rattle.squares.specs.declared.shogi.moves.SMove.{SMove}
 use Rattle.csa.specs.declared.faults.CsaFault.{CsaFault}
 use Rattle.csa.specs.declared.game.CsaGame.{CsaGame}
-use Rattle.csa.specs.declared.lines.Placed.{Placed}
+use Rattle.csa.specs.declared.lines.NumberedStatement.{NumberedStatement}
 use Rattle.csa.specs.Replays.{written_in, written_moves, AreMoves, RefusesMoves}
 use Rattle.csa.specs.Replaying.{RefusesIn}
 use Rattle.csa.specs.Records.{IsRecordOf, RecordFails}
 use Rattle.csa.specs.Reading.{AreRecordsOf, FailsOrMemory, has_statement, without_bare_last}
 
-written_moves-append : (xs ys : List Placed) → written_moves (xs ++ ys) ≡ written_moves xs ++ written_moves ys
+written_moves-append : (xs ys : List NumberedStatement) → written_moves (xs ++ ys) ≡ written_moves xs ++ written_moves ys
 written_moves-append [] ys = refl
 written_moves-append (x ∷ xs) ys =
     ap (λ l. written_in x.statement ++ l) (written_moves-append xs ys)
     ∙ sym (assoc (written_in x.statement) (written_moves xs) (written_moves ys))
 
 -- the written moves round a statement
-written-parts : (placed : List Placed) (k : ℕ) (each : Placed) → k < length placed → each ≡ get_or placed k each
+written-parts : (placed : List NumberedStatement) (k : ℕ) (each : NumberedStatement) → k < length placed → each ≡ get_or placed k each
     → written_moves placed ≡ written_moves (take k placed)
     ++ (written_in each.statement ++ written_moves (drop (suc k) placed))
 written-parts placed k each h is =
@@ -28,7 +28,7 @@ written-parts placed k each h is =
     ∙ written_moves-append (take k placed) (each ∷ drop (suc k) placed)
 
 -- one statement more
-pub written-more : (placed : List Placed) (k : ℕ) (each : Placed) → k < length placed
+pub written-more : (placed : List NumberedStatement) (k : ℕ) (each : NumberedStatement) → k < length placed
     → take (k + 1) placed ≡ take k placed ++ each ∷ []
     → written_moves (take (k + 1) placed) ≡ written_moves (take k placed) ++ written_in each.statement
 written-more placed k each h longer =
@@ -36,7 +36,7 @@ written-more placed k each h longer =
     ∙ ap (λ l. written_moves (take k placed) ++ l) (append-nil (written_in each.statement))
 
 -- what refuses a statement after those before it refuses the record
-pub refuses-record : (placed : List Placed) (k : ℕ) (each : Placed) (ms : List SMove) (f : CsaFault) → k < length placed
+pub refuses-record : (placed : List NumberedStatement) (k : ℕ) (each : NumberedStatement) (ms : List SMove) (f : CsaFault) → k < length placed
     → each ≡ get_or placed k each → AreMoves (written_moves (take k placed)) ms → RefusesIn ms each.statement f
     → RefusesMoves (written_moves placed) f
 refuses-record placed k each ms f h is played (inl memory) = inl memory
@@ -53,7 +53,7 @@ refuses-record placed k each ms f h is played (inr refused) =
     })
 
 -- a last part with a statement is a record, and one without is none
-last-part : (parts : List (List Placed)) (n : ℕ) (b : Bool) → length parts ≡ suc n
+last-part : (parts : List (List NumberedStatement)) (n : ℕ) (b : Bool) → length parts ≡ suc n
     → has_statement (get_or parts n []) ≡ b → without_bare_last parts ≡ take (cond b (suc n) n) parts
 last-part [] n b long is = absurd (omega (arith, long))
 last-part (part ∷ []) zero true long is = ap (λ b. cond b (part ∷ []) []) is
@@ -71,8 +71,8 @@ mapped-at : {A B : Type 0} (xs : List A) (f : A → B) (i : ℕ) (x : A) (d : B)
 mapped-at xs f i x d h is = get_or-map f xs i x d h ∙ ap f (sym is)
 
 -- The records of parts that are given in some form.
-module _ {A : Type 0} (given : List A) (at : A → List Placed) where
-  abbrev all : List (List Placed)
+module _ {A : Type 0} (given : List A) (at : A → List NumberedStatement) where
+  abbrev all : List (List NumberedStatement)
   all = map at given
 
   -- the records are the parts, or all but the last
@@ -95,7 +95,7 @@ module _ {A : Type 0} (given : List A) (at : A → List Placed) where
     records-more game one =
         rw (take_more all i (at x) inside, here) (more (take i all) games read)
       where
-        more : (records : List (List Placed)) (games : List CsaGame) → AreRecordsOf records games
+        more : (records : List (List NumberedStatement)) (games : List CsaGame) → AreRecordsOf records games
             → AreRecordsOf (records ++ at x ∷ []) (games ++ game ∷ [])
         more [] [] all = (one, tt)
         more (r ∷ records) (g ∷ games) all = (all.0, more records games all.1)

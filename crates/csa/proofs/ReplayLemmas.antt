@@ -2,9 +2,9 @@
 use Rattle.std.proofs.Common.{◌≡◌, List, [], ◌∷◌, ◌++◌, length, Some, None, true, false, Err}
 use Rattle.std.proofs.Common.{sym, ap, ◌∙◌}
 use Rattle.std.specs.Prelude.{is_ok}
-use Rattle.game_lines.specs.declared.faults.LineFault.{LineFault}
-use Rattle.game_lines.specs.declared.faults.LineFault.TheVariants.{Memory as memory, AfterEnd, Illegal as illegal}
-use Rattle.game_lines.proofs.Proved.{IsFaultOfLast, fault-of-last}
+use Rattle.game_history.specs.declared.faults.LineFault.{LineFault}
+use Rattle.game_history.specs.declared.faults.LineFault.TheVariants.{Memory as memory, AfterEnd, Illegal as illegal}
+use Rattle.game_history.proofs.Proved.{IsFaultOfLast, fault-of-last}
 use Rattle.squares.specs.declared.shogi.moves.SMove.{SMove}
 use Rattle.squares.specs.ShogiSets.{ShogiPosition}
 use Rattle.squares.specs.ShogiOpening.{opening}

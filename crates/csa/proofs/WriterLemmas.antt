@@ -6,7 +6,7 @@ use Rattle.std.proofs.KnownBytes.{Appends-trans}
 use Rattle.std.proofs.lemmas.List.{map-append, take_more}
 use Rattle.record_writer.specs.Pieces.{AppendsSome}
 use Rattle.record_writer.specs.PieceLaws.{begun-next, begun-longer}
-use Rattle.game_lines.proofs.Proved.{last_position-append}
+use Rattle.game_history.proofs.Proved.{last_position-append}
 use Rattle.squares.specs.declared.shogi.moves.SMove.{SMove}
 use Rattle.squares.specs.ShogiSets.{ShogiPosition}
 use Rattle.squares.specs.ShogiOpening.{opening}

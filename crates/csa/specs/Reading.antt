@@ -5,8 +5,8 @@ use Rattle.std.specs.List.{list_any, slice_split}
 use Rattle.csa.specs.declared.faults.CsaFault.{CsaFault}
 use Rattle.csa.specs.declared.faults.CsaFault.TheVariants as fault
 use Rattle.csa.specs.declared.game.CsaGame.{CsaGame}
-use Rattle.csa.specs.declared.lines.Placed.{Placed}
-use Rattle.csa.specs.declared.order.Place.TheVariants as place
+use Rattle.csa.specs.declared.lines.NumberedStatement.{NumberedStatement}
+use Rattle.csa.specs.declared.order.RecordStage.TheVariants as place
 use Rattle.csa.specs.declared.statements.Statement.{Statement}
 use Rattle.csa.specs.declared.statements.Statement.TheVariants as statement
 use Rattle.csa.specs.Lines.{text_statements}
@@ -22,34 +22,34 @@ is_header_statement statement.Header = true
 is_header_statement _ = false
 
 -- the first statement that is not a header
-abbrev pub first_statement : List Placed → Option Statement
+abbrev pub first_statement : List NumberedStatement → Option Statement
 first_statement [] = None
 first_statement (placed ∷ more) = if is_header_statement placed.statement then first_statement more else Some
     placed.statement
 
 -- whether a record has a statement other than headers
-abbrev pub has_statement : List Placed → Bool
+abbrev pub has_statement : List NumberedStatement → Bool
 has_statement placed = list_any (λ each. not (is_header_statement each.statement)) placed
 
 -- the records without a last part that has no statements
-abbrev pub without_bare_last : List (List Placed) → List (List Placed)
+abbrev pub without_bare_last : List (List NumberedStatement) → List (List NumberedStatement)
 without_bare_last [] = []
 without_bare_last (part ∷ []) = if has_statement part then part ∷ [] else []
 without_bare_last (part ∷ next ∷ more) = part ∷ without_bare_last (next ∷ more)
 
 -- the records that `/` separates
-abbrev pub records_of : List Placed → List (List Placed)
+abbrev pub records_of : List NumberedStatement → List (List NumberedStatement)
 records_of placed = without_bare_last (slice_split (λ each. is_parting each.statement) placed)
 
 -- the records are those of the games
-abbrev pub AreRecordsOf : List (List Placed) → List CsaGame → Type 0
+abbrev pub AreRecordsOf : List (List NumberedStatement) → List CsaGame → Type 0
 AreRecordsOf [] [] = Unit {0}
 AreRecordsOf [] (game ∷ games) = ⊥
 AreRecordsOf (placed ∷ records) [] = ⊥
 AreRecordsOf (placed ∷ records) (game ∷ games) = IsRecordOf placed game × AreRecordsOf records games
 
 -- the statements begin with a version, are well-formed and are in order
-pub record AreOrdered (placed : List Placed) : Type 0 where
+pub record AreOrdered (placed : List NumberedStatement) : Type 0 where
   pub version : first_statement placed ≡ Some statement.Version
   pub order : first_stray place.Start placed ≡ None
 
@@ -59,32 +59,32 @@ pub record IsTextOf (text : List ℕ) (games : List CsaGame) : Type 0 where
   pub records : AreRecordsOf (records_of (text_statements text)) games
 
 -- the records before this one are those of games, and this one has the fault
-pub record FailsAfter (records : List (List Placed)) (f : CsaFault) : Type 0 where
-  pub before : List (List Placed)
-  pub failing : List Placed
-  pub after : List (List Placed)
+pub record FailsAfter (records : List (List NumberedStatement)) (f : CsaFault) : Type 0 where
+  pub before : List (List NumberedStatement)
+  pub failing : List NumberedStatement
+  pub after : List (List NumberedStatement)
   pub parts : records ≡ before ++ failing ∷ after
   pub games : List CsaGame
   pub read : AreRecordsOf before games
   pub fails : RecordFails failing f
 
 -- out of memory, or a record has the fault
-abbrev pub FailsOrMemory : List (List Placed) → CsaFault → Type 0
+abbrev pub FailsOrMemory : List (List NumberedStatement) → CsaFault → Type 0
 FailsOrMemory records f = (f ≡ fault.Memory) ⊎ FailsAfter records f
 
 -- the statements are in order, and the first faulty record has the fault
-abbrev pub SomeRecordFails : List Placed → CsaFault → Type 0
+abbrev pub SomeRecordFails : List NumberedStatement → CsaFault → Type 0
 SomeRecordFails placed f = AreOrdered placed × FailsAfter (records_of placed) f
 
 -- no statement, or the first malformed or misplaced one is on this line
-abbrev pub IsBadOn : List Placed → ℕ → Type 0
+abbrev pub IsBadOn : List NumberedStatement → ℕ → Type 0
 IsBadOn placed line =
     ((first_statement placed ≡ None) × (line ≡ 1))
     ⊎ ((first_statement placed ≡ Some statement.Version) × (first_stray place.Start placed ≡ Some line))
 
 -- The faults of statements: no statement, a first one that is not a version, one that is malformed or misplaced, and
 -- then those of the records in order.
-abbrev pub Refuses : List Placed → CsaFault → Type 0
+abbrev pub Refuses : List NumberedStatement → CsaFault → Type 0
 Refuses placed fault.Memory = Unit {0}
 Refuses placed (fault.BadText line) = IsBadOn placed line
 Refuses placed fault.Version = (first : Statement) × (first_statement placed ≡ Some first) × (first ≢ statement.Version)

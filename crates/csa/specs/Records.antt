@@ -11,7 +11,7 @@ use Rattle.shogi_repetition.specs.Ends.{EndsSo}
 use Rattle.csa.specs.declared.end_words.EndWord.{EndWord}
 use Rattle.csa.specs.declared.faults.CsaFault.{CsaFault}
 use Rattle.csa.specs.declared.faults.CsaFault.TheVariants as fault
-use Rattle.csa.specs.declared.lines.Placed.{Placed}
+use Rattle.csa.specs.declared.lines.NumberedStatement.{NumberedStatement}
 use Rattle.csa.specs.declared.game.CsaGame.{CsaGame}
 use Rattle.csa.specs.declared.statements.Statement.{Statement}
 use Rattle.csa.specs.declared.statements.Statement.TheVariants as statement
@@ -27,7 +27,7 @@ is_even (statement.Turn First) = true
 is_even (statement.Turn Second) = false
 is_even _ = true
 
-abbrev pub begins_even : List Placed → Bool
+abbrev pub begins_even : List NumberedStatement → Bool
 begins_even record_is = list_all (λ placed. is_even placed.statement) record_is
 
 -- the end of this statement, or else the end of the statements after it
@@ -36,36 +36,36 @@ end_or (statement.End word) after = word
 end_or _ after = after
 
 -- the end that a record states: None if there is none, or if its keyword is unknown
-abbrev pub end_in : List Placed → Option EndWord
+abbrev pub end_in : List NumberedStatement → Option EndWord
 end_in [] = None
 end_in (placed ∷ more) = end_or placed.statement (end_in more)
 
 -- a record of a game from the even initial position, with these moves and this end by the rules
-pub record Plays (placed : List Placed) (ms : List SMove) (end : Option SEnd) : Type 0 where
+pub record Plays (placed : List NumberedStatement) (ms : List SMove) (end : Option SEnd) : Type 0 where
   pub even : begins_even placed ≡ true
   pub moves : AreMoves (written_moves placed) ms
   pub ends : EndsSo opening ms end
 
 -- the score of a record with these moves
-abbrev pub score_in : List Placed → List SMove → Option SEnd → Result Score CsaFault
+abbrev pub score_in : List NumberedStatement → List SMove → Option SEnd → Result Score CsaFault
 score_in placed ms end = ending (end_in placed) (last_position opening ms) end
 
 -- the record is that of the game
-pub record IsRecordOf (placed : List Placed) (game : CsaGame) : Type 0 where
+pub record IsRecordOf (placed : List NumberedStatement) (game : CsaGame) : Type 0 where
   pub end : Option SEnd
   pub plays : Plays placed game.moves.items end
   pub score : score_in placed game.moves.items end ≡ Ok game.score
   pub declared : game.declared ≡ says_declared (end_in placed)
 
 -- all moves of the record are legal, and its end has the fault
-pub record EndFails (placed : List Placed) (f : CsaFault) : Type 0 where
+pub record EndFails (placed : List NumberedStatement) (f : CsaFault) : Type 0 where
   pub moves : List SMove
   pub end : Option SEnd
   pub plays : Plays placed moves end
   pub score : score_in placed moves end ≡ Err f
 
 -- The faults of a record: another initial position, then a move, then the end.
-abbrev pub RecordFails : List Placed → CsaFault → Type 0
+abbrev pub RecordFails : List NumberedStatement → CsaFault → Type 0
 RecordFails placed fault.Memory = Unit {0}
 RecordFails placed fault.OtherOpening = begins_even placed ≡ false
 RecordFails placed (fault.Illegal ply cause) = (begins_even placed ≡ true)

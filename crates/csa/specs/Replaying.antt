@@ -6,20 +6,20 @@ use Rattle.shogi_repetition.specs.Line.{last_position}
 use Rattle.shogi_repetition.specs.Counting.{Follows}
 use Rattle.shogi_repetition.specs.Ends.{EndsSo}
 use Rattle.shogi_repetition.specs.declared.ends.SEnd.{SEnd}
-use Rattle.game_lines.specs.declared.faults.LineFault.{LineFault}
-use Rattle.game_lines.specs.declared.faults.LineFault.TheVariants as line_fault
+use Rattle.game_history.specs.declared.faults.LineFault.{LineFault}
+use Rattle.game_history.specs.declared.faults.LineFault.TheVariants as line_fault
 use Rattle.shogi_moves.specs.declared.checking.Illegal.{Illegal}
 use Rattle.shogi_moves.specs.Rules.{FirstBroken}
 use Rattle.csa.specs.declared.faults.CsaFault.{CsaFault}
 use Rattle.csa.specs.declared.faults.CsaFault.TheVariants as fault
 use Rattle.csa.specs.declared.statements.WrittenMove.{WrittenMove}
 use Rattle.csa.specs.declared.statements.Statement.{Statement}
-use Rattle.csa.specs.declared.replay.Replay.{Replay}
+use Rattle.csa.specs.declared.replay.CsaReplay.{CsaReplay}
 use Rattle.csa.specs.Moves.{Means, MeanAll}
 use Rattle.csa.specs.Replays.{written_in, RefusesNext}
 
 -- The position and the repetition marks of a replay are those of its moves.
-pub record IsConsistent (replay : Replay) : Type 0 where
+pub record IsConsistent (replay : CsaReplay) : Type 0 where
   pub follows : Follows opening replay.moves.items replay.marks
   pub position : replay.position ≡ last_position opening replay.moves.items
 

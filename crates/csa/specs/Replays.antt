@@ -15,7 +15,7 @@ use Rattle.csa.specs.declared.faults.CsaFault.TheVariants as fault
 use Rattle.csa.specs.declared.statements.WrittenMove.{WrittenMove}
 use Rattle.csa.specs.declared.statements.Statement.{Statement}
 use Rattle.csa.specs.declared.statements.Statement.TheVariants as statement
-use Rattle.csa.specs.declared.lines.Placed.{Placed}
+use Rattle.csa.specs.declared.lines.NumberedStatement.{NumberedStatement}
 use Rattle.csa.specs.Moves.{Means, MeanAll}
 
 abbrev pub written_in : Statement → List WrittenMove
@@ -23,7 +23,7 @@ written_in (statement.Move w) = w ∷ []
 written_in _ = []
 
 -- the written moves of a record
-abbrev pub written_moves : List Placed → List WrittenMove
+abbrev pub written_moves : List NumberedStatement → List WrittenMove
 written_moves [] = []
 written_moves (placed ∷ more) = written_in placed.statement ++ written_moves more
 

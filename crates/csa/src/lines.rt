@@ -11,7 +11,7 @@ use std::alloc::{AllocError, Global};
 
 /// A statement and its line, counted from 1.
 #[derive(Clone, Copy, Debug, PartialEq, Eq)]
-pub struct Placed {
+pub struct NumberedStatement {
     pub line: usize,
     pub statement: Statement,
 }
@@ -55,13 +55,13 @@ fn is_header(line: &[u8]) -> bool
 }
 
 // Appends the statement of a part of a line; an empty part has none.
-fn push_part(placed: &mut Vec<Placed>, line: usize, part: &[u8]) -> Result<(), Memory>
+fn push_part(placed: &mut Vec<NumberedStatement>, line: usize, part: &[u8]) -> Result<(), Memory>
     ensures { OnOk result (placed.new.items ≡ placed.old.items ++ placed_of line part.now) }
 {
     if part.is_empty() {
         return Ok(());
     }
-    placed.push(Placed {
+    placed.push(NumberedStatement {
         line,
         statement: statement_of(part),
     })?;
@@ -69,7 +69,11 @@ fn push_part(placed: &mut Vec<Placed>, line: usize, part: &[u8]) -> Result<(), M
 }
 
 // Appends the statements of the parts of a line.
-fn push_parts(placed: &mut Vec<Placed>, line: usize, parts: &[&[u8]]) -> Result<(), Memory>
+fn push_parts(
+    placed: &mut Vec<NumberedStatement>,
+    line: usize,
+    parts: &[&[u8]],
+) -> Result<(), Memory>
     ensures { OnOk result (placed.new.items
         ≡ placed.old.items ++ placed_all line (map (λ x. x.now) parts.now)) }
 {
@@ -82,7 +86,7 @@ fn push_parts(placed: &mut Vec<Placed>, line: usize, parts: &[&[u8]]) -> Result<
 // Appends the statements of a line.
 fn push_line(
     alloc: Global,
-    placed: &mut Vec<Placed>,
+    placed: &mut Vec<NumberedStatement>,
     line: usize,
     text: &[u8],
 ) -> Result<(), Memory>
@@ -92,7 +96,7 @@ fn push_line(
         return Ok(());
     }
     if is_header(text) {
-        placed.push(Placed {
+        placed.push(NumberedStatement {
             line,
             statement: Statement::Header,
         })?;
@@ -115,7 +119,11 @@ fn line_at<'a>(parts: &[&'a [u8]], i: usize) -> &'a [u8]
 }
 
 // Appends the statements of lines.
-fn push_lines(alloc: Global, placed: &mut Vec<Placed>, parts: &[&[u8]]) -> Result<(), Memory>
+fn push_lines(
+    alloc: Global,
+    placed: &mut Vec<NumberedStatement>,
+    parts: &[&[u8]],
+) -> Result<(), Memory>
     ensures { OnOk result (placed.new.items
         ≡ placed.old.items ++ statements_from 1 (lines_of_parts (map (λ x. x.now) parts.now))) }
 {
@@ -130,7 +138,7 @@ fn push_lines(alloc: Global, placed: &mut Vec<Placed>, parts: &[&[u8]]) -> Resul
 /// # Errors
 ///
 /// `Memory` if out of memory.
-pub fn statements_of(alloc: Global, text: &[u8]) -> Result<Vec<Placed>, Memory>
+pub fn statements_of(alloc: Global, text: &[u8]) -> Result<Vec<NumberedStatement>, Memory>
     ensures { IfOk result (λ placed. placed.items ≡ text_statements text.now) }
 {
     let parts = parts_of(alloc, text, b'\n')?;

@@ -44,7 +44,7 @@ fn step_promotes(position: &SPos, from: Ssq, code: Role) -> Option<bool>
     ensures some { IfSome result (λ promote. StepsAs position.now from promote code) }
     ensures none { IfNone result ((promote : Bool) → StepsAs position.now from promote code → ⊥) }
 {
-    match position.board().at(from) {
+    match position.board().piece_at(from) {
         None => None,
         Some(piece) => promotion_of(piece, code),
     }

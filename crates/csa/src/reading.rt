@@ -6,7 +6,7 @@ ghost use Rattle.csa.specs.Reading.{records_of, AreOrdered, AreRecordsOf, FailsO
 
 use crate::faults::CsaFault;
 use crate::game::CsaGame;
-use crate::lines::{Placed, statements_of};
+use crate::lines::{NumberedStatement, statements_of};
 use crate::order::first_stray;
 use crate::records::read_record;
 use crate::statements::Statement;
@@ -31,7 +31,7 @@ fn is_header(statement: Statement) -> bool
 }
 
 // The first statement that is not a header.
-fn first_statement(placed: &[Placed]) -> Option<Statement>
+fn first_statement(placed: &[NumberedStatement]) -> Option<Statement>
     ensures { result ≡ first_statement placed.now }
 {
     for each in placed {
@@ -43,14 +43,14 @@ fn first_statement(placed: &[Placed]) -> Option<Statement>
 }
 
 // Whether a record has a statement other than headers.
-fn has_statement(placed: &[Placed]) -> bool
+fn has_statement(placed: &[NumberedStatement]) -> bool
     ensures { result ≡ has_statement placed.now }
 {
     placed.iter().any(|each| !is_header(each.statement))
 }
 
 // Checks that the statements begin with a version, are well-formed and are in order.
-fn check_order(placed: &[Placed]) -> Result<(), CsaFault>
+fn check_order(placed: &[NumberedStatement]) -> Result<(), CsaFault>
     ensures ordered { OnOk result (AreOrdered placed.now) }
     ensures fault { IfErr result (Refuses placed.now) }
 {
@@ -67,7 +67,10 @@ fn check_order(placed: &[Placed]) -> Result<(), CsaFault>
 }
 
 // Splits the statements at the separators of records.
-fn parts_of(alloc: Global, placed: &[Placed]) -> Result<Vec<&[Placed]>, AllocError>
+fn parts_of(
+    alloc: Global,
+    placed: &[NumberedStatement],
+) -> Result<Vec<&[NumberedStatement]>, AllocError>
     ensures { IfOk result (λ parts. map (λ x. x.now) parts.items
         ≡ slice_split (λ each. is_parting each.statement) placed.now) }
 {
@@ -77,7 +80,7 @@ fn parts_of(alloc: Global, placed: &[Placed]) -> Result<Vec<&[Placed]>, AllocErr
 }
 
 // The number of parts that are records; a last part without statements is not one.
-fn record_count(parts: &[&[Placed]]) -> usize
+fn record_count(parts: &[&[NumberedStatement]]) -> usize
     ensures within { result ≤ length parts.now }
     ensures records { take result (map (λ x. x.now) parts.now) ≡ without_bare_last (map (λ x. x.now) parts.now) }
 {
@@ -92,7 +95,7 @@ fn record_count(parts: &[&[Placed]]) -> usize
 }
 
 // Reads records one after another.
-fn read_records(alloc: Global, records: &[&[Placed]]) -> Result<Vec<CsaGame>, CsaFault>
+fn read_records(alloc: Global, records: &[&[NumberedStatement]]) -> Result<Vec<CsaGame>, CsaFault>
     ensures games { IfOk result (λ games. AreRecordsOf (map (λ x. x.now) records.now) games.items) }
     ensures fault { IfErr result (FailsOrMemory (map (λ x. x.now) records.now)) }
 {
@@ -105,7 +108,7 @@ fn read_records(alloc: Global, records: &[&[Placed]]) -> Result<Vec<CsaGame>, Cs
 }
 
 // Reads the games of statements that are in order.
-fn read_parts(alloc: Global, placed: &[Placed]) -> Result<Vec<CsaGame>, CsaFault>
+fn read_parts(alloc: Global, placed: &[NumberedStatement]) -> Result<Vec<CsaGame>, CsaFault>
     ensures games { IfOk result (λ games. AreRecordsOf (records_of placed.now) games.items) }
     ensures fault { IfErr result (FailsOrMemory (records_of placed.now)) }
 {

@@ -10,8 +10,8 @@ use crate::end_words::EndWord;
 use crate::endings::{ending, says_declared};
 use crate::faults::CsaFault;
 use crate::game::CsaGame;
-use crate::lines::Placed;
-use crate::replay::{Replay, replay_of};
+use crate::lines::NumberedStatement;
+use crate::replay::{CsaReplay, replay_of};
 use crate::statements::Statement;
 use squares::Side;
 use std::alloc::Global;
@@ -33,14 +33,14 @@ fn is_even(statement: Statement) -> bool
 }
 
 // Whether a record begins from the even initial position.
-fn begins_even(placed: &[Placed]) -> bool
+fn begins_even(placed: &[NumberedStatement]) -> bool
     ensures { result ≡ begins_even placed.now }
 {
     placed.iter().all(|each| is_even(each.statement))
 }
 
 // The end that a record states.
-fn end_in(placed: &[Placed]) -> Option<EndWord>
+fn end_in(placed: &[NumberedStatement]) -> Option<EndWord>
     ensures { result ≡ end_in placed.now }
 {
     for each in placed {
@@ -53,7 +53,7 @@ fn end_in(placed: &[Placed]) -> Option<EndWord>
 }
 
 // The game of a record whose moves are replayed, if its end agrees.
-fn game_of(placed: &[Placed], replay: Replay) -> Result<CsaGame, CsaFault>
+fn game_of(placed: &[NumberedStatement], replay: CsaReplay) -> Result<CsaGame, CsaFault>
     requires stands { IsConsistent replay }
     requires even { begins_even placed.now ≡ true }
     requires mean { MeanAll opening (written_moves placed.now) replay.moves.items }
@@ -78,7 +78,7 @@ fn game_of(placed: &[Placed], replay: Replay) -> Result<CsaGame, CsaFault>
 ///
 /// `CsaFault::OtherOpening`; the fault of its first refused move; `CsaFault::Unfinished`; `CsaFault::ResultDiffers`; or
 /// `CsaFault::Memory` if out of memory.
-pub fn read_record(alloc: Global, placed: &[Placed]) -> Result<CsaGame, CsaFault>
+pub fn read_record(alloc: Global, placed: &[NumberedStatement]) -> Result<CsaGame, CsaFault>
     ensures game { IfOk result (IsRecordOf placed.now) }
     ensures fault { IfErr result (RecordFails placed.now) }
 {

@@ -8,7 +8,7 @@ ghost use Rattle.csa.specs.Replaying.{fault_of};
 ghost use Rattle.squares.specs.declared.shogi.moves.SMove.{SMove};
 
 use crate::faults::CsaFault;
-use crate::lines::Placed;
+use crate::lines::NumberedStatement;
 use crate::moves::move_in;
 use crate::statements::{Statement, WrittenMove};
 use shogi_moves::laws::check_is;
@@ -20,14 +20,14 @@ use std::alloc::Global;
 
 /// The moves of a record so far, played from the initial position.
 #[derive(Drop)]
-pub struct Replay {
+pub struct CsaReplay {
     pub position: SPos,
     pub marks: Marks,
     pub moves: Vec<SMove>,
 }
 
 // A replay without moves.
-fn beginning(alloc: Global) -> Result<Replay, CsaFault>
+fn beginning(alloc: Global) -> Result<CsaReplay, CsaFault>
     ensures stands { IfOk result IsConsistent }
     ensures bare { IfOk result (λ replay. replay.moves.items ≡ []) }
     ensures fault { IfErr result (λ fault. fault ≡ CsaFault.Memory) }
@@ -35,7 +35,7 @@ fn beginning(alloc: Global) -> Result<Replay, CsaFault>
     let position = SPos::opening();
     match Marks::start(alloc, &position) {
         Err(_) => Err(CsaFault::Memory),
-        Ok(marks) => Ok(Replay {
+        Ok(marks) => Ok(CsaReplay {
             position,
             marks,
             moves: Vec::new(alloc),
@@ -44,7 +44,7 @@ fn beginning(alloc: Global) -> Result<Replay, CsaFault>
 }
 
 // The error for a written move that denotes no move of the position.
-fn no_move(replay: &Replay, written: &WrittenMove) -> CsaFault
+fn no_move(replay: &CsaReplay, written: &WrittenMove) -> CsaFault
     requires stands { IsConsistent replay.now }
     requires none { (m : SMove) → Means replay.now.position written.now m → ⊥ }
     ensures { RefusesNext replay.now.moves.items written.now result }
@@ -71,7 +71,7 @@ fn fault_of(fault: SLineFault) -> CsaFault
 }
 
 // Plays a move.
-fn push_move(replay: &mut Replay, played: SMove) -> Result<(), CsaFault>
+fn push_move(replay: &mut CsaReplay, played: SMove) -> Result<(), CsaFault>
     requires { IsConsistent replay.old }
     ensures stands { OnOk result (IsConsistent replay.new) }
     ensures grown { OnOk result (replay.new.moves.items ≡ replay.old.moves.items ++ played ∷ []) }
@@ -90,7 +90,7 @@ fn push_move(replay: &mut Replay, played: SMove) -> Result<(), CsaFault>
 }
 
 // Plays a written move. It fails if the game has ended, or if the text denotes no legal move.
-fn push(replay: &mut Replay, written: &WrittenMove) -> Result<(), CsaFault>
+fn push(replay: &mut CsaReplay, written: &WrittenMove) -> Result<(), CsaFault>
     requires { IsConsistent replay.old }
     ensures stands { OnOk result (IsConsistent replay.new) }
     ensures grown { OnOk result (GrowsBy written.now replay.old.moves.items replay.new.moves.items) }
@@ -103,7 +103,7 @@ fn push(replay: &mut Replay, written: &WrittenMove) -> Result<(), CsaFault>
 }
 
 // Plays the move of a statement, if it is one.
-fn push_statement(replay: &mut Replay, statement: Statement) -> Result<(), CsaFault>
+fn push_statement(replay: &mut CsaReplay, statement: Statement) -> Result<(), CsaFault>
     requires { IsConsistent replay.old }
     ensures stands { OnOk result (IsConsistent replay.new) }
     ensures grown { OnOk result (GrowsWith statement replay.old.moves.items replay.new.moves.items) }
@@ -120,7 +120,7 @@ fn push_statement(replay: &mut Replay, statement: Statement) -> Result<(), CsaFa
 /// # Errors
 ///
 /// The fault of the first move that is refused; `CsaFault::Memory` if out of memory.
-pub fn replay_of(alloc: Global, placed: &[Placed]) -> Result<Replay, CsaFault>
+pub fn replay_of(alloc: Global, placed: &[NumberedStatement]) -> Result<CsaReplay, CsaFault>
     ensures stands { IfOk result IsConsistent }
     ensures mean { IfOk result (λ replay. MeanAll opening (written_moves placed.now) replay.moves.items) }
     ensures fault { IfErr result (RefusesMoves (written_moves placed.now)) }

@@ -83,7 +83,7 @@ fn push_target(text: &mut String, position: &SPos, played: &SMove) -> Result<(),
     match *played {
         SMove::Step { from, to, promote } => {
             push_square(text, to)?;
-            match position.board().at(from) {
+            match position.board().piece_at(from) {
                 None => {}
                 Some(piece) => text.push_str(code_of(role_after(piece, promote)))?,
             }

@@ -41,8 +41,8 @@ fn sign_at(position: &DPos, row: u8, column: u8) -> u8
     if (row + column) % 2 == 0 {
         return b' ';
     }
-    match Dsq::at(row, column) {
-        Some(square) => cell_sign(position.at(square)),
+    match Dsq::from_coords(row, column) {
+        Some(square) => cell_sign(position.piece_at(square)),
         None => unreachable!(),
     }
 }

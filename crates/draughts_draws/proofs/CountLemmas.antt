@@ -4,8 +4,8 @@ use Rattle.std.proofs.Common.{nat_le, List, [], ◌∷◌, ◌++◌, Option, Som
 use Rattle.std.proofs.Common.{Err, refl, sym, ap, subst, ◌∙◌, arith, length-append}
 use Rattle.std.specs.Prelude.{unwrap_or, if◌then◌else◌}
 use Rattle.std.specs.HashMap.{get}
-use Rattle.game_lines.specs.Line as line
-use Rattle.game_lines.proofs.Proved as lines
+use Rattle.game_history.specs.Line as line
+use Rattle.game_history.proofs.Proved as lines
 use Rattle.squares.specs.declared.draughts.moves.DMove.{DMove}
 use Rattle.squares.specs.DraughtsBoard.{Position}
 use Rattle.squares.specs.DraughtsSamePosition.{same_position, same_position-same, same_position-itself}
@@ -17,7 +17,7 @@ use Rattle.draughts_draws.specs.declared.counts.DrawCounts.{DrawCounts}
 use Rattle.draughts_draws.specs.declared.ends.DEnd.{DEnd}
 use Rattle.draughts_draws.specs.declared.ends.DEnd.TheVariants.{NoMove, Repetition, KingMoves}
 use Rattle.draughts_draws.specs.declared.ends.DEnd.TheVariants.{PlyLimit}
-use Rattle.game_lines.specs.declared.faults.LineFault.TheVariants.{AfterEnd, Illegal as illegal}
+use Rattle.game_history.specs.declared.faults.LineFault.TheVariants.{AfterEnd, Illegal as illegal}
 use Rattle.draughts_draws.specs.declared.tails.Class.{Class}
 use Rattle.draughts_draws.specs.declared.tails.Tail.{Tail}
 use Rattle.draughts_draws.specs.Line.{last_position}

@@ -1,7 +1,7 @@
 -- When a `DrawCounts` represents a game history.
 use Rattle.std.specs.Prelude.{◌≡◌, List, Option, length, unwrap_or}
 use Rattle.std.specs.HashMap.{get}
-use Rattle.game_lines.specs.Line as line
+use Rattle.game_history.specs.Line as line
 use Rattle.squares.specs.declared.draughts.moves.DMove.{DMove}
 use Rattle.squares.specs.DraughtsBoard.{Position}
 use Rattle.squares.specs.DraughtsSamePosition.{same_position}
@@ -24,5 +24,5 @@ pub record Follows (start : Position) (ms : List DMove) (counts : DrawCounts) : 
       ≡ line.times_at play same_position start ms p
 
 -- The end of the represented history.
-abbrev pub TellsEnd : DrawCounts → Option DEnd → Type 0
-TellsEnd counts end = (start : Position) (ms : List DMove) → Follows start ms counts → end ≡ end_of start ms
+abbrev pub IsEndOf : DrawCounts → Option DEnd → Type 0
+IsEndOf counts end = (start : Position) (ms : List DMove) → Follows start ms counts → end ≡ end_of start ms

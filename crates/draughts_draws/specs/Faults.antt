@@ -1,12 +1,12 @@
 -- Legal draughts histories, and the faults of the others.
 use Rattle.std.specs.Prelude.{◌≡◌, ℕ, List, Err}
-use Rattle.game_lines.specs.Faults as lines
+use Rattle.game_history.specs.Faults as lines
 use Rattle.squares.specs.declared.draughts.moves.DMove.{DMove}
 use Rattle.squares.specs.DraughtsBoard.{Position}
 use Rattle.draughts_moves.specs.declared.checking.Illegal.{Illegal}
 use Rattle.draughts_moves.specs.Check.{check_of}
 use Rattle.draughts_moves.specs.Legal.{Legal, play}
-use Rattle.game_lines.specs.declared.faults.LineFault.{LineFault}
+use Rattle.game_history.specs.declared.faults.LineFault.{LineFault}
 use Rattle.draughts_draws.specs.declared.ends.DEnd.{DEnd}
 use Rattle.draughts_draws.specs.Ends.{end_of}
 

@@ -1,6 +1,6 @@
 -- Draughts histories.
 use Rattle.std.specs.Prelude.{List}
-use Rattle.game_lines.specs.Line as line
+use Rattle.game_history.specs.Line as line
 use Rattle.squares.specs.declared.draughts.moves.DMove.{DMove}
 use Rattle.squares.specs.DraughtsBoard.{Position}
 use Rattle.draughts_moves.specs.Legal.{play}

@@ -29,9 +29,9 @@ pub struct DrawCounts {
 }
 
 impl DrawCounts {
-    ghost use Rattle.game_lines.specs.declared.faults.LineFault.TheVariants.{Memory};
-    ghost use Rattle.game_lines.specs.Following.{GrowsBy, RefusesNext, StaysSo};
-    ghost use Rattle.draughts_draws.specs.Counting.{Follows, TellsEnd};
+    ghost use Rattle.game_history.specs.declared.faults.LineFault.TheVariants.{Memory};
+    ghost use Rattle.game_history.specs.Following.{GrowsBy, RefusesNext, StaysSo};
+    ghost use Rattle.draughts_draws.specs.Counting.{Follows, IsEndOf};
     ghost use Rattle.draughts_draws.specs.Faults.{draughts_lines};
     ghost use Rattle.draughts_draws.specs.Tails.{end_by};
 
@@ -111,7 +111,7 @@ impl DrawCounts {
 
     /// The end of the game, if the last ply ends it.
     pub fn end(&self) -> Option<DEnd>
-        ensures { TellsEnd self.now result }
+        ensures { IsEndOf self.now result }
     {
         self.end_by_tail()
     }

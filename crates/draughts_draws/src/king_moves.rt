@@ -17,5 +17,5 @@ fn is_king(piece: Option<DPiece>) -> bool
 pub(crate) fn is_king_move(position: &DPos, played: &DMove) -> bool
     ensures { result ≡ is_king_move position.now played.now }
 {
-    played.taken.len() == 0 && is_king(position.at(played.from))
+    played.taken.len() == 0 && is_king(position.piece_at(played.from))
 }

@@ -6,9 +6,9 @@ ghost use Rattle.draughts_moves.specs.Counting.{king_count, man_count};
 ghost use Rattle.draughts_moves.specs.Listing.{quiet_list};
 ghost use Rattle.draughts_moves.specs.Search.{next_in};
 
-use crate::beside::exposed;
 use crate::most::own_at;
-use crate::seeking::longest_captures;
+use crate::move_visitor::longest_captures;
+use crate::neighbors::exposed_squares;
 use crate::steps::steps_from;
 use memory::Memory;
 use squares::{DPos, DSet, Direction, Dsq, Side};
@@ -19,7 +19,7 @@ fn count_toward(squares: DSet, empty: DSet, toward: Direction) -> usize
     ensures value { result ≡ count_squares (λ n. set.contains squares n && next_in empty toward n) }
     ensures few { result ≤ 50 }
 {
-    let before = exposed(squares, empty, toward);
+    let before = exposed_squares(squares, empty, toward);
     before.len()
 }
 
@@ -83,7 +83,7 @@ fn count_of_quiet(position: &DPos) -> usize
 /// # Errors
 ///
 /// `Memory` if out of memory.
-pub fn legal_count(alloc: Global, position: &DPos) -> Result<usize, Memory>
+pub fn legal_move_count(alloc: Global, position: &DPos) -> Result<usize, Memory>
     ensures { IfOk result (λ count. IsCountOfLegal position.now count) }
 {
     let found = longest_captures(alloc, position)?;

@@ -6,7 +6,7 @@ ghost use Rattle.squares.specs.declared.draughts.direction.Direction.TheVariants
 ghost use Rattle.squares.specs.declared.draughts.piece.DPiece.{DPiece};
 ghost use Rattle.draughts_moves.specs.Search.{own_at, greatest_at, AreExposed, faces};
 
-use crate::beside::exposed;
+use crate::neighbors::exposed_squares;
 use squares::{DPos, DSet, Direction, Dsq, Side};
 
 // All pieces, and for each direction the enemies that have an empty square behind them.
@@ -32,10 +32,10 @@ fn look(position: &DPos) -> Sight
     let empty = position.empty_squares();
     Sight {
         pieces: first.union(position.squares_of(Side::Second)),
-        up_left: exposed(enemies, empty, Direction::UpLeft),
-        up_right: exposed(enemies, empty, Direction::UpRight),
-        down_left: exposed(enemies, empty, Direction::DownLeft),
-        down_right: exposed(enemies, empty, Direction::DownRight),
+        up_left: exposed_squares(enemies, empty, Direction::UpLeft),
+        up_right: exposed_squares(enemies, empty, Direction::UpRight),
+        down_left: exposed_squares(enemies, empty, Direction::DownLeft),
+        down_right: exposed_squares(enemies, empty, Direction::DownRight),
     }
 }
 

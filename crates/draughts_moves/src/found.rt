@@ -12,18 +12,18 @@ use std::alloc::{AllocError, Global};
 
 /// Captures in order, and the number of pieces that each of them takes.
 #[derive(Drop)]
-pub struct Found {
+pub struct LongestCaptures {
     pub size: usize,
     pub moves: Vec<DMove>,
 }
 
-impl Found {
+impl LongestCaptures {
     /// The empty result before a search.
-    pub fn new(alloc: Global) -> Found
+    pub fn new(alloc: Global) -> LongestCaptures
         ensures size { result.size ≡ 0 }
         ensures moves { result.moves.items ≡ [] }
     {
-        Found {
+        LongestCaptures {
             size: 0,
             moves: Vec::new(alloc),
         }

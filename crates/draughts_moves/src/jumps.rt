@@ -69,7 +69,7 @@ pub(crate) fn stands(position: &DPos, origin: Dsq, square: Dsq) -> Option<DPiece
     if square == origin {
         return None;
     }
-    position.at(square)
+    position.piece_at(square)
 }
 
 // Whether the square holds an enemy that is not yet captured.

@@ -3,7 +3,6 @@
 //! Follows the FMJD rules of international draughts (https://www.fmjd.org/).
 #![tactic(auto)]
 
-mod beside;
 pub mod checking;
 pub mod counting;
 mod exposure;
@@ -14,16 +13,17 @@ pub mod laws;
 pub mod listing;
 mod longest;
 pub mod most;
+mod move_visitor;
 pub mod mover;
+mod neighbors;
 mod ordering;
 pub mod playing;
 mod reaches;
 pub mod routing;
-mod seeking;
 mod steps;
 
 pub use checking::{Illegal, check, has_move};
-pub use counting::legal_count;
+pub use counting::legal_move_count;
 pub use jumps::{Jumps, jumps_from};
 pub use listing::legal;
 pub use memory::Memory;

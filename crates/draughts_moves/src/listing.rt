@@ -7,9 +7,9 @@ ghost use Rattle.squares.specs.DraughtsSets.{ascending};
 ghost use Rattle.draughts_moves.specs.Legal.{Legal};
 ghost use Rattle.draughts_moves.specs.Listing.{move_cmp, step_to, quiet_in_order, quiet_list};
 
-use crate::beside::men_before;
 use crate::most::own_at;
-use crate::seeking::longest_captures;
+use crate::move_visitor::longest_captures;
+use crate::neighbors::men_before;
 use crate::steps::steps_from;
 use memory::Memory;
 use squares::{DMove, DPos, DSet, Dsq};

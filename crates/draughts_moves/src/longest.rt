@@ -20,7 +20,7 @@ pub fn longest(position: &DPos, mover: &Mover) -> usize
     let mut best = 0;
     let jumps = jumps_from(position, mover);
     for (over, to) in jumps.items() {
-        let next = mover.jumped(*over, *to);
+        let next = mover.after_jump(*over, *to);
         let more = longest(position, &next) + 1;
         best = best.max(more);
     }

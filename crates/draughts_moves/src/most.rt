@@ -4,17 +4,17 @@ ghost use Rattle.std.specs.FinSet as set;
 ghost use Rattle.draughts_moves.specs.Capture.{IsMost};
 ghost use Rattle.draughts_moves.specs.Search.{own_at, greatest_at};
 
-use crate::beside::all_beside;
 use crate::exposure::jumping_kings;
 use crate::longest::longest;
 use crate::mover::Mover;
+use crate::neighbors::jump_origins;
 use squares::{DPiece, DPos, DSet, Dsq};
 
 /// The piece on a square, if it belongs to the side to move.
 pub fn own_at(position: &DPos, square: Dsq) -> Option<DPiece>
     ensures { result ≡ own_at position.now square }
 {
-    match position.at(square) {
+    match position.piece_at(square) {
         Some(piece) => {
             if piece.side == position.turn() {
                 return Some(piece);
@@ -32,7 +32,7 @@ pub(crate) fn may_take(position: &DPos) -> DSet
 {
     let own = position.squares_of(position.turn());
     let enemies = position.squares_of(position.turn().other());
-    let near = all_beside(enemies, position.empty_squares());
+    let near = jump_origins(enemies, position.empty_squares());
     let men = own.intersection(near);
     men.union(jumping_kings(position))
 }

@@ -28,7 +28,7 @@ impl Mover {
     }
 
     /// A copy of the piece after one more jump.
-    pub fn jumped(&self, over: Dsq, to: Dsq) -> Mover
+    pub fn after_jump(&self, over: Dsq, to: Dsq) -> Mover
         ensures { result ≡ record self.now { at = to; taken = set.insert self.now.taken over } }
     {
         Mover {

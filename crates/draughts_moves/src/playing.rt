@@ -12,12 +12,12 @@ pub fn play(position: &DPos, played: &DMove) -> DPos
     ensures { result ≡ play position.now played.now }
 {
     let mut next = *position;
-    match position.at(played.from) {
+    match position.piece_at(played.from) {
         Some(piece) => {
             next.clear(played.from);
             next.clear_all(played.taken);
             next.put(played.to, crowned(piece, played.to));
-            next.pass();
+            next.pass_turn();
             next
         }
         None => next,

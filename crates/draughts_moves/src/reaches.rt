@@ -17,7 +17,7 @@ pub fn reaches(position: &DPos, mover: &Mover, left: usize, played: &DMove) -> b
     }
     let jumps = jumps_from(position, mover);
     for (over, to) in jumps.items() {
-        let next = mover.jumped(*over, *to);
+        let next = mover.after_jump(*over, *to);
         if reaches(position, &next, left - 1, played) {
             return true;
         }

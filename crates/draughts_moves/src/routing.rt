@@ -94,7 +94,7 @@ fn collect_routes(
     let jumps = jumps_from(position, mover);
     for (over, to) in jumps.items() {
         path.push(*to)?;
-        let next = mover.jumped(*over, *to);
+        let next = mover.after_jump(*over, *to);
         collect_routes(alloc, position, played, &next, left - 1, path, routes)?;
         path.pop();
     }

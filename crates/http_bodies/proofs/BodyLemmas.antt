@@ -10,7 +10,7 @@ use Rattle.club_requests.specs.Outcome.{MoveReply, Reply, member_added, event_ad
 use Rattle.club_requests.specs.Outcome.{game_ended, games_swept, challenge_opened, challenge_withdrawn}
 use Rattle.club_requests.specs.Outcome.{challenge_refused}
 use Rattle.club_requests.specs.Outcome.{challenge_accepted}
-use Rattle.game_bodies.proofs.Proved.{null_float}
+use Rattle.club_lists.proofs.Proved.{null_float}
 use Rattle.http_bodies.specs.Bodies.{moved_data, reply_data, json_of}
 
 -- a body that is no JSON

@@ -13,7 +13,7 @@ use Rattle.club_requests.specs.Outcome.{game_ended, games_swept, challenge_opene
 use Rattle.club_requests.specs.Outcome.{challenge_refused}
 use Rattle.club_requests.specs.Outcome.{challenge_accepted}
 use Rattle.club_core.specs.State.{Command, open_challenge, answer_challenge}
-use Rattle.game_bodies.specs.Bodies.{text_or_null, number_data}
+use Rattle.club_lists.specs.Bodies.{text_or_null, number_data}
 
 -- ---- replies: the keys of an object are in byte order
 
@@ -47,8 +47,8 @@ abbrev pub swept_data : ℕ → Data
 swept_data count = object (member (codes "swept") (number_data count) no_members)
 
 -- the state of a challenge, and the game that it started
-abbrev pub stands_data : ℕ → List ℕ → Data
-stands_data n state =
+abbrev pub challenge_data : ℕ → List ℕ → Data
+challenge_data n state =
     object (member (codes "challenge") (number_data n) (member (codes "state") (string state) no_members))
 
 abbrev pub started_data : ℕ → ℕ → Data
@@ -66,9 +66,9 @@ reply_data id (member_added member_id) = added_data (codes "member") member_id
 reply_data id (event_added event_id) = added_data (codes "event") event_id
 reply_data id (game_seated game_id) = added_data (codes "game") game_id
 reply_data id (games_swept count) = swept_data count
-reply_data id (challenge_opened n) = stands_data n (codes "open")
-reply_data id (challenge_withdrawn n) = stands_data n (codes "withdrawn")
-reply_data id (challenge_refused n) = stands_data n (codes "refused")
+reply_data id (challenge_opened n) = challenge_data n (codes "open")
+reply_data id (challenge_withdrawn n) = challenge_data n (codes "withdrawn")
+reply_data id (challenge_refused n) = challenge_data n (codes "refused")
 reply_data id (challenge_accepted n game) = started_data n game
 
 -- ---- requests

@@ -4,8 +4,8 @@ use Rattle.http_head.specs.Refusals.{head_number, head_name, head_status}
 use Rattle.club_requests.specs.declared.refusals.Refusal as of_club
 use Rattle.club_requests.specs.declared.refusals.Refusal.TheVariants as club
 use Rattle.club_requests.specs.Refusal as core
-use Rattle.http_bodies.specs.declared.refusals.Refusal.{Refusal}
-use Rattle.http_bodies.specs.declared.refusals.Refusal.TheVariants.{Head, NoRoute, WrongMethod, BadBody, Club}
+use Rattle.http_bodies.specs.declared.refusals.HttpRefusal.{HttpRefusal}
+use Rattle.http_bodies.specs.declared.refusals.HttpRefusal.TheVariants.{Head, NoRoute, WrongMethod, BadBody, Club}
 
 abbrev pub club_status : of_club.Refusal → ℕ
 club_status club.UnknownKey = 401
@@ -29,21 +29,21 @@ club_status club.BadValue = 422
 club_status (club.Play ply refusal) = 422
 club_status (club.Record refusal) = 422
 
-abbrev pub refusal_number : Refusal → ℕ
+abbrev pub refusal_number : HttpRefusal → ℕ
 refusal_number (Head refusal) = head_number refusal
 refusal_number NoRoute = 82
 refusal_number (WrongMethod method) = 83
 refusal_number BadBody = 81
 refusal_number (Club refusal) = core.refusal_number refusal
 
-abbrev pub refusal_name : Refusal → List ℕ
+abbrev pub refusal_name : HttpRefusal → List ℕ
 refusal_name (Head refusal) = head_name refusal
 refusal_name NoRoute = codes "NoRoute"
 refusal_name (WrongMethod method) = codes "WrongMethod"
 refusal_name BadBody = codes "BadBody"
 refusal_name (Club refusal) = core.refusal_name refusal
 
-abbrev pub refusal_status : Refusal → ℕ
+abbrev pub refusal_status : HttpRefusal → ℕ
 refusal_status (Head refusal) = head_status refusal
 refusal_status NoRoute = 404
 refusal_status (WrongMethod method) = 405

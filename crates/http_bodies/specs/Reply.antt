@@ -6,11 +6,11 @@ use Rattle.http.specs.StatusCode.{reason_phrase}
 use Rattle.serde_json.specs.Data.{Data, number, unsigned, string, object, member, no_members}
 use Rattle.serde_json.specs.Written.{compact_text}
 use Rattle.club_page.specs.Joined.{page, policy}
-use Rattle.http_bodies.specs.declared.reply.Kind.{Kind}
-use Rattle.http_bodies.specs.declared.reply.Kind.TheVariants.{Json, Plain, Html}
+use Rattle.http_bodies.specs.declared.reply.ContentType.{ContentType}
+use Rattle.http_bodies.specs.declared.reply.ContentType.TheVariants.{Json, Plain, Html}
 use Rattle.http_bodies.specs.declared.refusals.Method.TheVariants.{Get, Post}
-use Rattle.http_bodies.specs.declared.refusals.Refusal.{Refusal}
-use Rattle.http_bodies.specs.declared.refusals.Refusal.TheVariants.{Head, NoRoute, WrongMethod, BadBody, Club}
+use Rattle.http_bodies.specs.declared.refusals.HttpRefusal.{HttpRefusal}
+use Rattle.http_bodies.specs.declared.refusals.HttpRefusal.TheVariants.{Head, NoRoute, WrongMethod, BadBody, Club}
 use Rattle.club_requests.specs.declared.refusals.Refusal as of_club
 use Rattle.club_requests.specs.declared.refusals.Refusal.TheVariants as club
 use Rattle.http_bodies.specs.Refusals.{refusal_number, refusal_name, refusal_status}
@@ -28,20 +28,20 @@ abbrev pub length_line : ℕ → List ℕ
 length_line n = codes "Content-Length: " ++ decimal n ++ codes "\r\n"
 
 -- the value of Content-Type
-abbrev pub kind_text : Kind → List ℕ
+abbrev pub kind_text : ContentType → List ℕ
 kind_text Json = codes "application/json"
 kind_text Plain = codes "text/plain"
 kind_text Html = codes "text/html; charset=utf-8"
 
 -- the head of a reply; added header lines are last
-unfoldable pub reply_head : ℕ → List ℕ → Kind → ℕ → List ℕ → List ℕ
+unfoldable pub reply_head : ℕ → List ℕ → ContentType → ℕ → List ℕ → List ℕ
 reply_head status phrase kind body_length further =
     status_line status phrase
     ++ type_line (kind_text kind) ++ length_line body_length ++ codes "Connection: close\r\n" ++ further
     ++ codes "\r\n"
 
 -- a reply; Content-Length is that of the body, also if the body is left out
-abbrev pub reply_bytes : ℕ → Kind → List ℕ → List ℕ → Bool → List ℕ
+abbrev pub reply_bytes : ℕ → ContentType → List ℕ → List ℕ → Bool → List ℕ
 reply_bytes status kind further body without_body =
     reply_head status (unwrap_or (reason_phrase status) []) kind (length body) further
     ++ (if without_body then [] else body)
@@ -69,7 +69,7 @@ key_lines club.NotDeclarable = []
 key_lines (club.Play ply refusal) = []
 key_lines (club.Record refusal) = []
 
-abbrev pub further_lines : Refusal → List ℕ
+abbrev pub further_lines : HttpRefusal → List ℕ
 further_lines (Head refusal) = []
 further_lines NoRoute = []
 further_lines (WrongMethod Get) = codes "Allow: GET\r\n"
@@ -82,12 +82,12 @@ abbrev pub error_data : ℕ → List ℕ → Data
 error_data n name =
     object (member (codes "error") (number (unsigned n)) (member (codes "name") (string name) no_members))
 
-abbrev pub refusal_reply : Refusal → Bool → List ℕ
+abbrev pub refusal_reply : HttpRefusal → Bool → List ℕ
 refusal_reply refusal without_body = reply_bytes (refusal_status refusal) Json (further_lines refusal)
     (compact_text (error_data (refusal_number refusal) (refusal_name refusal))) without_body
 
 -- a 200 reply with a body of this content type
-abbrev pub shown_reply : Kind → List ℕ → Bool → List ℕ
+abbrev pub shown_reply : ContentType → List ℕ → Bool → List ℕ
 shown_reply kind body without_body = reply_bytes 200 kind [] body without_body
 
 -- the content security policy

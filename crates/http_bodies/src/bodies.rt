@@ -6,14 +6,14 @@ ghost use Rattle.squares.specs.Sides.{score_text};
 ghost use Rattle.club_rules.specs.EndName.{end_text};
 ghost use Rattle.club_requests.specs.OutsideEnd.{outside_text};
 ghost use Rattle.club_core.specs.Answer.{move_reply_of, reply_of};
-ghost use Rattle.game_bodies.specs.Bodies.{text_or_null};
+ghost use Rattle.club_lists.specs.Bodies.{text_or_null};
 ghost use Rattle.http_bodies.specs.Bodies.{moved_data, offered_data, ended_data, added_data};
-ghost use Rattle.http_bodies.specs.Bodies.{swept_data, reply_data, stands_data, started_data};
+ghost use Rattle.http_bodies.specs.Bodies.{swept_data, reply_data, challenge_data, started_data};
 
 use crate::reply::text_of;
-use club_requests::{Answer, Moved, OutsideEnd};
+use club_lists::text_value;
+use club_requests::{Answer, MoveAnswer, OutsideEnd};
 use club_rules::EndName;
-use game_bodies::text_value;
 use serde_json::{Value, json};
 use squares::Score;
 use std::alloc::{AllocError, Global};
@@ -27,7 +27,7 @@ fn rule_end_or_null(alloc: Global, end: Option<EndName>) -> Result<Value, AllocE
     }
 }
 
-fn moved_value(alloc: Global, id: u32, moved: Moved) -> Result<Value, AllocError>
+fn moved_value(alloc: Global, id: u32, moved: MoveAnswer) -> Result<Value, AllocError>
     ensures { IfOk result (λ v. view v ≡ moved_data id (move_reply_of moved)) }
 {
     let end = rule_end_or_null(alloc, moved.end)?;
@@ -76,8 +76,8 @@ fn swept_value(alloc: Global, count: u32) -> Result<Value, AllocError>
     json!(in alloc; {"swept": count})
 }
 
-fn stands_value(alloc: Global, number: u32, state: &str) -> Result<Value, AllocError>
-    ensures { IfOk result (λ v. view v ≡ stands_data number state.now) }
+fn challenge_value(alloc: Global, number: u32, state: &str) -> Result<Value, AllocError>
+    ensures { IfOk result (λ v. view v ≡ challenge_data number state.now) }
 {
     json!(in alloc; {"challenge": number, "state": state})
 }
@@ -100,9 +100,9 @@ fn answer_value(alloc: Global, id: u32, answer: Answer) -> Result<Value, AllocEr
         Answer::Event(added) => event_value(alloc, added),
         Answer::Game(added) => seated_value(alloc, added),
         Answer::Swept { count } => swept_value(alloc, count),
-        Answer::ChallengeOpened { number } => stands_value(alloc, number, "open"),
-        Answer::ChallengeWithdrawn { number } => stands_value(alloc, number, "withdrawn"),
-        Answer::ChallengeRefused { number } => stands_value(alloc, number, "refused"),
+        Answer::ChallengeOpened { number } => challenge_value(alloc, number, "open"),
+        Answer::ChallengeWithdrawn { number } => challenge_value(alloc, number, "withdrawn"),
+        Answer::ChallengeRefused { number } => challenge_value(alloc, number, "refused"),
         Answer::ChallengeAccepted { number, game } => started_value(alloc, number, game),
     }
 }

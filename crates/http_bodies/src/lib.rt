@@ -12,6 +12,6 @@ pub mod status;
 
 pub use asks::{answer_of, challenge_of, move_text};
 pub use bodies::answer_text;
-pub use refusals::{Method, Refusal};
-pub use reply::{Kind, fault_reply, page_reply, refusal_reply, shown_reply};
+pub use refusals::{HttpRefusal, Method};
+pub use reply::{ContentType, fault_reply, page_reply, refusal_reply, shown_reply};
 pub use status::status_of;

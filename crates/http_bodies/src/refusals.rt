@@ -2,7 +2,7 @@
 ghost use Rattle.std.specs.Prelude.{◌≡◌};
 ghost use Rattle.http_bodies.specs.Refusals.{club_status, refusal_number, refusal_name, refusal_status};
 
-use club_requests::Refusal as ClubRefusal;
+use club_requests::Refusal;
 use http_head::HeadRefusal;
 
 /// An HTTP method that a route may have.
@@ -16,7 +16,7 @@ pub enum Method {
 
 /// Why a request is refused: by its head, by its route, method or body, or by the club.
 #[derive(Clone, Copy, Debug, PartialEq, Eq)]
-pub enum Refusal {
+pub enum HttpRefusal {
     /// By its head.
     Head(HeadRefusal),
     /// No route matches the target (404).
@@ -26,48 +26,48 @@ pub enum Refusal {
     /// The body is malformed (400).
     BadBody,
     /// By the club.
-    Club(ClubRefusal),
+    Club(Refusal),
 }
 
 // The HTTP status of a refusal of the club.
-fn club_status(refusal: ClubRefusal) -> u16
+fn club_status(refusal: Refusal) -> u16
     ensures { result ≡ club_status refusal }
 {
     match refusal {
-        ClubRefusal::UnknownKey => 401,
-        ClubRefusal::NotAllowed => 403,
-        ClubRefusal::NotAPlayer => 403,
-        ClubRefusal::UnknownEvent => 404,
-        ClubRefusal::UnknownGame => 404,
-        ClubRefusal::UnknownChallenge => 404,
-        ClubRefusal::GameOver => 409,
-        ClubRefusal::WrongPly => 409,
-        ClubRefusal::Conflict => 409,
-        ClubRefusal::NotYourTurn => 409,
-        ClubRefusal::OutOfTime => 409,
-        ClubRefusal::TimeLeft => 409,
-        ClubRefusal::NoOffer => 409,
-        ClubRefusal::NameTaken => 409,
-        ClubRefusal::Full => 409,
-        ClubRefusal::NotDeclarable => 409,
-        ClubRefusal::NotInThisGame => 422,
-        ClubRefusal::BadValue => 422,
-        ClubRefusal::Play { ply: _, refusal: _ } => 422,
-        ClubRefusal::Record(_) => 422,
+        Refusal::UnknownKey => 401,
+        Refusal::NotAllowed => 403,
+        Refusal::NotAPlayer => 403,
+        Refusal::UnknownEvent => 404,
+        Refusal::UnknownGame => 404,
+        Refusal::UnknownChallenge => 404,
+        Refusal::GameOver => 409,
+        Refusal::WrongPly => 409,
+        Refusal::Conflict => 409,
+        Refusal::NotYourTurn => 409,
+        Refusal::OutOfTime => 409,
+        Refusal::TimeLeft => 409,
+        Refusal::NoOffer => 409,
+        Refusal::NameTaken => 409,
+        Refusal::Full => 409,
+        Refusal::NotDeclarable => 409,
+        Refusal::NotInThisGame => 422,
+        Refusal::BadValue => 422,
+        Refusal::Play { ply: _, refusal: _ } => 422,
+        Refusal::Record(_) => 422,
     }
 }
 
-impl Refusal {
+impl HttpRefusal {
     /// The error number in the reply.
     pub fn number(self) -> u16
         ensures { result ≡ refusal_number self }
     {
         match self {
-            Refusal::Head(refusal) => refusal.number(),
-            Refusal::NoRoute => 82,
-            Refusal::WrongMethod(_) => 83,
-            Refusal::BadBody => 81,
-            Refusal::Club(refusal) => u16::from(refusal.number()),
+            HttpRefusal::Head(refusal) => refusal.number(),
+            HttpRefusal::NoRoute => 82,
+            HttpRefusal::WrongMethod(_) => 83,
+            HttpRefusal::BadBody => 81,
+            HttpRefusal::Club(refusal) => u16::from(refusal.number()),
         }
     }
 
@@ -76,11 +76,11 @@ impl Refusal {
         ensures { result.now ≡ refusal_name self }
     {
         match self {
-            Refusal::Head(refusal) => refusal.name(),
-            Refusal::NoRoute => "NoRoute",
-            Refusal::WrongMethod(_) => "WrongMethod",
-            Refusal::BadBody => "BadBody",
-            Refusal::Club(refusal) => refusal.name(),
+            HttpRefusal::Head(refusal) => refusal.name(),
+            HttpRefusal::NoRoute => "NoRoute",
+            HttpRefusal::WrongMethod(_) => "WrongMethod",
+            HttpRefusal::BadBody => "BadBody",
+            HttpRefusal::Club(refusal) => refusal.name(),
         }
     }
 
@@ -89,11 +89,11 @@ impl Refusal {
         ensures { result ≡ refusal_status self }
     {
         match self {
-            Refusal::Head(refusal) => refusal.status(),
-            Refusal::NoRoute => 404,
-            Refusal::WrongMethod(_) => 405,
-            Refusal::BadBody => 400,
-            Refusal::Club(refusal) => club_status(refusal),
+            HttpRefusal::Head(refusal) => refusal.status(),
+            HttpRefusal::NoRoute => 404,
+            HttpRefusal::WrongMethod(_) => 405,
+            HttpRefusal::BadBody => 400,
+            HttpRefusal::Club(refusal) => club_status(refusal),
         }
     }
 }

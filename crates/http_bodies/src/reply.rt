@@ -8,9 +8,9 @@ ghost use Rattle.http_bodies.specs.Reply.{key_lines, further_lines, refusal_repl
 ghost use Rattle.http_bodies.specs.Reply.{shown_reply, policy_line, page_reply};
 ghost use Rattle.club_page.specs.Joined.{page};
 
-use crate::refusals::{Method, Refusal};
+use crate::refusals::{HttpRefusal, Method};
 use club_page::{page_1, page_2, page_3, page_4, policy};
-use club_requests::Refusal as ClubRefusal;
+use club_requests::Refusal;
 use http::StatusCode;
 use serde_json::{Value, json};
 use std::alloc::{AllocError, Global};
@@ -20,7 +20,7 @@ const PAGE_ROOM: usize = 112_640;
 
 /// The content type of a body.
 #[derive(Clone, Copy, Debug, PartialEq, Eq)]
-pub enum Kind {
+pub enum ContentType {
     /// `application/json`.
     Json,
     /// `text/plain`.
@@ -30,13 +30,13 @@ pub enum Kind {
 }
 
 // The value of `Content-Type`.
-fn kind_text(kind: Kind) -> &'static str
+fn kind_text(kind: ContentType) -> &'static str
     ensures { result.now ≡ kind_text kind }
 {
     match kind {
-        Kind::Json => "application/json",
-        Kind::Plain => "text/plain",
-        Kind::Html => "text/html; charset=utf-8",
+        ContentType::Json => "application/json",
+        ContentType::Plain => "text/plain",
+        ContentType::Html => "text/html; charset=utf-8",
     }
 }
 
@@ -80,7 +80,7 @@ fn reply_head(
     alloc: Global,
     status: u16,
     phrase: &str,
-    kind: Kind,
+    kind: ContentType,
     body_length: usize,
     further: &str,
 ) -> Result<String, AllocError>
@@ -101,7 +101,7 @@ fn reply_head(
 fn reply_bytes(
     alloc: Global,
     status: u16,
-    kind: Kind,
+    kind: ContentType,
     further: &str,
     body: &[u8],
     without_body: bool,
@@ -118,23 +118,23 @@ fn reply_bytes(
 }
 
 // The header line that names the authentication scheme, for an unknown key.
-fn key_lines(refusal: ClubRefusal) -> &'static str
+fn key_lines(refusal: Refusal) -> &'static str
     ensures { result.now ≡ key_lines refusal }
 {
     match refusal {
-        ClubRefusal::UnknownKey => "WWW-Authenticate: Member-Key\r\n",
+        Refusal::UnknownKey => "WWW-Authenticate: Member-Key\r\n",
         _ => "",
     }
 }
 
 // The header lines that a refusal adds.
-fn further_lines(refusal: Refusal) -> &'static str
+fn further_lines(refusal: HttpRefusal) -> &'static str
     ensures { result.now ≡ further_lines refusal }
 {
     match refusal {
-        Refusal::WrongMethod(Method::Get) => "Allow: GET\r\n",
-        Refusal::WrongMethod(Method::Post) => "Allow: POST\r\n",
-        Refusal::Club(refusal) => key_lines(refusal),
+        HttpRefusal::WrongMethod(Method::Get) => "Allow: GET\r\n",
+        HttpRefusal::WrongMethod(Method::Post) => "Allow: POST\r\n",
+        HttpRefusal::Club(refusal) => key_lines(refusal),
         _ => "",
     }
 }
@@ -168,13 +168,13 @@ fn json_reply(
     requires status { IsStatusCode status }
     requires value { has_float (view value.now) ≡ false }
     ensures { IfOk result (λ v. v.items ≡
-        reply_bytes status Kind.Json further.now (compact_text (view value.now)) without_body) }
+        reply_bytes status ContentType.Json further.now (compact_text (view value.now)) without_body) }
 {
     let body = text_of(alloc, value)?;
     reply_bytes(
         alloc,
         status,
-        Kind::Json,
+        ContentType::Json,
         further,
         body.as_bytes(),
         without_body,
@@ -191,7 +191,7 @@ fn error_reply(
 ) -> Result<Vec<u8>, AllocError>
     requires { IsStatusCode status }
     ensures { IfOk result (λ v. v.items ≡
-        reply_bytes status Kind.Json further.now (compact_text (error_data number name.now)) without_body) }
+        reply_bytes status ContentType.Json further.now (compact_text (error_data number name.now)) without_body) }
 {
     let value = error_value(alloc, u64::from(number), name)?;
     json_reply(alloc, status, further, &value, without_body)
@@ -204,7 +204,7 @@ fn error_reply(
 /// `AllocError` if out of memory.
 pub fn refusal_reply(
     alloc: Global,
-    refusal: Refusal,
+    refusal: HttpRefusal,
     without_body: bool,
 ) -> Result<Vec<u8>, AllocError>
     ensures { IfOk result (λ v. v.items ≡ refusal_reply refusal without_body) }
@@ -226,7 +226,7 @@ pub fn refusal_reply(
 /// `AllocError` if out of memory.
 pub fn shown_reply(
     alloc: Global,
-    kind: Kind,
+    kind: ContentType,
     body: &[u8],
     without_body: bool,
 ) -> Result<Vec<u8>, AllocError>
@@ -267,7 +267,7 @@ pub fn page_reply(alloc: Global, without_body: bool) -> Result<Vec<u8>, AllocErr
     reply_bytes(
         alloc,
         200,
-        Kind::Html,
+        ContentType::Html,
         line.as_str(),
         page.as_bytes(),
         without_body,

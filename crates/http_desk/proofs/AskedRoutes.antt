@@ -12,12 +12,12 @@ use Rattle.matchit.specs.Router.{RouteOf}
 use Rattle.matchit.specs.Route.{scan}
 use Rattle.matchit.specs.Params.{walk, part_of, AllText}
 use Rattle.matchit.specs.Seek.{has_slash, first}
-use Rattle.http_desk.specs.declared.routes.Page.{Page}
-use Rattle.http_desk.specs.declared.questions.OfGame.TheVariants.{View, Moves, Record, Clock}
-use Rattle.http_desk.specs.declared.questions.OfEvent.TheVariants as of_events
-use Rattle.http_desk.specs.Routes.{routes, slash, before, behind, asked_of_page, asked_of_path, text_of}
-use Rattle.http_desk.specs.Routes.{Asked, about_game, about_event, challenge, withdraw}
-use Rattle.http_desk.specs.Routes.{action_asked, ply_asked, answer_asked}
+use Rattle.http_desk.specs.declared.routes.Route.{Route}
+use Rattle.http_desk.specs.declared.questions.GameTopic.TheVariants.{View, Moves, Record, Clock}
+use Rattle.http_desk.specs.declared.questions.EventTopic.TheVariants as of_events
+use Rattle.http_desk.specs.Routes.{routes, slash, before, behind, endpoint_of_route, asked_of_path, text_of}
+use Rattle.http_desk.specs.Routes.{Endpoint, about_game, about_event, challenge, withdraw}
+use Rattle.http_desk.specs.Routes.{action_endpoint, ply_asked, answer_asked}
 use Rattle.http_desk.specs.Routes.{GameAction, make_move, offer_draw, accept_draw, resign, claim_time, declare}
 use Rattle.http_head.specs.Head.{number_of}
 use Rattle.http_desk.specs.Taken.{Parts, asked_by}
@@ -27,22 +27,22 @@ use Rattle.http_desk.proofs.PartTexts.{AreTexts, parameters, parts_text}
 use Rattle.http_desk.proofs.WalkedPaths.{named_parts, walked}
 
 -- the parts that a route took are text, and ask for what the path asks for
-pub record IsAsked (route : RouteOf Page) (path : List ℕ) : Type 0 where
+pub record IsAsked (route : RouteOf Route) (path : List ℕ) : Type 0 where
   pub texts : AllText (walk route.pattern route.text path route.names 0 0)
   pub same : asked_by route.value (walk route.pattern route.text path route.names 0 0)
-      ≡ asked_of_page (Some route.value) path
+      ≡ endpoint_of_route (Some route.value) path
 
 -- a route whose parts are so for each path that fills it
-record IsGood (pattern : List ℕ) (route : RouteOf Page) : Type 0 where
+record IsGood (pattern : List ℕ) (route : RouteOf Route) : Type 0 where
   plain : is_plain pattern ≡ true
   asked : (parts : ℕ → List ℕ) → HaveNoSlash parts → IsUtf8 (filled pattern parts)
       → IsAsked route (filled pattern parts)
 
-AllGood : RowsOf (RouteOf Page) → Type 0
+AllGood : RowsOf (RouteOf Route) → Type 0
 AllGood [] = Unit {0}
 AllGood ((pattern, route) ∷ rows) = IsGood pattern route × AllGood rows
 
-good_among : (pattern : List ℕ) (route : RouteOf Page) (rows : RowsOf (RouteOf Page)) → AllGood rows
+good_among : (pattern : List ℕ) (route : RouteOf Route) (rows : RowsOf (RouteOf Route)) → AllGood rows
     → Among pattern route rows → IsGood pattern route
 unfolding AllGood
 good_among pattern route [] all is = absurd is
@@ -71,9 +71,9 @@ is_good pattern text names =
     is_plain pattern && (are_texts text names && (leb (length names) (parameters pattern)
     && leb (length pattern) 18446744073709551615))
 
-good : (pattern text : List ℕ) (names : List (ℕ × ℕ)) (page : Page) → is_good pattern text names ≡ true
+good : (pattern text : List ℕ) (names : List (ℕ × ℕ)) (page : Route) → is_good pattern text names ≡ true
     → ((parts : ℕ → List ℕ) → HaveNoSlash parts → AreTexts pattern parts
-    → asked_by page (named_parts text names parts) ≡ asked_of_page (Some page) (filled pattern parts))
+    → asked_by page (named_parts text names parts) ≡ endpoint_of_route (Some page) (filled pattern parts))
     → IsGood pattern (record { pattern = pattern; text = text; names = names; value = page })
 unfolding is_good
 good pattern text names page fine asks =
@@ -109,12 +109,12 @@ behind_slash (b ∷ part) rest none =
     rw e.0 (behind_slash part rest e.1)
 
 -- the first part as a number, before a slash or the last
-number_at : (ask : Option ℕ → Option Asked) (rest : List ℕ) (parts : ℕ → List ℕ) → HaveNoSlash parts
+number_at : (ask : Option ℕ → Option Endpoint) (rest : List ℕ) (parts : ℕ → List ℕ) → HaveNoSlash parts
     → before slash rest ≡ [] → ask (number_of (parts 0)) ≡ ask (number_of (before slash (parts 0 ++ rest)))
 number_at ask rest parts none end = rw (before_slash (parts 0) rest (none 0) end) refl
 
 -- the first part as text, before a slash
-text_at : (ask : Option (List ℕ) → Option Asked) (rest : List ℕ) (parts : ℕ → List ℕ) → HaveNoSlash parts
+text_at : (ask : Option (List ℕ) → Option Endpoint) (rest : List ℕ) (parts : ℕ → List ℕ) → HaveNoSlash parts
     → IsUtf8 (parts 0) → ask (Some (parts 0)) ≡ ask (text_of (before slash (parts 0 ++ slash ∷ rest)))
 text_at ask rest parts none text =
     rw (before_slash (parts 0) (slash ∷ rest) (none 0) refl, is_utf8-from_IsUtf8 (parts 0) text) refl
@@ -167,7 +167,7 @@ all_good =
     & good _ _ _ _ refl (λ parts none texts.
     text_at (option_map (about_event of_events.Table)) _ parts none (texts 0 (omega arith)))
     -- /games/{id}/claim-time
-    & good _ _ _ _ refl (λ parts none texts. number_at (action_asked claim_time) _ parts none refl)
+    & good _ _ _ _ refl (λ parts none texts. number_at (action_endpoint claim_time) _ parts none refl)
     -- /games/{id}/clock
     & good _ _ _ _ refl (λ parts none texts. number_at (option_map (about_game Clock)) _ parts none refl)
     -- /games/{id}/declare/{ply}
@@ -183,7 +183,7 @@ all_good =
     -- /games/{id}/record
     & good _ _ _ _ refl (λ parts none texts. number_at (option_map (about_game Record)) _ parts none refl)
     -- /games/{id}/resign
-    & good _ _ _ _ refl (λ parts none texts. number_at (action_asked resign) _ parts none refl)
+    & good _ _ _ _ refl (λ parts none texts. number_at (action_endpoint resign) _ parts none refl)
     -- /games/{id}
     & good _ _ _ _ refl (λ parts none texts. number_at (option_map (about_game View)) _ parts none refl)
     -- /me/events
@@ -195,11 +195,11 @@ all_good =
     & tt
 
 -- what a path asks for whose route was found, by the parts that were taken
-pub record IsAskedBy (page : Page) (parts : Parts) (path : List ℕ) : Type 0 where
+pub record IsAskedBy (page : Route) (parts : Parts) (path : List ℕ) : Type 0 where
   pub texts : AllText parts
   pub asks : asked_by page parts ≡ asked_of_path (Some path)
 
-pub asked_by_parts : (rows : RowsOf (RouteOf Page)) (given path seen : List ℕ) (route : RouteOf Page) → rows ≡ routes
+pub asked_by_parts : (rows : RowsOf (RouteOf Route)) (given path seen : List ℕ) (route : RouteOf Route) → rows ≡ routes
     → Some path ≡ text_of given → first rows path ≡ Some route → seen ≡ path
     → IsAskedBy route.value (walk route.pattern route.text seen route.names 0 0) given
 asked_by_parts rows given path seen route all is found same = by (is_utf8 given) refl is

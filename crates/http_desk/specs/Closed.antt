@@ -6,7 +6,7 @@ use Rattle.http_desk.specs.Served.{Club}
 
 abbrev pub closed : Club (Unit {0})
 closed = record {
-  holder_of = λ s key. None;
+  member_by_key = λ s key. None;
   IsShown = λ s moment question shown. ⊥;
   step = λ s request. (s, refused UnknownKey);
 }

@@ -3,14 +3,14 @@ use Rattle.std.specs.Prelude.{◌≡◌, Option, Result, Ok, Err, option_map}
 use Rattle.club_requests.specs.declared.requests.GameCommand as given
 use Rattle.club_core.specs.Answer.{game_command_of}
 use Rattle.club_core.specs.Step.{GameCommand}
-use Rattle.http_desk.specs.declared.desk.DeskAnswer as code
-use Rattle.http_desk.specs.declared.desk.DeskAnswer.TheVariants as variants
+use Rattle.http_desk.specs.declared.desk.Response as code
+use Rattle.http_desk.specs.declared.desk.Response.TheVariants as variants
 use Rattle.http_desk.specs.declared.desk.AnswerFault.{AnswerFault}
 use Rattle.http_desk.specs.declared.desk.AnswerFault.TheVariants as faults
 use Rattle.http_desk.specs.declared.faults.ClubFault.{ClubFault}
 use Rattle.http_desk.specs.Desk.{Answer, refusal, shows, shows_page}
 
-abbrev pub answer_view : code.DeskAnswer → Answer
+abbrev pub answer_view : code.Response → Answer
 answer_view (variants.Refused r) = refusal r
 answer_view (variants.Shows kind bytes) = shows kind bytes.items
 answer_view variants.Page = shows_page
@@ -19,7 +19,7 @@ abbrev pub command_view : Option given.GameCommand → Option GameCommand
 command_view command = option_map game_command_of command
 
 -- the result of a call on an unavailable club: the expected answer or fault, or out of memory
-abbrev pub IsShutBy : Result Answer ClubFault → Result code.DeskAnswer AnswerFault → Type 0
+abbrev pub IsShutBy : Result Answer ClubFault → Result code.Response AnswerFault → Type 0
 IsShutBy expected (Ok shown) = expected ≡ Ok (answer_view shown)
 IsShutBy expected (Err (faults.Club fault)) = expected ≡ Err fault
 IsShutBy expected (Err faults.Memory) = Unit {0}

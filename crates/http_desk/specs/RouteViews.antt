@@ -1,13 +1,13 @@
 -- The mathematical values of the code's endpoints.
 use Rattle.http_desk.specs.declared.routes.GameAction as given_action
 use Rattle.http_desk.specs.declared.routes.GameAction.TheVariants as turn
-use Rattle.http_desk.specs.declared.routes.Asked as given
-use Rattle.http_desk.specs.declared.routes.Asked.TheVariants as asked
+use Rattle.http_desk.specs.declared.routes.Endpoint as given
+use Rattle.http_desk.specs.declared.routes.Endpoint.TheVariants as asked
 use Rattle.http_desk.specs.Routes.{GameAction, make_move, offer_draw, accept_draw, resign, claim_time, declare}
-use Rattle.http_desk.specs.declared.questions.Asking as given_asking
-use Rattle.http_desk.specs.declared.questions.Asking.TheVariants as asking
-use Rattle.http_desk.specs.Routes.{Asking, of_game, of_event, of_member}
-use Rattle.http_desk.specs.Routes.{Asked, members_page, question, on_game, challenge}
+use Rattle.http_desk.specs.declared.questions.QuestionPath as given_asking
+use Rattle.http_desk.specs.declared.questions.QuestionPath.TheVariants as asking
+use Rattle.http_desk.specs.Routes.{QuestionPath, of_game, of_event, of_member}
+use Rattle.http_desk.specs.Routes.{Endpoint, members_page, question, on_game, challenge}
 use Rattle.http_desk.specs.Routes.{withdraw, answer}
 
 abbrev pub action_view : given_action.GameAction → GameAction
@@ -18,12 +18,12 @@ action_view turn.Resign = resign
 action_view turn.ClaimTime = claim_time
 action_view (turn.Declare ply) = declare ply
 
-abbrev pub asking_view : given_asking.Asking → Asking
+abbrev pub asking_view : given_asking.QuestionPath → QuestionPath
 asking_view (asking.OfGame topic game) = of_game topic game
 asking_view (asking.OfEvent topic event) = of_event topic event.now
 asking_view (asking.OfMember topic) = of_member topic
 
-abbrev pub asked_view : given.Asked → Asked
+abbrev pub asked_view : given.Endpoint → Endpoint
 asked_view asked.MembersPage = members_page
 asked_view (asked.Question about) = question (asking_view about)
 asked_view (asked.OnGame game turn) = on_game game (action_view turn)

@@ -2,7 +2,7 @@
 use Rattle.std.specs.Prelude.{◌≡◌, ◌⊎◌, ℕ, List, Option, Result, Ok, Err}
 use Rattle.club_requests.specs.Outcome.{Outcome}
 use Rattle.club_requests.specs.declared.refusals.Refusal.{Refusal}
-use Rattle.club_questions.specs.declared.questions.Question.{Question}
+use Rattle.club_requests.specs.declared.questions.Question.{Question}
 use Rattle.club_core.specs.State.{Request}
 use Rattle.http_desk.specs.declared.faults.ClubFault.{ClubFault}
 use Rattle.http_desk.specs.declared.faults.ClubFault.TheVariants.{Store, Memory}
@@ -10,7 +10,7 @@ use Rattle.http_desk.specs.declared.faults.ClubFault.TheVariants.{Store, Memory}
 -- a club as an abstract machine: answers are relations, steps are functions
 pub record Club (S : Type 0) : Type 1 where
   -- the name of the member who has the key, if there is one
-  pub holder_of : S → List ℕ → Option (List ℕ)
+  pub member_by_key : S → List ℕ → Option (List ℕ)
   -- the answer to a query at a timestamp, or the refusal
   pub IsShown : S → ℕ → Question → Result (List ℕ) Refusal → Type 0
   -- the next state and the outcome of a command

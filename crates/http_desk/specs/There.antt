@@ -2,24 +2,24 @@
 use Rattle.std.specs.Prelude.{◌≡◌, ℕ, List, Some, option_map, Ok, codes, length}
 use Rattle.matchit.specs.Order.{lookup}
 use Rattle.matchit.specs.Route.{Scan, parse_route}
-use Rattle.http_desk.specs.declared.routes.Page.{Page}
-use Rattle.http_desk.specs.declared.routes.Page.TheVariants.{AskGame, AskEvent, AskMember}
-use Rattle.http_desk.specs.declared.routes.Page.TheVariants.{MakeMove, OfferDraw, AcceptDraw, Resign, ClaimTime}
-use Rattle.http_desk.specs.declared.routes.Page.TheVariants.{Declare}
-use Rattle.http_desk.specs.declared.routes.Page.TheVariants.{Challenge, Withdraw, Answer, Members}
-use Rattle.http_desk.specs.declared.questions.OfGame.TheVariants.{View, Moves, Record, Clock}
-use Rattle.http_desk.specs.declared.questions.OfEvent.TheVariants as of_events
-use Rattle.http_desk.specs.declared.questions.OfMember.TheVariants as of_members
+use Rattle.http_desk.specs.declared.routes.Route.{Route}
+use Rattle.http_desk.specs.declared.routes.Route.TheVariants.{AskGame, AskEvent, AskMember}
+use Rattle.http_desk.specs.declared.routes.Route.TheVariants.{MakeMove, OfferDraw, AcceptDraw, Resign, ClaimTime}
+use Rattle.http_desk.specs.declared.routes.Route.TheVariants.{Declare}
+use Rattle.http_desk.specs.declared.routes.Route.TheVariants.{Challenge, Withdraw, Answer, Members}
+use Rattle.http_desk.specs.declared.questions.GameTopic.TheVariants.{View, Moves, Record, Clock}
+use Rattle.http_desk.specs.declared.questions.EventTopic.TheVariants as of_events
+use Rattle.http_desk.specs.declared.questions.MemberTopic.TheVariants as of_members
 use Rattle.http_desk.specs.Routes.{page_of, routes}
 
 -- the pattern parses, and leads to the route
-pub record LeadsTo (text : List ℕ) (page : Page) : Type 0 where
+pub record LeadsTo (text : List ℕ) (page : Route) : Type 0 where
   pub scan : Scan
   pub reads : parse_route text ≡ Ok scan
   pub leads : option_map (λ route. route.value) (lookup scan.pattern routes) ≡ Some page
 
 -- all routes of the table, and no others
-pub record AreThere : Type 0 where
+pub record AreAllRoutes : Type 0 where
   pub game : LeadsTo (codes "/games/{id}") (AskGame View)
   pub legal : LeadsTo (codes "/games/{id}/legal") (AskGame Moves)
   pub records : LeadsTo (codes "/games/{id}/record") (AskGame Record)

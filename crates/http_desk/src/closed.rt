@@ -1,20 +1,19 @@
 //! A club that is unavailable.
 
 use crate::faults::ClubFault;
-use crate::served::ServedClub;
+use crate::served::ClubService;
 use clocks::Moment;
-use club_questions::Question;
-use club_requests::{Command, Outcome, Refusal, Who};
+use club_requests::{Command, Outcome, Question, Refusal, Who};
 use std::alloc::Global;
 
 /// A club whose file could not be opened: it has no state, and answers every call with the fault.
 #[derive(Clone, Copy, Debug, PartialEq, Eq)]
-pub struct Closed {
+pub struct UnavailableClub {
     /// The fault that every call returns.
     pub fault: ClubFault,
 }
 
-impl ServedClub for Closed {
+impl ClubService for UnavailableClub {
     ghost use Rattle.std.specs.Prelude.{◌≡◌};
     ghost use Rattle.http_desk.specs.Closed.{closed};
 
@@ -30,7 +29,7 @@ impl ServedClub for Closed {
 
     ghost IsShut = { λ b fault. b.fault ≡ fault };
 
-    fn holder_of(&mut self, _alloc: Global, _key: &str) -> Result<Option<String>, ClubFault> {
+    fn member_by_key(&mut self, _alloc: Global, _key: &str) -> Result<Option<String>, ClubFault> {
         Err(self.fault)
     }
 

@@ -5,16 +5,16 @@ ghost use Rattle.club_core.specs.Answer.{command_of, game_command_of, outcome_of
 ghost use Rattle.club_core.specs.State.{key_holder, on_game, withdraw_challenge};
 ghost use Rattle.http_desk.specs.RouteViews.{action_view};
 ghost use Rattle.http_bodies.specs.Bodies.{reply_data};
-ghost use Rattle.http_bodies.specs.declared.reply.Kind.TheVariants.{Json};
+ghost use Rattle.http_bodies.specs.declared.reply.ContentType.TheVariants.{Json};
 ghost use Rattle.http_desk.specs.Desk.{shows, command_given, outcome_answer, serve_command, ServesDue};
 ghost use Rattle.http_desk.specs.DeskViews.{answer_view, command_view};
 
-use crate::desk::{AnswerFault, DeskAnswer};
+use crate::desk::{AnswerFault, Response};
 use crate::routes::GameAction;
-use crate::served::ServedClub;
+use crate::served::ClubService;
 use clocks::Moment;
 use club_requests::{Answer, Command, GameCommand, OnGame, Outcome, Who, Withdraw};
-use http_bodies::{Kind, Refusal, answer_text, move_text};
+use http_bodies::{ContentType, HttpRefusal, answer_text, move_text};
 use std::alloc::{AllocError, Global};
 
 // The command on a game that a path and a body give; `None` if the body is malformed.
@@ -48,21 +48,21 @@ fn command_given(
 }
 
 // The JSON answer to an accepted command.
-fn answer_shown(alloc: Global, game: u32, answer: Answer) -> Result<DeskAnswer, AllocError>
+fn answer_shown(alloc: Global, game: u32, answer: Answer) -> Result<Response, AllocError>
     ensures { IfOk result (λ shown. answer_view shown ≡ shows Json (compact_text (reply_data game (reply_of answer)))) }
 {
     let text = answer_text(alloc, game, answer)?;
-    Ok(DeskAnswer::Shows(Kind::Json, text.into_bytes()))
+    Ok(Response::Shows(ContentType::Json, text.into_bytes()))
 }
 
 // The answer to a command; a repeated command has the same answer as the accepted one.
-fn outcome_shown(alloc: Global, game: u32, outcome: Outcome) -> Result<DeskAnswer, AllocError>
+fn outcome_shown(alloc: Global, game: u32, outcome: Outcome) -> Result<Response, AllocError>
     ensures { IfOk result (λ shown. answer_view shown ≡ outcome_answer game (outcome_of outcome)) }
 {
     match outcome {
         Outcome::Accepted(answer) => answer_shown(alloc, game, answer),
         Outcome::Repeated(answer) => answer_shown(alloc, game, answer),
-        Outcome::Refused(refusal) => Ok(DeskAnswer::Refused(Refusal::Club(refusal))),
+        Outcome::Refused(refusal) => Ok(Response::Refused(HttpRefusal::Club(refusal))),
     }
 }
 
@@ -108,21 +108,21 @@ pub(crate) fn withdrawal(number: u32) -> Command
 }
 
 // Executes a command, or refuses the body if there is none. `id` is the number of its game or challenge.
-pub(crate) fn serve_command<C: ServedClub>(
+pub(crate) fn serve_command<C: ClubService>(
     alloc: Global,
     club: &mut C,
     key: &str,
     id: u32,
     command: Option<Command>,
     moment: Moment,
-) -> Result<DeskAnswer, AnswerFault>
+) -> Result<Response, AnswerFault>
     ensures clean { C.IsClean club.new → C.IsClean club.old }
     ensures serves { C.IsClean club.new → (s : C.State) → C.Stands club.old s →
         ServesDue C.club (C.Stands club.new) (C.Leaves club.new) answer_view s
         (serve_command C.club s moment key.now id (option_map command_of command)) result }
 {
     let Some(command) = command else {
-        return Ok(DeskAnswer::Refused(Refusal::BadBody));
+        return Ok(Response::Refused(HttpRefusal::BadBody));
     };
     let who = key_holder(alloc, key)?;
     let outcome = club.apply(alloc, &who, &command, moment)?;

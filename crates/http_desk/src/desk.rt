@@ -8,29 +8,29 @@ ghost use Rattle.http_desk.specs.Desk.{is_method, answer_reply, serve_page, serv
 ghost use Rattle.http_desk.specs.Desk.{serve};
 ghost use Rattle.http_desk.specs.Desk.{ServesDue, RepliesTo, Answers, shut_known, shut_caller, shut_asked, shut_serve};
 ghost use Rattle.http_desk.specs.Desk.{shut_text, shut_reply, IsShutReply};
-ghost use Rattle.http_desk.specs.Desk.{known_caller, caller_for, asked_caller, caller, TellsCaller};
+ghost use Rattle.http_desk.specs.Desk.{known_caller, caller_for, asked_caller, caller, NamesExpectedCaller};
 ghost use Rattle.http_desk.specs.Desk.{NamesCaller, NamesCallerOf};
 ghost use Rattle.http_desk.specs.DeskViews.{answer_view, IsShutBy};
 
 use crate::commands::{serve_command, turn_given, withdrawal};
 use crate::faults::{ClubFault, DeskFault};
 use crate::pages::serve_question;
-use crate::routes::{Asked, Routes, text_of};
-use crate::served::ServedClub;
+use crate::routes::{Endpoint, Routes, text_of};
+use crate::served::ClubService;
 use clocks::Moment;
-use club_requests::Refusal as ClubRefusal;
+use club_requests::Refusal;
 use http_bodies::{
-    Kind, Method, Refusal, answer_of, challenge_of, fault_reply, page_reply, refusal_reply,
-    shown_reply,
+    ContentType, HttpRefusal, Method, answer_of, challenge_of, fault_reply, page_reply,
+    refusal_reply, shown_reply,
 };
-use http_head::{Request, Seen, read_request};
+use http_head::{HttpRequest, ParseState, read_request};
 use std::alloc::{AllocError, Global};
 
 /// The content of a reply.
 #[derive(Drop)]
-pub(crate) enum DeskAnswer {
-    Refused(Refusal),
-    Shows(Kind, Vec<u8>),
+pub(crate) enum Response {
+    Refused(HttpRefusal),
+    Shows(ContentType, Vec<u8>),
     /// The members' page.
     Page,
 }
@@ -38,13 +38,13 @@ pub(crate) enum DeskAnswer {
 // An answer, and the name of the member whose key the request has, as soon as it is known.
 #[derive(Drop)]
 struct Served {
-    shown: Result<DeskAnswer, AnswerFault>,
+    shown: Result<Response, AnswerFault>,
     caller: Option<String>,
 }
 
 /// A reply, and the member who sent the request.
 #[derive(Drop)]
-pub struct Replied {
+pub struct AttributedReply {
     /// The bytes of the reply.
     pub reply: Vec<u8>,
     /// The name of the member, if the route needs a key and the key is a member's.
@@ -81,35 +81,35 @@ impl From<AllocError> for AnswerFault {
 }
 
 // Executes a route for a member.
-fn serve_page<C: ServedClub>(
+fn serve_page<C: ClubService>(
     alloc: Global,
     club: &mut C,
     key: &str,
     body: &[u8],
-    asked: Asked<'_>,
+    asked: Endpoint<'_>,
     moment: Moment,
-) -> Result<DeskAnswer, AnswerFault>
+) -> Result<Response, AnswerFault>
     ensures clean { C.IsClean club.new → C.IsClean club.old }
     ensures serves { C.IsClean club.new → (s : C.State) → C.Stands club.old s →
         ServesDue C.club (C.Stands club.new) (C.Leaves club.new) answer_view s
         (serve_page C.club s moment key.now body.now (asked_view asked.entry)) result }
 {
     match asked {
-        Asked::MembersPage => Ok(DeskAnswer::Page),
-        Asked::Question(asking) => serve_question(alloc, club, key, asking, moment),
-        Asked::OnGame(game, turn) => {
+        Endpoint::MembersPage => Ok(Response::Page),
+        Endpoint::Question(asking) => serve_question(alloc, club, key, asking, moment),
+        Endpoint::OnGame(game, turn) => {
             let command = turn_given(alloc, game, turn, body)?;
             serve_command(alloc, club, key, game, command, moment)
         }
-        Asked::Challenge(number) => {
+        Endpoint::Challenge(number) => {
             let command = challenge_of(alloc, number, body)?;
             serve_command(alloc, club, key, number, command, moment)
         }
-        Asked::Withdraw(number) => {
+        Endpoint::Withdraw(number) => {
             let command = Some(withdrawal(number));
             serve_command(alloc, club, key, number, command, moment)
         }
-        Asked::Answer(member, number) => {
+        Endpoint::Answer(member, number) => {
             let command = answer_of(alloc, member, number, body)?;
             serve_command(alloc, club, key, number, command, moment)
         }
@@ -136,12 +136,12 @@ fn key_text<'k>(key: Option<&'k [u8]>) -> Option<&'k str>
 }
 
 // Executes a route if the key is a member's; otherwise refuses it as `UnknownKey`.
-fn serve_known<C: ServedClub>(
+fn serve_known<C: ClubService>(
     alloc: Global,
     club: &mut C,
     key: Option<&[u8]>,
     body: &[u8],
-    asked: Asked<'_>,
+    asked: Endpoint<'_>,
     moment: Moment,
 ) -> Served
     ensures clean { C.IsClean club.new → C.IsClean club.old }
@@ -153,22 +153,22 @@ fn serve_known<C: ServedClub>(
         (serve_known C.club s moment (option_map (λ k. k.now) key.entry) body.now (asked_view asked.entry))
         result.shown }
     ensures caller { C.IsClean club.new → (s : C.State) → C.Stands club.old s →
-        TellsCaller (known_caller C.club s (option_map (λ k. k.now) key.entry))
+        NamesExpectedCaller (known_caller C.club s (option_map (λ k. k.now) key.entry))
         (option_map string_bytes result.caller) result.shown }
 {
     let Some(key) = key_text(key) else {
         return Served {
-            shown: Ok(DeskAnswer::Refused(Refusal::Club(ClubRefusal::UnknownKey))),
+            shown: Ok(Response::Refused(HttpRefusal::Club(Refusal::UnknownKey))),
             caller: None,
         };
     };
-    match club.holder_of(alloc, key) {
+    match club.member_by_key(alloc, key) {
         Ok(Some(name)) => Served {
             shown: serve_page(alloc, club, key, body, asked, moment),
             caller: Some(name),
         },
         Ok(None) => Served {
-            shown: Ok(DeskAnswer::Refused(Refusal::Club(ClubRefusal::UnknownKey))),
+            shown: Ok(Response::Refused(HttpRefusal::Club(Refusal::UnknownKey))),
             caller: None,
         },
         Err(fault) => Served {
@@ -179,11 +179,11 @@ fn serve_known<C: ServedClub>(
 }
 
 // Executes a route: a public one at once, another for the holder of the key.
-fn serve_caller<C: ServedClub>(
+fn serve_caller<C: ClubService>(
     alloc: Global,
     club: &mut C,
-    request: &Request<'_>,
-    asked: Asked<'_>,
+    request: &HttpRequest<'_>,
+    asked: Endpoint<'_>,
     moment: Moment,
 ) -> Served
     ensures clean { C.IsClean club.new → C.IsClean club.old }
@@ -195,12 +195,12 @@ fn serve_caller<C: ServedClub>(
         (serve_caller C.club s moment (request_view request.now).key (request_view request.now).body
         (asked_view asked.entry)) result.shown }
     ensures caller { C.IsClean club.new → (s : C.State) → C.Stands club.old s →
-        TellsCaller (caller_for C.club s (request_view request.now).key (asked_view asked.entry))
+        NamesExpectedCaller (caller_for C.club s (request_view request.now).key (asked_view asked.entry))
         (option_map string_bytes result.caller) result.shown }
 {
-    if asked.is_for_all() {
+    if asked.is_public() {
         Served {
-            shown: Ok(DeskAnswer::Page),
+            shown: Ok(Response::Page),
             caller: None,
         }
     } else {
@@ -209,11 +209,11 @@ fn serve_caller<C: ServedClub>(
 }
 
 // Executes a route if the method is its own.
-fn serve_asked<C: ServedClub>(
+fn serve_asked<C: ClubService>(
     alloc: Global,
     club: &mut C,
-    request: &Request<'_>,
-    asked: Option<Asked<'_>>,
+    request: &HttpRequest<'_>,
+    asked: Option<Endpoint<'_>>,
     moment: Moment,
 ) -> Served
     ensures clean { C.IsClean club.new → C.IsClean club.old }
@@ -224,12 +224,12 @@ fn serve_asked<C: ServedClub>(
         ServesDue C.club (C.Stands club.new) (C.Leaves club.new) answer_view s
         (serve_asked C.club s moment (request_view request.now) (option_map asked_view asked.entry)) result.shown }
     ensures caller { C.IsClean club.new → (s : C.State) → C.Stands club.old s →
-        TellsCaller (asked_caller C.club s (request_view request.now) (option_map asked_view asked.entry))
+        NamesExpectedCaller (asked_caller C.club s (request_view request.now) (option_map asked_view asked.entry))
         (option_map string_bytes result.caller) result.shown }
 {
     match asked {
         None => Served {
-            shown: Ok(DeskAnswer::Refused(Refusal::NoRoute)),
+            shown: Ok(Response::Refused(HttpRefusal::NoRoute)),
             caller: None,
         },
         Some(asked) => {
@@ -238,7 +238,7 @@ fn serve_asked<C: ServedClub>(
                 serve_caller(alloc, club, request, asked, moment)
             } else {
                 Served {
-                    shown: Ok(DeskAnswer::Refused(Refusal::WrongMethod(method))),
+                    shown: Ok(Response::Refused(HttpRefusal::WrongMethod(method))),
                     caller: None,
                 }
             }
@@ -248,11 +248,11 @@ fn serve_asked<C: ServedClub>(
 
 // The answer to a complete request.
 #[tactic(auto, unfolding(crate::specs::Desk::serve, crate::specs::Desk::shut_serve, crate::specs::Desk::caller))]
-fn serve<C: ServedClub>(
+fn serve<C: ClubService>(
     alloc: Global,
     routes: &Routes,
     club: &mut C,
-    request: &Request<'_>,
+    request: &HttpRequest<'_>,
     moment: Moment,
 ) -> Served
     ensures clean { C.IsClean club.new → C.IsClean club.old }
@@ -263,36 +263,32 @@ fn serve<C: ServedClub>(
         ServesDue C.club (C.Stands club.new) (C.Leaves club.new) answer_view s
         (serve C.club s moment (request_view request.now)) result.shown }
     ensures caller { C.IsClean club.new → (s : C.State) → C.Stands club.old s →
-        TellsCaller (caller C.club s (request_view request.now)) (option_map string_bytes result.caller)
+        NamesExpectedCaller (caller C.club s (request_view request.now)) (option_map string_bytes result.caller)
         result.shown }
 {
-    let asked = routes.asked_of(request.target);
+    let asked = routes.match_route(request.target);
     serve_asked(alloc, club, request, asked, moment)
 }
 
-fn answer_reply(
-    alloc: Global,
-    answer: DeskAnswer,
-    without_body: bool,
-) -> Result<Vec<u8>, AllocError>
+fn answer_reply(alloc: Global, answer: Response, without_body: bool) -> Result<Vec<u8>, AllocError>
     ensures { IfOk result (λ v. v.items ≡ answer_reply (answer_view answer) without_body) }
 {
     match answer {
-        DeskAnswer::Refused(refusal) => refusal_reply(alloc, refusal, without_body),
-        DeskAnswer::Shows(kind, bytes) => shown_reply(alloc, kind, &bytes, without_body),
-        DeskAnswer::Page => page_reply(alloc, without_body),
+        Response::Refused(refusal) => refusal_reply(alloc, refusal, without_body),
+        Response::Shows(kind, bytes) => shown_reply(alloc, kind, &bytes, without_body),
+        Response::Page => page_reply(alloc, without_body),
     }
 }
 
 // The reply to a complete request.
-fn reply_whole<C: ServedClub>(
+fn reply_whole<C: ClubService>(
     alloc: Global,
     routes: &Routes,
     club: &mut C,
-    request: &Request<'_>,
+    request: &HttpRequest<'_>,
     moment: Moment,
     without_body: bool,
-) -> Result<Replied, DeskFault>
+) -> Result<AttributedReply, DeskFault>
     ensures fault { IfErr result (λ e. e ≡ DeskFault.Memory) }
     ensures clean { C.IsClean club.new → C.IsClean club.old }
     ensures shut { (fault : ClubFault) → C.IsShut club.old fault → C.IsShut club.new fault ×
@@ -309,25 +305,25 @@ fn reply_whole<C: ServedClub>(
     match shown {
         Ok(answer) => {
             let reply = answer_reply(alloc, answer, without_body)?;
-            Ok(Replied { reply, caller })
+            Ok(AttributedReply { reply, caller })
         }
         Err(AnswerFault::Memory) => Err(DeskFault::Memory),
         Err(AnswerFault::Club(fault)) => {
             let reply = fault_reply(alloc, fault.number(), fault.name(), without_body)?;
-            Ok(Replied { reply, caller })
+            Ok(AttributedReply { reply, caller })
         }
     }
 }
 
 // The reply to the result of parsing.
-fn reply<C: ServedClub>(
+fn reply<C: ClubService>(
     alloc: Global,
     routes: &Routes,
     club: &mut C,
-    seen: Seen<'_>,
+    seen: ParseState<'_>,
     moment: Moment,
     without_body: bool,
-) -> Result<Replied, DeskFault>
+) -> Result<AttributedReply, DeskFault>
     ensures fault { IfErr result (λ e. e ≡ DeskFault.Memory) }
     ensures clean { C.IsClean club.new → C.IsClean club.old }
     ensures shut { (fault : ClubFault) → C.IsShut club.old fault → C.IsShut club.new fault ×
@@ -340,18 +336,25 @@ fn reply<C: ServedClub>(
         NamesCaller C.club s without_body (seen_view seen.entry) v.reply.items (option_map string_bytes v.caller)) }
 {
     match seen {
-        Seen::Unfinished => Ok(Replied {
+        ParseState::Unfinished => Ok(AttributedReply {
             reply: Vec::new(alloc),
             caller: None,
         }),
-        Seen::Refused(refusal) => {
-            let reply = refusal_reply(alloc, Refusal::Head(refusal), without_body)?;
-            Ok(Replied {
+        ParseState::Refused(refusal) => {
+            let reply = refusal_reply(alloc, HttpRefusal::Head(refusal), without_body)?;
+            Ok(AttributedReply {
                 reply,
                 caller: None,
             })
         }
-        Seen::Whole(request) => reply_whole(alloc, routes, club, &request, moment, without_body),
+        ParseState::Whole(request) => reply_whole(
+            alloc,
+            routes,
+            club,
+            &request,
+            moment,
+            without_body,
+        ),
     }
 }
 
@@ -369,13 +372,13 @@ fn reply<C: ServedClub>(
 ///   the request is executed at most once.
 /// - `caller`: the member named is the holder of the key.
 /// - `shut`, `nobody`: a failed club answers with its fault and names nobody.
-pub fn answer<C: ServedClub>(
+pub fn answer<C: ClubService>(
     alloc: Global,
     routes: &Routes,
     club: &mut C,
     bytes: &[u8],
     moment: Moment,
-) -> Result<Replied, DeskFault>
+) -> Result<AttributedReply, DeskFault>
     ensures fault { IfErr result (λ e. e ≡ DeskFault.Memory) }
     ensures clean { C.IsClean club.new → C.IsClean club.old }
     ensures shut { (fault : ClubFault) → C.IsShut club.old fault → C.IsShut club.new fault ×

@@ -1,12 +1,12 @@
 //! Properties of all replies and all routes. Each is the contract of a function with an empty body.
 ghost use Rattle.std.specs.Prelude.{◌≡◌, ℕ, Ok, codes};
 ghost use Rattle.club_requests.specs.Outcome.{Reply, accepted, repeated};
-ghost use Rattle.http_head.specs.Request.{Request};
+ghost use Rattle.http_head.specs.Request.{HttpRequest};
 ghost use Rattle.http_desk.specs.declared.faults.ClubFault.{ClubFault};
 ghost use Rattle.http_desk.specs.Desk.{outcome_answer, this, shows_page, serve, shut_serve};
-ghost use Rattle.http_desk.specs.There.{AreThere, AreFound};
+ghost use Rattle.http_desk.specs.There.{AreAllRoutes, AreFound};
 
-use crate::served::ServedClub;
+use crate::served::ClubService;
 
 /// A repeated command has the same answer as the accepted one (idempotence).
 pub fn repeats_are_answered_alike()
@@ -14,20 +14,20 @@ pub fn repeats_are_answered_alike()
         outcome_answer game (accepted tt reply) ≡ outcome_answer game (repeated reply) }
 {}
 
-/// Every route parses and leads to its `Page`, and the table has no other routes.
+/// Every route parses and leads to its `Route`, and the table has no other routes.
 pub fn routes_are_there()
-    ensures { AreThere }
+    ensures { AreAllRoutes }
 {}
 
-/// An example path of each route is matched to its `Page`.
+/// An example path of each route is matched to its `Route`.
 pub fn paths_are_found()
     ensures { AreFound }
 {}
 
 /// GET `/play` shows the members' page with any key or none, also if the club is unavailable.
-pub fn the_page_is_for_all<C: ServedClub>()
-    ensures stands { (s : C.State) (moment : ℕ) (request : Request) → request.method ≡ codes "GET" →
+pub fn the_page_is_for_all<C: ClubService>()
+    ensures stands { (s : C.State) (moment : ℕ) (request : HttpRequest) → request.method ≡ codes "GET" →
         request.target ≡ codes "/play" → serve C.club s moment request ≡ (s, this shows_page) }
-    ensures shut { (fault : ClubFault) (request : Request) → request.method ≡ codes "GET" →
+    ensures shut { (fault : ClubFault) (request : HttpRequest) → request.method ≡ codes "GET" →
         request.target ≡ codes "/play" → shut_serve fault request ≡ Ok shows_page }
 {}

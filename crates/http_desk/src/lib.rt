@@ -1,6 +1,6 @@
 //! The HTTP application: routes, authentication by key, and the reply that a request and the club's state determine.
 //!
-//! It knows nothing of sockets; `http_port` serves it.
+//! It knows nothing of sockets; `server` serves it.
 #![tactic(auto)]
 
 pub mod closed;
@@ -13,8 +13,8 @@ pub mod questions;
 pub mod routes;
 pub mod served;
 
-pub use closed::Closed;
-pub use desk::{Replied, answer};
+pub use closed::UnavailableClub;
+pub use desk::{AttributedReply, answer};
 pub use faults::{ClubFault, DeskFault};
 pub use routes::Routes;
-pub use served::ServedClub;
+pub use served::ClubService;

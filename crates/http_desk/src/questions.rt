@@ -3,13 +3,13 @@ ghost use Rattle.std.specs.Prelude.{◌≡◌, IfOk};
 ghost use Rattle.http_desk.specs.RouteViews.{asking_view};
 ghost use Rattle.http_desk.specs.Questions.{game_question, event_question, member_question, Asks};
 
-use club_questions::Question;
-use http_bodies::Kind;
+use club_requests::Question;
+use http_bodies::ContentType;
 use std::alloc::{AllocError, Global};
 
 /// A query about a game.
 #[derive(Clone, Copy, Debug, PartialEq, Eq)]
-pub enum OfGame {
+pub enum GameTopic {
     /// The game as JSON.
     View,
     /// Its legal moves as JSON.
@@ -22,7 +22,7 @@ pub enum OfGame {
 
 /// A query about an event.
 #[derive(Clone, Copy, Debug, PartialEq, Eq)]
-pub enum OfEvent {
+pub enum EventTopic {
     /// The cross table as plain text.
     Table,
     /// The games of the event as JSON.
@@ -31,7 +31,7 @@ pub enum OfEvent {
 
 /// A query about the member who has the key.
 #[derive(Clone, Copy, Debug, PartialEq, Eq)]
-pub enum OfMember {
+pub enum MemberTopic {
     /// The member's games and challenges as JSON.
     Games,
     /// The events, and the members to challenge in each, as JSON.
@@ -40,59 +40,59 @@ pub enum OfMember {
 
 /// The query that a path names.
 #[derive(Clone, Copy)]
-pub enum Asking<'p> {
+pub enum QuestionPath<'p> {
     /// About the game with this number.
-    OfGame(OfGame, u32),
+    OfGame(GameTopic, u32),
     /// About the event with this name.
-    OfEvent(OfEvent, &'p str),
+    OfEvent(EventTopic, &'p str),
     /// About the member who has the key.
-    OfMember(OfMember),
+    OfMember(MemberTopic),
 }
 
-fn game_question(topic: OfGame, game: u64) -> (Question, Kind)
+fn game_question(topic: GameTopic, game: u64) -> (Question, ContentType)
     ensures { result ≡ game_question topic game }
 {
     match topic {
-        OfGame::View => (Question::GameBody(game), Kind::Json),
-        OfGame::Moves => (Question::MovesBody(game), Kind::Json),
-        OfGame::Record => (Question::Record(game), Kind::Plain),
-        OfGame::Clock => (Question::ClockOf(game), Kind::Json),
+        GameTopic::View => (Question::GameJson(game), ContentType::Json),
+        GameTopic::Moves => (Question::LegalMovesJson(game), ContentType::Json),
+        GameTopic::Record => (Question::Record(game), ContentType::Plain),
+        GameTopic::Clock => (Question::GameClock(game), ContentType::Json),
     }
 }
 
-fn event_question(topic: OfEvent, event: String) -> (Question, Kind)
+fn event_question(topic: EventTopic, event: String) -> (Question, ContentType)
     ensures { result ≡ event_question topic event }
 {
     match topic {
-        OfEvent::Table => (Question::CrossTable(event), Kind::Plain),
-        OfEvent::Games => (Question::EventGames(event), Kind::Json),
+        EventTopic::Table => (Question::CrossTable(event), ContentType::Plain),
+        EventTopic::Games => (Question::EventGames(event), ContentType::Json),
     }
 }
 
-fn member_question(topic: OfMember, key: String) -> (Question, Kind)
+fn member_question(topic: MemberTopic, key: String) -> (Question, ContentType)
     ensures { result ≡ member_question topic key }
 {
     match topic {
-        OfMember::Games => (Question::Mine(key), Kind::Json),
-        OfMember::Events => (Question::Inviting(key), Kind::Json),
+        MemberTopic::Games => (Question::MyGames(key), ContentType::Json),
+        MemberTopic::Events => (Question::ChallengeChoices(key), ContentType::Json),
     }
 }
 
 // The question of a path and a key, and the content type of its answer.
 pub(crate) fn question_of(
     alloc: Global,
-    asking: Asking<'_>,
+    asking: QuestionPath<'_>,
     key: &str,
-) -> Result<(Question, Kind), AllocError>
+) -> Result<(Question, ContentType), AllocError>
     ensures { IfOk result (λ asked. Asks (asking_view asking.entry) key.now asked) }
 {
     match asking {
-        Asking::OfGame(topic, game) => Ok(game_question(topic, u64::from(game))),
-        Asking::OfEvent(topic, event) => {
+        QuestionPath::OfGame(topic, game) => Ok(game_question(topic, u64::from(game))),
+        QuestionPath::OfEvent(topic, event) => {
             let event = String::from_str(alloc, event)?;
             Ok(event_question(topic, event))
         }
-        Asking::OfMember(topic) => {
+        QuestionPath::OfMember(topic) => {
             let key = String::from_str(alloc, key)?;
             Ok(member_question(topic, key))
         }

@@ -1,14 +1,14 @@
 //! The router: from a request target to an endpoint and its parameters.
 ghost use Rattle.std.specs.Prelude.{◌≡◌, [], IfOk, Ok, codes, length, map, option_map};
 ghost use Rattle.matchit.specs.Params.{AllText, named};
-ghost use Rattle.http_desk.specs.Routes.{before, begins, path_behind, path_of, with_routes};
+ghost use Rattle.http_desk.specs.Routes.{before, starts_with, path_after_authority, path_of, with_routes};
 ghost use Rattle.http_desk.specs.Routes.{make_move, offer_draw, accept_draw, declare, text_of};
-ghost use Rattle.http_desk.specs.Routes.{action_asked, ply_asked, answer_asked, about_game, about_event};
-ghost use Rattle.http_desk.specs.Routes.{asked_of, method_of, is_for_all};
+ghost use Rattle.http_desk.specs.Routes.{action_endpoint, ply_asked, answer_asked, about_game, about_event};
+ghost use Rattle.http_desk.specs.Routes.{match_route, method_of, is_public};
 ghost use Rattle.http_desk.specs.RouteViews.{action_view, asked_view};
 ghost use Rattle.http_desk.specs.Taken.{parts_taken, number_named, asked_by};
 
-use crate::questions::{Asking, OfEvent, OfGame, OfMember};
+use crate::questions::{EventTopic, GameTopic, MemberTopic, QuestionPath};
 use http_bodies::Method;
 use http_head::number_of;
 use matchit::{InsertError, Params, Router};
@@ -17,15 +17,15 @@ use std::marker::Model;
 
 /// A route, without its parameters.
 #[derive(Clone, Copy, Debug, PartialEq, Eq)]
-pub enum Page {
+pub enum Route {
     /// The members' page.
     Members,
     /// A query about a game.
-    AskGame(OfGame),
+    AskGame(GameTopic),
     /// A query about an event.
-    AskEvent(OfEvent),
+    AskEvent(EventTopic),
     /// A query about the member who has the key.
-    AskMember(OfMember),
+    AskMember(MemberTopic),
     /// A move.
     MakeMove,
     /// An offer of a draw.
@@ -65,11 +65,11 @@ pub enum GameAction {
 
 /// An endpoint: a route with its parameters.
 #[derive(Clone, Copy)]
-pub enum Asked<'p> {
+pub enum Endpoint<'p> {
     /// The members' page.
     MembersPage,
     /// A query.
-    Question(Asking<'p>),
+    Question(QuestionPath<'p>),
     /// A command on the game with this number.
     OnGame(u32, GameAction),
     /// A new challenge with this number.
@@ -80,32 +80,32 @@ pub enum Asked<'p> {
     Answer(&'p str, u32),
 }
 
-impl<'p> Asked<'p> {
+impl<'p> Endpoint<'p> {
     /// The one method of the endpoint.
     pub fn method(self) -> Method
         ensures { result ≡ method_of (asked_view self.entry) }
     {
         match self {
-            Asked::MembersPage => Method::Get,
-            Asked::Question(_) => Method::Get,
-            Asked::OnGame(_, _) => Method::Post,
-            Asked::Challenge(_) => Method::Post,
-            Asked::Withdraw(_) => Method::Post,
-            Asked::Answer(_, _) => Method::Post,
+            Endpoint::MembersPage => Method::Get,
+            Endpoint::Question(_) => Method::Get,
+            Endpoint::OnGame(_, _) => Method::Post,
+            Endpoint::Challenge(_) => Method::Post,
+            Endpoint::Withdraw(_) => Method::Post,
+            Endpoint::Answer(_, _) => Method::Post,
         }
     }
 
     /// Whether the endpoint needs no key; only the members' page is so.
-    pub fn is_for_all(self) -> bool
-        ensures { result ≡ is_for_all (asked_view self.entry) }
+    pub fn is_public(self) -> bool
+        ensures { result ≡ is_public (asked_view self.entry) }
     {
         match self {
-            Asked::MembersPage => true,
-            Asked::Question(_) => false,
-            Asked::OnGame(_, _) => false,
-            Asked::Challenge(_) => false,
-            Asked::Withdraw(_) => false,
-            Asked::Answer(_, _) => false,
+            Endpoint::MembersPage => true,
+            Endpoint::Question(_) => false,
+            Endpoint::OnGame(_, _) => false,
+            Endpoint::Challenge(_) => false,
+            Endpoint::Withdraw(_) => false,
+            Endpoint::Answer(_, _) => false,
         }
     }
 }
@@ -121,16 +121,16 @@ fn front(bytes: &[u8], byte: u8) -> &[u8]
 }
 
 /// Whether `bytes` starts with `front`.
-pub fn begins(bytes: &[u8], front: &[u8]) -> bool
-    ensures { result ≡ begins bytes.now front.now }
+pub fn starts_with(bytes: &[u8], front: &[u8]) -> bool
+    ensures { result ≡ starts_with bytes.now front.now }
 {
     let length = bytes.len().min(front.len());
     &bytes[..length] == front
 }
 
 // The path after a non-empty authority.
-fn path_behind(bytes: &[u8]) -> Option<&[u8]>
-    ensures { option_map (λ p. p.now) result ≡ path_behind (length (before 47 bytes.now)) bytes.now }
+fn path_after_authority(bytes: &[u8]) -> Option<&[u8]>
+    ensures { option_map (λ p. p.now) result ≡ path_after_authority (length (before 47 bytes.now)) bytes.now }
 {
     let n = front(bytes, b'/').len();
     if n == 0 {
@@ -147,38 +147,38 @@ pub fn path_of(target: &[u8]) -> Option<&[u8]>
     ensures { option_map (λ p. p.now) result ≡ path_of target.now }
 {
     let bytes = front(target, b'?');
-    if begins(bytes, b"/") {
+    if starts_with(bytes, b"/") {
         return Some(bytes);
     }
-    if begins(bytes, b"http://") && bytes.len() >= 7 {
-        return path_behind(&bytes[7..]);
+    if starts_with(bytes, b"http://") && bytes.len() >= 7 {
+        return path_after_authority(&bytes[7..]);
     }
     None
 }
 
 // The route table.
-const TABLE: [(&str, Page); 18] = [
-    ("/games/{id}", Page::AskGame(OfGame::View)),
-    ("/games/{id}/legal", Page::AskGame(OfGame::Moves)),
-    ("/games/{id}/record", Page::AskGame(OfGame::Record)),
-    ("/games/{id}/clock", Page::AskGame(OfGame::Clock)),
-    ("/events/{name}/table", Page::AskEvent(OfEvent::Table)),
-    ("/events/{name}/games", Page::AskEvent(OfEvent::Games)),
-    ("/me", Page::AskMember(OfMember::Games)),
-    ("/me/events", Page::AskMember(OfMember::Events)),
-    ("/games/{id}/moves/{ply}", Page::MakeMove),
-    ("/games/{id}/draw/{ply}/offer", Page::OfferDraw),
-    ("/games/{id}/draw/{ply}/accept", Page::AcceptDraw),
-    ("/games/{id}/resign", Page::Resign),
-    ("/games/{id}/claim-time", Page::ClaimTime),
-    ("/games/{id}/declare/{ply}", Page::Declare),
-    ("/challenges/{number}", Page::Challenge),
-    ("/challenges/{number}/withdraw", Page::Withdraw),
-    ("/answers/{member}/{number}", Page::Answer),
-    ("/play", Page::Members),
+const TABLE: [(&str, Route); 18] = [
+    ("/games/{id}", Route::AskGame(GameTopic::View)),
+    ("/games/{id}/legal", Route::AskGame(GameTopic::Moves)),
+    ("/games/{id}/record", Route::AskGame(GameTopic::Record)),
+    ("/games/{id}/clock", Route::AskGame(GameTopic::Clock)),
+    ("/events/{name}/table", Route::AskEvent(EventTopic::Table)),
+    ("/events/{name}/games", Route::AskEvent(EventTopic::Games)),
+    ("/me", Route::AskMember(MemberTopic::Games)),
+    ("/me/events", Route::AskMember(MemberTopic::Events)),
+    ("/games/{id}/moves/{ply}", Route::MakeMove),
+    ("/games/{id}/draw/{ply}/offer", Route::OfferDraw),
+    ("/games/{id}/draw/{ply}/accept", Route::AcceptDraw),
+    ("/games/{id}/resign", Route::Resign),
+    ("/games/{id}/claim-time", Route::ClaimTime),
+    ("/games/{id}/declare/{ply}", Route::Declare),
+    ("/challenges/{number}", Route::Challenge),
+    ("/challenges/{number}/withdraw", Route::Withdraw),
+    ("/answers/{member}/{number}", Route::Answer),
+    ("/play", Route::Members),
 ];
 
-fn router_of(alloc: Global, routes: &[(&str, Page)]) -> Result<Router<Page>, InsertError>
+fn router_of(alloc: Global, routes: &[(&str, Route)]) -> Result<Router<Route>, InsertError>
     ensures { IfOk result (λ router. router ≡ with_routes (map (λ (route, page). (route.now, page)) routes.now) []) }
 {
     let mut router = Router::new(alloc);
@@ -191,17 +191,17 @@ fn router_of(alloc: Global, routes: &[(&str, Page)]) -> Result<Router<Page>, Ins
 /// The router, built once.
 #[derive(Drop)]
 pub struct Routes {
-    router: Router<Page>,
+    router: Router<Route>,
 }
 
 impl Model for Routes {
     ghost use Rattle.std.specs.Prelude.{◌≡◌};
     ghost use Rattle.matchit.specs.Rows.{RowsOf};
     ghost use Rattle.matchit.specs.Router.{RouteOf};
-    ghost use Rattle.http_desk.specs.declared.routes.Page.{Page};
+    ghost use Rattle.http_desk.specs.declared.routes.Route.{Route};
     ghost use Rattle.http_desk.specs.Routes.{routes};
 
-    ghost Value = { RowsOf (RouteOf Page) };
+    ghost Value = { RowsOf (RouteOf Route) };
 
     ghost view = { λ r. r.router };
 
@@ -220,8 +220,8 @@ impl Routes {
     }
 
     /// The endpoint of a request target, if a route matches.
-    pub fn asked_of<'t>(&self, target: &'t [u8]) -> Option<Asked<'t>>
-        ensures { option_map asked_view result ≡ asked_of target.now }
+    pub fn match_route<'t>(&self, target: &'t [u8]) -> Option<Endpoint<'t>>
+        ensures { option_map asked_view result ≡ match_route target.now }
     {
         let Some(path) = path_of(target) else {
             return None;
@@ -230,7 +230,7 @@ impl Routes {
             return None;
         };
         match self.router.at(path) {
-            Ok(found) => asked_of_page(*found.value, &found.params),
+            Ok(found) => endpoint_of_route(*found.value, &found.params),
             Err(_) => None,
         }
     }
@@ -258,18 +258,18 @@ fn number_named(params: &Params<'_, '_>, name: &str) -> Option<u32>
 }
 
 // A command on a game without a ply.
-fn action_asked<'p>(turn: GameAction, params: &Params<'_, 'p>) -> Option<Asked<'p>>
+fn action_endpoint<'p>(turn: GameAction, params: &Params<'_, 'p>) -> Option<Endpoint<'p>>
     requires { AllText (parts_taken params.now) }
     ensures { option_map asked_view result ≡
-        action_asked (action_view turn) (number_named (codes "id") (parts_taken params.now)) }
+        action_endpoint (action_view turn) (number_named (codes "id") (parts_taken params.now)) }
 {
     match number_named(params, "id") {
         None => None,
-        Some(game) => Some(Asked::OnGame(game, turn)),
+        Some(game) => Some(Endpoint::OnGame(game, turn)),
     }
 }
 
-fn move_asked<'p>(params: &Params<'_, 'p>) -> Option<Asked<'p>>
+fn move_asked<'p>(params: &Params<'_, 'p>) -> Option<Endpoint<'p>>
     requires { AllText (parts_taken params.now) }
     ensures { option_map asked_view result ≡ ply_asked make_move (number_named (codes "id") (parts_taken params.now))
         (number_named (codes "ply") (parts_taken params.now)) }
@@ -278,12 +278,12 @@ fn move_asked<'p>(params: &Params<'_, 'p>) -> Option<Asked<'p>>
         None => None,
         Some(game) => match number_named(params, "ply") {
             None => None,
-            Some(ply) => Some(Asked::OnGame(game, GameAction::MakeMove(ply))),
+            Some(ply) => Some(Endpoint::OnGame(game, GameAction::MakeMove(ply))),
         },
     }
 }
 
-fn offer_asked<'p>(params: &Params<'_, 'p>) -> Option<Asked<'p>>
+fn offer_asked<'p>(params: &Params<'_, 'p>) -> Option<Endpoint<'p>>
     requires { AllText (parts_taken params.now) }
     ensures { option_map asked_view result ≡ ply_asked offer_draw (number_named (codes "id") (parts_taken params.now))
         (number_named (codes "ply") (parts_taken params.now)) }
@@ -292,12 +292,12 @@ fn offer_asked<'p>(params: &Params<'_, 'p>) -> Option<Asked<'p>>
         None => None,
         Some(game) => match number_named(params, "ply") {
             None => None,
-            Some(ply) => Some(Asked::OnGame(game, GameAction::OfferDraw(ply))),
+            Some(ply) => Some(Endpoint::OnGame(game, GameAction::OfferDraw(ply))),
         },
     }
 }
 
-fn accept_asked<'p>(params: &Params<'_, 'p>) -> Option<Asked<'p>>
+fn accept_asked<'p>(params: &Params<'_, 'p>) -> Option<Endpoint<'p>>
     requires { AllText (parts_taken params.now) }
     ensures { option_map asked_view result ≡ ply_asked accept_draw (number_named (codes "id") (parts_taken params.now))
         (number_named (codes "ply") (parts_taken params.now)) }
@@ -306,12 +306,12 @@ fn accept_asked<'p>(params: &Params<'_, 'p>) -> Option<Asked<'p>>
         None => None,
         Some(game) => match number_named(params, "ply") {
             None => None,
-            Some(ply) => Some(Asked::OnGame(game, GameAction::AcceptDraw(ply))),
+            Some(ply) => Some(Endpoint::OnGame(game, GameAction::AcceptDraw(ply))),
         },
     }
 }
 
-fn declare_asked<'p>(params: &Params<'_, 'p>) -> Option<Asked<'p>>
+fn declare_asked<'p>(params: &Params<'_, 'p>) -> Option<Endpoint<'p>>
     requires { AllText (parts_taken params.now) }
     ensures { option_map asked_view result ≡ ply_asked declare (number_named (codes "id") (parts_taken params.now))
         (number_named (codes "ply") (parts_taken params.now)) }
@@ -320,12 +320,12 @@ fn declare_asked<'p>(params: &Params<'_, 'p>) -> Option<Asked<'p>>
         None => None,
         Some(game) => match number_named(params, "ply") {
             None => None,
-            Some(ply) => Some(Asked::OnGame(game, GameAction::Declare(ply))),
+            Some(ply) => Some(Endpoint::OnGame(game, GameAction::Declare(ply))),
         },
     }
 }
 
-fn answer_asked<'p>(params: &Params<'_, 'p>) -> Option<Asked<'p>>
+fn answer_asked<'p>(params: &Params<'_, 'p>) -> Option<Endpoint<'p>>
     requires { AllText (parts_taken params.now) }
     ensures { option_map asked_view result ≡ answer_asked (named (codes "member") (parts_taken params.now))
         (number_named (codes "number") (parts_taken params.now)) }
@@ -334,57 +334,57 @@ fn answer_asked<'p>(params: &Params<'_, 'p>) -> Option<Asked<'p>>
         None => None,
         Some(member) => match number_named(params, "number") {
             None => None,
-            Some(number) => Some(Asked::Answer(member, number)),
+            Some(number) => Some(Endpoint::Answer(member, number)),
         },
     }
 }
 
-fn game_asked<'p>(topic: OfGame, params: &Params<'_, 'p>) -> Option<Asked<'p>>
+fn game_asked<'p>(topic: GameTopic, params: &Params<'_, 'p>) -> Option<Endpoint<'p>>
     requires { AllText (parts_taken params.now) }
     ensures { option_map asked_view result ≡
         option_map (about_game topic) (number_named (codes "id") (parts_taken params.now)) }
 {
     match number_named(params, "id") {
         None => None,
-        Some(game) => Some(Asked::Question(Asking::OfGame(topic, game))),
+        Some(game) => Some(Endpoint::Question(QuestionPath::OfGame(topic, game))),
     }
 }
 
-fn event_asked<'p>(topic: OfEvent, params: &Params<'_, 'p>) -> Option<Asked<'p>>
+fn event_asked<'p>(topic: EventTopic, params: &Params<'_, 'p>) -> Option<Endpoint<'p>>
     requires { AllText (parts_taken params.now) }
     ensures { option_map asked_view result ≡
         option_map (about_event topic) (named (codes "name") (parts_taken params.now)) }
 {
     match params.get("name") {
         None => None,
-        Some(event) => Some(Asked::Question(Asking::OfEvent(topic, event))),
+        Some(event) => Some(Endpoint::Question(QuestionPath::OfEvent(topic, event))),
     }
 }
 
 // The endpoint of a route and its parameters; `None` if a number is malformed.
-fn asked_of_page<'p>(page: Page, params: &Params<'_, 'p>) -> Option<Asked<'p>>
+fn endpoint_of_route<'p>(page: Route, params: &Params<'_, 'p>) -> Option<Endpoint<'p>>
     requires { AllText (parts_taken params.now) }
     ensures { option_map asked_view result ≡ asked_by page (parts_taken params.now) }
 {
     match page {
-        Page::Members => Some(Asked::MembersPage),
-        Page::AskGame(topic) => game_asked(topic, params),
-        Page::AskEvent(topic) => event_asked(topic, params),
-        Page::AskMember(topic) => Some(Asked::Question(Asking::OfMember(topic))),
-        Page::MakeMove => move_asked(params),
-        Page::OfferDraw => offer_asked(params),
-        Page::AcceptDraw => accept_asked(params),
-        Page::Resign => action_asked(GameAction::Resign, params),
-        Page::ClaimTime => action_asked(GameAction::ClaimTime, params),
-        Page::Declare => declare_asked(params),
-        Page::Challenge => match number_named(params, "number") {
+        Route::Members => Some(Endpoint::MembersPage),
+        Route::AskGame(topic) => game_asked(topic, params),
+        Route::AskEvent(topic) => event_asked(topic, params),
+        Route::AskMember(topic) => Some(Endpoint::Question(QuestionPath::OfMember(topic))),
+        Route::MakeMove => move_asked(params),
+        Route::OfferDraw => offer_asked(params),
+        Route::AcceptDraw => accept_asked(params),
+        Route::Resign => action_endpoint(GameAction::Resign, params),
+        Route::ClaimTime => action_endpoint(GameAction::ClaimTime, params),
+        Route::Declare => declare_asked(params),
+        Route::Challenge => match number_named(params, "number") {
             None => None,
-            Some(number) => Some(Asked::Challenge(number)),
+            Some(number) => Some(Endpoint::Challenge(number)),
         },
-        Page::Withdraw => match number_named(params, "number") {
+        Route::Withdraw => match number_named(params, "number") {
             None => None,
-            Some(number) => Some(Asked::Withdraw(number)),
+            Some(number) => Some(Endpoint::Withdraw(number)),
         },
-        Page::Answer => answer_asked(params),
+        Route::Answer => answer_asked(params),
     }
 }

@@ -6,15 +6,14 @@ ghost use Rattle.http_desk.specs.Served.{Club, IsOfCall, Serves};
 
 use crate::faults::ClubFault;
 use clocks::Moment;
-use club_questions::Question;
-use club_requests::{Command, Outcome, Refusal, Who};
+use club_requests::{Command, Outcome, Question, Refusal, Who};
 use std::alloc::Global;
 
 /// A club that can be served.
 ///
 /// A call that fails leaves the state before it or the one after it; its fault is `Store` or `Memory`. A failed club
 /// answers every call with its fault, whichever that is. A club that could not be opened has no state.
-pub trait ServedClub {
+pub trait ClubService {
     ghost use Rattle.http_desk.specs.declared.faults.ClubFault.{ClubFault};
 
     ghost State: { Type 0 };
@@ -40,19 +39,19 @@ pub trait ServedClub {
     /// # Guarantees
     ///
     /// `serves`: the state is unchanged, and the name is the one in that state.
-    fn holder_of(&mut self, alloc: Global, key: &str) -> Result<Option<String>, ClubFault>
+    fn member_by_key(&mut self, alloc: Global, key: &str) -> Result<Option<String>, ClubFault>
         ensures clean { IsClean self.new → IsClean self.old }
         ensures shut { (fault : ClubFault) → IsShut self.old fault →
             (result ≡ Err fault) × IsShut self.new fault }
         ensures serves { IsClean self.new → (s : State) → Stands self.old s →
             Serves (Stands self.new) (Leaves self.new) s s
-            (λ name. option_map string_bytes name ≡ club.holder_of s key.now) IsOfCall result };
+            (λ name. option_map string_bytes name ≡ club.member_by_key s key.now) IsOfCall result };
 
     /// The answer to a query at a timestamp, or the refusal.
     ///
     /// # Errors
     ///
-    /// As for `holder_of`.
+    /// As for `member_by_key`.
     ///
     /// # Guarantees
     ///
@@ -74,7 +73,7 @@ pub trait ServedClub {
     ///
     /// # Errors
     ///
-    /// As for `holder_of`.
+    /// As for `member_by_key`.
     ///
     /// # Guarantees
     ///

@@ -9,23 +9,23 @@ use Rattle.httparse.specs.Grammar.{LineEnd, crlf, lf, print_end, print_blank, pr
 use Rattle.httparse.specs.Grammar.{IsField, IsToken, AllPass, is_token_byte, is_value_byte, is_uri_byte, RequestHead}
 use Rattle.httparse.specs.Grammar.{ReadsRequest}
 use Rattle.httparse.proofs.GrammarLemmas.{print_request-append}
-use Rattle.http_head.specs.declared.framing.Line.{Line}
-use Rattle.http_head.specs.declared.framing.Line.TheVariants.{Fresh, Filled}
+use Rattle.http_head.specs.declared.framing.LineState.{LineState}
+use Rattle.http_head.specs.declared.framing.LineState.TheVariants.{Fresh, Filled}
 use Rattle.http_head.specs.declared.framing.Scan.{Scan}
 use Rattle.http_head.specs.Framing.{end_from, longer, scan_start}
 
-abbrev at_line : ℕ → ℕ → Line → Scan
+abbrev at_line : ℕ → ℕ → LineState → Scan
 at_line n k l = record { at = n; lines = k; line = l }
 
 -- from the one line on, the scan comes to a fresh line with so many lines before it
-abbrev Comes : ℕ → ℕ → Line → List ℕ → ℕ → List ℕ → Type 0
+abbrev Comes : ℕ → ℕ → LineState → List ℕ → ℕ → List ℕ → Type 0
 Comes n k l bytes lines rest = (at : ℕ) × (end_from (at_line n k l) bytes ≡ end_from (at_line at lines Fresh) rest)
 
 -- no LF
 abbrev Plain : List ℕ → Type 0
 Plain bytes = AllByRecursion (λ b. b ≢ 10) bytes
 
-plain_byte : (n k : ℕ) (l : Line) (x : ℕ) (rest : List ℕ) → x ≢ 10
+plain_byte : (n k : ℕ) (l : LineState) (x : ℕ) (rest : List ℕ) → x ≢ 10
     → end_from (at_line n k l) (x ∷ rest) ≡ end_from (at_line (n + 1) k (longer l x)) rest
 plain_byte n k l x rest ne = let e : (x == 10) ≡ false = false_from_ne_true (x == 10) (λ h. ne (search (rules, h))) in
     rw e refl
@@ -49,7 +49,7 @@ line n k x bytes e rest ne nr h =
     (later.0, plain_byte n k Fresh x (bytes ++ (print_end e ++ rest)) ne ∙ rw first later.1)
 
 -- one after the other
-then_comes : (n k : ℕ) (l : Line) (bytes : List ℕ) (middle : ℕ) (rest : List ℕ) (lines : ℕ) (last : List ℕ)
+then_comes : (n k : ℕ) (l : LineState) (bytes : List ℕ) (middle : ℕ) (rest : List ℕ) (lines : ℕ) (last : List ℕ)
     → Comes n k l bytes middle rest → ((at : ℕ) → Comes at middle Fresh rest lines last) → Comes n k l bytes lines last
 then_comes n k l bytes middle rest lines last first second = ((second first.0).0, first.1 ∙ (second first.0).1)
 

@@ -10,16 +10,16 @@ use Rattle.httparse.proofs.GrammarLemmas.{request_unique}
 use Rattle.http_head.specs.declared.refusals.HeadRefusal.{HeadRefusal}
 use Rattle.http_head.specs.declared.refusals.HeadRefusal.TheVariants.{BadHead}
 use Rattle.http_head.specs.Framing.{end_from, scan_start}
-use Rattle.http_head.specs.Head.{Outline, outline_of, outline_from, fields_of, IsHead, IsReadAs}
+use Rattle.http_head.specs.Head.{ParsedHead, outline_of, outline_from, fields_of, IsHead, IsReadAs}
 use Rattle.http_head.proofs.HeadLines.{lines_of_head}
 
-abbrev pub Gives : ℕ → List ℕ → Result Outline HeadRefusal → Type 0
+abbrev pub Gives : ℕ → List ℕ → Result ParsedHead HeadRefusal → Type 0
 Gives lines bytes given = (read : Option RequestHead) × IsReadAs lines bytes read × (given ≡ outline_of lines read)
 
 pub refused : (lines : ℕ) (bytes : List ℕ) → lines ≤ 65 → IsHead bytes None → Gives lines bytes (Err BadHead)
 refused lines bytes h none = let e : nat_lt 65 lines ≡ false = search (rules, h) in (None, rw e none, rw e refl)
 
-pub taken : (lines : ℕ) (bytes : List ℕ) (head : RequestHead) (given : Result Outline HeadRefusal) → lines ≤ 65
+pub taken : (lines : ℕ) (bytes : List ℕ) (head : RequestHead) (given : Result ParsedHead HeadRefusal) → lines ≤ 65
     → ReadsRequest bytes head [] → given ≡ outline_from head.method head.target head.minor (fields_of head)
     → Gives lines bytes given
 taken lines bytes head given h reads e =

@@ -8,10 +8,10 @@ use Rattle.http_head.specs.declared.framing.Scan.{Scan}
 use Rattle.http_head.specs.declared.refusals.HeadRefusal.{HeadRefusal}
 use Rattle.http_head.specs.declared.refusals.HeadRefusal.TheVariants.{HeadTooLong}
 use Rattle.http_head.specs.Framing.{end_from, scan_start, head_end}
-use Rattle.http_head.specs.Head.{Outline}
+use Rattle.http_head.specs.Head.{ParsedHead}
 use Rattle.http_head.specs.Request.{unfinished, refused, body_seen, IsDecided}
-use Rattle.http_head.specs.declared.intake.Intake.{Intake}
-use Rattle.http_head.specs.declared.intake.Intake.TheVariants.{Head, Body}
+use Rattle.http_head.specs.declared.intake.RequestReader.{RequestReader}
+use Rattle.http_head.specs.declared.intake.RequestReader.TheVariants.{Head, Body}
 use Rattle.http_head.specs.Intake.{IsScanOf, IsBodyOf, IsIntake}
 use Rattle.http_head.proofs.HeadReading.{Gives}
 use Rattle.http_head.proofs.RequestLemmas.{head_alone, no_end, with_end, end_more}
@@ -52,19 +52,19 @@ long_is_decided bytes none long = let test : nat_lt 16384 (length bytes) ≡ tru
     (refused HeadTooLong, no_end bytes none (refused HeadTooLong) (rw test refl), λ e. cc)
 
 -- how many bytes behind a head are enough
-abbrev pub needed : Result Outline HeadRefusal → ℕ
+abbrev pub needed : Result ParsedHead HeadRefusal → ℕ
 needed (Ok o) = o.length
 needed (Err refusal) = 0
 
 -- with these it is decided
-closed : (behind : List ℕ) (given : Result Outline HeadRefusal) → needed given ≤ length behind
+closed : (behind : List ℕ) (given : Result ParsedHead HeadRefusal) → needed given ≤ length behind
     → (body_seen behind given ≡ unfinished → ⊥)
 closed behind (Err refusal) enough = λ e. cc
 closed behind (Ok o) enough =
     let test : nat_lt (length behind) o.length ≡ false = grind arith in
     rw test (λ e. cc)
 
-pub is_decided : (bytes : List ℕ) (n lines : ℕ) (given : Result Outline HeadRefusal) → head_end bytes ≡ Some (n, lines)
+pub is_decided : (bytes : List ℕ) (n lines : ℕ) (given : Result ParsedHead HeadRefusal) → head_end bytes ≡ Some (n, lines)
     → Gives lines (take n bytes) given → needed given ≤ length bytes - n → IsDecided bytes
 is_decided bytes n lines given end reads enough = (
   body_seen (drop n bytes) given,
@@ -73,14 +73,14 @@ is_decided bytes n lines given end reads enough = (
 )
 
 -- the same head, whatever follows
-pub reads_more : (bytes more : List ℕ) (n lines : ℕ) (given : Result Outline HeadRefusal)
+pub reads_more : (bytes more : List ℕ) (n lines : ℕ) (given : Result ParsedHead HeadRefusal)
     → head_end bytes ≡ Some (n, lines)
     → Gives lines (take n bytes) given → Gives lines (take n (bytes ++ more)) given
 reads_more bytes more n lines given end reads =
     let alone = head_alone bytes (n, lines) end in
     rw (take-append-le n bytes more alone.0) reads
 
-pub is_body : (bytes : List ℕ) (n lines : ℕ) (given : Result Outline HeadRefusal) → head_end bytes ≡ Some (n, lines)
+pub is_body : (bytes : List ℕ) (n lines : ℕ) (given : Result ParsedHead HeadRefusal) → head_end bytes ≡ Some (n, lines)
     → Gives lines (take n bytes) given → IsBodyOf n (needed given) bytes
 is_body bytes n lines given end reads = record {
   within = (head_alone bytes (n, lines) end).0;
@@ -94,7 +94,7 @@ body_there bytes start count body h = rw (append-nil bytes) at (body.enough [] (
 
 -- ---- more bytes to look at
 
-pub intake_more : (i : Intake) (bytes more : List ℕ) → IsIntake i bytes → IsIntake i (bytes ++ more)
+pub intake_more : (i : RequestReader) (bytes more : List ℕ) → IsIntake i bytes → IsIntake i (bytes ++ more)
 intake_more (Head s) bytes more scan = record {
   within = omega (arith, scan.within, length-append bytes more);
   limit = scan.limit;

@@ -8,8 +8,8 @@ use Rattle.httparse.proofs.GrammarLemmas.{request_unique}
 use Rattle.http_head.specs.declared.refusals.HeadRefusal.{HeadRefusal}
 use Rattle.http_head.specs.declared.framing.Scan.{Scan}
 use Rattle.http_head.specs.Framing.{end_from, scan_start, head_end, head_limit, past_limit}
-use Rattle.http_head.specs.Head.{Outline, outline_of, IsReadAs, IsReadIf, IsHead, line_limit}
-use Rattle.http_head.specs.Request.{Seen, unfinished, body_seen, seen_after, IsHeadRead, Sees}
+use Rattle.http_head.specs.Head.{ParsedHead, outline_of, IsReadAs, IsReadIf, IsHead, line_limit}
+use Rattle.http_head.specs.Request.{ParseState, unfinished, body_seen, seen_after, IsHeadRead, Sees}
 use Rattle.http_head.specs.Request.{begin_with_head, asks_head, asks_head_by}
 use Rattle.http_head.proofs.FramingLemmas.{end_append, ends}
 use Rattle.http_head.proofs.HeadReading.{Gives}
@@ -33,11 +33,11 @@ head_alone bytes end h =
     let z : end.0 - 0 ≡ end.0 = omega arith in
     (omega (arith, e.within, length-take head_limit bytes), rw (z, take-take end.0 head_limit bytes short) at e.alone)
 
-pub no_end : (bytes : List ℕ) → head_end bytes ≡ None → (seen : Seen) → seen ≡ seen_after bytes None None
+pub no_end : (bytes : List ℕ) → head_end bytes ≡ None → (seen : ParseState) → seen ≡ seen_after bytes None None
     → Sees bytes seen
 no_end bytes none seen e = record { read = None; is_read = rw none refl; is_seen = rw none e }
 
-pub with_end : (bytes : List ℕ) (end : ℕ × ℕ) (read : Option RequestHead) (seen : Seen) → head_end bytes ≡ Some end
+pub with_end : (bytes : List ℕ) (end : ℕ × ℕ) (read : Option RequestHead) (seen : ParseState) → head_end bytes ≡ Some end
     → IsReadAs end.1 (take end.0 bytes) read → seen ≡ body_seen (drop end.0 bytes) (outline_of end.1 read)
     → Sees bytes seen
 with_end bytes end read seen found reads e = record { read = read; is_read = rw found reads; is_seen = rw found e }
@@ -62,7 +62,7 @@ unfolding head_end
 end_same bytes more long = rw (take-append-le head_limit bytes more (omega arith)) refl
 
 -- a body that is whole stays so
-body_more : (behind more : List ℕ) (given : Result Outline HeadRefusal) → (body_seen behind given ≡ unfinished → ⊥)
+body_more : (behind more : List ℕ) (given : Result ParsedHead HeadRefusal) → (body_seen behind given ≡ unfinished → ⊥)
     → body_seen (behind ++ more) given ≡ body_seen behind given
 body_more behind more (Err refusal) h = refl
 body_more behind more (Ok o) h = by (nat_lt (length behind) o.length) refl
@@ -74,7 +74,7 @@ body_more behind more (Ok o) h = by (nat_lt (length behind) o.length) refl
         let later : nat_lt (length (behind ++ more)) o.length ≡ false = grind (arith, length-append {A = ℕ}) in
         rw (e, later, take-append-le o.length behind more fits) refl
 
-over_limit : (bytes : List ℕ) (seen : Seen) → seen ≡ seen_after bytes None None → (seen ≡ unfinished → ⊥)
+over_limit : (bytes : List ℕ) (seen : ParseState) → seen ≡ seen_after bytes None None → (seen ≡ unfinished → ⊥)
     → 16384 < length bytes
 over_limit bytes seen e decided = grind arith
 
@@ -83,7 +83,7 @@ late_same : (bytes more : List ℕ) → 16384 < length bytes
 late_same bytes more long = grind (arith, length-append {A = ℕ})
 
 -- what does not wait for more is not changed by it
-pub sees_more : (bytes more : List ℕ) (seen : Seen) → Sees bytes seen → (seen ≡ unfinished → ⊥)
+pub sees_more : (bytes more : List ℕ) (seen : ParseState) → Sees bytes seen → (seen ≡ unfinished → ⊥)
     → Sees (bytes ++ more) seen
 sees_more bytes more seen sees decided = by (head_end bytes) refl
   where
@@ -118,7 +118,7 @@ one_reading lines bytes a b p q = by (nat_lt line_limit lines) p q
     by false r s = heads a b r s
 
 -- bytes amount to one thing alone
-pub sees_once : (bytes : List ℕ) (seen other : Seen) → Sees bytes seen → Sees bytes other → seen ≡ other
+pub sees_once : (bytes : List ℕ) (seen other : ParseState) → Sees bytes seen → Sees bytes other → seen ≡ other
 sees_once bytes seen other p q = p.is_seen
     ∙ ap (seen_after bytes (head_end bytes)) (same (head_end bytes) p.is_read q.is_read) ∙ sym q.is_seen
   where
@@ -148,7 +148,7 @@ is_head_alone bytes {n = n} e h =
     rw (length-take-le n bytes alone.0) alone.1
 
 -- what a head and the bytes behind it amount to, by what the head gave
-pub sees_by : (bytes : List ℕ) {limit n lines : ℕ} (given : Result Outline HeadRefusal) (behind : List ℕ) (seen : Seen)
+pub sees_by : (bytes : List ℕ) {limit n lines : ℕ} (given : Result ParsedHead HeadRefusal) (behind : List ℕ) (seen : ParseState)
     → limit ≡ min (length bytes) 16384
     → ((more : List ℕ) → end_from scan_start (take limit bytes ++ more) ≡ Some (n, lines))
     → Gives lines (take n bytes) given → behind ≡ take (length bytes - n) (drop n bytes)
@@ -176,7 +176,7 @@ unfolding asks_head
 asks_some bytes e h is = is ∙ sym (ap (asks_head_by bytes) (end_found bytes e h))
 
 -- more bytes do not change it, where something stands decided
-pub asks_more : (bytes more : List ℕ) (seen : Seen) → Sees bytes seen → (seen ≡ unfinished → ⊥)
+pub asks_more : (bytes more : List ℕ) (seen : ParseState) → Sees bytes seen → (seen ≡ unfinished → ⊥)
     → asks_head (bytes ++ more) ≡ asks_head bytes
 unfolding asks_head
 asks_more bytes more seen sees decided = by (head_end bytes) refl

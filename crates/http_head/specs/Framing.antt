@@ -1,8 +1,8 @@
 -- The end of a request's head.
 use Rattle.std.specs.Prelude.{ℕ, ◌+◌, Bool, true, false, ◌&&◌, List, [], ◌∷◌, Option, Some, None, take, ◌==◌, nat_lt}
 use Rattle.std.specs.Prelude.{if◌then◌else◌}
-use Rattle.http_head.specs.declared.framing.Line.{Line}
-use Rattle.http_head.specs.declared.framing.Line.TheVariants.{Fresh, Returned, Filled}
+use Rattle.http_head.specs.declared.framing.LineState.{LineState}
+use Rattle.http_head.specs.declared.framing.LineState.TheVariants.{Fresh, Returned, Filled}
 use Rattle.http_head.specs.declared.framing.Scan.{Scan}
 
 -- an LF ends a line
@@ -13,13 +13,13 @@ abbrev pub carriage_return : ℕ
 carriage_return = 13
 
 -- the line with one more byte that does not end it
-abbrev pub longer : Line → ℕ → Line
+abbrev pub longer : LineState → ℕ → LineState
 longer Fresh b = if b == carriage_return then Returned else Filled
 longer Returned b = Filled
 longer Filled b = Filled
 
 -- LF or CR LF alone is an empty line
-abbrev pub is_empty : Line → Bool
+abbrev pub is_empty : LineState → Bool
 is_empty Fresh = true
 is_empty Returned = true
 is_empty Filled = false
@@ -33,7 +33,7 @@ abbrev pub ends_head : Scan → ℕ → Bool
 ends_head s b = b == line_feed && is_empty s.line && nat_lt 0 s.lines
 
 -- the number of lines that are not empty, this one included
-abbrev pub lines_with : ℕ → Line → ℕ
+abbrev pub lines_with : ℕ → LineState → ℕ
 lines_with lines line = if is_empty line then lines else lines + 1
 
 -- the scan after one more byte

@@ -37,8 +37,8 @@ occurrence_among [] = absent
 occurrence_among (value ∷ []) = once value
 occurrence_among (value ∷ other ∷ values) = twice
 
-abbrev pub stands : List ℕ → Fields → Occurrence
-stands name fields = occurrence_among (values name fields)
+abbrev pub field_occurrence : List ℕ → Fields → Occurrence
+field_occurrence name fields = occurrence_among (values name fields)
 
 -- ---- numbers
 
@@ -57,7 +57,7 @@ abbrev pub fields_of : RequestHead → Fields
 fields_of h = map name_and_value h.fields
 
 -- the parts of a head that the server uses
-pub record Outline : Type 0 where
+pub record ParsedHead : Type 0 where
   pub method : List ℕ
   pub target : List ℕ
   pub key : Option (List ℕ)
@@ -85,10 +85,10 @@ is_absent (once value) = false
 is_absent twice = false
 
 -- the value of a field that occurs once
-abbrev pub only : Occurrence → Option (List ℕ)
-only absent = None
-only (once value) = Some value
-only twice = None
+abbrev pub single_value : Occurrence → Option (List ℕ)
+single_value absent = None
+single_value (once value) = Some value
+single_value twice = None
 
 -- the most bytes of a body
 abbrev pub body_limit : ℕ
@@ -104,26 +104,26 @@ body_length method None = if bytes_eq method (codes "POST") then Err NoLength el
 body_length method (Some n) = if nat_lt body_limit n then Err TooLong else Ok n
 
 -- the head's parts, with the length of the body
-abbrev pub outline_with : List ℕ → List ℕ → Fields → Result ℕ HeadRefusal → Result Outline HeadRefusal
+abbrev pub outline_with : List ℕ → List ℕ → Fields → Result ℕ HeadRefusal → Result ParsedHead HeadRefusal
 outline_with method target fields (Err refusal) = Err refusal
 outline_with method target fields (Ok n) =
-    Ok (record { method = method; target = target; key = only (stands (codes "Member-Key") fields); length = n })
+    Ok (record { method = method; target = target; key = single_value (field_occurrence (codes "Member-Key") fields); length = n })
 
 -- the refusals after that of Content-Length, in their order
-abbrev pub outline_behind : List ℕ → List ℕ → ℕ → Fields → Result (Option ℕ) HeadRefusal → Result Outline HeadRefusal
+abbrev pub outline_behind : List ℕ → List ℕ → ℕ → Fields → Result (Option ℕ) HeadRefusal → Result ParsedHead HeadRefusal
 outline_behind method target minor fields (Err refusal) = Err refusal
 outline_behind method target minor fields (Ok named) =
-    if has_good_host minor (stands (codes "Host") fields) then (
-    if is_absent (stands (codes "Transfer-Encoding") fields) then
+    if has_good_host minor (field_occurrence (codes "Host") fields) then (
+    if is_absent (field_occurrence (codes "Transfer-Encoding") fields) then
     outline_with method target fields (body_length method named)
     else Err NotImplemented) else Err BadHost
 
-abbrev pub outline_from : List ℕ → List ℕ → ℕ → Fields → Result Outline HeadRefusal
+abbrev pub outline_from : List ℕ → List ℕ → ℕ → Fields → Result ParsedHead HeadRefusal
 outline_from method target minor fields =
-    outline_behind method target minor fields (named_length (stands (codes "Content-Length") fields))
+    outline_behind method target minor fields (named_length (field_occurrence (codes "Content-Length") fields))
 
 -- the parts of a head, or the first refusal that applies
-abbrev pub outline_of : ℕ → Option RequestHead → Result Outline HeadRefusal
+abbrev pub outline_of : ℕ → Option RequestHead → Result ParsedHead HeadRefusal
 outline_of lines None = if nat_lt line_limit lines then Err HeadTooLong else Err BadHead
 outline_of lines (Some h) = if nat_lt line_limit lines then Err HeadTooLong else outline_from h.method h.target h.minor
     (fields_of h)

@@ -2,8 +2,8 @@
 use Rattle.std.specs.Prelude.{◌≡◌, ℕ, ◌-◌, ◌≤◌, List, ◌++◌, length, take, Option}
 use Rattle.std.specs.Io.KnownBytes.{Consumes}
 use Rattle.http_head.specs.declared.framing.Scan.{Scan}
-use Rattle.http_head.specs.declared.intake.Intake.{Intake}
-use Rattle.http_head.specs.declared.intake.Intake.TheVariants.{Head, Body}
+use Rattle.http_head.specs.declared.intake.RequestReader.{RequestReader}
+use Rattle.http_head.specs.declared.intake.RequestReader.TheVariants.{Head, Body}
 use Rattle.http_head.specs.Framing.{scan_start, end_from}
 use Rattle.http_head.specs.Request.{IsDecided}
 
@@ -19,7 +19,7 @@ pub record IsBodyOf (start count : ℕ) (bytes : List ℕ) : Type 0 where
   pub within : start ≤ length bytes
   pub enough : (more : List ℕ) → count ≤ length (bytes ++ more) - start → IsDecided (bytes ++ more)
 
-abbrev pub IsIntake : Intake → List ℕ → Type 0
+abbrev pub IsIntake : RequestReader → List ℕ → Type 0
 IsIntake (Head scan) bytes = IsScanOf scan bytes
 IsIntake (Body start count) bytes = IsBodyOf start count bytes
 

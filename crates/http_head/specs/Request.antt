@@ -6,28 +6,28 @@ use Rattle.httparse.specs.Grammar.{RequestHead}
 use Rattle.http_head.specs.declared.refusals.HeadRefusal.{HeadRefusal}
 use Rattle.http_head.specs.declared.refusals.HeadRefusal.TheVariants.{HeadTooLong}
 use Rattle.http_head.specs.Framing.{head_end, head_limit, past_limit}
-use Rattle.http_head.specs.Head.{Outline, outline_of, IsReadAs}
+use Rattle.http_head.specs.Head.{ParsedHead, outline_of, IsReadAs}
 
 -- a complete request
-pub record Request : Type 0 where
+pub record HttpRequest : Type 0 where
   pub method : List ℕ
   pub target : List ℕ
   pub key : Option (List ℕ)
   pub body : List ℕ
 
 -- incomplete, refused by its head, or complete
-pub data Seen : Type 0 where
-  unfinished : Seen
-  refused : HeadRefusal → Seen
-  whole : Request → Seen
+pub data ParseState : Type 0 where
+  unfinished : ParseState
+  refused : HeadRefusal → ParseState
+  whole : HttpRequest → ParseState
 
 -- the body is as many of the bytes after the head as the head says
-abbrev pub body_seen : List ℕ → Result Outline HeadRefusal → Seen
+abbrev pub body_seen : List ℕ → Result ParsedHead HeadRefusal → ParseState
 body_seen behind (Err refusal) = refused refusal
 body_seen behind (Ok o) = if nat_lt (length behind) o.length then unfinished else whole
     (record { method = o.method; target = o.target; key = o.key; body = take o.length behind })
 
-abbrev pub seen_after : List ℕ → Option (ℕ × ℕ) → Option RequestHead → Seen
+abbrev pub seen_after : List ℕ → Option (ℕ × ℕ) → Option RequestHead → ParseState
 seen_after bytes None read = if nat_lt head_limit (length bytes) then refused HeadTooLong else unfinished
 seen_after bytes (Some end) read = body_seen (drop end.0 bytes) (outline_of end.1 read)
 
@@ -37,19 +37,19 @@ IsHeadRead bytes None read = read ≡ None
 IsHeadRead bytes (Some end) read = IsReadAs end.1 (take end.0 bytes) read
 
 -- the bytes are parsed to this result
-pub record Sees (bytes : List ℕ) (seen : Seen) : Type 0 where
+pub record Sees (bytes : List ℕ) (seen : ParseState) : Type 0 where
   pub read : Option RequestHead
   pub is_read : IsHeadRead bytes (head_end bytes) read
   pub is_seen : seen ≡ seen_after bytes (head_end bytes) read
 
 -- the bytes without CR and LF at the front
-abbrev pub behind_breaks : List ℕ → List ℕ
-behind_breaks [] = []
-behind_breaks (b ∷ bytes) = if b == 13 || b == 10 then behind_breaks bytes else b ∷ bytes
+abbrev pub skip_line_breaks : List ℕ → List ℕ
+skip_line_breaks [] = []
+skip_line_breaks (b ∷ bytes) = if b == 13 || b == 10 then skip_line_breaks bytes else b ∷ bytes
 
 -- after any CR and LF the bytes begin with HEAD and a blank
 abbrev pub begin_with_head : List ℕ → Bool
-begin_with_head bytes = bytes_eq (take 5 (behind_breaks bytes)) (codes "HEAD ")
+begin_with_head bytes = bytes_eq (take 5 (skip_line_breaks bytes)) (codes "HEAD ")
 
 abbrev pub asks_head_by : List ℕ → Option (ℕ × ℕ) → Bool
 asks_head_by bytes None = begin_with_head (take past_limit bytes)
@@ -61,4 +61,4 @@ asks_head bytes = asks_head_by bytes (head_end bytes)
 
 -- the request is complete or refused: no further bytes change that
 abbrev pub IsDecided : List ℕ → Type 0
-IsDecided bytes = (seen : Seen) × Sees bytes seen × (seen ≡ unfinished → ⊥)
+IsDecided bytes = (seen : ParseState) × Sees bytes seen × (seen ≡ unfinished → ⊥)

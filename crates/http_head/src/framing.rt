@@ -4,7 +4,7 @@ ghost use Rattle.http_head.specs.Framing.{is_empty, longer, scan_start, ends_hea
 
 /// The state of the line that a scan is in.
 #[derive(Clone, Copy, Debug, PartialEq, Eq)]
-pub enum Line {
+pub enum LineState {
     /// No byte of the line was read.
     Fresh,
     /// Only a CR was read.
@@ -13,32 +13,32 @@ pub enum Line {
     Filled,
 }
 
-impl Line {
+impl LineState {
     // Whether the line is empty if it ends here.
     fn is_empty(self) -> bool
         ensures { result ≡ is_empty self }
     {
         match self {
-            Line::Fresh => true,
-            Line::Returned => true,
-            Line::Filled => false,
+            LineState::Fresh => true,
+            LineState::Returned => true,
+            LineState::Filled => false,
         }
     }
 
     // The line with one more byte.
-    fn longer(self, byte: u8) -> Line
+    fn longer(self, byte: u8) -> LineState
         ensures { result ≡ longer self byte }
     {
         match self {
-            Line::Fresh => {
+            LineState::Fresh => {
                 if byte == b'\r' {
-                    Line::Returned
+                    LineState::Returned
                 } else {
-                    Line::Filled
+                    LineState::Filled
                 }
             }
-            Line::Returned => Line::Filled,
-            Line::Filled => Line::Filled,
+            LineState::Returned => LineState::Filled,
+            LineState::Filled => LineState::Filled,
         }
     }
 }
@@ -51,7 +51,7 @@ pub struct Scan {
     /// The number of lines read that are not empty.
     pub lines: usize,
     /// The present line.
-    pub line: Line,
+    pub line: LineState,
 }
 
 /// The end of a head.
@@ -70,7 +70,7 @@ impl Scan {
         Scan {
             at: 0,
             lines: 0,
-            line: Line::Fresh,
+            line: LineState::Fresh,
         }
     }
 
@@ -91,7 +91,7 @@ impl Scan {
             if !self.line.is_empty() {
                 self.lines += 1;
             }
-            self.line = Line::Fresh;
+            self.line = LineState::Fresh;
         } else {
             self.line = self.line.longer(byte);
         }

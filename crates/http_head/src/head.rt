@@ -7,8 +7,8 @@ ghost use Rattle.std.specs.Str.Parse.{digits_value};
 ghost use Rattle.httparse.specs.Grammar.{RequestHead};
 ghost use Rattle.httparse.specs.Spans.{IsWithin, IsHeaderWithin, span_bytes, header_bytes};
 ghost use Rattle.http_head.specs.Framing.{scan_start, end_from};
-ghost use Rattle.http_head.specs.Head.{is_name, stands, is_number, number_of, named_length, has_good_host, is_absent};
-ghost use Rattle.http_head.specs.Head.{only, body_length, outline_from, outline_of, IsReadAs};
+ghost use Rattle.http_head.specs.Head.{is_name, field_occurrence, is_number, number_of, named_length, has_good_host, is_absent};
+ghost use Rattle.http_head.specs.Head.{single_value, body_length, outline_from, outline_of, IsReadAs};
 ghost use Rattle.http_head.specs.HeadViews.{occurrence_view, outline_result};
 
 use crate::refusals::HeadRefusal;
@@ -17,7 +17,7 @@ use httparse::spans::{EMPTY_HEADER_SPAN, HeaderSpan, RequestSpans, parse_request
 
 /// The occurrences of a header field.
 #[derive(Clone, Copy)]
-enum Given<'b> {
+enum FieldOccurrence<'b> {
     Absent,
     Once(&'b [u8]),
     Twice,
@@ -25,7 +25,7 @@ enum Given<'b> {
 
 /// The parts of a head that the server uses.
 #[derive(Clone, Copy)]
-pub struct Outline<'b> {
+pub struct ParsedHead<'b> {
     /// The method.
     pub method: &'b [u8],
     /// The request target.
@@ -44,17 +44,17 @@ fn is_name(name: &[u8], other: &[u8]) -> bool
 }
 
 // The occurrences of a field name.
-fn field<'b>(head: &'b [u8], spans: &[HeaderSpan], name: &[u8]) -> Given<'b>
+fn field<'b>(head: &'b [u8], spans: &[HeaderSpan], name: &[u8]) -> FieldOccurrence<'b>
     requires { All (IsHeaderWithin (length head.now)) spans.now }
-    ensures { occurrence_view result ≡ stands name.now (map (header_bytes head.now) spans.now) }
+    ensures { occurrence_view result ≡ field_occurrence name.now (map (header_bytes head.now) spans.now) }
 {
-    let mut found = Given::Absent;
+    let mut found = FieldOccurrence::Absent;
     for span in spans {
         if is_name(name, span.name.of(head)) {
             match found {
-                Given::Absent => found = Given::Once(span.value.of(head)),
-                Given::Once(_) => return Given::Twice,
-                Given::Twice => return Given::Twice,
+                FieldOccurrence::Absent => found = FieldOccurrence::Once(span.value.of(head)),
+                FieldOccurrence::Once(_) => return FieldOccurrence::Twice,
+                FieldOccurrence::Twice => return FieldOccurrence::Twice,
             }
         }
     }
@@ -104,48 +104,48 @@ pub fn number_of(text: &[u8]) -> Option<u32>
 }
 
 // The value of `Content-Length`, if present; it may occur once only.
-fn named_length(field: Given<'_>) -> Result<Option<u32>, HeadRefusal>
+fn named_length(field: FieldOccurrence<'_>) -> Result<Option<u32>, HeadRefusal>
     ensures { result ≡ named_length (occurrence_view field.entry) }
 {
     match field {
-        Given::Absent => Ok(None),
-        Given::Once(value) => match number_of(value) {
+        FieldOccurrence::Absent => Ok(None),
+        FieldOccurrence::Once(value) => match number_of(value) {
             None => Err(HeadRefusal::BadHead),
             Some(n) => Ok(Some(n)),
         },
-        Given::Twice => Err(HeadRefusal::BadHead),
+        FieldOccurrence::Twice => Err(HeadRefusal::BadHead),
     }
 }
 
 // Whether `Host` occurs once, or is absent in HTTP/1.0 (RFC 9112, section 3.2).
-fn has_good_host(minor: u8, field: Given<'_>) -> bool
+fn has_good_host(minor: u8, field: FieldOccurrence<'_>) -> bool
     ensures { result ≡ has_good_host minor (occurrence_view field.entry) }
 {
     match field {
-        Given::Absent => minor == 0,
-        Given::Once(_) => true,
-        Given::Twice => false,
+        FieldOccurrence::Absent => minor == 0,
+        FieldOccurrence::Once(_) => true,
+        FieldOccurrence::Twice => false,
     }
 }
 
-fn is_absent(field: Given<'_>) -> bool
+fn is_absent(field: FieldOccurrence<'_>) -> bool
     ensures { result ≡ is_absent (occurrence_view field.entry) }
 {
     match field {
-        Given::Absent => true,
-        Given::Once(_) => false,
-        Given::Twice => false,
+        FieldOccurrence::Absent => true,
+        FieldOccurrence::Once(_) => false,
+        FieldOccurrence::Twice => false,
     }
 }
 
 // The value of a field that occurs once.
-fn only<'b>(field: Given<'b>) -> Option<&'b [u8]>
-    ensures { option_map (λ v. v.now) result ≡ only (occurrence_view field.entry) }
+fn single_value<'b>(field: FieldOccurrence<'b>) -> Option<&'b [u8]>
+    ensures { option_map (λ v. v.now) result ≡ single_value (occurrence_view field.entry) }
 {
     match field {
-        Given::Absent => None,
-        Given::Once(value) => Some(value),
-        Given::Twice => None,
+        FieldOccurrence::Absent => None,
+        FieldOccurrence::Once(value) => Some(value),
+        FieldOccurrence::Twice => None,
     }
 }
 
@@ -176,7 +176,7 @@ fn outline_from<'b>(
     head: &'b [u8],
     found: &RequestSpans,
     spans: &[HeaderSpan],
-) -> Result<Outline<'b>, HeadRefusal>
+) -> Result<ParsedHead<'b>, HeadRefusal>
     requires method { IsWithin (length head.now) found.now.method }
     requires target { IsWithin (length head.now) found.now.path }
     requires fields { All (IsHeaderWithin (length head.now)) spans.now }
@@ -193,10 +193,10 @@ fn outline_from<'b>(
     }
     let method = found.method.of(head);
     let length = body_length(method, named)?;
-    Ok(Outline {
+    Ok(ParsedHead {
         method,
         target: found.path.of(head),
-        key: only(field(head, spans, b"Member-Key")),
+        key: single_value(field(head, spans, b"Member-Key")),
         length,
     })
 }
@@ -206,7 +206,7 @@ fn outline_from<'b>(
 /// # Errors
 ///
 /// The first `HeadRefusal` that applies, in the order of the specification `outline_of`.
-pub(crate) fn read_head(head: &[u8], lines: usize) -> Result<Outline<'_>, HeadRefusal>
+pub(crate) fn read_head(head: &[u8], lines: usize) -> Result<ParsedHead<'_>, HeadRefusal>
     requires { end_from scan_start head.now ≡ Some (length head.now, lines) }
     ensures { (read : Option RequestHead) × IsReadAs lines head.now read ×
         (outline_result result ≡ outline_of lines read) }

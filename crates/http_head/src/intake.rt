@@ -10,7 +10,7 @@ use crate::head::read_head;
 
 /// The state of reading a request.
 #[derive(Clone, Copy)]
-pub enum Intake {
+pub enum RequestReader {
     /// The end of the head is still searched for.
     Head(Scan),
     /// The head's length and the number of bytes needed after it.
@@ -25,17 +25,17 @@ fn has_body(start: usize, count: usize, bytes: &[u8]) -> bool
     count <= bytes.len() - start
 }
 
-impl Intake {
+impl RequestReader {
     /// The state before the first byte.
-    pub fn start() -> Intake
+    pub fn start() -> RequestReader
         ensures { IsIntake result [] }
     {
-        Intake::Head(Scan::start())
+        RequestReader::Head(Scan::start())
     }
 
     // Continues the search for the end of the head; whether the bytes are decided.
-    fn look(scan: Scan, bytes: &[u8]) -> (Intake, bool)
-        requires { IsIntake (Intake.Head scan) bytes.now }
+    fn look(scan: Scan, bytes: &[u8]) -> (RequestReader, bool)
+        requires { IsIntake (RequestReader.Head scan) bytes.now }
         ensures still { IsIntake result.0 bytes.now }
         ensures enough { IsTrue result.1 → IsDecided bytes.now }
     {
@@ -44,11 +44,11 @@ impl Intake {
         let at = scan.at;
         let behind = &bytes[at..limit];
         match scan.go_on(behind) {
-            None => (Intake::Head(scan), bytes.len() > 16384),
+            None => (RequestReader::Head(scan), bytes.len() > 16384),
             Some(end) => match read_head(&bytes[..end.length], end.lines) {
-                Err(_) => (Intake::Body(end.length, 0), true),
+                Err(_) => (RequestReader::Body(end.length, 0), true),
                 Ok(outline) => (
-                    Intake::Body(end.length, outline.length),
+                    RequestReader::Body(end.length, outline.length),
                     outline.length <= bytes.len() - end.length,
                 ),
             },
@@ -66,12 +66,12 @@ impl Intake {
         ensures enough { IsTrue result → IsDecided bytes.now }
     {
         match *self {
-            Intake::Head(scan) => {
-                let (intake, enough) = Intake::look(scan, bytes);
+            RequestReader::Head(scan) => {
+                let (intake, enough) = RequestReader::look(scan, bytes);
                 *self = intake;
                 enough
             }
-            Intake::Body(start, count) => has_body(start, count, bytes),
+            RequestReader::Body(start, count) => has_body(start, count, bytes),
         }
     }
 }

@@ -11,9 +11,9 @@ pub mod refusals;
 pub mod request;
 pub mod stream;
 
-pub use framing::{HeadEnd, Line, Scan};
-pub use head::{Outline, number_of};
-pub use intake::Intake;
+pub use framing::{HeadEnd, LineState, Scan};
+pub use head::{ParsedHead, number_of};
+pub use intake::RequestReader;
 pub use refusals::HeadRefusal;
-pub use request::{Reading, Request, Seen, read_request};
-pub use stream::{TakeFault, is_interrupted, take_in};
+pub use request::{HttpRequest, ParseState, Reading, read_request};
+pub use stream::{RequestReadFault, is_interrupted, read_request_bytes};

@@ -1,17 +1,17 @@
 //! Parsing of requests from any prefix of their bytes.
 ghost use Rattle.std.specs.Prelude.{◌≡◌, Ok, length};
-ghost use Rattle.http_head.specs.Head.{Outline as outline};
+ghost use Rattle.http_head.specs.Head.{ParsedHead as outline};
 ghost use Rattle.http_head.specs.HeadViews.{outline_view};
-ghost use Rattle.http_head.specs.Request.{Sees, Seen as seen, body_seen, behind_breaks, begin_with_head, asks_head};
+ghost use Rattle.http_head.specs.Request.{Sees, ParseState as seen, body_seen, skip_line_breaks, begin_with_head, asks_head};
 ghost use Rattle.http_head.specs.RequestViews.{seen_view};
 
 use crate::framing::Scan;
-use crate::head::{Outline, read_head};
+use crate::head::{ParsedHead, read_head};
 use crate::refusals::HeadRefusal;
 
 /// A complete request.
 #[derive(Clone, Copy)]
-pub struct Request<'b> {
+pub struct HttpRequest<'b> {
     /// The method.
     pub method: &'b [u8],
     /// The request target.
@@ -24,23 +24,23 @@ pub struct Request<'b> {
 
 /// The result of parsing a prefix of a request.
 #[derive(Clone, Copy)]
-pub enum Seen<'b> {
+pub enum ParseState<'b> {
     /// More bytes are needed.
     Unfinished,
     /// The head is refused.
     Refused(HeadRefusal),
     /// The request is complete; further bytes are ignored.
-    Whole(Request<'b>),
+    Whole(HttpRequest<'b>),
 }
 
 // A request from its parsed head and the bytes after it.
-fn with_body<'b>(outline: Outline<'b>, behind: &'b [u8]) -> Seen<'b>
+fn with_body<'b>(outline: ParsedHead<'b>, behind: &'b [u8]) -> ParseState<'b>
     ensures { seen_view result ≡ body_seen behind.now (Ok (outline_view outline.entry)) }
 {
     if behind.len() < outline.length {
-        return Seen::Unfinished;
+        return ParseState::Unfinished;
     }
-    Seen::Whole(Request {
+    ParseState::Whole(HttpRequest {
         method: outline.method,
         target: outline.target,
         key: outline.key,
@@ -52,14 +52,14 @@ fn with_body<'b>(outline: Outline<'b>, behind: &'b [u8]) -> Seen<'b>
 #[derive(Clone, Copy)]
 pub struct Reading<'b> {
     /// The result of parsing.
-    pub seen: Seen<'b>,
+    pub seen: ParseState<'b>,
     /// Whether the method is HEAD, whose reply has no body (RFC 9110, section 9.3.2).
     pub asks_head: bool,
 }
 
 // The bytes without CR and LF at the front (RFC 9112, section 2.2).
-fn behind_breaks(bytes: &[u8]) -> &[u8]
-    ensures { result.now ≡ behind_breaks bytes.now }
+fn skip_line_breaks(bytes: &[u8]) -> &[u8]
+    ensures { result.now ≡ skip_line_breaks bytes.now }
 {
     for (i, byte) in bytes.iter().enumerate() {
         if *byte != b'\r' && *byte != b'\n' {
@@ -73,7 +73,7 @@ fn behind_breaks(bytes: &[u8]) -> &[u8]
 fn begin_with_head(bytes: &[u8]) -> bool
     ensures { result ≡ begin_with_head bytes.now }
 {
-    let rest = behind_breaks(bytes);
+    let rest = skip_line_breaks(bytes);
     let length = rest.len().min(5);
     &rest[..length] == b"HEAD ".as_slice()
 }
@@ -94,12 +94,12 @@ pub fn read_request(bytes: &[u8]) -> Reading<'_>
             let asks_head = begin_with_head(&bytes[..front]);
             if bytes.len() > 16384 {
                 Reading {
-                    seen: Seen::Refused(HeadRefusal::HeadTooLong),
+                    seen: ParseState::Refused(HeadRefusal::HeadTooLong),
                     asks_head,
                 }
             } else {
                 Reading {
-                    seen: Seen::Unfinished,
+                    seen: ParseState::Unfinished,
                     asks_head,
                 }
             }
@@ -108,7 +108,7 @@ pub fn read_request(bytes: &[u8]) -> Reading<'_>
             let asks_head = begin_with_head(&bytes[..end.length]);
             match read_head(&bytes[..end.length], end.lines) {
                 Err(refusal) => Reading {
-                    seen: Seen::Refused(refusal),
+                    seen: ParseState::Refused(refusal),
                     asks_head,
                 },
                 Ok(outline) => Reading {

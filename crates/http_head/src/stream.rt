@@ -4,22 +4,22 @@ ghost use Rattle.std.specs.Io.KnownBytes.{IsAtEnd};
 ghost use Rattle.http_head.specs.Intake.{HasTaken};
 ghost use Rattle.http_head.specs.Request.{IsDecided};
 
-use crate::intake::Intake;
+use crate::intake::RequestReader;
 use std::alloc::AllocError;
 use std::io::{Error, ErrorKind, Read};
 
 /// Why reading failed.
 #[derive(Clone, Copy, Debug, PartialEq, Eq)]
-pub enum TakeFault {
+pub enum RequestReadFault {
     /// Out of memory.
     Memory,
     /// The reader failed.
     Read,
 }
 
-impl From<AllocError> for TakeFault {
-    fn from(_error: AllocError) -> TakeFault {
-        TakeFault::Memory
+impl From<AllocError> for RequestReadFault {
+    fn from(_error: AllocError) -> RequestReadFault {
+        RequestReadFault::Memory
     }
 }
 
@@ -38,13 +38,16 @@ pub fn is_interrupted(error: &Error) -> bool {
 /// # Guarantees
 ///
 /// `taken`: the result is `heard` and the bytes read, in order.
-pub fn take_in<R: Read>(heard: Vec<u8>, reader: &mut R) -> Result<Vec<u8>, TakeFault>
+pub fn read_request_bytes<R: Read>(
+    heard: Vec<u8>,
+    reader: &mut R,
+) -> Result<Vec<u8>, RequestReadFault>
     ensures taken { IfOk result (λ v. HasTaken heard.items v.items (R.remaining reader.old)
         (R.remaining reader.new)) }
     ensures enough { IfOk result (λ v. IsAtEnd (R.remaining reader.new) ⊎ IsDecided v.items) }
 {
     let mut bytes = heard;
-    let mut intake = Intake::start();
+    let mut intake = RequestReader::start();
     let mut chunk = [0_u8; 4096];
     if intake.is_enough(&bytes) {
         return Ok(bytes);
@@ -62,10 +65,10 @@ pub fn take_in<R: Read>(heard: Vec<u8>, reader: &mut R) -> Result<Vec<u8>, TakeF
             }
             Err(error) => {
                 if !is_interrupted(&error) {
-                    return Err(TakeFault::Read);
+                    return Err(RequestReadFault::Read);
                 }
             }
         }
     }
-    Err(TakeFault::Read)
+    Err(RequestReadFault::Read)
 }

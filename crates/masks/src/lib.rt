@@ -4,5 +4,5 @@
 mod word50;
 mod word81;
 
-pub use word50::Word50;
-pub use word81::Word81;
+pub use word50::Bitboard50;
+pub use word81::Bitboard81;

@@ -7,11 +7,11 @@ use std::marker::Model;
 
 /// A set of draughts squares, numbered 1 to 50, in a `u64`: bit `n - 1` is set if square `n` is in the set.
 #[derive(Clone, Copy, Debug)]
-pub struct Word50 {
+pub struct Bitboard50 {
     bits: u64,
 }
 
-impl Model for Word50 {
+impl Model for Bitboard50 {
     ghost use Rattle.std.specs.Prelude.{◌<◌, ◌^◌};
     ghost use Rattle.std.specs.Coded.{coded_ℕ};
     ghost use Rattle.std.specs.FinSet as sets;
@@ -30,19 +30,19 @@ impl Model for Word50 {
     ghost inverse_ok = { λ a h i. record { bits = word_back 1 50 a.bits h i } };
 }
 
-impl Word50 {
+impl Bitboard50 {
     /// The empty set.
-    pub fn new() -> Word50
+    pub fn new() -> Bitboard50
         ensures { result ≡ set.empty }
     {
-        Word50 { bits: 0 }
+        Bitboard50 { bits: 0 }
     }
 
     /// The set of all 50 squares.
-    pub fn full() -> Word50
+    pub fn full() -> Bitboard50
         ensures { (q : ℕ) → 1 ≤ q → q ≤ 50 → set.contains result q ≡ true }
     {
-        Word50 {
+        Bitboard50 {
             bits: 0x3_ffff_ffff_ffff,
         }
     }
@@ -70,54 +70,54 @@ impl Word50 {
     }
 
     /// The set with a square added.
-    pub fn with(self, square: u8) -> Word50
+    pub fn with(self, square: u8) -> Bitboard50
         requires { (1 ≤ square) × (square ≤ 50) }
         ensures { result ≡ set.insert self square }
     {
-        Word50 {
+        Bitboard50 {
             bits: self.bits | (1 << u32::from(square - 1)),
         }
     }
 
     /// The set with a square removed.
-    pub fn without(self, square: u8) -> Word50
+    pub fn without(self, square: u8) -> Bitboard50
         requires { (1 ≤ square) × (square ≤ 50) }
         ensures { result ≡ set.remove self square }
     {
-        Word50 {
+        Bitboard50 {
             bits: self.bits & !(1 << u32::from(square - 1)),
         }
     }
 
     /// The union of the sets.
-    pub fn union(self, other: Word50) -> Word50
+    pub fn union(self, other: Bitboard50) -> Bitboard50
         ensures { result ≡ set.union self other }
     {
-        Word50 {
+        Bitboard50 {
             bits: self.bits | other.bits,
         }
     }
 
     /// The intersection of the sets.
-    pub fn intersection(self, other: Word50) -> Word50
+    pub fn intersection(self, other: Bitboard50) -> Bitboard50
         ensures { result ≡ set.intersection self other }
     {
-        Word50 {
+        Bitboard50 {
             bits: self.bits & other.bits,
         }
     }
 
     /// The squares of this set that are not in the other.
-    pub fn difference(self, other: Word50) -> Word50
+    pub fn difference(self, other: Bitboard50) -> Bitboard50
         ensures { result ≡ set.difference self other }
     {
-        Word50 {
+        Bitboard50 {
             bits: self.bits & !other.bits,
         }
     }
 
     /// Whether the sets are equal.
-    pub fn is_same(self, other: Word50) -> bool
+    pub fn is_same(self, other: Bitboard50) -> bool
         ensures { IsTrue result ↔ (self ≡ other) }
     {
         self.bits == other.bits
@@ -131,31 +131,31 @@ impl Word50 {
     }
 
     /// The set with the given bits: square `n + 1` is in the set if bit `n` is set.
-    pub fn of_word(bits: u64) -> Word50
+    pub fn of_word(bits: u64) -> Bitboard50
         requires { bits < 2 ^ 50 }
         ensures { (n : ℕ) → set.contains result (n + 1) ≡ has_bit bits n }
     {
-        Word50 { bits }
+        Bitboard50 { bits }
     }
 
     /// Adds `by` to the number of every square; squares that would pass 50 are dropped.
-    pub fn raised(self, by: u8) -> Word50
+    pub fn shift_up(self, by: u8) -> Bitboard50
         requires { by < 50 }
         ensures moved { (q : ℕ) → by < q → q ≤ 50
             → set.contains result q ≡ set.contains self (q - by) }
         ensures left { (q : ℕ) → q ≤ by → set.contains result q ≡ false }
     {
-        Word50 {
+        Bitboard50 {
             bits: (self.bits << u32::from(by)) & 0x3_ffff_ffff_ffff,
         }
     }
 
     /// Subtracts `by` from the number of every square; squares that would fall below 1 are dropped.
-    pub fn lowered(self, by: u8) -> Word50
+    pub fn shift_down(self, by: u8) -> Bitboard50
         requires { by < 50 }
         ensures { (q : ℕ) → 1 ≤ q → set.contains result q ≡ set.contains self (q + by) }
     {
-        Word50 {
+        Bitboard50 {
             bits: self.bits >> u32::from(by),
         }
     }

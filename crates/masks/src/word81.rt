@@ -7,11 +7,11 @@ use std::marker::Model;
 
 /// A set of shogi squares, numbered 0 to 80, in a `u128`: bit `n` is set if square `n` is in the set.
 #[derive(Clone, Copy, Debug)]
-pub struct Word81 {
+pub struct Bitboard81 {
     bits: u128,
 }
 
-impl Model for Word81 {
+impl Model for Bitboard81 {
     ghost use Rattle.std.specs.Prelude.{◌<◌, ◌^◌};
     ghost use Rattle.std.specs.Coded.{coded_ℕ};
     ghost use Rattle.std.specs.FinSet as sets;
@@ -30,12 +30,12 @@ impl Model for Word81 {
     ghost inverse_ok = { λ a h i. record { bits = word_back 0 81 a.bits h i } };
 }
 
-impl Word81 {
+impl Bitboard81 {
     /// The empty set.
-    pub fn new() -> Word81
+    pub fn new() -> Bitboard81
         ensures { result ≡ set.empty }
     {
-        Word81 { bits: 0 }
+        Bitboard81 { bits: 0 }
     }
 
     /// The bits of the set: bit `n` is set if square `n` is in the set.
@@ -61,54 +61,54 @@ impl Word81 {
     }
 
     /// The set with a square added.
-    pub fn with(self, square: u8) -> Word81
+    pub fn with(self, square: u8) -> Bitboard81
         requires { square < 81 }
         ensures { result ≡ set.insert self square }
     {
-        Word81 {
+        Bitboard81 {
             bits: self.bits | (1 << u32::from(square)),
         }
     }
 
     /// The set with a square removed.
-    pub fn without(self, square: u8) -> Word81
+    pub fn without(self, square: u8) -> Bitboard81
         requires { square < 81 }
         ensures { result ≡ set.remove self square }
     {
-        Word81 {
+        Bitboard81 {
             bits: self.bits & !(1 << u32::from(square)),
         }
     }
 
     /// The union of the sets.
-    pub fn union(self, other: Word81) -> Word81
+    pub fn union(self, other: Bitboard81) -> Bitboard81
         ensures { result ≡ set.union self other }
     {
-        Word81 {
+        Bitboard81 {
             bits: self.bits | other.bits,
         }
     }
 
     /// The intersection of the sets.
-    pub fn intersection(self, other: Word81) -> Word81
+    pub fn intersection(self, other: Bitboard81) -> Bitboard81
         ensures { result ≡ set.intersection self other }
     {
-        Word81 {
+        Bitboard81 {
             bits: self.bits & other.bits,
         }
     }
 
     /// The squares of this set that are not in the other.
-    pub fn difference(self, other: Word81) -> Word81
+    pub fn difference(self, other: Bitboard81) -> Bitboard81
         ensures { result ≡ set.difference self other }
     {
-        Word81 {
+        Bitboard81 {
             bits: self.bits & !other.bits,
         }
     }
 
     /// Whether the sets are equal.
-    pub fn is_same(self, other: Word81) -> bool
+    pub fn is_same(self, other: Bitboard81) -> bool
         ensures { IsTrue result ↔ (self ≡ other) }
     {
         self.bits == other.bits

@@ -2,16 +2,16 @@
 use Rattle.std.proofs.Common.{◌≡◌, ◌+◌, ℕ, List, map, filter, Bool, true, false, refl, cond, length, ◌&&◌, ◌||◌, nat_eq}
 use Rattle.std.specs.Prelude.{nat_le}
 use Rattle.std.specs.List.{range_with_len, list_all, count_by}
-use Rattle.pairings.specs.declared.table.Pairing.{Pairing}
+use Rattle.pairings.specs.declared.table.BoardPairing.{BoardPairing}
 use Rattle.pairings.specs.Table.{games, all_games, rounds_of}
 use Rattle.pairings.specs.Laws.{games_with}
 
 -- whom a player had First against
-abbrev pub against : ℕ → List Pairing → List ℕ
+abbrev pub against : ℕ → List BoardPairing → List ℕ
 against player list = map (λ game. game.second) (filter (λ game. nat_eq game.first player) list)
 
 -- who had First against a player
-abbrev pub before : ℕ → List Pairing → List ℕ
+abbrev pub before : ℕ → List BoardPairing → List ℕ
 before player list = map (λ game. game.first) (filter (λ game. nat_eq game.second player) list)
 
 abbrev pub times : ℕ → List ℕ → ℕ
@@ -34,7 +34,7 @@ is_right_for players is_double one firsts seconds =
     (range_with_len 1 players)
     && is_balanced is_double (length firsts) (length seconds)
 
-unfoldable pub is_right : Bool → ℕ → List Pairing → Bool
+unfoldable pub is_right : Bool → ℕ → List BoardPairing → Bool
 is_right is_double players list =
     list_all (λ one. is_right_for players is_double one (against one list) (before one list))
     (range_with_len 1 players)
@@ -45,7 +45,7 @@ unfolding all_games games is_right_for is_right
 all_right false = refl
 all_right true = refl
 
-unfoldable pub play_once : ℕ → List Pairing → Bool
+unfoldable pub play_once : ℕ → List BoardPairing → Bool
 play_once players list = list_all (λ one. nat_le (games_with one list) 1) (range_with_len 1 players)
 
 pub all_once :

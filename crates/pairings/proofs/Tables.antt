@@ -9,7 +9,7 @@ use Rattle.std.specs.Prelude.{nat_le}
 use Rattle.std.specs.List.{range_with_len, list_all, count_by}
 use Rattle.std.proofs.lemmas.List.Sums.{AllPass-from_list_all, length-filter, sum_by-cons}
 use Rattle.std.proofs.lemmas.List.FromFn.{get_or-range_with_len, length-range_with_len}
-use Rattle.pairings.specs.declared.table.Pairing.{Pairing}
+use Rattle.pairings.specs.declared.table.BoardPairing.{BoardPairing}
 use Rattle.pairings.specs.Table.{games, all_games, rounds_of}
 use Rattle.pairings.proofs.Computed.{against, before, times, meetings, is_balanced, is_right_for, is_right, play_once}
 use Rattle.pairings.proofs.Computed.{all_right, all_once}
@@ -30,7 +30,7 @@ count_cons : {X : Type 0} (p : X → Bool) (x : X) (xs : List X) →
     count_by p (x ∷ xs) ≡ cond (p x) 1 0 + count_by p xs
 count_cons p x xs = sum_by-cons (λ y. cond (p y) 1 0) x xs
 
-against_counts : (one other : ℕ) (list : List Pairing) → times other (against one list) ≡ times_first one other list
+against_counts : (one other : ℕ) (list : List BoardPairing) → times other (against one list) ≡ times_first one other list
 against_counts one other [] = refl
 against_counts one other (game ∷ rest) = by_first (nat_eq game.first one) refl (against_counts one other rest) where
   whole : (b : Bool) → nat_eq game.first one ≡ b →
@@ -54,7 +54,7 @@ against_counts one other (game ∷ rest) = by_first (nat_eq game.first one) refl
       ∙ whole true is
   by_first false is later = kept false is ∙ later ∙ sym (zero-add (times_first one other rest)) ∙ whole false is
 
-before_counts : (one other : ℕ) (list : List Pairing) → times other (before one list) ≡ times_first other one list
+before_counts : (one other : ℕ) (list : List BoardPairing) → times other (before one list) ≡ times_first other one list
 before_counts one other [] = refl
 before_counts one other (game ∷ rest) = by_second (nat_eq game.second one) refl (before_counts one other rest) where
   whole : (b : Bool) → nat_eq game.second one ≡ b →
@@ -84,11 +84,11 @@ before_counts one other (game ∷ rest) = by_second (nat_eq game.second one) ref
       ∙ ap (λ c. cond c 1 0 + times_first other one rest) (sym (and-false (nat_eq game.first other)))
       ∙ whole false is
 
-against_length : (one : ℕ) (list : List Pairing) → length (against one list) ≡ games_as_first one list
+against_length : (one : ℕ) (list : List BoardPairing) → length (against one list) ≡ games_as_first one list
 against_length one list =
     length-map (filter (λ g. nat_eq g.first one) list) (λ g. g.second) ∙ length-filter (λ g. nat_eq g.first one) list
 
-before_length : (one : ℕ) (list : List Pairing) → length (before one list) ≡ games_as_second one list
+before_length : (one : ℕ) (list : List BoardPairing) → length (before one list) ≡ games_as_second one list
 before_length one list =
     length-map (filter (λ g. nat_eq g.second one) list) (λ g. g.first) ∙ length-filter (λ g. nat_eq g.second one) list
 
@@ -106,20 +106,20 @@ module _ (players : ℕ) (few : players ≤ 32) (two : 2 ≤ players) where
       each_in (λ n. is_right is_double n (all_games n is_double)) 2 31 players (all_right is_double) two (omega arith)
 
   right_for : (is_double : Bool) (one : ℕ) → 1 ≤ one → one ≤ players →
-      let list : List Pairing = all_games players is_double in
+      let list : List BoardPairing = all_games players is_double in
       is_right_for players is_double one (against one list) (before one list) ≡ true
   unfolding is_right
   right_for is_double one low high =
-      let list : List Pairing = all_games players is_double in
+      let list : List BoardPairing = all_games players is_double in
       each_in (λ n. is_right_for players is_double n (against n list) (before n list)) 1 players one (right is_double)
       low (omega arith)
 
   met : (is_double : Bool) (one other : ℕ) → 1 ≤ one → one ≤ players → 1 ≤ other → other ≤ players → one ≢ other →
-      let list : List Pairing = all_games players is_double in
+      let list : List BoardPairing = all_games players is_double in
       meetings is_double (against one list) (before one list) other ≡ 1
   unfolding is_right_for
   met is_double one other low high low' high' apart =
-      let list : List Pairing = all_games players is_double in
+      let list : List BoardPairing = all_games players is_double in
       let theirs = each_in (λ n. nat_eq one n || nat_eq (meetings is_double (against one list) (before one list) n) 1)
       1 players other ((both_true _ _ (right_for is_double one low high)).0) low' (omega arith) in
       eqb-true _ _ (second_true _ _ theirs (λ same. apart (eqb-true one other same)))
@@ -127,7 +127,7 @@ module _ (players : ℕ) (few : players ≤ 32) (two : 2 ≤ players) where
   pub meet_once : (one other : ℕ) → 1 ≤ one → one ≤ players → 1 ≤ other → other ≤ players → one ≢ other →
       times_first one other (all_games players false) + times_first other one (all_games players false) ≡ 1
   meet_once one other low high low' high' apart =
-      let list : List Pairing = all_games players false in
+      let list : List BoardPairing = all_games players false in
       sym (ap (λ n. n + times_first other one list) (against_counts one other list))
       ∙ sym (ap (λ n. times other (against one list) + n) (before_counts one other list))
       ∙ met false one other low high low' high' apart
@@ -138,11 +138,11 @@ module _ (players : ℕ) (few : players ≤ 32) (two : 2 ≤ players) where
       sym (against_counts one other (all_games players true)) ∙ met true one other low high low' high' apart
 
   balance : (is_double : Bool) (one : ℕ) → 1 ≤ one → one ≤ players →
-      let list : List Pairing = all_games players is_double in
+      let list : List BoardPairing = all_games players is_double in
       is_balanced is_double (games_as_first one list) (games_as_second one list) ≡ true
   unfolding is_right_for
   balance is_double one low high =
-      let list : List Pairing = all_games players is_double in
+      let list : List BoardPairing = all_games players is_double in
       let firsts : ℕ → Type 0 = λ n. is_balanced is_double n (length (before one list)) ≡ true in
       let seconds : ℕ → Type 0 = λ n. is_balanced is_double (games_as_first one list) n ≡ true in
       subst seconds (before_length one list)

@@ -1,11 +1,11 @@
 -- FIDE's Berger table for six players: round, board, First, Second. Boards are numbered by the lower player.
 use Rattle.std.specs.Prelude.{ℕ, List, [], ◌∷◌}
-use Rattle.pairings.specs.declared.table.Pairing.{Pairing}
+use Rattle.pairings.specs.declared.table.BoardPairing.{BoardPairing}
 
-abbrev pub game : ℕ → ℕ → ℕ → ℕ → Pairing
+abbrev pub game : ℕ → ℕ → ℕ → ℕ → BoardPairing
 game round board first second = record { round = round; board = board; first = first; second = second }
 
-unfoldable pub fide_of_six : List Pairing
+unfoldable pub fide_of_six : List BoardPairing
 fide_of_six =
     game 1 1 1 6 ∷ game 1 2 2 5 ∷ game 1 3 3 4
     ∷ game 2 1 1 2 ∷ game 2 2 5 3 ∷ game 2 3 6 4

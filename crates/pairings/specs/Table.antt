@@ -2,7 +2,7 @@
 -- more seat, the bye, against which no game is played.
 use Rattle.std.specs.Prelude.{ℕ, ◌+◌, ◌-◌, ◌*◌, ◌%◌, Bool, cond, not, nat_eq, nat_le, List, [], ◌∷◌, map, suc}
 use Rattle.std.specs.List.{filter, flat_map, range_with_len}
-use Rattle.pairings.specs.declared.table.Pairing.{Pairing}
+use Rattle.pairings.specs.declared.table.BoardPairing.{BoardPairing}
 
 -- Two players.
 pub record Pair : Type 0 where
@@ -41,14 +41,14 @@ abbrev pub is_lower_first : ℕ → ℕ → Pair → Bool
 is_lower_first players round pair =
     cond (nat_le round (rounds_once players)) (begins players pair) (not (begins players pair))
 
-abbrev pub game_of : ℕ → ℕ → ℕ → Pair → Pairing
+abbrev pub game_of : ℕ → ℕ → ℕ → Pair → BoardPairing
 game_of players round board pair =
     cond (is_lower_first players round pair)
     (record { round = round; board = board; first = pair.lower; second = pair.higher })
     (record { round = round; board = board; first = pair.higher; second = pair.lower })
 
 -- The games of the pairs, on boards from `board` on.
-abbrev pub numbered : ℕ → ℕ → ℕ → List Pair → List Pairing
+abbrev pub numbered : ℕ → ℕ → ℕ → List Pair → List BoardPairing
 numbered players round board [] = []
 numbered players round board (pair ∷ rest) =
     game_of players round board pair ∷ numbered players round (suc board) rest
@@ -69,9 +69,9 @@ abbrev pub pairs : ℕ → List Pair
 pairs players = flat_map (row players) (range_with_len 1 players)
 
 -- The games of a round: the pairs that meet in it, in order, on boards from 1 on.
-unfoldable pub games : ℕ → ℕ → List Pairing
+unfoldable pub games : ℕ → ℕ → List BoardPairing
 games players round = numbered players round 1 (filter (meet players round) (pairs players))
 
 -- The games of all rounds, in the order of the rounds.
-unfoldable pub all_games : ℕ → Bool → List Pairing
+unfoldable pub all_games : ℕ → Bool → List BoardPairing
 all_games players is_double = flat_map (games players) (range_with_len 1 (rounds_of players is_double))

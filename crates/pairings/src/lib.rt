@@ -7,4 +7,4 @@ pub mod laws;
 pub mod table;
 
 pub use laws::{nobody_plays_twice, pairs_meet, sides_are_even, six_play_as_in_fide};
-pub use table::{Pairing, round, rounds, rounds_of};
+pub use table::{BoardPairing, round, rounds, rounds_of};

@@ -8,7 +8,7 @@ use std::alloc::{AllocError, Global};
 
 /// A game of the table. Players, rounds and boards are numbered from 1.
 #[derive(Clone, Copy, Debug, PartialEq, Eq)]
-pub struct Pairing {
+pub struct BoardPairing {
     pub round: u32,
     pub board: u32,
     pub first: u32,
@@ -87,7 +87,7 @@ fn is_lower_first(players: u32, round: u32, lower: u32, higher: u32) -> bool
 }
 
 // The game of two players who meet.
-fn game_of(players: u32, round: u32, board: u32, lower: u32, higher: u32) -> Pairing
+fn game_of(players: u32, round: u32, board: u32, lower: u32, higher: u32) -> BoardPairing
     requires few { players ≤ 32 }
     requires two { 2 ≤ players }
     requires lower { lower ≤ 32 }
@@ -95,14 +95,14 @@ fn game_of(players: u32, round: u32, board: u32, lower: u32, higher: u32) -> Pai
     ensures { result ≡ game_of players round board (record { lower = lower; higher = higher }) }
 {
     if is_lower_first(players, round, lower, higher) {
-        Pairing {
+        BoardPairing {
             round,
             board,
             first: lower,
             second: higher,
         }
     } else {
-        Pairing {
+        BoardPairing {
             round,
             board,
             first: higher,
@@ -113,7 +113,7 @@ fn game_of(players: u32, round: u32, board: u32, lower: u32, higher: u32) -> Pai
 
 // Appends the games of a player against players with higher numbers.
 fn push_row(
-    pairings: &mut Vec<Pairing>,
+    pairings: &mut Vec<BoardPairing>,
     players: u32,
     round: u32,
     lower: u32,
@@ -141,7 +141,7 @@ fn push_row(
 /// # Errors
 ///
 /// `AllocError` if out of memory.
-pub fn round(alloc: Global, players: u32, round: u32) -> Result<Vec<Pairing>, AllocError>
+pub fn round(alloc: Global, players: u32, round: u32) -> Result<Vec<BoardPairing>, AllocError>
     requires few { players ≤ 32 }
     requires two { 2 ≤ players }
     requires round { round ≤ 62 }
@@ -159,7 +159,7 @@ pub fn round(alloc: Global, players: u32, round: u32) -> Result<Vec<Pairing>, Al
 /// # Errors
 ///
 /// `AllocError` if out of memory.
-pub fn rounds(alloc: Global, players: u32, is_double: bool) -> Result<Vec<Pairing>, AllocError>
+pub fn rounds(alloc: Global, players: u32, is_double: bool) -> Result<Vec<BoardPairing>, AllocError>
     requires few { players ≤ 32 }
     requires two { 2 ≤ players }
     ensures { IfOk result (λ pairings. pairings.items ≡ all_games players is_double) }

@@ -17,7 +17,7 @@ use Rattle.draughts_moves.specs.Capture.{Cells, Jump, Route, Capture, without}
 use Rattle.draughts_moves.specs.Search.{own_at, jumps}
 use Rattle.draughts_moves.specs.Routes.{lists_in}
 use Rattle.draughts_moves.proofs.Proved.{jumps-sound, jumps-complete, own_at-own, own_at-is}
-use Rattle.pdn.specs.Subsequence.{IsSubsequence, past, is_subsequence}
+use Rattle.pdn.specs.Subsequence.{IsSubsequence, unmatched_after, is_subsequence}
 use Rattle.pdn.specs.Passing.{passes}
 use Rattle.pdn.specs.Reaching.{GoesTo, StepsTo}
 use Rattle.pdn.specs.ReadMove.{Fits, SomeFits}
@@ -29,7 +29,7 @@ tail_of x (z ∷ xs) (y ∷ ys) (inl h) = inr h.1
 tail_of x (z ∷ xs) (y ∷ ys) (inr h) = inr (tail_of x (z ∷ xs) ys h)
 
 -- a landing that is looked for is found at once
-pub past-front : (xs : List ℕ) (y : ℕ) (ys : List ℕ) → IsSubsequence xs (y ∷ ys) → IsSubsequence (past xs y) ys
+pub past-front : (xs : List ℕ) (y : ℕ) (ys : List ℕ) → IsSubsequence xs (y ∷ ys) → IsSubsequence (unmatched_after xs y) ys
 past-front [] y ys h = tt
 past-front (x ∷ xs) y ys h =
     elim (nat_eq x y) as (λ b. nat_eq x y ≡ b → IsSubsequence (cond b xs (x ∷ xs)) ys) [
@@ -37,7 +37,7 @@ past-front (x ∷ xs) y ys h =
       | false ↦ λ e. elim h [ inl k ↦ let same = nat_eq_same x y k.0 in cc | inr k ↦ k ]
     ] refl
 
-pub front-past : (xs : List ℕ) (y : ℕ) (ys : List ℕ) → IsSubsequence (past xs y) ys → IsSubsequence xs (y ∷ ys)
+pub front-past : (xs : List ℕ) (y : ℕ) (ys : List ℕ) → IsSubsequence (unmatched_after xs y) ys → IsSubsequence xs (y ∷ ys)
 front-past [] y ys h = tt
 front-past (x ∷ xs) y ys h =
     elim (nat_eq x y) as (λ b. nat_eq x y ≡ b → IsSubsequence (cond b xs (x ∷ xs)) ys
@@ -53,11 +53,11 @@ in_nothing (x ∷ xs) h = absurd h
 pub is_subsequence-sound : (xs ys : List ℕ) → is_subsequence xs ys ≡ true → IsSubsequence xs ys
 is_subsequence-sound [] ys e = tt
 is_subsequence-sound (x ∷ xs) [] e = absurd (omega (arith, eqb-true (length (x ∷ xs)) 0 e))
-is_subsequence-sound (x ∷ xs) (y ∷ ys) e = front-past (x ∷ xs) y ys (is_subsequence-sound (past (x ∷ xs) y) ys e)
+is_subsequence-sound (x ∷ xs) (y ∷ ys) e = front-past (x ∷ xs) y ys (is_subsequence-sound (unmatched_after (x ∷ xs) y) ys e)
 
 pub is_subsequence-complete : (ys xs : List ℕ) → IsSubsequence xs ys → is_subsequence xs ys ≡ true
 is_subsequence-complete [] xs h = ap (λ zs. nat_eq (length zs) 0) (in_nothing xs h)
-is_subsequence-complete (y ∷ ys) xs h = is_subsequence-complete ys (past xs y) (past-front xs y ys h)
+is_subsequence-complete (y ∷ ys) xs h = is_subsequence-complete ys (unmatched_after xs y) (past-front xs y ys h)
 
 module _ (b : Cells) (q : DPiece) (t : Squares) (s : ℕ) (middle : List ℕ) (to : ℕ) where
   -- one jump, and then more or none

@@ -5,7 +5,7 @@ use Rattle.std.specs.Prelude.{false, Option, Some, None, Result, Ok, Err, if◌t
 use Rattle.squares.specs.declared.sides.Side.{Side}
 use Rattle.squares.specs.declared.draughts.piece.DPiece.{DPiece}
 use Rattle.pdn.specs.declared.items.Item.{Item}
-use Rattle.pdn.specs.SquareText.{Front, FrontReading, is_digit, after_zero, read_square}
+use Rattle.pdn.specs.SquareText.{SquareFront, FrontReading, is_digit, after_zero, read_square}
 
 -- the rest of the text after a byte, if it begins with that byte
 abbrev pub past_byte : ℕ → List ℕ → Option (List ℕ)
@@ -51,21 +51,21 @@ man side = record { side = side; king = false }
 abbrev pub king : Side → DPiece
 king side = record { side = side; king = true }
 
--- a king; `at` is the offset of the item, `before` that of its square
+-- a king; `piece_at` is the offset of the item, `before` that of its square
 abbrev pub king_of : ℕ → ℕ → Side → FrontReading → ItemReading
 king_of at before side (Err bytes) = Err (before + bytes)
 king_of at before side (Ok front) =
     Ok
     (record { item = record { at = at; from = front.square; to = front.square; piece = king side }; rest = front.rest })
 
--- a range of men; `at` is the offset of the item, `before` that of its last square
+-- a range of men; `piece_at` is the offset of the item, `before` that of its last square
 abbrev pub range_of : ℕ → ℕ → Side → ℕ → FrontReading → ItemReading
 range_of at before side from (Err bytes) = Err (before + bytes)
 range_of at before side from (Ok front) =
     Ok (record { item = record { at = at; from = from; to = front.square; piece = man side }; rest = front.rest })
 
 -- a man, or a range of men after a hyphen
-abbrev pub after_man : ℕ → ℕ → Side → Front → Option (List ℕ) → ItemReading
+abbrev pub after_man : ℕ → ℕ → Side → SquareFront → Option (List ℕ) → ItemReading
 after_man total at side front None =
     Ok
     (record { item = record { at = at; from = front.square; to = front.square; piece = man side }; rest = front.rest })

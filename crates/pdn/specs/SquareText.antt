@@ -9,14 +9,14 @@ abbrev pub is_digit : ℕ → Bool
 is_digit c = nat_le 48 c && nat_le c 57
 
 -- a square read from the front of a text, with the rest of the text
-pub record Front : Type 0 where
+pub record SquareFront : Type 0 where
   pub square : ℕ
   pub rest : List ℕ
 
 -- The result of reading a square: the square and the rest of the text, or the number of bytes that can begin a square's
 -- text.
 abbrev pub FrontReading : Type 0
-FrontReading = Result Front ℕ
+FrontReading = Result SquareFront ℕ
 
 -- the second digit, if one follows and the number stays on the board
 abbrev pub read_second : ℕ → List ℕ → FrontReading

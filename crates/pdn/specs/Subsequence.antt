@@ -8,11 +8,11 @@ IsSubsequence (x ∷ xs) [] = ⊥
 IsSubsequence (x ∷ xs) (y ∷ ys) = ((x ≡ y) × IsSubsequence xs ys) ⊎ IsSubsequence (x ∷ xs) ys
 
 -- the squares that are still unmatched after a landing on y
-abbrev pub past : List ℕ → ℕ → List ℕ
-past [] y = []
-past (x ∷ xs) y = if x == y then xs else x ∷ xs
+abbrev pub unmatched_after : List ℕ → ℕ → List ℕ
+unmatched_after [] y = []
+unmatched_after (x ∷ xs) y = if x == y then xs else x ∷ xs
 
 -- whether the first list is a subsequence of the second
 abbrev pub is_subsequence : List ℕ → List ℕ → Bool
 is_subsequence xs [] = length xs == 0
-is_subsequence xs (y ∷ ys) = is_subsequence (past xs y) ys
+is_subsequence xs (y ∷ ys) = is_subsequence (unmatched_after xs y) ys

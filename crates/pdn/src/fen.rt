@@ -55,7 +55,7 @@ fn push_pieces(text: &mut String, position: &DPos, side: Side) -> Result<(), Mem
 fn own_piece(position: &DPos, side: Side, square: Dsq) -> Option<DPiece>
     ensures { option_map (piece_text square) result ≡ piece_of side square (map.get position.now.board square) }
 {
-    match position.at(square) {
+    match position.piece_at(square) {
         Some(piece) if piece.side == side => Some(piece),
         _ => None,
     }

@@ -5,10 +5,10 @@ ghost use Rattle.pdn.specs.SquareText.{read_square};
 ghost use Rattle.pdn.specs.FenItems.{past_byte, read_end_second, can_begin, read_end_number, read_end, man, king};
 ghost use Rattle.pdn.specs.FenItems.{king_of, range_of, men_of, read_item};
 
-use crate::squares_text::{Front, read_square};
+use crate::squares_text::{SquareFront, read_square};
 use squares::{DPiece, Dsq, Side};
 
-/// Equal pieces on the squares `from` to `to`; `at` is the offset of the item in the text, in bytes.
+/// Equal pieces on the squares `from` to `to`; `piece_at` is the offset of the item in the text, in bytes.
 #[derive(Clone, Copy, Debug, PartialEq, Eq)]
 pub struct Item {
     pub at: usize,
@@ -71,7 +71,7 @@ fn can_begin(low: u8, digit: u8) -> bool
 }
 
 // Reads the last square of a range that begins at `low`, without a leading 0.
-fn read_end_number(low: Dsq, text: &[u8]) -> Result<Front<'_>, usize>
+fn read_end_number(low: Dsq, text: &[u8]) -> Result<SquareFront<'_>, usize>
     ensures front { IfOk result
         (λ front. read_end_number low text.now ≡ Ok
         (record { square = front.square; rest = front.rest.now })) }
@@ -86,7 +86,7 @@ fn read_end_number(low: Dsq, text: &[u8]) -> Result<Front<'_>, usize>
                 Err(bytes) => return Err(bytes),
             };
             match Dsq::new(number) {
-                Some(square) => Ok(Front { square, rest }),
+                Some(square) => Ok(SquareFront { square, rest }),
                 None => unreachable!(),
             }
         }
@@ -95,7 +95,7 @@ fn read_end_number(low: Dsq, text: &[u8]) -> Result<Front<'_>, usize>
 }
 
 // Reads the last square of a range that begins at `low`, with at most one leading 0.
-fn read_end(low: Dsq, text: &[u8]) -> Result<Front<'_>, usize>
+fn read_end(low: Dsq, text: &[u8]) -> Result<SquareFront<'_>, usize>
     ensures front { IfOk result
         (λ front. read_end low text.now ≡ Ok
         (record { square = front.square; rest = front.rest.now })) }
@@ -124,7 +124,7 @@ fn king(side: Side) -> DPiece
     DPiece { side, king: true }
 }
 
-// Reads the king of an item at the offset `at`; `text` follows the `K`.
+// Reads the king of an item at the offset `piece_at`; `text` follows the `K`.
 fn read_king(total: usize, at: usize, side: Side, text: &[u8]) -> Result<ItemFront<'_>, usize>
     requires { length text.now ≤ total }
     ensures front { IfOk result
@@ -148,7 +148,7 @@ fn read_king(total: usize, at: usize, side: Side, text: &[u8]) -> Result<ItemFro
     }
 }
 
-// Reads the range of men of an item at the offset `at`; `text` follows the hyphen.
+// Reads the range of men of an item at the offset `piece_at`; `text` follows the hyphen.
 fn read_range(
     total: usize,
     at: usize,
@@ -179,7 +179,7 @@ fn read_range(
     }
 }
 
-// Reads a man, or a range of men, of an item at the offset `at`.
+// Reads a man, or a range of men, of an item at the offset `piece_at`.
 fn read_men(total: usize, at: usize, side: Side, text: &[u8]) -> Result<ItemFront<'_>, usize>
     requires { at + length text.now ≤ total }
     ensures front { IfOk result

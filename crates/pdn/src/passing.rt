@@ -1,14 +1,14 @@
 //! Matching of the landing squares that a text names with the routes of a capture.
 ghost use Rattle.std.specs.Prelude.{◌≡◌};
 ghost use Rattle.std.specs.List.{list_any};
-ghost use Rattle.pdn.specs.Subsequence.{past, is_subsequence};
+ghost use Rattle.pdn.specs.Subsequence.{unmatched_after, is_subsequence};
 ghost use Rattle.pdn.specs.Passing.{passes};
 
 use squares::Dsq;
 
 /// The named squares that are still unmatched after a landing on `square`.
-pub fn past<'a>(left: &'a [Dsq], square: Dsq) -> &'a [Dsq]
-    ensures { result.now ≡ past left.now square }
+pub fn unmatched_after<'a>(left: &'a [Dsq], square: Dsq) -> &'a [Dsq]
+    ensures { result.now ≡ unmatched_after left.now square }
 {
     match left {
         [first, rest @ ..] if *first == square => rest,
@@ -21,7 +21,7 @@ fn is_subsequence(middle: &[Dsq], squares: &[Dsq]) -> bool
 {
     let mut left = middle;
     for square in squares {
-        left = past(left, *square);
+        left = unmatched_after(left, *square);
     }
     left.is_empty()
 }

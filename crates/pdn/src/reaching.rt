@@ -4,7 +4,7 @@ ghost use Rattle.draughts_moves.specs.Capture.{without};
 ghost use Rattle.pdn.specs.Reaching.{GoesTo};
 ghost use Rattle.pdn.specs.ReadMove.{SomeFits};
 
-use crate::passing::past;
+use crate::passing::unmatched_after;
 use draughts_moves::{Mover, jumps_from, own_at};
 use squares::{DPos, Dsq};
 
@@ -25,8 +25,8 @@ fn goes_to(position: &DPos, mover: &Mover, middle: &[Dsq], to: Dsq) -> bool
         if ends_here(middle, to, *landing) {
             return true;
         }
-        let next = mover.jumped(*over, *landing);
-        if goes_to(position, &next, past(middle, *landing), to) {
+        let next = mover.after_jump(*over, *landing);
+        if goes_to(position, &next, unmatched_after(middle, *landing), to) {
             return true;
         }
     }

@@ -23,7 +23,7 @@ pub fn push_square(text: &mut String, square: Dsq) -> Result<(), AllocError>
 
 /// A square read from the front of a text, with the rest of the text.
 #[derive(Clone, Copy)]
-pub struct Front<'a> {
+pub struct SquareFront<'a> {
     pub square: Dsq,
     pub rest: &'a [u8],
 }
@@ -43,7 +43,7 @@ fn read_second(first: u8, text: &[u8]) -> (u8, &[u8])
 }
 
 // Reads a number from 1 to 50 without a leading 0; the error is the number of bytes that can begin one.
-fn read_number(text: &[u8]) -> Result<Front<'_>, usize>
+fn read_number(text: &[u8]) -> Result<SquareFront<'_>, usize>
     ensures front { IfOk result
         (λ front. read_number text.now ≡ Ok
         (record { square = front.square; rest = front.rest.now })) }
@@ -55,7 +55,7 @@ fn read_number(text: &[u8]) -> Result<Front<'_>, usize>
         [c @ b'1'..=b'9', rest @ ..] => {
             let (number, rest) = read_second(*c - b'0', rest);
             match Dsq::new(number) {
-                Some(square) => Ok(Front { square, rest }),
+                Some(square) => Ok(SquareFront { square, rest }),
                 None => unreachable!(),
             }
         }
@@ -68,7 +68,7 @@ fn read_number(text: &[u8]) -> Result<Front<'_>, usize>
 /// # Errors
 ///
 /// The number of bytes, 0 or 1, that can begin a square's number.
-pub fn read_square(text: &[u8]) -> Result<Front<'_>, usize>
+pub fn read_square(text: &[u8]) -> Result<SquareFront<'_>, usize>
     ensures front { IfOk result
         (λ front. read_square text.now ≡ Ok
         (record { square = front.square; rest = front.rest.now })) }

@@ -23,7 +23,7 @@ use Rattle.draughts_draws.specs.Line.{last_position, positions}
 use Rattle.draughts_draws.specs.Ends.{stands_thrice, are_king_moves, ends_with, is_three_to_one, is_two_to_one}
 use Rattle.draughts_draws.specs.Ends.{first_end, end_of}
 use Rattle.draughts_draws.specs.Faults.{IsPlayed}
-use Rattle.game_lines.proofs.Proved.{last_position-append}
+use Rattle.game_history.proofs.Proved.{last_position-append}
 use Rattle.pdn.specs.MoveValue.{move_text}
 use Rattle.pdn.proofs.Proved.{le_or_more}
 use Rattle.pdn_games.specs.declared.faults.PdnFault.{PdnFault}
@@ -34,11 +34,11 @@ use Rattle.pdn_games.specs.declared.results.ResultWord.{ResultWord}
 use Rattle.pdn_games.specs.Results.{result_word}
 use Rattle.pdn_games.specs.SkipGrammar.{All}
 use Rattle.pdn_games.specs.Tags.{is_name_byte}
-use Rattle.pdn_games.specs.Tokens.{tag, Placed, Lexes, takes}
+use Rattle.pdn_games.specs.Tokens.{tag, PlacedToken, Lexes, takes}
 use Rattle.pdn_games.specs.Order.{or_else}
 use Rattle.pdn_games.specs.Contents.{first_tag, move_texts, result_in, BeginsEven}
 use Rattle.pdn_games.specs.Moves.{MeanAll, AreMoves}
-use Rattle.pdn_games.specs.Reading.{said, told, agrees, ruled, settled, score_in, IsTextOf}
+use Rattle.pdn_games.specs.Reading.{score_of_result, tag_score, agrees, score_by_rules, settled, score_in, IsTextOf}
 use Rattle.pdn_games.specs.Writing.{tag_line, two_digits, date_text, ply_text, plies_text, end_text, game_text}
 use Rattle.pdn_games.proofs.DigitLemmas.{all_pass, pass-all}
 use Rattle.pdn_games.proofs.TagLemmas.{tag-found}
@@ -123,10 +123,10 @@ plies-found total p n (m ∷ ms) s legal few =
     )
 
 -- a tag on its line
-abbrev placed_at : ℕ → List ℕ → List ℕ → List ℕ → Placed
+abbrev placed_at : ℕ → List ℕ → List ℕ → List ℕ → PlacedToken
 placed_at total text name value = record { at = total - length text; token = tag name value }
 
-tag-lexed : (total : ℕ) (name value more : List ℕ) (tokens : List Placed) → 0 < length name → All is_name_byte name
+tag-lexed : (total : ℕ) (name value more : List ℕ) (tokens : List PlacedToken) → 0 < length name → All is_name_byte name
     → IsPlain value → Lexes total true true more tokens None →
     Lexes total true true (tag_line name value ++ more)
     (placed_at total (tag_line name value ++ more) name value ∷ tokens) None
@@ -162,13 +162,13 @@ lines-append [] x y = refl
 lines-append (t ∷ tags) x y = append_assoc (tag_line t.name t.value) (lines tags x) y
     ∙ ap (λ l. tag_line t.name t.value ++ l) (lines-append tags x y)
 
-abbrev tags_at : ℕ → List Tag → List ℕ → List Placed → List Placed
+abbrev tags_at : ℕ → List Tag → List ℕ → List PlacedToken → List PlacedToken
 tags_at total [] more tokens = tokens
 tags_at total (t ∷ tags) more tokens =
     placed_at total (lines (t ∷ tags) more) t.name t.value ∷ tags_at total tags more tokens
 
 -- the tags are found, one after another
-tags-lexed : (total : ℕ) (tags : List Tag) (more : List ℕ) (tokens : List Placed)
+tags-lexed : (total : ℕ) (tags : List Tag) (more : List ℕ) (tokens : List PlacedToken)
     → Lexes total true true more tokens None
     → Lexes total true true (lines tags more) (tags_at total tags more tokens) None
 tags-lexed total [] more tokens h = h
@@ -257,11 +257,11 @@ few-plies ms played =
     ]
 
 -- the score of the result and of the tag
-said-score : (s : Score) → said (Some (word_for s)) ≡ Some s
+said-score : (s : Score) → score_of_result (Some (word_for s)) ≡ Some s
 said-score score.FirstWins = refl
 said-score _ = refl
 
-told-score : (s : Score) → told (Some (score_text s)) ≡ Some s
+told-score : (s : Score) → tag_score (Some (score_text s)) ≡ Some s
 unfolding result_word
 told-score score.FirstWins = refl
 told-score _ = refl
@@ -273,12 +273,12 @@ settled-score s rule fits =
     ∙ ap (λ b. cond b (Ok s) (Err fault.ResultDiffers)) (same_score-itself s)
 
 -- the score of tokens with such a tag and such a result
-score-there : (s : Score) (ms : List DMove) (tokens : List Placed)
+score-there : (s : Score) (ms : List DMove) (tokens : List PlacedToken)
     → first_tag (codes "Result") tokens ≡ Some (score_text s) → result_in tokens ≡ Some (word_for s)
-    → agrees s (ruled (end_of opening ms) (last_position opening ms).turn) ≡ true → score_in tokens ms ≡ Ok s
+    → agrees s (score_by_rules (end_of opening ms) (last_position opening ms).turn) ≡ true → score_in tokens ms ≡ Ok s
 score-there s ms tokens tagged ended agreed =
-    let rule : Option Score = ruled (end_of opening ms) (last_position opening ms).turn in
-    (λ i. settled ((ap said ended ∙ said-score s) i) rule ((ap told tagged ∙ told-score s) i))
+    let rule : Option Score = score_by_rules (end_of opening ms) (last_position opening ms).turn in
+    (λ i. settled ((ap score_of_result ended ∙ said-score s) i) rule ((ap tag_score tagged ∙ told-score s) i))
     ∙ settled-score s rule agreed
 
 pub written-back : (event white black : List ℕ) (date : CivilTime) (s : Score) (ms : List DMove) (g : PdnGame)
@@ -295,7 +295,7 @@ written-back event white black date s ms g kept items score_is =
     subst
     (λ n. Found total true true (plies_text opening 0 ms ++ end_text n (Some s)) (texts_of opening ms) (word_for s))
     same ((plies-found total opening 0 ms s legal (omega (arith, few))).0 refl) in
-    let tokens : List Placed = found.0 in
+    let tokens : List PlacedToken = found.0 in
     let are : AreOf (texts_of opening ms) (word_for s) tokens = found.2 in
     let tags : List Tag =
     record { name = codes "Event"; value = event; named = refl; plain = kept.event_plain }
@@ -304,7 +304,7 @@ written-back event white black date s ms g kept items score_is =
     ∷ record { name = codes "Black"; value = black; named = refl; plain = kept.black_plain }
     ∷ record { name = codes "Result"; value = score_text s; named = refl; plain = plain-score s }
     ∷ record { name = codes "GameType"; value = codes "20"; named = refl; plain = plain-test (codes "20") refl } ∷ [] in
-    let all : List Placed = tags_at total tags (10 ∷ rest) tokens in
+    let all : List PlacedToken = tags_at total tags (10 ∷ rest) tokens in
     let lexed : Lexes total true true (lines tags (10 ∷ rest)) all None =
     tags-lexed total tags (10 ∷ rest) tokens (past-feed total true true rest tokens None found.1) in
     let parts : text ≡ lines tags (10 ∷ rest) = lines-append tags (10 ∷ []) rest in

@@ -5,7 +5,7 @@ use Rattle.squares.specs.declared.sides.Score.{Score}
 use Rattle.squares.specs.declared.draughts.moves.DMove.{DMove}
 use Rattle.pdn_games.specs.declared.faults.PdnFault.{PdnFault}
 use Rattle.pdn_games.specs.declared.faults.PdnFault.TheVariants as fault
-use Rattle.pdn_games.specs.Tokens.{Placed}
+use Rattle.pdn_games.specs.Tokens.{PlacedToken}
 use Rattle.pdn_games.specs.Reading.{agrees, settled, score_in, Plays, EndFails, Fails}
 
 checked-fault : (b : Bool) (claim : Score) (f : PdnFault)
@@ -19,7 +19,7 @@ settled-fault None rule tag f e = inl (let same : fault.Unfinished ≡ f = cc in
 settled-fault (Some claim) rule tag f e = inr (checked-fault (agrees claim rule && agrees claim tag) claim f e)
 
 -- moves of a game of the club, and an end with a fault
-pub end-fails : (tokens : List Placed) (ms : List DMove) (f : PdnFault) → Plays tokens ms → score_in tokens ms ≡ Err f
+pub end-fails : (tokens : List PlacedToken) (ms : List DMove) (f : PdnFault) → Plays tokens ms → score_in tokens ms ≡ Err f
     → Fails tokens f
 end-fails tokens ms f plays e =
     let fails : EndFails tokens f = record { moves = ms; plays = plays; score = e } in

@@ -8,7 +8,7 @@ use Rattle.pdn_games.specs.Results.{result_at}
 use Rattle.pdn_games.specs.Skips.{past_skipped}
 use Rattle.pdn_games.specs.Tags.{TagFront, tag_front}
 use Rattle.pdn_games.specs.Tokens.{TokenFront, tag_token, word_len, result_token, longest, token_front}
-use Rattle.pdn_games.specs.Tokens.{Front, ended, skipped, found, stuck, found_front, front_with, front_at, Placed}
+use Rattle.pdn_games.specs.Tokens.{LexStep, ended, skipped, found, stuck, found_front, front_with, front_at, PlacedToken}
 use Rattle.pdn_games.specs.Tokens.{Lexes, skips, takes}
 use Rattle.pdn_games.specs.Replaying.{HasItsForm, HaveForms}
 use Rattle.pdn_games.proofs.TokenFormLemmas.{move-of}
@@ -48,7 +48,7 @@ front-form (c ∷ rest) =
     (λ is. longest-form (c ∷ rest) (number_len (c ∷ rest)) (result_at (c ∷ rest)))
 
 -- the same of a front
-abbrev pub FormAt : Front → Type 0
+abbrev pub FormAt : LexStep → Type 0
 FormAt ended = Unit {0}
 FormAt (skipped rest) = Unit {0}
 FormAt (found token rest) = HasItsForm token
@@ -68,7 +68,7 @@ unfolding front_at
 at-form line free [] = tt
 at-form line free (c ∷ rest) = with-form free (c ∷ rest) (past_skipped line (c ∷ rest))
 
-pub have-forms : (total : ℕ) (line free : Bool) (text : List ℕ) (tokens : List Placed) (stop : Option ℕ)
+pub have-forms : (total : ℕ) (line free : Bool) (text : List ℕ) (tokens : List PlacedToken) (stop : Option ℕ)
     → Lexes total line free text tokens stop → HaveForms tokens
 have-forms total line free text tokens stop (skips l f t rest ts s is more) = have-forms total _ _ rest ts s more
 have-forms total line free text tokens stop (takes l f t rest token ts s is more) =

@@ -2,9 +2,9 @@
 use Rattle.std.proofs.Common.{◌≡◌, ℕ, List, [], ◌∷◌, ◌++◌, length, Some, None, true, false, Result, Ok, Err}
 use Rattle.std.proofs.Common.{refl, sym, ap, ◌∙◌}
 use Rattle.std.specs.Prelude.{is_ok, OnOk}
-use Rattle.game_lines.specs.declared.faults.LineFault.{LineFault}
-use Rattle.game_lines.specs.declared.faults.LineFault.TheVariants.{Memory as memory, AfterEnd, Illegal as illegal}
-use Rattle.game_lines.proofs.Proved.{IsFaultOfLast, fault-of-last}
+use Rattle.game_history.specs.declared.faults.LineFault.{LineFault}
+use Rattle.game_history.specs.declared.faults.LineFault.TheVariants.{Memory as memory, AfterEnd, Illegal as illegal}
+use Rattle.game_history.proofs.Proved.{IsFaultOfLast, fault-of-last}
 use Rattle.squares.specs.declared.draughts.moves.DMove.{DMove}
 use Rattle.squares.specs.DraughtsBoard.{Position}
 use Rattle.squares.specs.DraughtsOpening.{opening}

@@ -7,7 +7,7 @@ use Rattle.pdn.specs.Laws.{ReadsOneMove}
 use Rattle.pdn_games.specs.declared.faults.PdnFault.{PdnFault}
 use Rattle.pdn_games.specs.declared.faults.PdnFault.TheVariants as fault
 use Rattle.pdn_games.specs.declared.game.PdnGame.{PdnGame}
-use Rattle.pdn_games.specs.Tokens.{Placed, TextTokens}
+use Rattle.pdn_games.specs.Tokens.{PlacedToken, TextTokens}
 use Rattle.pdn_games.specs.Order.{bad_at}
 use Rattle.pdn_games.specs.Contents.{move_texts}
 use Rattle.pdn_games.specs.Reading.{score_in, AreTokens, IsGameOf, EndFails, Fails, IsTextOf, TextFails, IsRefused}
@@ -15,11 +15,11 @@ use Rattle.pdn_games.specs.ReadingLaws.{SameGame}
 use Rattle.pdn_games.proofs.OneTokenLemmas.{SameTokens, tokens-one}
 use Rattle.pdn_games.proofs.OneMoveLemmas.{mean-one, moves-unrefused}
 
-same-tokens : (text : List ℕ) (ts us : List Placed) (s r : Option ℕ) → TextTokens text ts s → TextTokens text us r
+same-tokens : (text : List ℕ) (ts us : List PlacedToken) (s r : Option ℕ) → TextTokens text ts s → TextTokens text us r
     → SameTokens ts us s r
 same-tokens text ts us s r a b = tokens-one (length text) true true text ts us s r a b
 
-games-one : ReadsOneMove → (tokens : List Placed) (g h : PdnGame) → IsGameOf tokens g → IsGameOf tokens h → SameGame g h
+games-one : ReadsOneMove → (tokens : List PlacedToken) (g h : PdnGame) → IsGameOf tokens g → IsGameOf tokens h → SameGame g h
 games-one one tokens g h a b =
     let moves : g.moves.items ≡ h.moves.items =
     mean-one one opening (move_texts tokens) g.moves.items h.moves.items a.plays.moves.mean b.plays.moves.mean in
@@ -33,7 +33,7 @@ texts-one one text g h (ts, are, is) (us, are_too, is_too) =
     games-one one ts g h is (subst (λ l. IsGameOf l h) same.0 is_too)
 
 -- tokens of a game fail for want of memory alone
-end-unrefused : ReadsOneMove → (tokens : List Placed) (g : PdnGame) (f : PdnFault) → IsGameOf tokens g
+end-unrefused : ReadsOneMove → (tokens : List PlacedToken) (g : PdnGame) (f : PdnFault) → IsGameOf tokens g
     → EndFails tokens f → ⊥
 end-unrefused one tokens g f is h =
     let moves : h.moves ≡ g.moves.items = mean-one one opening (move_texts tokens) h.moves g.moves.items
@@ -42,7 +42,7 @@ end-unrefused one tokens g f is h =
     ∙ is.score in
     cc
 
-game-unrefused : ReadsOneMove → (tokens : List Placed) (g : PdnGame) (f : PdnFault) → IsGameOf tokens g → Fails tokens f
+game-unrefused : ReadsOneMove → (tokens : List PlacedToken) (g : PdnGame) (f : PdnFault) → IsGameOf tokens g → Fails tokens f
     → f ≡ fault.Memory
 game-unrefused one tokens g fault.Memory is h = refl
 game-unrefused one tokens g (fault.BadText offset) is h = absurd h
@@ -60,7 +60,7 @@ fails-unrefused one text g f (ts, are, is) (us, are_too, h) =
     let same = same-tokens text us ts None None are_too.whole are.whole in
     game-unrefused one ts g f is (subst (λ l. Fails l f) same.0 h)
 
-form-unrefused : (text : List ℕ) (ts us : List Placed) (stop : Option ℕ) (offset : ℕ) → AreTokens text ts
+form-unrefused : (text : List ℕ) (ts us : List PlacedToken) (stop : Option ℕ) (offset : ℕ) → AreTokens text ts
     → TextTokens text us stop → bad_at us stop ≡ Some offset → ⊥
 form-unrefused text ts us stop offset are other bad =
     let same = same-tokens text us ts stop None other are.whole in

@@ -15,13 +15,13 @@ use Rattle.pdn.specs.Forms.{quiet, read_form, read_landings, read_up_to}
 use Rattle.pdn.specs.ReadMove.{StandsFor, IsRead}
 use Rattle.pdn.specs.MoveValue.{move_text}
 use Rattle.pdn.proofs.Proved.{read_form-text, reads-back, text-is}
-use Rattle.pdn_games.specs.declared.order.Part.TheVariants as part
+use Rattle.pdn_games.specs.declared.order.GameStage.TheVariants as part
 use Rattle.pdn_games.specs.declared.results.ResultWord.{ResultWord}
 use Rattle.pdn_games.specs.declared.results.ResultWord.TheVariants as word
 use Rattle.pdn_games.specs.Results.{word_text, result_at}
 use Rattle.pdn_games.specs.Lengths.{number_len, move_len, landings_len, landings_within}
 use Rattle.pdn_games.specs.Skips.{past_skipped}
-use Rattle.pdn_games.specs.Tokens.{number, move_by, result, token_front, found, front_at, Placed, Lexes, at_end, skips}
+use Rattle.pdn_games.specs.Tokens.{number, move_by, result, token_front, found, front_at, PlacedToken, Lexes, at_end, skips}
 use Rattle.pdn_games.specs.Tokens.{takes}
 use Rattle.pdn_games.specs.Order.{first_stray}
 use Rattle.pdn_games.specs.Contents.{first_tag, move_texts, result_in}
@@ -51,7 +51,7 @@ no-word p m word.OneOne legal (form, read, stands) =
 no-word p m _ legal (form, read, stands) = cc
 
 -- a line feed is skipped
-pub past-feed : (total : ℕ) (line free : Bool) (rest : List ℕ) (tokens : List Placed) (stop : Option ℕ)
+pub past-feed : (total : ℕ) (line free : Bool) (rest : List ℕ) (tokens : List PlacedToken) (stop : Option ℕ)
     → Lexes total true true rest tokens stop → Lexes total line free (10 ∷ rest) tokens stop
 unfolding front_at past_skipped
 past-feed total line free rest tokens stop h = skips line free (10 ∷ rest) rest tokens stop refl h
@@ -80,7 +80,7 @@ AllLegal p [] = Unit {0}
 AllLegal p (m ∷ ms) = Legal p m × AllLegal (play p m) ms
 
 -- tokens of moves with these texts, and of a result
-pub record AreOf (texts : List (List ℕ)) (w : ResultWord) (tokens : List Placed) : Type 0 where
+pub record AreOf (texts : List (List ℕ)) (w : ResultWord) (tokens : List PlacedToken) : Type 0 where
   pub first : first_stray part.Tags tokens ≡ None
   pub later : first_stray part.Moves tokens ≡ None
   pub moves : move_texts tokens ≡ texts
@@ -89,7 +89,7 @@ pub record AreOf (texts : List (List ℕ)) (w : ResultWord) (tokens : List Place
 
 -- tokens of the rest of a text
 abbrev pub Found : ℕ → Bool → Bool → List ℕ → List (List ℕ) → ResultWord → Type 0
-Found total line free text texts w = (tokens : List Placed) × Lexes total line free text tokens None
+Found total line free text texts w = (tokens : List PlacedToken) × Lexes total line free text tokens None
     × AreOf texts w tokens
 
 pub score-found : (total : ℕ) (line : Bool) (s : Score)

@@ -5,8 +5,8 @@ use Rattle.std.proofs.Math.Seq.{drop-cons}
 use Rattle.std.proofs.lemmas.List.{append_assoc, take_more, take-append-drop, map-append}
 use Rattle.squares.specs.declared.draughts.moves.DMove.{DMove}
 use Rattle.pdn_games.specs.declared.faults.PdnFault.{PdnFault}
-use Rattle.pdn_games.specs.declared.tokens.Placed as read
-use Rattle.pdn_games.specs.Tokens.{Token, move_by, Placed}
+use Rattle.pdn_games.specs.declared.tokens.PlacedToken as read
+use Rattle.pdn_games.specs.Tokens.{Token, move_by, PlacedToken}
 use Rattle.pdn_games.specs.TokenValues.{token_of, placed_of, all_placed}
 use Rattle.pdn_games.specs.Contents.{texts_in, move_texts}
 use Rattle.pdn_games.specs.Moves.{AreMoves, RefusesMoves}
@@ -16,7 +16,7 @@ texts_in-append : (t : Token) (xs : List (List ℕ)) → texts_in t xs ≡ texts
 texts_in-append (move_by text) xs = refl
 texts_in-append _ xs = refl
 
-move_texts-append : (xs ys : List Placed) → move_texts (xs ++ ys) ≡ move_texts xs ++ move_texts ys
+move_texts-append : (xs ys : List PlacedToken) → move_texts (xs ++ ys) ≡ move_texts xs ++ move_texts ys
 move_texts-append [] ys = refl
 move_texts-append (x ∷ xs) ys =
     ap (texts_in x.token) (move_texts-append xs ys) ∙ texts_in-append x.token (move_texts xs ++ move_texts ys)
@@ -24,16 +24,16 @@ move_texts-append (x ∷ xs) ys =
     ∙ ap (λ l. l ++ move_texts ys) (sym (texts_in-append x.token (move_texts xs)))
 
 -- the texts of tokens after others
-texts-after : (xs ys : List read.Placed)
+texts-after : (xs ys : List read.PlacedToken)
     → move_texts (all_placed (xs ++ ys)) ≡ move_texts (all_placed xs) ++ move_texts (all_placed ys)
 texts-after xs ys = ap move_texts (map-append placed_of xs ys) ∙ move_texts-append (all_placed xs) (all_placed ys)
 
 -- the texts round a token
-text-parts : (placed : List read.Placed) (k : ℕ) (d : read.Placed) → k < length placed →
+text-parts : (placed : List read.PlacedToken) (k : ℕ) (d : read.PlacedToken) → k < length placed →
     move_texts (all_placed placed) ≡ move_texts (all_placed (take k placed))
     ++ (texts_in (token_of (get_or placed k d).token) [] ++ move_texts (all_placed (drop (suc k) placed)))
 text-parts placed k d h =
-    let back : List read.Placed = drop (suc k) placed in
+    let back : List read.PlacedToken = drop (suc k) placed in
     ap (λ l. move_texts (all_placed l))
     (sym (take-append-drop k placed) ∙ ap (λ l. take k placed ++ l) (drop-cons placed k d h))
     ∙ texts-after (take k placed) (get_or placed k d ∷ back)
@@ -41,7 +41,7 @@ text-parts placed k d h =
     (texts_in-append (token_of (get_or placed k d).token) (move_texts (all_placed back)))
 
 -- one token more
-pub texts-there : (placed : List read.Placed) (k : ℕ) (d : read.Placed) → k < length placed
+pub texts-there : (placed : List read.PlacedToken) (k : ℕ) (d : read.PlacedToken) → k < length placed
     → move_texts (all_placed (take (k + 1) placed)) ≡ move_texts (all_placed (take k placed))
     ++ texts_in (token_of (get_or placed k d).token) []
 texts-there placed k d h =
@@ -49,7 +49,7 @@ texts-there placed k d h =
     ∙ texts-after (take k placed) (get_or placed k d ∷ [])
 
 -- what refuses a token after those before it refuses the text
-pub refuses-there : (placed : List read.Placed) (k : ℕ) (d : read.Placed) (ms : List DMove) (f : PdnFault)
+pub refuses-there : (placed : List read.PlacedToken) (k : ℕ) (d : read.PlacedToken) (ms : List DMove) (f : PdnFault)
     → k < length placed → AreMoves (move_texts (all_placed (take k placed))) ms
     → RefusesIn ms (token_of (get_or placed k d).token) f → RefusesMoves (move_texts (all_placed placed)) f
 refuses-there placed k d ms f h played (inl memory) = inl memory
@@ -66,7 +66,7 @@ refuses-there placed k d ms f h played (inr (refused, is, refuses)) =
     })
 
 -- a token among others that have their forms has its own
-pub form-there : (placed : List read.Placed) (k : ℕ) (d : read.Placed) → k < length placed
+pub form-there : (placed : List read.PlacedToken) (k : ℕ) (d : read.PlacedToken) → k < length placed
     → HaveForms (all_placed placed) → HasItsForm (token_of (get_or placed k d).token)
 form-there [] k d h forms = absurd (omega (arith, h))
 form-there (p ∷ placed) zero d h forms = forms.0

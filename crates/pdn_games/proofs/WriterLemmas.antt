@@ -15,7 +15,7 @@ use Rattle.squares.specs.DraughtsOpening.{opening}
 use Rattle.draughts_moves.specs.Legal.{Legal, play}
 use Rattle.draughts_draws.specs.Line.{last_position}
 use Rattle.draughts_draws.specs.Faults.{IsPlayed}
-use Rattle.game_lines.proofs.Proved.{last_position-append}
+use Rattle.game_history.proofs.Proved.{last_position-append}
 use Rattle.pdn.specs.MoveValue.{move_text}
 use Rattle.pdn_games.specs.declared.head.PdnHead.{PdnHead}
 use Rattle.pdn_games.specs.declared.game_writer.GameWriter.{GameWriter}

@@ -8,7 +8,7 @@ use Rattle.draughts_draws.specs.Line.{last_position}
 use Rattle.draughts_draws.specs.Ends.{end_of}
 use Rattle.draughts_draws.specs.Faults.{IsPlayed}
 use Rattle.pdn_games.specs.declared.game.PdnGame.{PdnGame}
-use Rattle.pdn_games.specs.Reading.{agrees, ruled, IsTextOf}
+use Rattle.pdn_games.specs.Reading.{agrees, score_by_rules, IsTextOf}
 use Rattle.pdn_games.specs.Writing.{game_text}
 
 -- a text without quotes and backslashes
@@ -22,7 +22,7 @@ pub record IsKept (event white black : List ℕ) (score : Score) (ms : List DMov
   pub white_plain : IsPlain white
   pub black_plain : IsPlain black
   pub played : IsPlayed opening ms (length ms)
-  pub agreed : agrees score (ruled (end_of opening ms) (last_position opening ms).turn) ≡ true
+  pub agreed : agrees score (score_by_rules (end_of opening ms) (last_position opening ms).turn) ≡ true
 
 -- the text of such a game is the text of its moves and its score
 abbrev pub WrittenIsRead : Type 0

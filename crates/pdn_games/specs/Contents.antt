@@ -6,7 +6,7 @@ use Rattle.std.specs.Str.{bytes_eq}
 use Rattle.squares.specs.DraughtsOpening.{opening}
 use Rattle.pdn.specs.ReadFen.{IsFen}
 use Rattle.pdn_games.specs.declared.results.ResultWord.{ResultWord}
-use Rattle.pdn_games.specs.Tokens.{Token, tag, number, move_by, result, Placed}
+use Rattle.pdn_games.specs.Tokens.{Token, tag, number, move_by, result, PlacedToken}
 
 abbrev pub value_in : List ℕ → Token → Option (List ℕ)
 value_in name (tag n v) = if bytes_eq n name then Some v else None
@@ -19,7 +19,7 @@ value_or (Some value) other = Some value
 value_or None other = other
 
 -- the value of the first tag of this name
-abbrev pub first_tag : List ℕ → List Placed → Option (List ℕ)
+abbrev pub first_tag : List ℕ → List PlacedToken → Option (List ℕ)
 first_tag name [] = None
 first_tag name (placed ∷ more) = value_or (value_in name placed.token) (first_tag name more)
 
@@ -30,7 +30,7 @@ texts_in (move_by text) more = text ∷ more
 texts_in (result w) more = more
 
 -- the texts of the moves
-abbrev pub move_texts : List Placed → List (List ℕ)
+abbrev pub move_texts : List PlacedToken → List (List ℕ)
 move_texts [] = []
 move_texts (placed ∷ more) = texts_in placed.token (move_texts more)
 
@@ -41,7 +41,7 @@ word_or (move_by text) more = more
 word_or (result w) more = Some w
 
 -- the first result, if any
-abbrev pub result_in : List Placed → Option ResultWord
+abbrev pub result_in : List PlacedToken → Option ResultWord
 result_in [] = None
 result_in (placed ∷ more) = word_or placed.token (result_in more)
 
@@ -50,7 +50,7 @@ abbrev pub is_other : Option (List ℕ) → Bool
 is_other None = false
 is_other (Some kind) = not (bytes_eq kind (codes "20") || starts_with nat_eq kind (codes "20,"))
 
-abbrev pub is_other_type : List Placed → Bool
+abbrev pub is_other_type : List PlacedToken → Bool
 is_other_type tokens = is_other (first_tag (codes "GameType") tokens)
 
 -- the FEN tag, if any, denotes the initial position
@@ -58,5 +58,5 @@ abbrev pub BeginsEven : Option (List ℕ) → Type 0
 BeginsEven None = Unit {0}
 BeginsEven (Some text) = IsFen text opening
 
-abbrev pub HasOpening : List Placed → Type 0
+abbrev pub HasOpening : List PlacedToken → Type 0
 HasOpening tokens = BeginsEven (first_tag (codes "FEN") tokens)

@@ -14,20 +14,20 @@ use Rattle.pdn_games.specs.declared.faults.PdnFault.TheVariants as fault
 use Rattle.pdn_games.specs.declared.game.PdnGame.{PdnGame}
 use Rattle.pdn_games.specs.declared.results.ResultWord.{ResultWord}
 use Rattle.pdn_games.specs.Results.{score_of, result_word}
-use Rattle.pdn_games.specs.Tokens.{Placed, TextTokens}
+use Rattle.pdn_games.specs.Tokens.{PlacedToken, TextTokens}
 use Rattle.pdn_games.specs.Order.{bad_at}
 use Rattle.pdn_games.specs.Contents.{first_tag, move_texts, result_in, is_other_type, HasOpening}
 use Rattle.pdn_games.specs.Moves.{AreMoves, RefusesMove}
 
 -- the score of a result, if any
-abbrev pub said : Option ResultWord → Option Score
-said None = None
-said (Some w) = score_of w
+abbrev pub score_of_result : Option ResultWord → Option Score
+score_of_result None = None
+score_of_result (Some w) = score_of w
 
 -- the score of a `Result` tag: none, unless it is the result of a finished game
-abbrev pub told : Option (List ℕ) → Option Score
-told None = None
-told (Some value) = said (result_word value)
+abbrev pub tag_score : Option (List ℕ) → Option Score
+tag_score None = None
+tag_score (Some value) = score_of_result (result_word value)
 
 -- a score agrees with another one that is unknown or equal
 abbrev pub agrees : Score → Option Score → Bool
@@ -35,9 +35,9 @@ agrees claim None = true
 agrees claim (Some other) = same_score claim other
 
 -- the score by the rules if they ended the game; `turn` is the side to move
-abbrev pub ruled : Option DEnd → Side → Option Score
-ruled None turn = None
-ruled (Some end) turn = Some (outcome_of end turn)
+abbrev pub score_by_rules : Option DEnd → Side → Option Score
+score_by_rules None turn = None
+score_by_rules (Some end) turn = Some (outcome_of end turn)
 
 -- The score of a text's result, which must agree with the rules, if they ended the game, and with the text's own
 -- `Result` tag, if that states a score.
@@ -46,43 +46,43 @@ settled None by_rule by_tag = Err fault.Unfinished
 settled (Some claim) by_rule by_tag = if agrees claim by_rule && agrees claim by_tag then Ok claim else Err
     fault.ResultDiffers
 
-abbrev pub score_in : List Placed → List DMove → Result Score PdnFault
-score_in tokens ms = settled (said (result_in tokens)) (ruled (end_of opening ms) (last_position opening ms).turn)
-    (told (first_tag (codes "Result") tokens))
+abbrev pub score_in : List PlacedToken → List DMove → Result Score PdnFault
+score_in tokens ms = settled (score_of_result (result_in tokens)) (score_by_rules (end_of opening ms) (last_position opening ms).turn)
+    (tag_score (first_tag (codes "Result") tokens))
 
 -- the tokens of a well-formed text
-pub record AreTokens (text : List ℕ) (tokens : List Placed) : Type 0 where
+pub record AreTokens (text : List ℕ) (tokens : List PlacedToken) : Type 0 where
   pub whole : TextTokens text tokens None
   pub form : bad_at tokens None ≡ None
 
 -- international draughts from the initial position
-pub record IsOfClub (tokens : List Placed) : Type 0 where
+pub record IsOfClub (tokens : List PlacedToken) : Type 0 where
   pub kind : is_other_type tokens ≡ false
   pub opening : HasOpening tokens
 
 -- the tokens of a game of the club with these moves
-pub record Plays (tokens : List Placed) (ms : List DMove) : Type 0 where
+pub record Plays (tokens : List PlacedToken) (ms : List DMove) : Type 0 where
   pub of_club : IsOfClub tokens
   pub moves : AreMoves (move_texts tokens) ms
 
 -- the tokens of the game
-pub record IsGameOf (tokens : List Placed) (game : PdnGame) : Type 0 where
+pub record IsGameOf (tokens : List PlacedToken) (game : PdnGame) : Type 0 where
   pub plays : Plays tokens game.moves.items
   pub score : score_in tokens game.moves.items ≡ Ok game.score
 
 -- all moves are legal, and the result has the fault
-pub record EndFails (tokens : List Placed) (f : PdnFault) : Type 0 where
+pub record EndFails (tokens : List PlacedToken) (f : PdnFault) : Type 0 where
   pub moves : List DMove
   pub plays : Plays tokens moves
   pub score : score_in tokens moves ≡ Err f
 
 -- a move of a game of the club has the fault
-pub record MoveFails (tokens : List Placed) (f : PdnFault) : Type 0 where
+pub record MoveFails (tokens : List PlacedToken) (f : PdnFault) : Type 0 where
   pub of_club : IsOfClub tokens
   pub refused : RefusesMove (move_texts tokens) f
 
 -- The faults of a well-formed text: another kind of draughts, another initial position, a move, or the result.
-abbrev pub Fails : List Placed → PdnFault → Type 0
+abbrev pub Fails : List PlacedToken → PdnFault → Type 0
 Fails tokens fault.Memory = Unit {0}
 Fails tokens (fault.BadText offset) = ⊥
 Fails tokens (fault.Ambiguous ply) = MoveFails tokens (fault.Ambiguous ply)
@@ -95,16 +95,16 @@ Fails tokens fault.ResultDiffers = EndFails tokens fault.ResultDiffers
 
 -- the text is the text of the game
 abbrev pub IsTextOf : List ℕ → PdnGame → Type 0
-IsTextOf text game = (tokens : List Placed) × AreTokens text tokens × IsGameOf tokens game
+IsTextOf text game = (tokens : List PlacedToken) × AreTokens text tokens × IsGameOf tokens game
 
 -- a well-formed text whose tokens have the fault
 abbrev pub TextFails : List ℕ → PdnFault → Type 0
-TextFails text f = (tokens : List Placed) × AreTokens text tokens × Fails tokens f
+TextFails text f = (tokens : List PlacedToken) × AreTokens text tokens × Fails tokens f
 
 -- the faults of a text: a syntax error, or a fault of its tokens
 abbrev pub IsRefused : List ℕ → PdnFault → Type 0
 IsRefused text fault.Memory = Unit {0}
-IsRefused text (fault.BadText offset) = (tokens : List Placed) × (stop : Option ℕ) × TextTokens text tokens stop
+IsRefused text (fault.BadText offset) = (tokens : List PlacedToken) × (stop : Option ℕ) × TextTokens text tokens stop
     × (bad_at tokens stop ≡ Some offset)
 IsRefused text (fault.Ambiguous ply) = TextFails text (fault.Ambiguous ply)
 IsRefused text (fault.Illegal ply cause) = TextFails text (fault.Illegal ply cause)

@@ -4,8 +4,8 @@ use Rattle.squares.specs.declared.draughts.moves.DMove.{DMove}
 use Rattle.squares.specs.DraughtsOpening.{opening}
 use Rattle.draughts_draws.specs.Line.{last_position}
 use Rattle.draughts_draws.specs.Counting.{Follows}
-use Rattle.game_lines.specs.declared.faults.LineFault.{LineFault}
-use Rattle.game_lines.specs.declared.faults.LineFault.TheVariants as line_fault
+use Rattle.game_history.specs.declared.faults.LineFault.{LineFault}
+use Rattle.game_history.specs.declared.faults.LineFault.TheVariants as line_fault
 use Rattle.draughts_moves.specs.declared.checking.Illegal.{Illegal}
 use Rattle.pdn.specs.Forms.{Form}
 use Rattle.pdn.specs.Grammar.{HasForm}
@@ -14,8 +14,8 @@ use Rattle.pdn.specs.declared.faults.MoveFault.{MoveFault}
 use Rattle.pdn.specs.declared.faults.MoveFault.TheVariants as move_fault
 use Rattle.pdn_games.specs.declared.faults.PdnFault.{PdnFault}
 use Rattle.pdn_games.specs.declared.faults.PdnFault.TheVariants as fault
-use Rattle.pdn_games.specs.declared.replay.Replay.{Replay}
-use Rattle.pdn_games.specs.Tokens.{Token, tag, number, move_by, result, Placed}
+use Rattle.pdn_games.specs.declared.replay.PdnReplay.{PdnReplay}
+use Rattle.pdn_games.specs.Tokens.{Token, tag, number, move_by, result, PlacedToken}
 use Rattle.pdn_games.specs.Contents.{texts_in}
 use Rattle.pdn_games.specs.Moves.{MeanAll, RefusesNext}
 
@@ -30,12 +30,12 @@ HasItsForm number = Unit {0}
 HasItsForm (move_by text) = IsMoveForm text
 HasItsForm (result w) = Unit {0}
 
-abbrev pub HaveForms : List Placed → Type 0
+abbrev pub HaveForms : List PlacedToken → Type 0
 HaveForms [] = Unit {0}
 HaveForms (placed ∷ more) = HasItsForm placed.token × HaveForms more
 
 -- The position and the repetition counts of a replay are those of its moves.
-pub record IsConsistent (replay : Replay) : Type 0 where
+pub record IsConsistent (replay : PdnReplay) : Type 0 where
   pub follows : Follows opening replay.moves.items replay.counts
   pub position : replay.position ≡ last_position opening replay.moves.items
 

@@ -43,5 +43,5 @@ pub data IsSkipped (line : Bool) (text rest : List ℕ) : Type 0 where
       → text ≡ c ∷ run ++ rest → IsSkipped line text rest
 
 -- The lexer skips exactly these parts.
-abbrev pub SkipsAreSuch : Type 0
-SkipsAreSuch = (line : Bool) (text rest : List ℕ) → (past_skipped line text ≡ Some rest) ↔ IsSkipped line text rest
+abbrev pub SkipsFollowGrammar : Type 0
+SkipsFollowGrammar = (line : Bool) (text rest : List ℕ) → (past_skipped line text ≡ Some rest) ↔ IsSkipped line text rest

@@ -24,6 +24,6 @@ pub record IsTag (text name value rest : List ℕ) : Type 0 where
   pub text_is : text ≡ first ++ (name ++ (second ++ (34 ∷ value ++ (34 ∷ third ++ 93 ∷ rest))))
 
 -- The parser reads exactly these tags.
-abbrev pub TagsAreSuch : Type 0
-TagsAreSuch = (text name value rest : List ℕ)
+abbrev pub TagsFollowGrammar : Type 0
+TagsFollowGrammar = (text name value rest : List ℕ)
     → (tag_front text ≡ Some (record { name = name; value = value; rest = rest })) ↔ IsTag text name value rest

@@ -48,22 +48,22 @@ token_front (c ∷ rest) =
     (result_at (c ∷ rest))
 
 -- The front of a text: its end, a skipped part, a token, or a syntax error; with the rest of the text.
-pub data Front : Type 0 where
-  ended : Front
-  skipped : List ℕ → Front
-  found : Token → List ℕ → Front
-  stuck : Front
+pub data LexStep : Type 0 where
+  ended : LexStep
+  skipped : List ℕ → LexStep
+  found : Token → List ℕ → LexStep
+  stuck : LexStep
 
-abbrev pub found_front : Option TokenFront → Front
+abbrev pub found_front : Option TokenFront → LexStep
 found_front None = stuck
 found_front (Some t) = found t.token t.rest
 
-abbrev pub front_with : Bool → List ℕ → Option (List ℕ) → Front
+abbrev pub front_with : Bool → List ℕ → Option (List ℕ) → LexStep
 front_with free text (Some rest) = skipped rest
 front_with free text None = if free then found_front (token_front text) else stuck
 
 -- The front of a text. `begins_line`: it is at the start of a line; `free`: a token is allowed here.
-unfoldable pub front_at : Bool → Bool → List ℕ → Front
+unfoldable pub front_at : Bool → Bool → List ℕ → LexStep
 front_at begins_line free [] = ended
 front_at begins_line free (c ∷ rest) = front_with free (c ∷ rest) (past_skipped begins_line (c ∷ rest))
 
@@ -80,22 +80,22 @@ lets_follow (move_by text) = false
 lets_follow (result w) = false
 
 -- a token, and its offset in the whole text
-pub record Placed : Type 0 where
+pub record PlacedToken : Type 0 where
   pub at : ℕ
   pub token : Token
 
 -- The tokens of the rest of a text of `total` bytes, and the offset of the first syntax error, if any.
-pub data Lexes (total : ℕ) : Bool → Bool → List ℕ → List Placed → Option ℕ → Type 0 where
+pub data Lexes (total : ℕ) : Bool → Bool → List ℕ → List PlacedToken → Option ℕ → Type 0 where
   at_end : (line free : Bool) (text : List ℕ) → front_at line free text ≡ ended → Lexes total line free text [] None
   stops : (line free : Bool) (text : List ℕ) → front_at line free text ≡ stuck
       → Lexes total line free text [] (Some (total - length text))
-  skips : (line free : Bool) (text rest : List ℕ) (tokens : List Placed) (stop : Option ℕ)
+  skips : (line free : Bool) (text rest : List ℕ) (tokens : List PlacedToken) (stop : Option ℕ)
       → front_at line free text ≡ skipped rest → Lexes total (begins_feed text) true rest tokens stop
       → Lexes total line free text tokens stop
-  takes : (line free : Bool) (text rest : List ℕ) (token : Token) (tokens : List Placed) (stop : Option ℕ)
+  takes : (line free : Bool) (text rest : List ℕ) (token : Token) (tokens : List PlacedToken) (stop : Option ℕ)
       → front_at line free text ≡ found token rest → Lexes total false (lets_follow token) rest tokens stop
       → Lexes total line free text (record { at = total - length text; token = token } ∷ tokens) stop
 
 -- the tokens of a whole text, and the offset of the first syntax error, if any
-abbrev pub TextTokens : List ℕ → List Placed → Option ℕ → Type 0
+abbrev pub TextTokens : List ℕ → List PlacedToken → Option ℕ → Type 0
 TextTokens text tokens stop = Lexes (length text) true true text tokens stop

@@ -4,7 +4,7 @@ ghost use Rattle.pdn_games.specs.Contents.{value_in, first_tag, word_or, result_
 ghost use Rattle.pdn_games.specs.TokenValues.{token_of, all_placed};
 
 use crate::results::ResultWord;
-use crate::tokens::{Placed, Token};
+use crate::tokens::{PlacedToken, Token};
 
 // The value of a token, if it is a tag of this name.
 fn value_in<'a>(name: &str, token: Token<'a>) -> Option<&'a [u8]>
@@ -24,7 +24,7 @@ fn value_in<'a>(name: &str, token: Token<'a>) -> Option<&'a [u8]>
 }
 
 /// The value of the first tag of this name.
-pub fn first_tag<'a>(name: &str, placed: &[Placed<'a>]) -> Option<&'a [u8]>
+pub fn first_tag<'a>(name: &str, placed: &[PlacedToken<'a>]) -> Option<&'a [u8]>
     ensures { MatchOption result
         (first_tag name.now (all_placed placed.now) ≡ None)
         (λ value. first_tag name.now (all_placed placed.now) ≡ Some value.now) }
@@ -49,7 +49,7 @@ fn word_in(token: Token<'_>) -> Option<ResultWord>
 }
 
 /// The first result among the tokens.
-pub fn result_in(placed: &[Placed<'_>]) -> Option<ResultWord>
+pub fn result_in(placed: &[PlacedToken<'_>]) -> Option<ResultWord>
     ensures { result ≡ result_in (all_placed placed.now) }
 {
     for i in 0..placed.len() {
@@ -72,7 +72,7 @@ fn is_other(kind: &[u8]) -> bool
 }
 
 /// Whether the `GameType` tag names a kind of draughts other than the international one. Without the tag, it does not.
-pub fn is_other_type(placed: &[Placed<'_>]) -> bool
+pub fn is_other_type(placed: &[PlacedToken<'_>]) -> bool
     ensures { result ≡ is_other_type (all_placed placed.now) }
 {
     match first_tag("GameType", placed) {

@@ -1,7 +1,7 @@
 //! The score of a game by its text and by the rules.
 ghost use Rattle.std.specs.Prelude.{◌≡◌};
 ghost use Rattle.pdn_games.specs.Results as results;
-ghost use Rattle.pdn_games.specs.Reading.{said, agrees, ruled, settled};
+ghost use Rattle.pdn_games.specs.Reading.{score_of_result, agrees, score_by_rules, settled};
 
 use crate::faults::PdnFault;
 use crate::results::{ResultWord, result_word};
@@ -9,8 +9,8 @@ use draughts_draws::DEnd;
 use squares::{Score, Side};
 
 /// The score of a result, if there is one and it is not `*`.
-pub fn said(word: Option<ResultWord>) -> Option<Score>
-    ensures { result ≡ said word }
+pub fn score_of_result(word: Option<ResultWord>) -> Option<Score>
+    ensures { result ≡ score_of_result word }
 {
     match word {
         None => None,
@@ -19,10 +19,10 @@ pub fn said(word: Option<ResultWord>) -> Option<Score>
 }
 
 /// The score that the value of a `Result` tag states.
-pub fn score_told(value: &[u8]) -> Option<Score>
-    ensures { result ≡ said (results.result_word value.now) }
+pub fn parse_score(value: &[u8]) -> Option<Score>
+    ensures { result ≡ score_of_result (results.result_word value.now) }
 {
-    said(result_word(value))
+    score_of_result(result_word(value))
 }
 
 // Whether a score equals another one, if that is known.
@@ -36,8 +36,8 @@ fn agrees(score: Score, other: Option<Score>) -> bool
 }
 
 /// The score by the rules if they ended the game; `turn` is the side to move after the last move.
-pub fn ruled(end: Option<DEnd>, turn: Side) -> Option<Score>
-    ensures { result ≡ ruled end turn }
+pub fn score_by_rules(end: Option<DEnd>, turn: Side) -> Option<Score>
+    ensures { result ≡ score_by_rules end turn }
 {
     match end {
         None => None,

@@ -2,8 +2,8 @@
 ghost use Rattle.pdn_games.specs.BackLaws.{WrittenIsRead};
 ghost use Rattle.pdn_games.specs.Longest.{MovesAreLongest};
 ghost use Rattle.pdn_games.specs.ReadingLaws.{TextsAreOfOne, TextsOfGamesAreRead};
-ghost use Rattle.pdn_games.specs.SkipGrammar.{SkipsAreSuch};
-ghost use Rattle.pdn_games.specs.TagGrammar.{TagsAreSuch};
+ghost use Rattle.pdn_games.specs.SkipGrammar.{SkipsFollowGrammar};
+ghost use Rattle.pdn_games.specs.TagGrammar.{TagsFollowGrammar};
 ghost use Rattle.pdn_games.specs.Writer.{TagsBeginGames, MovesBeginGames};
 
 use pdn::laws::reads_one_move;
@@ -28,13 +28,13 @@ pub fn moves_are_longest()
 
 /// The lexer skips exactly what the grammar allows between tokens: blanks, comments, annotation glyphs, variations,
 /// marks and comment lines.
-pub fn skips_are_such()
-    ensures { SkipsAreSuch }
+pub fn skips_follow_grammar()
+    ensures { SkipsFollowGrammar }
 {}
 
 /// The lexer reads a tag exactly if the grammar does, part by part.
-pub fn tags_are_such()
-    ensures { TagsAreSuch }
+pub fn tags_follow_grammar()
+    ensures { TagsFollowGrammar }
 {}
 
 /// Incremental writing yields a prefix of the game's whole text, wherever it stops.

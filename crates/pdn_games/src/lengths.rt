@@ -5,7 +5,7 @@ ghost use Rattle.pdn_games.specs.Lengths.{both, either, with_second, plain_len, 
 ghost use Rattle.pdn_games.specs.Lengths.{landings_len, tail_len, move_len, is_dot, digits_len, dots_len, number_len};
 
 /// The text without its first `bytes` bytes.
-pub fn after(text: &[u8], bytes: usize) -> &[u8]
+pub fn skip_bytes(text: &[u8], bytes: usize) -> &[u8]
     requires { bytes ≤ length text.now }
     ensures { result.now ≡ drop bytes text.now }
 {
@@ -107,7 +107,7 @@ fn landings_len(text: &[u8]) -> usize
 {
     let mut passed = 0;
     for _ in 0..text.len() {
-        let more = landing_len(after(text, passed));
+        let more = landing_len(skip_bytes(text, passed));
         if more == 0 {
             return passed;
         }
@@ -131,7 +131,7 @@ pub fn move_len(text: &[u8]) -> usize
     ensures within { result ≤ length text.now }
 {
     let first = square_len(text);
-    both(first, tail_len(after(text, first)))
+    both(first, tail_len(skip_bytes(text, first)))
 }
 
 fn is_dot(byte: u8) -> bool
@@ -162,5 +162,5 @@ pub fn number_len(text: &[u8]) -> usize
     ensures within { result ≤ length text.now }
 {
     let digits = digits_len(text);
-    both(digits, dots_len(after(text, digits)))
+    both(digits, dots_len(skip_bytes(text, digits)))
 }

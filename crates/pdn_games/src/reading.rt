@@ -5,17 +5,17 @@ ghost use Rattle.squares.specs.DraughtsSamePosition.{same_position};
 ghost use Rattle.pdn.specs.ReadFen.{IsFen};
 ghost use Rattle.pdn_games.specs.Contents.{first_tag, is_other_type, move_texts, HasOpening};
 ghost use Rattle.pdn_games.specs.Moves.{MeanAll};
-ghost use Rattle.pdn_games.specs.Reading.{told, IsOfClub, IsGameOf, Fails, IsTextOf, IsRefused};
+ghost use Rattle.pdn_games.specs.Reading.{tag_score, IsOfClub, IsGameOf, Fails, IsTextOf, IsRefused};
 ghost use Rattle.pdn_games.specs.Replaying.{HaveForms, IsConsistent};
 ghost use Rattle.pdn_games.specs.TokenValues.{all_placed};
 
 use crate::contents::{first_tag, is_other_type, result_in};
-use crate::ending::{ruled, said, score_told, settle};
+use crate::ending::{parse_score, score_by_rules, score_of_result, settle};
 use crate::faults::PdnFault;
 use crate::game::PdnGame;
 use crate::order::bad_at;
-use crate::replay::{Replay, replay_of};
-use crate::tokens::{Placed, tokens_of};
+use crate::replay::{PdnReplay, replay_of};
+use crate::tokens::{PlacedToken, tokens_of};
 use draughts_moves::Memory;
 use pdn::laws::{fen_forms_are_texts, reads_one_position};
 use pdn::{FenFault, read_fen};
@@ -23,12 +23,12 @@ use squares::{DPos, Score};
 use std::alloc::Global;
 
 // The score that the text's own `Result` tag states.
-fn told(placed: &[Placed<'_>]) -> Option<Score>
-    ensures { result ≡ told (first_tag (codes "Result") (all_placed placed.now)) }
+fn tag_score(placed: &[PlacedToken<'_>]) -> Option<Score>
+    ensures { result ≡ tag_score (first_tag (codes "Result") (all_placed placed.now)) }
 {
     match first_tag("Result", placed) {
         None => None,
-        Some(value) => score_told(value),
+        Some(value) => parse_score(value),
     }
 }
 
@@ -62,7 +62,7 @@ fn is_opening_text(alloc: Global, text: &[u8]) -> Result<bool, Memory>
 }
 
 // Whether the game begins from the initial position: without a `FEN` tag, or with that of the initial position.
-fn has_opening(alloc: Global, placed: &[Placed<'_>]) -> Result<bool, Memory>
+fn has_opening(alloc: Global, placed: &[PlacedToken<'_>]) -> Result<bool, Memory>
     ensures { IfOk result (λ even. IsTrue even ↔ HasOpening (all_placed placed.now)) }
 {
     match first_tag("FEN", placed) {
@@ -72,7 +72,7 @@ fn has_opening(alloc: Global, placed: &[Placed<'_>]) -> Result<bool, Memory>
 }
 
 // Checks that the game is international draughts from the initial position.
-fn check_kind(alloc: Global, placed: &[Placed<'_>]) -> Result<(), PdnFault>
+fn check_kind(alloc: Global, placed: &[PlacedToken<'_>]) -> Result<(), PdnFault>
     ensures of_club { OnOk result (IsOfClub (all_placed placed.now)) }
     ensures fault { IfErr result (Fails (all_placed placed.now)) }
 {
@@ -86,16 +86,16 @@ fn check_kind(alloc: Global, placed: &[Placed<'_>]) -> Result<(), PdnFault>
 }
 
 // The game of a text whose moves are replayed, if its result agrees.
-fn game_of(placed: &[Placed<'_>], replay: Replay) -> Result<PdnGame, PdnFault>
+fn game_of(placed: &[PlacedToken<'_>], replay: PdnReplay) -> Result<PdnGame, PdnFault>
     requires stands { IsConsistent replay }
     requires of_club { IsOfClub (all_placed placed.now) }
     requires mean { MeanAll opening (move_texts (all_placed placed.now)) replay.moves.items }
     ensures game { IfOk result (IsGameOf (all_placed placed.now)) }
     ensures fault { IfErr result (Fails (all_placed placed.now)) }
 {
-    let claim = said(result_in(placed));
-    let by_rule = ruled(replay.counts.end(), replay.position.turn());
-    match settle(claim, by_rule, told(placed)) {
+    let claim = score_of_result(result_in(placed));
+    let by_rule = score_by_rules(replay.counts.end(), replay.position.turn());
+    match settle(claim, by_rule, tag_score(placed)) {
         Err(fault) => Err(fault),
         Ok(score) => Ok(PdnGame {
             moves: replay.moves,
@@ -105,7 +105,7 @@ fn game_of(placed: &[Placed<'_>], replay: Replay) -> Result<PdnGame, PdnFault>
 }
 
 // Reads the game of well-formed tokens.
-fn read_tokens(alloc: Global, placed: &[Placed<'_>]) -> Result<PdnGame, PdnFault>
+fn read_tokens(alloc: Global, placed: &[PlacedToken<'_>]) -> Result<PdnGame, PdnFault>
     requires { HaveForms (all_placed placed.now) }
     ensures game { IfOk result (IsGameOf (all_placed placed.now)) }
     ensures fault { IfErr result (Fails (all_placed placed.now)) }

@@ -12,7 +12,7 @@ ghost use Rattle.pdn_games.specs.Replaying.{RefusesIn, at_ply, fault_of};
 ghost use Rattle.pdn_games.specs.TokenValues.{token_of, all_placed};
 
 use crate::faults::PdnFault;
-use crate::tokens::{Placed, Token};
+use crate::tokens::{PlacedToken, Token};
 use draughts_draws::{DLineFault, DrawCounts};
 use draughts_moves::laws::check_is;
 use draughts_moves::play;
@@ -23,14 +23,14 @@ use std::alloc::Global;
 
 /// The moves of a text so far, played from the initial position.
 #[derive(Drop)]
-pub struct Replay {
+pub struct PdnReplay {
     pub position: DPos,
     pub counts: DrawCounts,
     pub moves: Vec<DMove>,
 }
 
 // A replay without moves.
-fn beginning(alloc: Global) -> Result<Replay, PdnFault>
+fn beginning(alloc: Global) -> Result<PdnReplay, PdnFault>
     ensures stands { IfOk result IsConsistent }
     ensures bare { IfOk result (λ replay. replay.moves.items ≡ []) }
     ensures fault { IfErr result (λ fault. fault ≡ PdnFault.Memory) }
@@ -38,7 +38,7 @@ fn beginning(alloc: Global) -> Result<Replay, PdnFault>
     let position = DPos::opening();
     match DrawCounts::start(alloc, &position) {
         Err(_) => Err(PdnFault::Memory),
-        Ok(counts) => Ok(Replay {
+        Ok(counts) => Ok(PdnReplay {
             position,
             counts,
             moves: Vec::new(alloc),
@@ -82,7 +82,7 @@ fn read_text(alloc: Global, position: &DPos, text: &[u8]) -> Result<DMove, MoveF
 }
 
 // Plays a legal move of a game that has not ended.
-fn push_move(replay: &mut Replay, played: DMove) -> Result<(), PdnFault>
+fn push_move(replay: &mut PdnReplay, played: DMove) -> Result<(), PdnFault>
     requires stands { IsConsistent replay.old }
     requires unended { end_of opening replay.old.moves.items ≡ None }
     requires legal { Legal replay.old.position played }
@@ -102,7 +102,7 @@ fn push_move(replay: &mut Replay, played: DMove) -> Result<(), PdnFault>
 }
 
 // Reads and plays one move. It fails if the game has ended, or if the text denotes no legal move.
-fn push(alloc: Global, replay: &mut Replay, text: &[u8]) -> Result<(), PdnFault>
+fn push(alloc: Global, replay: &mut PdnReplay, text: &[u8]) -> Result<(), PdnFault>
     requires stands { IsConsistent replay.old }
     requires form { IsMoveForm text.now }
     ensures stands { OnOk result (IsConsistent replay.new) }
@@ -122,7 +122,7 @@ fn push(alloc: Global, replay: &mut Replay, text: &[u8]) -> Result<(), PdnFault>
 }
 
 // Plays the move of a token, if it is one.
-fn push_token(alloc: Global, replay: &mut Replay, token: Token<'_>) -> Result<(), PdnFault>
+fn push_token(alloc: Global, replay: &mut PdnReplay, token: Token<'_>) -> Result<(), PdnFault>
     requires stands { IsConsistent replay.old }
     requires form { HasItsForm (token_of token) }
     ensures stands { OnOk result (IsConsistent replay.new) }
@@ -141,7 +141,7 @@ fn push_token(alloc: Global, replay: &mut Replay, token: Token<'_>) -> Result<()
 /// # Errors
 ///
 /// The fault of the first move that is refused; `PdnFault::Memory` if out of memory.
-pub fn replay_of(alloc: Global, placed: &[Placed<'_>]) -> Result<Replay, PdnFault>
+pub fn replay_of(alloc: Global, placed: &[PlacedToken<'_>]) -> Result<PdnReplay, PdnFault>
     requires { HaveForms (all_placed placed.now) }
     ensures stands { IfOk result IsConsistent }
     ensures mean { IfOk result

@@ -4,7 +4,7 @@ ghost use Rattle.std.specs.List.{prefix_len};
 ghost use Rattle.pdn_games.specs.Skips.{is_blank, is_mark, is_in_line, past_first, step, past_brackets, past_digits};
 ghost use Rattle.pdn_games.specs.Skips.{past_marks, past_line, past_skipped};
 
-use crate::lengths::{after, digits_len};
+use crate::lengths::{digits_len, skip_bytes};
 
 fn is_blank(byte: u8) -> bool
     ensures { result ≡ is_blank byte }
@@ -32,7 +32,7 @@ fn past_first(byte: u8, text: &[u8]) -> Option<&[u8]>
 {
     for i in 0..text.len() {
         if text[i] == byte {
-            return Some(after(text, i + 1));
+            return Some(skip_bytes(text, i + 1));
         }
     }
     None
@@ -92,7 +92,7 @@ fn past_brackets(text: &[u8]) -> Option<&[u8]>
     };
     for i in 0..text.len() {
         match step(nesting, text[i]) {
-            None => return Some(after(text, i + 1)),
+            None => return Some(skip_bytes(text, i + 1)),
             Some(next) => nesting = next,
         }
     }
@@ -109,7 +109,7 @@ fn past_digits(text: &[u8]) -> Option<&[u8]>
     if digits == 0 {
         return None;
     }
-    Some(after(text, digits))
+    Some(skip_bytes(text, digits))
 }
 
 fn marks_len(text: &[u8]) -> usize
@@ -130,7 +130,7 @@ fn past_marks(text: &[u8]) -> &[u8]
     ensures past { result.now ≡ past_marks text.now }
     ensures shorter { length result.now ≤ length text.now }
 {
-    after(text, marks_len(text))
+    skip_bytes(text, marks_len(text))
 }
 
 // The rest of the text from the line's end on.
@@ -138,7 +138,7 @@ fn past_line(text: &[u8]) -> &[u8]
     ensures past { result.now ≡ past_line text.now }
     ensures shorter { length result.now ≤ length text.now }
 {
-    after(text, line_len(text))
+    skip_bytes(text, line_len(text))
 }
 
 /// The rest of the text after one skipped part at its front, if there is one; `begins_line` says whether the text is at

@@ -5,7 +5,7 @@ ghost use Rattle.pdn.specs.FenItems.{past_byte};
 ghost use Rattle.pdn_games.specs.Tags.{is_name_byte, is_space, past_spaces, name_front, quote_step, quote_at};
 ghost use Rattle.pdn_games.specs.Tags.{value_front, with_name, tag_front};
 
-use crate::lengths::{after, is_digit};
+use crate::lengths::{is_digit, skip_bytes};
 
 fn is_name_byte(byte: u8) -> bool
     ensures { result ≡ is_name_byte byte }
@@ -39,7 +39,7 @@ fn past_spaces(text: &[u8]) -> &[u8]
     ensures past { result.now ≡ past_spaces text.now }
     ensures shorter { length result.now ≤ length text.now }
 {
-    after(text, spaces_len(text))
+    skip_bytes(text, spaces_len(text))
 }
 
 // The rest of the text after a byte, if the text begins with that byte.
@@ -74,7 +74,7 @@ fn name_front(text: &[u8]) -> Option<Part<'_>>
     }
     Some(Part {
         value: &text[..name],
-        rest: after(text, name),
+        rest: skip_bytes(text, name),
     })
 }
 
@@ -117,7 +117,7 @@ fn value_front(text: &[u8]) -> Option<Part<'_>>
         None => None,
         Some(at) => Some(Part {
             value: &text[..at],
-            rest: after(text, at + 1),
+            rest: skip_bytes(text, at + 1),
         }),
     }
 }

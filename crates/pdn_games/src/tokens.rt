@@ -6,7 +6,7 @@ ghost use Rattle.pdn_games.specs.Tokens.{lets_follow, TextTokens};
 ghost use Rattle.pdn_games.specs.TokenFronts.{front_of, IsShorter};
 ghost use Rattle.pdn_games.specs.TokenValues.{token_of, all_placed};
 
-use crate::lengths::{after, move_len, number_len};
+use crate::lengths::{move_len, number_len, skip_bytes};
 use crate::results::{ResultWord, result_at};
 use crate::skips::past_skipped;
 use crate::tags::tag_front;
@@ -27,14 +27,14 @@ pub enum Token<'a> {
 
 /// A token and its offset in the text, in bytes.
 #[derive(Clone, Copy)]
-pub struct Placed<'a> {
+pub struct PlacedToken<'a> {
     pub at: usize,
     pub token: Token<'a>,
 }
 
 /// The part at the front of a text, with the rest of the text.
 #[derive(Clone, Copy)]
-pub enum Front<'a> {
+pub enum LexStep<'a> {
     /// The end of the text.
     Ended,
     /// A skipped part.
@@ -80,20 +80,20 @@ fn longest(
     if moved < numbered && word_len(word) < numbered {
         return Some(TokenFront {
             token: Token::Number,
-            rest: after(text, numbered),
+            rest: skip_bytes(text, numbered),
         });
     }
     if word_len(word) < moved {
         return Some(TokenFront {
             token: Token::Move(&text[..moved]),
-            rest: after(text, moved),
+            rest: skip_bytes(text, moved),
         });
     }
     match word {
         None => None,
         Some(word) => Some(TokenFront {
             token: Token::Result(word),
-            rest: after(text, word.text().len()),
+            rest: skip_bytes(text, word.text().len()),
         }),
     }
 }
@@ -134,29 +134,29 @@ fn token_front(text: &[u8]) -> Option<TokenFront<'_>>
 }
 
 // The token at the front of a text, if a token is allowed here.
-fn free_front(free: bool, text: &[u8]) -> Front<'_>
+fn free_front(free: bool, text: &[u8]) -> LexStep<'_>
     ensures value { front_of result ≡ front_with free text.now None }
     ensures shorter { IsShorter text.now result }
 {
     if !free {
-        return Front::Stuck;
+        return LexStep::Stuck;
     }
     match token_front(text) {
-        None => Front::Stuck,
-        Some(front) => Front::Found(front.token, front.rest),
+        None => LexStep::Stuck,
+        Some(front) => LexStep::Found(front.token, front.rest),
     }
 }
 
 // The front of a text. `begins_line`: the text is at the beginning of a line; `free`: a token is allowed here.
 #[tactic(auto, unfolding(crate::specs::Tokens::front_at))]
-fn front_at(begins_line: bool, free: bool, text: &[u8]) -> Front<'_>
+fn front_at(begins_line: bool, free: bool, text: &[u8]) -> LexStep<'_>
     ensures value { front_of result ≡ front_at begins_line free text.now }
     ensures shorter { IsShorter text.now result }
 {
     match text {
-        [] => Front::Ended,
+        [] => LexStep::Ended,
         _ => match past_skipped(begins_line, text) {
-            Some(rest) => Front::Skipped(rest),
+            Some(rest) => LexStep::Skipped(rest),
             None => free_front(free, text),
         },
     }
@@ -186,7 +186,7 @@ fn lets_follow(token: Token<'_>) -> bool
 /// The tokens of a text, and the offset at which the lexer stopped, unless that is the end.
 #[derive(Drop)]
 pub struct Lexed<'a> {
-    pub tokens: Vec<Placed<'a>>,
+    pub tokens: Vec<PlacedToken<'a>>,
     pub stop: Option<usize>,
 }
 
@@ -204,19 +204,19 @@ pub fn tokens_of(alloc: Global, text: &[u8]) -> Result<Lexed<'_>, AllocError>
     let mut free = true;
     loop {
         match front_at(begins_line, free, rest) {
-            Front::Ended => return Ok(Lexed { tokens, stop: None }),
-            Front::Stuck => {
+            LexStep::Ended => return Ok(Lexed { tokens, stop: None }),
+            LexStep::Stuck => {
                 let stop = Some(text.len() - rest.len());
                 return Ok(Lexed { tokens, stop });
             }
-            Front::Skipped(more) => {
+            LexStep::Skipped(more) => {
                 begins_line = begins_feed(rest);
                 free = true;
                 rest = more;
             }
-            Front::Found(token, more) => {
+            LexStep::Found(token, more) => {
                 let at = text.len() - rest.len();
-                tokens.push(Placed { at, token })?;
+                tokens.push(PlacedToken { at, token })?;
                 begins_line = false;
                 free = lets_follow(token);
                 rest = more;

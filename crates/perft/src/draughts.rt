@@ -6,9 +6,9 @@ use squares::{DMove, DPos};
 use std::alloc::Global;
 
 /// International draughts.
-pub struct Draughts;
+pub struct DraughtsTree;
 
-impl Game for Draughts {
+impl Game for DraughtsTree {
     type Position = DPos;
 
     type Move = DMove;
@@ -30,7 +30,7 @@ impl Game for Draughts {
     }
 
     fn count(alloc: Global, position: &DPos) -> Result<u64, PerftFault> {
-        let count = draughts_moves::legal_count(alloc, position)?;
+        let count = draughts_moves::legal_move_count(alloc, position)?;
         Ok(count as u64)
     }
 

@@ -10,10 +10,10 @@ mod shogi;
 mod words;
 
 use crate::count::print_counts;
-use crate::draughts::Draughts;
+use crate::draughts::DraughtsTree;
 use crate::fault::PerftFault;
-use crate::shogi::Shogi;
-use crate::words::{Asked, BadWords, Start, read_words};
+use crate::shogi::ShogiTree;
+use crate::words::{PerftOptions, PerftUsage, StartPosition, read_words};
 use std::alloc::AllocError;
 use std::io::Write;
 use std::process::ExitCode;
@@ -49,12 +49,21 @@ fn texts<'a>(rt: &HostRuntime, words: &'a [String]) -> Result<Vec<&'a str>, Allo
 }
 
 // Prints the counts that the command line requests.
-fn print_asked<W: Write>(rt: &HostRuntime, asked: &Asked, out: &mut W) -> Result<(), PerftFault> {
+fn print_asked<W: Write>(
+    rt: &HostRuntime,
+    asked: &PerftOptions,
+    out: &mut W,
+) -> Result<(), PerftFault> {
     match &asked.start {
-        Start::Draughts(position) => {
-            print_counts::<Draughts, W>(rt.alloc(), position, asked.depth, out)
+        StartPosition::Draughts(position) => {
+            print_counts::<DraughtsTree, W>(rt.alloc(), position, asked.depth, out)
         }
-        Start::Shogi(position) => print_counts::<Shogi, W>(rt.alloc(), position, asked.depth, out),
+        StartPosition::Shogi(position) => print_counts::<ShogiTree, W>(
+            rt.alloc(),
+            position,
+            asked.depth,
+            out,
+        ),
     }
 }
 
@@ -66,8 +75,8 @@ fn status_of(rt: &HostRuntime, words: &[String]) -> u8 {
     };
     let asked = match read_words(rt.alloc(), words.as_slice()) {
         Ok(asked) => asked,
-        Err(BadWords::Usage) => return stop(&mut err, USAGE, BAD_WORDS),
-        Err(BadWords::Memory) => return stop(&mut err, "out of memory", FAULT),
+        Err(PerftUsage::Usage) => return stop(&mut err, USAGE, BAD_WORDS),
+        Err(PerftUsage::Memory) => return stop(&mut err, "out of memory", FAULT),
     };
     match print_asked(rt, &asked, &mut rt.stdout()) {
         Ok(()) => DONE,

@@ -9,9 +9,9 @@ use std::alloc::Global;
 pub const OPENING: &str = "lnsgkgsnl/1r5b1/ppppppppp/9/9/9/PPPPPPPPP/1B5R1/LNSGKGSNL b - 1";
 
 /// Shogi.
-pub struct Shogi;
+pub struct ShogiTree;
 
-impl Game for Shogi {
+impl Game for ShogiTree {
     type Position = SPos;
 
     type Move = SMove;

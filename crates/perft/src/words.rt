@@ -10,21 +10,21 @@ pub const MOST_DEPTH: u32 = 99;
 
 /// A position of either game.
 #[derive(Drop)]
-pub enum Start {
+pub enum StartPosition {
     Draughts(DPos),
     Shogi(SPos),
 }
 
 /// A parsed command line: the depth in plies, at least 1, and the position.
 #[derive(Drop)]
-pub struct Asked {
+pub struct PerftOptions {
     pub depth: u32,
-    pub start: Start,
+    pub start: StartPosition,
 }
 
 /// The reason why the command line is refused.
 #[derive(Clone, Copy, Debug, PartialEq, Eq)]
-pub enum BadWords {
+pub enum PerftUsage {
     Usage,
     /// Out of memory.
     Memory,
@@ -39,30 +39,34 @@ fn depth_of(word: &str) -> Option<u32> {
 }
 
 // Parses a FEN text.
-fn draughts_position(alloc: Global, word: &str) -> Result<DPos, BadWords> {
+fn draughts_position(alloc: Global, word: &str) -> Result<DPos, PerftUsage> {
     match read_fen(alloc, word) {
         Ok(position) => Ok(position),
-        Err(FenFault::Memory) => Err(BadWords::Memory),
-        Err(_) => Err(BadWords::Usage),
+        Err(FenFault::Memory) => Err(PerftUsage::Memory),
+        Err(_) => Err(PerftUsage::Usage),
     }
 }
 
 // Parses an SFEN text; its move number is ignored.
-fn shogi_position(word: &str) -> Result<SPos, BadWords> {
+fn shogi_position(word: &str) -> Result<SPos, PerftUsage> {
     match sfen::read(word) {
         Ok((position, _)) => Ok(position),
-        Err(_) => Err(BadWords::Usage),
+        Err(_) => Err(PerftUsage::Usage),
     }
 }
 
 // The position that the command line gives, or the initial position.
-fn start_of(alloc: Global, game: &str, position: Option<&str>) -> Result<Start, BadWords> {
+fn start_of(
+    alloc: Global,
+    game: &str,
+    position: Option<&str>,
+) -> Result<StartPosition, PerftUsage> {
     match (game, position) {
-        ("draughts", None) => Ok(Start::Draughts(DPos::opening())),
-        ("draughts", Some(text)) => Ok(Start::Draughts(draughts_position(alloc, text)?)),
-        ("shogi", None) => Ok(Start::Shogi(shogi_position(OPENING)?)),
-        ("shogi", Some(text)) => Ok(Start::Shogi(shogi_position(text)?)),
-        _ => Err(BadWords::Usage),
+        ("draughts", None) => Ok(StartPosition::Draughts(DPos::opening())),
+        ("draughts", Some(text)) => Ok(StartPosition::Draughts(draughts_position(alloc, text)?)),
+        ("shogi", None) => Ok(StartPosition::Shogi(shogi_position(OPENING)?)),
+        ("shogi", Some(text)) => Ok(StartPosition::Shogi(shogi_position(text)?)),
+        _ => Err(PerftUsage::Usage),
     }
 }
 
@@ -70,16 +74,16 @@ fn start_of(alloc: Global, game: &str, position: Option<&str>) -> Result<Start, 
 ///
 /// # Errors
 ///
-/// `BadWords::Usage` for an invalid command line; `BadWords::Memory` if out of memory.
-pub fn read_words(alloc: Global, words: &[&str]) -> Result<Asked, BadWords> {
+/// `PerftUsage::Usage` for an invalid command line; `PerftUsage::Memory` if out of memory.
+pub fn read_words(alloc: Global, words: &[&str]) -> Result<PerftOptions, PerftUsage> {
     let (game, depth, position) = match words {
         [game, depth] => (*game, *depth, None),
         [game, depth, position] => (*game, *depth, Some(*position)),
-        _ => return Err(BadWords::Usage),
+        _ => return Err(PerftUsage::Usage),
     };
     let Some(depth) = depth_of(depth) else {
-        return Err(BadWords::Usage);
+        return Err(PerftUsage::Usage);
     };
     let start = start_of(alloc, game, position)?;
-    Ok(Asked { depth, start })
+    Ok(PerftOptions { depth, start })
 }

@@ -1,7 +1,7 @@
 //! Questions about the two games through the club's traits `Rules` and `Records`.
 
 use crate::unanswered::Unanswered;
-use crate::words::{said, told_score, yes};
+use crate::words::{one_word, told_score, yes};
 use club_rules::{Memory, RecordFormat, RecordReading, Records, Rules};
 use squares::Side;
 use std::alloc::Global;
@@ -76,8 +76,8 @@ fn rewritten<R: Rules>(
         Ok(made) => made,
         Err(refusal) => return Ok(format!(in alloc; "{refusal}")?),
     };
-    if !R::same(&made, &made) {
-        return said(alloc, "another move");
+    if !R::is_same_move(&made, &made) {
+        return one_word(alloc, "another move");
     }
     match R::check(position, &made) {
         Ok(()) => Ok(R::write_move(alloc, position, &made)?),
@@ -96,7 +96,7 @@ fn told_end<R: Rules>(
             let (name, score) = (R::end_name(&end), R::outcome(&end, turn));
             Ok(format!(in alloc; "{} {score}", name.name())?)
         }
-        None => said(alloc, "goes on"),
+        None => one_word(alloc, "goes on"),
     }
 }
 
@@ -126,7 +126,7 @@ fn of_line<R: Rules>(
 ) -> Result<String, Unanswered> {
     let turn = R::turn(last);
     match asked {
-        "turn" => said(
+        "turn" => one_word(
             alloc,
             if turn == Side::First {
                 "First"
@@ -156,7 +156,7 @@ fn position<R: Rules>(alloc: Global, text: &str) -> Result<R::Position, Unanswer
 fn reread<R: Rules>(alloc: Global, text: &str) -> Result<String, Unanswered> {
     match R::read_position(alloc, text)? {
         Some(position) => Ok(R::write_position(alloc, &position)?),
-        None => said(alloc, "none"),
+        None => one_word(alloc, "none"),
     }
 }
 
@@ -173,7 +173,7 @@ fn recorded<R: Records>(alloc: Global, part: &str, text: &str) -> Result<String,
             let (plies, score) = (game.moves.len(), told_score(game.score));
             Ok(format!(in alloc; "{plies} {score}")?)
         }
-        RecordReading::NoPart => said(alloc, "no part"),
+        RecordReading::NoPart => one_word(alloc, "no part"),
         RecordReading::Refused(refusal) => Ok(format!(in alloc; "{refusal}")?),
     }
 }
@@ -188,8 +188,8 @@ fn told_format(format: RecordFormat) -> &'static str {
 // Answers a question about the game.
 fn of_game<R: Records>(alloc: Global, asked: &str, value: &str) -> Result<String, Unanswered> {
     match asked {
-        "draw-offers" => said(alloc, yes(R::has_draw_offers())),
-        "format" => said(alloc, told_format(R::format())),
+        "draw-offers" => one_word(alloc, yes(R::has_draw_offers())),
+        "format" => one_word(alloc, told_format(R::format())),
         "position" => reread::<R>(alloc, value),
         _ => Err(Unanswered::Question),
     }

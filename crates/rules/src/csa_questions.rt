@@ -1,6 +1,6 @@
 //! Questions about records of shogi games.
 
-use crate::csa_written::written;
+use crate::csa_written::write_record;
 use crate::shogi_told::told_move;
 use crate::unanswered::Unanswered;
 use crate::words::{push_word, told_score};
@@ -33,7 +33,7 @@ fn told(alloc: Global, text: &str) -> Result<String, Unanswered> {
 pub fn answer(alloc: Global, asked: &str, parts: &[String]) -> Result<String, Unanswered> {
     match (asked, parts) {
         ("read", [text]) => told(alloc, text.as_str()),
-        ("write", parts) => written(alloc, parts),
+        ("write", parts) => write_record(alloc, parts),
         _ => Err(Unanswered::Question),
     }
 }

@@ -3,7 +3,7 @@ ghost use Rattle.std.specs.Prelude.{◌≡◌, IfOk, Some, length, map};
 ghost use Rattle.squares.specs.ShogiOpening.{opening};
 ghost use Rattle.shogi_repetition.specs.Faults.{IsPlayed};
 
-use crate::shogi_questions::made;
+use crate::shogi_questions::parse_usi;
 use crate::unanswered::Unanswered;
 use crate::writers::{Recorded, written_in_each_way};
 use clocks::Moment;
@@ -51,7 +51,7 @@ fn entries(alloc: Global, text: &str) -> Result<Vec<(SMove, u64)>, Unanswered> {
     for entry in text.split_whitespace() {
         let (usi, seconds) = entry.split_once(':').ok_or(Unanswered::Move)?;
         let seconds: u64 = seconds.parse()?;
-        entries.push((made(usi)?, seconds))?;
+        entries.push((parse_usi(usi)?, seconds))?;
     }
     Ok(entries)
 }
@@ -101,7 +101,7 @@ impl<'a> Recorded for Game<'a> {
 
 /// The record of a game: event, start (Unix seconds), Black, White, and moves with their seconds. The side to move
 /// resigns.
-pub fn written(alloc: Global, parts: &[String]) -> Result<String, Unanswered> {
+pub fn write_record(alloc: Global, parts: &[String]) -> Result<String, Unanswered> {
     match parts {
         [event, seconds, black, white, moves] => {
             let game = Game {

@@ -1,7 +1,7 @@
 //! Questions about squares of draughts and sets of squares.
 
 use crate::unanswered::Unanswered;
-use crate::words::{push_word, said, yes};
+use crate::words::{one_word, push_word, yes};
 use squares::{DSet, Direction, Dsq, Numbers};
 use std::alloc::Global;
 use std::cmp::Ordering;
@@ -23,10 +23,10 @@ fn set(numbers: &str) -> Result<DSet, Unanswered> {
 /// The numbers of the squares of a set, separated by spaces.
 pub fn told_set(alloc: Global, squares: DSet) -> Result<String, Unanswered> {
     if squares.is_empty() {
-        return said(alloc, "none");
+        return one_word(alloc, "none");
     }
     let mut text = String::new(alloc);
-    for number in Numbers::of(squares).as_slice() {
+    for number in Numbers::from_set(squares).as_slice() {
         push_word(&mut text, format!(in alloc; "{number}")?.as_str())?;
     }
     Ok(text)
@@ -36,7 +36,7 @@ pub fn told_set(alloc: Global, squares: DSet) -> Result<String, Unanswered> {
 fn told(alloc: Global, square: Option<Dsq>) -> Result<String, Unanswered> {
     match square {
         Some(square) => Ok(format!(in alloc; "{}", square.number())?),
-        None => said(alloc, "none"),
+        None => one_word(alloc, "none"),
     }
 }
 
@@ -54,14 +54,14 @@ fn direction(name: &str) -> Result<Direction, Unanswered> {
 fn place(alloc: Global, number: &str) -> Result<String, Unanswered> {
     match Dsq::new(number.parse()?) {
         Some(square) => Ok(format!(in alloc; "{} {}", square.row(), square.column())?),
-        None => said(alloc, "none"),
+        None => one_word(alloc, "none"),
     }
 }
 
 // The square with a row and a column.
 fn at(alloc: Global, row_and_column: &str) -> Result<String, Unanswered> {
     let (row, column) = row_and_column.split_once(' ').ok_or(Unanswered::Number)?;
-    told(alloc, Dsq::at(row.parse()?, column.parse()?))
+    told(alloc, Dsq::from_coords(row.parse()?, column.parse()?))
 }
 
 // The numbers of all squares.
@@ -79,7 +79,7 @@ fn all(alloc: Global) -> Result<String, Unanswered> {
 // The number of squares in a set.
 fn size(alloc: Global, squares: DSet) -> Result<String, Unanswered> {
     if squares.is_empty() {
-        return said(alloc, "none");
+        return one_word(alloc, "none");
     }
     Ok(format!(in alloc; "{}", squares.len())?)
 }
@@ -113,9 +113,9 @@ fn of_two(alloc: Global, asked: &str, one: &str, other: &str) -> Result<String, 
     match asked {
         "step" => told(alloc, square(one)?.step(direction(other)?)),
         "line" => told_set(alloc, square(one)?.line(direction(other)?)),
-        "contains" => said(alloc, yes(set(one)?.contains(square(other)?))),
+        "contains" => one_word(alloc, yes(set(one)?.contains(square(other)?))),
         "without" => told_set(alloc, set(one)?.without(square(other)?)),
-        "compare" => said(alloc, compared(set(one)?, set(other)?)),
+        "compare" => one_word(alloc, compared(set(one)?, set(other)?)),
         _ => Err(Unanswered::Question),
     }
 }

@@ -1,8 +1,8 @@
 //! Questions about lines of draughts moves.
 
-use crate::draughts_questions::{made, position};
+use crate::draughts_questions::{parse_move_numbers, position};
 use crate::unanswered::Unanswered;
-use crate::words::{push_word, said, side, told_score, yes};
+use crate::words::{one_word, push_word, side, told_score, yes};
 use draughts_draws::{DEnd, DLineFault, DrawCounts, judge};
 use squares::{DMove, DPos};
 use std::alloc::Global;
@@ -11,7 +11,7 @@ use std::alloc::Global;
 pub fn line(alloc: Global, texts: &str) -> Result<Vec<DMove>, Unanswered> {
     let mut moves = Vec::new(alloc);
     for text in texts.split_whitespace() {
-        moves.push(made(alloc, text)?)?;
+        moves.push(parse_move_numbers(alloc, text)?)?;
     }
     Ok(moves)
 }
@@ -42,7 +42,7 @@ fn end(name: &str) -> Result<DEnd, Unanswered> {
 
 fn told(alloc: Global, judged: Result<Option<DEnd>, DLineFault>) -> Result<String, Unanswered> {
     match judged {
-        Ok(end) => said(alloc, told_end(end)),
+        Ok(end) => one_word(alloc, told_end(end)),
         Err(fault) => Ok(format!(in alloc; "{fault}")?),
     }
 }
@@ -88,7 +88,7 @@ fn pushed(alloc: Global, start: &str, texts: &str) -> Result<String, Unanswered>
     };
     let mut text = String::new(alloc);
     for one in texts.split_whitespace() {
-        match counts.push(&made(alloc, one)?) {
+        match counts.push(&parse_move_numbers(alloc, one)?) {
             Ok(()) => push_word(&mut text, "made,")?,
             Err(fault) => push_word(&mut text, format!(in alloc; "{fault},")?.as_str())?,
         }
@@ -117,11 +117,14 @@ pub fn answer(alloc: Global, asked: &str, parts: &[String]) -> Result<String, Un
             judged_so_far(alloc, start.as_str(), moves.as_slice(), plies.as_str())
         }
         ("push", [start, texts]) => pushed(alloc, start.as_str(), texts.as_str()),
-        ("score", [name, turn]) => said(alloc, score(name.as_str(), turn.as_str())?),
+        ("score", [name, turn]) => one_word(alloc, score(name.as_str(), turn.as_str())?),
         ("same-move", [one, other]) => {
-            said(
+            one_word(
                 alloc,
-                yes(made(alloc, one.as_str())? == made(alloc, other.as_str())?),
+                yes(
+                    parse_move_numbers(alloc, one.as_str())?
+                        == parse_move_numbers(alloc, other.as_str())?,
+                ),
             )
         }
         _ => Err(Unanswered::Question),

@@ -2,7 +2,7 @@
 
 use crate::draughts_board::{square, told_set};
 use crate::unanswered::Unanswered;
-use crate::words::{push_word, said, yes};
+use crate::words::{one_word, push_word, yes};
 use draughts_moves::{check, has_move, legal, play, routes};
 use pdn::{read_fen, read_move, write_fen, write_move};
 use squares::{DMove, DPiece, DPos, DSet, Dsq, Numbers, Side};
@@ -13,10 +13,10 @@ fn man(side: Side) -> DPiece {
     DPiece { side, king: false }
 }
 
-// Applies a step to a position: `pass`, a man such as `w:31` or `b:1`, or a square to clear.
+// Applies a step to a position: `pass_turn`, a man such as `w:31` or `b:1`, or a square to clear.
 fn change(position: &mut DPos, step: &str) -> Result<(), Unanswered> {
     if step == "pass" {
-        position.pass();
+        position.pass_turn();
         return Ok(());
     }
     let (what, number) = step.split_once(':').ok_or(Unanswered::Word)?;
@@ -49,7 +49,7 @@ pub fn position(alloc: Global, text: &str) -> Result<DPos, Unanswered> {
 }
 
 /// Parses a move: the numbers of its origin, its destination and the captured squares, such as `47-42` or `28-19-23`.
-pub fn made(alloc: Global, text: &str) -> Result<DMove, Unanswered> {
+pub fn parse_move_numbers(alloc: Global, text: &str) -> Result<DMove, Unanswered> {
     let mut squares = Vec::new(alloc);
     for number in text.split('-') {
         squares.push(square(number)?)?;
@@ -66,10 +66,10 @@ pub fn made(alloc: Global, text: &str) -> Result<DMove, Unanswered> {
     }
 }
 
-/// A move in the notation that `made` parses.
+/// A move in the notation that `parse_move_numbers` parses.
 pub fn told_move(alloc: Global, made: &DMove) -> Result<String, Unanswered> {
     let mut text = format!(in alloc; "{}-{}", made.from.number(), made.to.number())?;
-    for number in Numbers::of(made.taken).as_slice() {
+    for number in Numbers::from_set(made.taken).as_slice() {
         text.push_str(format!(in alloc; "-{number}")?.as_str())?;
     }
     Ok(text)
@@ -110,7 +110,7 @@ fn letter(piece: DPiece) -> &'static str {
 fn cells(alloc: Global, position: &DPos) -> Result<String, Unanswered> {
     let mut text = String::new(alloc);
     for square in &Dsq::all() {
-        match position.at(*square) {
+        match position.piece_at(*square) {
             Some(piece) => text.push_str(letter(piece))?,
             None => text.push('.')?,
         }
@@ -192,7 +192,7 @@ fn of_position(alloc: Global, asked: &str, position: &DPos) -> Result<String, Un
         "told" => told(alloc, position),
         "cells" => cells(alloc, position),
         "empty" => told_set(alloc, position.empty_squares()),
-        "can-move" => said(alloc, yes(has_move(position))),
+        "can-move" => one_word(alloc, yes(has_move(position))),
         _ => Err(Unanswered::Question),
     }
 }
@@ -200,9 +200,9 @@ fn of_position(alloc: Global, asked: &str, position: &DPos) -> Result<String, Un
 fn of_two(alloc: Global, asked: &str, position: &DPos, second: &str) -> Result<String, Unanswered> {
     match asked {
         "read" => read(alloc, position, second),
-        "play" => outcome(alloc, position, &made(alloc, second)?),
-        "routes" => ways(alloc, position, &made(alloc, second)?),
-        "same" => said(alloc, compared(position, &self::position(alloc, second)?)),
+        "play" => outcome(alloc, position, &parse_move_numbers(alloc, second)?),
+        "routes" => ways(alloc, position, &parse_move_numbers(alloc, second)?),
+        "same" => one_word(alloc, compared(position, &self::position(alloc, second)?)),
         _ => Err(Unanswered::Question),
     }
 }

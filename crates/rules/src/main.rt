@@ -23,7 +23,7 @@ mod unanswered;
 mod words;
 mod writers;
 
-use crate::script::{Report, report_of};
+use crate::script::{ScriptReport, report_of};
 use crate::unanswered::Unanswered;
 use std::io::{self, Write};
 use std::process::ExitCode;
@@ -35,7 +35,7 @@ const DIFFERS: u8 = 1;
 const FAULT: u8 = 3;
 
 // Prints the report of a script.
-fn print_report<W: Write>(report: &Report, out: &mut W) -> Result<u8, Unanswered> {
+fn print_report<W: Write>(report: &ScriptReport, out: &mut W) -> Result<u8, Unanswered> {
     let text = report.text()?;
     match out.write_all(text.as_bytes()) {
         Ok(()) if report.holds() => Ok(HOLDS),

@@ -1,9 +1,9 @@
 //! Questions about records of draughts games.
 
 use crate::draughts_questions::told_move;
-use crate::pdn_written::written;
+use crate::pdn_written::write_record;
 use crate::unanswered::Unanswered;
-use crate::words::{push_word, said, told_score};
+use crate::words::{one_word, push_word, told_score};
 use pdn_games::read_game;
 use std::alloc::Global;
 
@@ -44,7 +44,7 @@ fn beginnings(alloc: Global, text: &str) -> Result<String, Unanswered> {
             return Ok(format!(in alloc; "the first {count} bytes are read")?);
         }
     }
-    said(alloc, "refused")
+    one_word(alloc, "refused")
 }
 
 /// Answers a question about texts that are read, or about a game that is written.
@@ -52,7 +52,7 @@ pub fn answer(alloc: Global, asked: &str, parts: &[String]) -> Result<String, Un
     match (asked, parts) {
         ("read", texts) => alike(alloc, texts),
         ("beginnings", [text]) => beginnings(alloc, text.as_str()),
-        ("write", parts) => written(alloc, parts),
+        ("write", parts) => write_record(alloc, parts),
         _ => Err(Unanswered::Question),
     }
 }

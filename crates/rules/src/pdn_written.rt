@@ -69,7 +69,7 @@ impl<'a> Recorded for Game<'a> {
 }
 
 /// The record of a game: event, start (Unix seconds), White, Black, score and moves.
-pub fn written(alloc: Global, parts: &[String]) -> Result<String, Unanswered> {
+pub fn write_record(alloc: Global, parts: &[String]) -> Result<String, Unanswered> {
     match parts {
         [event, seconds, white, black, result, moves] => {
             let start = Moment::new(seconds.as_str().parse()?).ok_or(Unanswered::Number)?;

@@ -3,12 +3,12 @@
 use crate::answers::answer;
 use crate::texts::Texts;
 use crate::unanswered::Unanswered;
-use crate::words::unescaped;
+use crate::words::unescape;
 use std::alloc::Global;
 
 /// The state of a run: the cases and the differences so far.
 #[derive(Drop)]
-pub struct Report {
+pub struct ScriptReport {
     alloc: Global,
     texts: Texts,
     cases: usize,
@@ -29,7 +29,7 @@ fn is_as_wanted(found: &str, wanted: &str) -> bool {
 
 // The difference between the answer and the expected one, if any; an empty answer counts as `none`.
 fn difference(alloc: Global, question: &str, wanted: &str) -> Result<Option<String>, Unanswered> {
-    let wanted = unescaped(alloc, wanted)?;
+    let wanted = unescape(alloc, wanted)?;
     let found = answer(alloc, question)?;
     let found = if found.is_empty() {
         "none"
@@ -42,10 +42,10 @@ fn difference(alloc: Global, question: &str, wanted: &str) -> Result<Option<Stri
     Ok(Some(format!(in alloc; "wanted {wanted} got {found}")?))
 }
 
-impl Report {
+impl ScriptReport {
     /// The report before the first line.
-    pub fn new(alloc: Global) -> Report {
-        Report {
+    pub fn new(alloc: Global) -> ScriptReport {
+        ScriptReport {
             alloc,
             texts: Texts::new(alloc),
             cases: 0,
@@ -56,7 +56,7 @@ impl Report {
 
     // Runs a line and returns its difference, if any.
     fn fault_of(&mut self, line: &str) -> Result<Option<String>, Unanswered> {
-        let line = self.texts.expanded(line)?;
+        let line = self.texts.expand_names(line)?;
         let (question, wanted) = line.as_str().split_once(" = ").ok_or(Unanswered::Answer)?;
         match question.strip_prefix("text ") {
             Some(name) => {
@@ -111,8 +111,8 @@ impl Report {
 }
 
 /// Runs a script. A backslash at the end of a line continues it on the next one.
-pub fn report_of(alloc: Global, script: &str) -> Result<Report, Unanswered> {
-    let mut report = Report::new(alloc);
+pub fn report_of(alloc: Global, script: &str) -> Result<ScriptReport, Unanswered> {
+    let mut report = ScriptReport::new(alloc);
     let mut line = String::new(alloc);
     let mut number: usize = 0;
     for part in script.lines() {

@@ -2,7 +2,7 @@
 
 use crate::shogi_told::{told_board, told_piece, told_position, told_role, told_square};
 use crate::unanswered::Unanswered;
-use crate::words::{said, side};
+use crate::words::{one_word, side};
 use squares::{Hand, HandKind, Hands, Kind, SBoard, SPiece, SPos, Side, Ssq};
 use std::alloc::Global;
 
@@ -33,7 +33,7 @@ fn kind(letter: &str) -> Result<Kind, Unanswered> {
 
 // Parses the letter of a kind of piece that can be in hand.
 fn hand_kind(letter: &str) -> Result<HandKind, Unanswered> {
-    Ok(kind(letter)?.in_hand().ok_or(Unanswered::Piece)?)
+    Ok(kind(letter)?.to_hand_kind().ok_or(Unanswered::Piece)?)
 }
 
 /// Parses a piece, such as `bR` or `w+P`, or `None`.
@@ -67,7 +67,7 @@ fn board(steps: &str) -> Result<SBoard, Unanswered> {
 // A piece and the kind that it has in hand once captured.
 fn told_named(alloc: Global, named: Option<SPiece>) -> Result<String, Unanswered> {
     let Some(piece) = named else {
-        return said(alloc, "none");
+        return one_word(alloc, "none");
     };
     let text = told_piece(alloc, piece)?;
     let promoted = if piece.role.is_promoted() {
@@ -75,7 +75,7 @@ fn told_named(alloc: Global, named: Option<SPiece>) -> Result<String, Unanswered
     } else {
         ""
     };
-    match piece.role.kind().in_hand() {
+    match piece.role.kind().to_hand_kind() {
         Some(taken) => {
             let letter = told_role(taken.kind().role());
             Ok(format!(in alloc; "{text}{promoted}, in hand {letter}")?)
@@ -88,7 +88,7 @@ fn told_named(alloc: Global, named: Option<SPiece>) -> Result<String, Unanswered
 fn index(alloc: Global, square: Option<Ssq>) -> Result<String, Unanswered> {
     match square {
         Some(square) => Ok(format!(in alloc; "{}", square.index())?),
-        None => said(alloc, "none"),
+        None => one_word(alloc, "none"),
     }
 }
 
@@ -100,7 +100,7 @@ fn numbered(alloc: Global, number: u8) -> Result<String, Unanswered> {
     if found == listed {
         return told_square(alloc, found);
     }
-    said(alloc, "listed otherwise")
+    one_word(alloc, "listed otherwise")
 }
 
 // The position of a board with `pawns` pawns in First's hand and First to move.
@@ -111,7 +111,7 @@ fn set_up(alloc: Global, board: SBoard, pawns: u8) -> Result<String, Unanswered>
     };
     match SPos::new(board, hands, Side::First) {
         Some(position) => told_position(alloc, &position),
-        None => said(alloc, "none"),
+        None => one_word(alloc, "none"),
     }
 }
 

@@ -1,8 +1,8 @@
 //! Questions about lines of shogi moves.
 
-use crate::shogi_questions::{made, position};
+use crate::shogi_questions::{parse_usi, position};
 use crate::unanswered::Unanswered;
-use crate::words::{said, side, told_score};
+use crate::words::{one_word, side, told_score};
 use shogi_repetition::{Marks, SEnd, SLineFault, Tail, judge};
 use squares::{SMove, SPos, Side};
 use std::alloc::Global;
@@ -11,7 +11,7 @@ use std::alloc::Global;
 fn line(alloc: Global, texts: &str) -> Result<Vec<SMove>, Unanswered> {
     let mut moves = Vec::new(alloc);
     for text in texts.split_whitespace() {
-        moves.push(made(text)?)?;
+        moves.push(parse_usi(text)?)?;
     }
     Ok(moves)
 }
@@ -40,7 +40,7 @@ fn end(name: &str) -> Result<SEnd, Unanswered> {
 
 fn told(alloc: Global, judged: Result<Option<SEnd>, SLineFault>) -> Result<String, Unanswered> {
     match judged {
-        Ok(end) => said(alloc, told_end(end)),
+        Ok(end) => one_word(alloc, told_end(end)),
         Err(fault) => Ok(format!(in alloc; "{fault}")?),
     }
 }
@@ -105,12 +105,12 @@ pub fn answer(alloc: Global, asked: &str, parts: &[String]) -> Result<String, Un
         }
         ("weigh", [first, second, plies, times, since]) => {
             let checks = (first.as_str(), second.as_str());
-            said(
+            one_word(
                 alloc,
                 weighed(checks, (plies.as_str(), times.as_str(), since.as_str()))?,
             )
         }
-        ("score", [name, turn]) => said(alloc, score(name.as_str(), turn.as_str())?),
+        ("score", [name, turn]) => one_word(alloc, score(name.as_str(), turn.as_str())?),
         _ => Err(Unanswered::Question),
     }
 }

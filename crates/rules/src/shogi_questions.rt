@@ -3,7 +3,7 @@
 use crate::shogi_board::{piece, square};
 use crate::shogi_told::{told_cause, told_move, told_moves, told_position};
 use crate::unanswered::Unanswered;
-use crate::words::{push_word, said, side, yes};
+use crate::words::{one_word, push_word, side, yes};
 use sfen::{read, read_usi, write, write_usi};
 use shogi_moves::{attacked, can_declare, check, has_move, in_check, legal, mated, play};
 use squares::{SMove, SPos};
@@ -22,7 +22,7 @@ pub fn position(text: &str) -> Result<SPos, Unanswered> {
 }
 
 /// Parses a move in USI notation.
-pub fn made(text: &str) -> Result<SMove, Unanswered> {
+pub fn parse_usi(text: &str) -> Result<SMove, Unanswered> {
     Ok(read_usi(text).ok().ok_or(Unanswered::Move)?)
 }
 
@@ -49,7 +49,7 @@ fn rewritten(alloc: Global, text: &str) -> Result<String, Unanswered> {
 fn reread(alloc: Global, text: &str) -> Result<String, Unanswered> {
     match read_usi(text) {
         Ok(made) if write_usi(alloc, &made)?.as_str() == text => told_move(alloc, &made),
-        Ok(_) => said(alloc, "written otherwise"),
+        Ok(_) => one_word(alloc, "written otherwise"),
         Err(fault) => Ok(format!(in alloc; "{fault}")?),
     }
 }
@@ -89,10 +89,7 @@ fn army(alloc: Global, position: &SPos, letter: &str) -> Result<String, Unanswer
 
 // Whether two positions, and their boards, are equal.
 fn sameness(one: &SPos, other: &SPos) -> &'static str {
-    match (
-        one.copied() == *other,
-        one.board().copied() == *other.board(),
-    ) {
+    match (one.copy() == *other, one.board().copy() == *other.board()) {
         (true, true) => "the same",
         (true, false) => "the same position, another board",
         (false, true) => "another position, the same board",
@@ -115,22 +112,22 @@ fn of_position(alloc: Global, asked: &str, position: &SPos) -> Result<String, Un
         "list" => told_moves(alloc, legal(alloc, position)?.as_slice()),
         "count" => Ok(format!(in alloc; "{}", legal(alloc, position)?.len())?),
         "told" => told_position(alloc, position),
-        "in-check" => said(alloc, yes(in_check(position))),
-        "mated" => said(alloc, yes(mated(position))),
-        "can-move" => said(alloc, yes(has_move(position))),
-        "declares" => said(alloc, yes(can_declare(position))),
+        "in-check" => one_word(alloc, yes(in_check(position))),
+        "mated" => one_word(alloc, yes(mated(position))),
+        "can-move" => one_word(alloc, yes(has_move(position))),
+        "declares" => one_word(alloc, yes(can_declare(position))),
         _ => Err(Unanswered::Question),
     }
 }
 
 fn of_two(alloc: Global, asked: &str, position: &SPos, second: &str) -> Result<String, Unanswered> {
     match asked {
-        "check" => said(alloc, outcome(position, &made(second)?)),
-        "attacked" => said(alloc, threat(position, second)?),
+        "check" => one_word(alloc, outcome(position, &parse_usi(second)?)),
+        "attacked" => one_word(alloc, threat(position, second)?),
         "places" => places(alloc, position, second),
         "army" => army(alloc, position, second),
-        "same" => said(alloc, sameness(position, &self::position(second)?)),
-        "order" => said(alloc, order(position, &self::position(second)?)),
+        "same" => one_word(alloc, sameness(position, &self::position(second)?)),
+        "order" => one_word(alloc, order(position, &self::position(second)?)),
         _ => Err(Unanswered::Question),
     }
 }

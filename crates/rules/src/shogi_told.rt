@@ -1,7 +1,7 @@
 //! Texts of pieces, moves and positions of shogi in answers.
 
 use crate::unanswered::Unanswered;
-use crate::words::{push_word, said};
+use crate::words::{one_word, push_word};
 use shogi_moves::Illegal;
 use squares::{Hand, HandKind, Role, SBoard, SMove, SPiece, SPos, Side, Ssq};
 use std::alloc::Global;
@@ -54,7 +54,7 @@ pub fn told_piece(alloc: Global, piece: SPiece) -> Result<String, Unanswered> {
 pub fn told_square(alloc: Global, square: Option<Ssq>) -> Result<String, Unanswered> {
     match square {
         Some(square) => Ok(format!(in alloc; "{}{}", square.file(), square.rank())?),
-        None => said(alloc, "none"),
+        None => one_word(alloc, "none"),
     }
 }
 
@@ -62,7 +62,7 @@ pub fn told_square(alloc: Global, square: Option<Ssq>) -> Result<String, Unanswe
 pub fn told_board(alloc: Global, board: &SBoard) -> Result<String, Unanswered> {
     let mut text = String::new(alloc);
     for square in &Ssq::all() {
-        if let Some(piece) = board.at(*square) {
+        if let Some(piece) = board.piece_at(*square) {
             let (piece, place) = (
                 told_piece(alloc, piece)?,
                 told_square(alloc, Some(*square))?,
@@ -90,8 +90,8 @@ fn told_hand(alloc: Global, hand: Hand) -> Result<String, Unanswered> {
 pub fn told_position(alloc: Global, position: &SPos) -> Result<String, Unanswered> {
     let (turn, hands) = (told_side(position.turn()), position.hands());
     let board = told_board(alloc, position.board())?;
-    let first = told_hand(alloc, hands.of(Side::First))?;
-    let second = told_hand(alloc, hands.of(Side::Second))?;
+    let first = told_hand(alloc, hands.hand(Side::First))?;
+    let second = told_hand(alloc, hands.hand(Side::Second))?;
     Ok(format!(in alloc; "{turn} {board}, {first}, {second}")?)
 }
 

@@ -35,7 +35,7 @@ impl Texts {
     }
 
     /// The line with each name between `<` and `>` replaced by its text.
-    pub fn expanded(&self, line: &str) -> Result<String, Unanswered> {
+    pub fn expand_names(&self, line: &str) -> Result<String, Unanswered> {
         let mut text = String::new(self.alloc);
         let mut is_first = true;
         for part in line.split('<') {

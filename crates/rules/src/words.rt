@@ -24,7 +24,7 @@ fn escaped(sign: char) -> char {
 }
 
 /// Replaces the escapes `\n`, `\r`, `\t`, `\s` (a space) and `\\`.
-pub fn unescaped(alloc: Global, written: &str) -> Result<String, Unanswered> {
+pub fn unescape(alloc: Global, written: &str) -> Result<String, Unanswered> {
     let mut text = String::new(alloc);
     let mut after_backslash = false;
     for sign in written.chars() {
@@ -44,7 +44,7 @@ pub fn unescaped(alloc: Global, written: &str) -> Result<String, Unanswered> {
 pub fn parts_of(alloc: Global, question: &str) -> Result<Vec<String>, Unanswered> {
     let mut parts = Vec::new(alloc);
     for part in question.split('|') {
-        parts.push(unescaped(alloc, part.trim())?)?;
+        parts.push(unescape(alloc, part.trim())?)?;
     }
     Ok(parts)
 }
@@ -59,7 +59,7 @@ pub fn push_word(text: &mut String, word: &str) -> Result<(), Unanswered> {
 }
 
 /// An answer of one word.
-pub fn said(alloc: Global, word: &str) -> Result<String, Unanswered> {
+pub fn one_word(alloc: Global, word: &str) -> Result<String, Unanswered> {
     Ok(String::from_str(alloc, word)?)
 }
 

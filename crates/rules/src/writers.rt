@@ -1,7 +1,7 @@
 //! Questions about writers that accept few bytes at a time, or fill up.
 
 use crate::unanswered::Unanswered;
-use crate::words::said;
+use crate::words::one_word;
 use record_writer::{WriteFault, write_piece};
 use std::alloc::Global;
 use std::io::{Error, ErrorKind, Result as WriteResult, Write};
@@ -40,7 +40,7 @@ pub fn written_in_each_way<G: Recorded>(alloc: Global, game: &G) -> Result<Strin
     let text = game.text(alloc)?;
     let bytes = text.as_bytes();
     if !is_appended(alloc, game, bytes)? {
-        return said(alloc, "another text move by move");
+        return one_word(alloc, "another text move by move");
     }
     for size in 0..bytes.len() {
         if !is_begun(alloc, game, &bytes[..size])? {
@@ -106,7 +106,7 @@ fn appended(alloc: Global, pieces: &[String]) -> Result<String, Unanswered> {
     for piece in pieces {
         match write_piece(&mut bytes, piece.as_bytes()) {
             Ok(()) => {}
-            Err(_) => return said(alloc, "failed"),
+            Err(_) => return one_word(alloc, "failed"),
         }
     }
     told(alloc, "all", bytes.as_slice())

@@ -18,9 +18,9 @@ use Rattle.squares.specs.ShogiGeometry.{OnShogiBoard, shogi_number}
 use Rattle.squares.specs.ShogiPieces.{kind_of, demoted, hand_kind, promotes_to, on_board as kind_on_board}
 use Rattle.sfen.specs.declared.signs.Sign.{Sign}
 use Rattle.sfen.specs.declared.signs.Sign.TheVariants.{Zero, Digit, Piece, Plus, Slash, Blank}
-use Rattle.sfen.specs.declared.places.Place.{Place}
-use Rattle.sfen.specs.declared.places.Place.TheVariants.{Rank, Promoted, Hands, Held, AfterZero, OneDigit, TwoDigits}
-use Rattle.sfen.specs.declared.places.Place.TheVariants.{NoHands, Number, Digits, Turn, AfterTurn}
+use Rattle.sfen.specs.declared.places.SfenState.{SfenState}
+use Rattle.sfen.specs.declared.places.SfenState.TheVariants.{Rank, Promoted, Hands, Held, AfterZero, OneDigit, TwoDigits}
+use Rattle.sfen.specs.declared.places.SfenState.TheVariants.{NoHands, Number, Digits, Turn, AfterTurn}
 use Rattle.sfen.specs.declared.places.Action.{Action}
 use Rattle.sfen.specs.declared.places.Action.TheVariants.{Pass, Put, Hold}
 use Rattle.sfen.specs.Letters.{letter, piece_text, turn_letter}
@@ -39,7 +39,7 @@ use Rattle.squares.specs.declared.shogi.piece.Kind.TheVariants as kind
 use Rattle.squares.specs.declared.shogi.piece.Role.TheVariants as role
 
 -- a byte before others, by its sign and where that leads
-pub by-byte : (s : Stage) (c : ℕ) (sign : Sign) (to : Place) (action : Action) (text : List ℕ) → sign_of c ≡ sign
+pub by-byte : (s : Stage) (c : ℕ) (sign : Sign) (to : SfenState) (action : Action) (text : List ℕ) → sign_of c ≡ sign
     → next s.place sign ≡ Some (to, action) → run grow s (c ∷ text) ≡ run grow (moved to action s) text
 by-byte s c sign to action text is leads =
     ap (λ g. if_some (λ u. run grow u text) (moved_by (next s.place g) s)) is
@@ -179,7 +179,7 @@ turn-read board turn First held text = refl
 turn-read board turn Second held text = refl
 
 -- a place where pieces in the hands may begin
-abbrev IsHeldPlace : Place → Type 0
+abbrev IsHeldPlace : SfenState → Type 0
 IsHeldPlace place = (next place Zero ≡ at_item Zero) × ((n : ℕ) → next place (Digit n) ≡ at_item (Digit n))
     × ((side : Side) (own : Kind) → next place (Piece side own) ≡ at_item (Piece side own))
 
@@ -194,13 +194,13 @@ hand_kind-back in_hand.Rook = refl
 hand_kind-back _ = refl
 
 module _ (board : ShogiBoard) (turn : Side) (held : List HeldItem) where
-  abbrev here : Place → Stage
+  abbrev here : SfenState → Stage
   here place = on place board turn held
 
   abbrev with_item : HeldItem → Stage
   with_item item = on Held board turn (held ++ item ∷ [])
 
-  letter-read : (place : Place) (item : HeldItem) (count : ℕ) → count ≡ item.count
+  letter-read : (place : SfenState) (item : HeldItem) (count : ℕ) → count ≡ item.count
       → next place (Piece item.side (kind_on_board item.kind))
       ≡ hold count item.side (hand_kind (kind_on_board item.kind))
       → run grow (here place) (letter item.side (kind_on_board item.kind) ∷ []) ≡ Some (with_item item)
@@ -211,12 +211,12 @@ module _ (board : ShogiBoard) (turn : Side) (held : List HeldItem) where
       ∙ ap (λ n. Some (with_item (record { side = item.side; kind = item.kind; count = n }))) same
 
   -- a digit that is not zero, and two digits
-  digit-read : (place : Place) → IsHeldPlace place → (n : ℕ) → 1 ≤ n → n ≤ 9 → (text : List ℕ)
+  digit-read : (place : SfenState) → IsHeldPlace place → (n : ℕ) → 1 ≤ n → n ≤ 9 → (text : List ℕ)
       → run grow (here place) ((48 + n) ∷ text) ≡ run grow (here (OneDigit n)) text
   digit-read place h n low high text =
       by-byte (here place) (48 + n) (Digit n) (OneDigit n) Pass text (sign-digit n low high) (h.1 n)
 
-  two-read : (place : Place) → IsHeldPlace place → (tens ones : ℕ) → tens ≤ 9 → ones ≤ 9 → 1 ≤ 10 * tens + ones
+  two-read : (place : SfenState) → IsHeldPlace place → (tens ones : ℕ) → tens ≤ 9 → ones ≤ 9 → 1 ≤ 10 * tens + ones
       → (text : List ℕ) → run grow (here place) ((48 + tens) ∷ (48 + ones) ∷ text)
       ≡ run grow (here (TwoDigits (10 * tens + ones))) text
   two-read place h zero zero t o some text = absurd (omega (arith, some))
@@ -233,7 +233,7 @@ module _ (board : ShogiBoard) (turn : Side) (held : List HeldItem) where
       ∙ by-byte (here (OneDigit (suc tens))) (48 + suc ones) (Digit (suc ones)) (TwoDigits (10 * suc tens + suc ones))
       Pass text (sign-digit (suc ones) (omega arith) o) refl
 
-  item-read : (place : Place) → IsHeldPlace place → (item : HeldItem) (digits : List ℕ) → IsCountText item.count digits
+  item-read : (place : SfenState) → IsHeldPlace place → (item : HeldItem) (digits : List ℕ) → IsCountText item.count digits
       → run grow (here place) (digits ++ letter item.side (kind_on_board item.kind) ∷ []) ≡ Some (with_item item)
   item-read place h item digits (unwritten one none) =
       ap (λ t. run grow (here place) (t ++ letter item.side (kind_on_board item.kind) ∷ [])) none
@@ -248,7 +248,7 @@ module _ (board : ShogiBoard) (turn : Side) (held : List HeldItem) where
       ∙ two-read place h tens ones t o (omega (arith, low, count)) (c ∷ [])
       ∙ letter-read (TwoDigits (10 * tens + ones)) item (10 * tens + ones) (sym count) refl
 
-  held-read : (place : Place) → IsHeldPlace place → (item : HeldItem) (text : List ℕ) → IsHeldText item text
+  held-read : (place : SfenState) → IsHeldPlace place → (item : HeldItem) (text : List ℕ) → IsHeldText item text
       → run grow (here place) text ≡ Some (with_item item)
   held-read place h item text is = ap (run grow (here place)) is.2 ∙ item-read place h item is.0 is.1
 
@@ -264,11 +264,11 @@ items-read board turn (item ∷ items) held text are =
     ∙ ap (λ h. Some (on Held board turn h)) (append_assoc held (item ∷ []) items)
 
 -- a text of the hands ends where a number or nothing may follow
-abbrev IsHandEnd : Place → Type 0
+abbrev IsHandEnd : SfenState → Type 0
 IsHandEnd place = (number_at_end place ≡ Some 1) × (next place Blank ≡ Some (Number, Pass))
 
 pub record HandRead (board : ShogiBoard) (turn : Side) (items : List HeldItem) (text : List ℕ) : Type 0 where
-  pub place : Place
+  pub place : SfenState
   pub read : run grow (on Hands board turn []) text ≡ Some (on place board turn items)
   pub ends : IsHandEnd place
 
@@ -316,13 +316,13 @@ digits-read board turn held (digit ∷ digits) number are within =
         (more (suc digit) small)
 
 -- the last place, and what is read there
-pub record NumberRead (place : Place) (board : ShogiBoard) (turn : Side) (held : List HeldItem) (number : ℕ)
+pub record NumberRead (place : SfenState) (board : ShogiBoard) (turn : Side) (held : List HeldItem) (number : ℕ)
     (text : List ℕ) : Type 0 where
-  pub last : Place
+  pub last : SfenState
   pub read : run grow (on place board turn held) text ≡ Some (on last board turn held)
   pub ends : number_at_end last ≡ Some number
 
-number-read : (place : Place) (board : ShogiBoard) (turn : Side) (held : List HeldItem) (number : ℕ) (text : List ℕ)
+number-read : (place : SfenState) (board : ShogiBoard) (turn : Side) (held : List HeldItem) (number : ℕ) (text : List ℕ)
     → IsHandEnd place → IsNumberText number text → NumberRead place board turn held number text
 number-read place board turn held number text end (inl none) =
     record { last = place; read = ap (run grow (on place board turn held)) none.0; ends = end.0 ∙ ap Some (sym none.1) }
@@ -429,7 +429,7 @@ module _ (turn : Side) (held : List HeldItem) where
 pub closes : (s : Stage) → IsSane s.place → Closes s
 closes s sane = by s.place s.board s.turn s.held sane
   where
-    by : (place : Place) (board : ShogiBoard) (turn : Side) (held : List HeldItem) → IsSane place
+    by : (place : SfenState) (board : ShogiBoard) (turn : Side) (held : List HeldItem) → IsSane place
         → Closes (on place board turn held)
     by (Rank rank left) board turn held h = rank-close turn held board rank left h.0.1 h.1
     by (Promoted rank left) board turn held h = promoted-close turn held board rank left h.0 h.1

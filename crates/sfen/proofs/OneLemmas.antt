@@ -1,7 +1,7 @@
 -- What the reader's answers say of a text, and that a text is read in one way.
 use Rattle.std.proofs.Common.{◌≡◌, ℕ, ◌+◌, ◌<◌, List, length, take, get_or, Some, None, sym, ap, ◌∙◌, subst, ◌≤◌, []}
 use Rattle.std.proofs.Common.{◌∷◌, ◌++◌, inl, inr, drop, Option, refl, arith}
-use Rattle.sfen.specs.declared.places.Place.{Place}
+use Rattle.sfen.specs.declared.places.SfenState.{SfenState}
 use Rattle.sfen.specs.declared.places.Action.{Action}
 use Rattle.sfen.specs.declared.reading.Reading.{Reading}
 use Rattle.sfen.specs.Signs.{sign_of}
@@ -30,7 +30,7 @@ use Rattle.sfen.specs.declared.faults.SfenFault.{SfenFault}
 use Rattle.sfen.specs.declared.faults.SfenFault.TheVariants.{BadText, TooManyPieces, Kings}
 
 -- a byte that is taken
-pub takes : (reading after : Reading) (byte : ℕ) (place : Place) (action : Action) → IsSane reading.place
+pub takes : (reading after : Reading) (byte : ℕ) (place : SfenState) (action : Action) → IsSane reading.place
     → next reading.place (sign_of byte) ≡ Some (place, action) → after ≡ act action reading
     → (take_byte reading byte ≡ Some (record after { place = place })) × IsSane place
 takes reading after byte place action sane is acted = (

@@ -6,9 +6,9 @@ use Rattle.std.proofs.Common.{nat_lt, ◌&&◌, Option}
 use Rattle.std.proofs.lemmas.Bool.Decides.{nat_tests}
 use Rattle.squares.specs.declared.shogi.piece.SPiece.{SPiece}
 use Rattle.squares.specs.ShogiGeometry.{shogi_number, OnShogiBoard}
-use Rattle.sfen.specs.declared.places.Place.{Place}
-use Rattle.sfen.specs.declared.places.Place.TheVariants.{Rank, Promoted, Turn, AfterTurn, Hands, Held, AfterZero}
-use Rattle.sfen.specs.declared.places.Place.TheVariants.{OneDigit, TwoDigits, NoHands, Number, Digits}
+use Rattle.sfen.specs.declared.places.SfenState.{SfenState}
+use Rattle.sfen.specs.declared.places.SfenState.TheVariants.{Rank, Promoted, Turn, AfterTurn, Hands, Held, AfterZero}
+use Rattle.sfen.specs.declared.places.SfenState.TheVariants.{OneDigit, TwoDigits, NoHands, Number, Digits}
 use Rattle.sfen.specs.declared.places.Action.{Action}
 use Rattle.sfen.specs.declared.places.Action.TheVariants.{Put, Pass, Move, Hold}
 use Rattle.sfen.specs.Places.{Step, on_board, put_at, placed, IsSane, in_rank, promoted, hold, at_item, one_more, next}
@@ -38,17 +38,17 @@ use Rattle.sfen.specs.Reading.{if_some, run}
 use Rattle.sfen.proofs.SignLemmas.{IsSign, sign-is}
 
 -- what holds of a step, if there is one
-abbrev pub IfStep : (Place → Action → Type 0) → Step → Type 0
+abbrev pub IfStep : (SfenState → Action → Type 0) → Step → Type 0
 IfStep P None = Unit {0}
 IfStep P (Some step) = P step.0 step.1
 
-pub if-step : (P : Place → Action → Type 0) (b : Bool) (place : Place) (action : Action) → (b ≡ true → P place action)
+pub if-step : (P : SfenState → Action → Type 0) (b : Bool) (place : SfenState) (action : Action) → (b ≡ true → P place action)
     → IfStep P (cond b (Some (place, action)) None)
 if-step P true place action h = h refl
 if-step P false place action h = tt
 
 -- a piece is put on a square of the board
-pub if-placed : (P : Place → Action → Type 0) (rank left : ℕ) (piece : SPiece)
+pub if-placed : (P : SfenState → Action → Type 0) (rank left : ℕ) (piece : SPiece)
     → (1 ≤ left → left ≤ 9 → P (Rank rank (left - 1)) (Put (shogi_number left rank) piece))
     → IfStep P (placed rank left piece)
 if-placed P rank left piece h = by (on_board left rank) (λ e. h (grind (arith, nat_tests)) (grind (arith, nat_tests)))
@@ -58,7 +58,7 @@ if-placed P rank left piece h = by (on_board left rank) (λ e. h (grind (arith, 
     by true h = h refl
     by false h = tt
 
-abbrev pub Leads : Place → Action → Type 0
+abbrev pub Leads : SfenState → Action → Type 0
 Leads place action = IsSane place
 
 -- ---- What is left of a text from each place on, where the whole text has a form
@@ -106,7 +106,7 @@ pub record RankRest (rank left : ℕ) (board : ShogiBoard) (held : List HeldItem
   pub keeps : Keeps rank left form.board board
 
 -- what is left after the turn
-abbrev pub LateRest : Place → List HeldItem → List ℕ → SfenForm → Type 0
+abbrev pub LateRest : SfenState → List HeldItem → List ℕ → SfenForm → Type 0
 LateRest AfterTurn held text form = (tail : List ℕ) × (text ≡ 32 ∷ tail) × HandsRest held tail form
 LateRest Hands held text form = HandsRest held text form
 LateRest Held held text form = HeldRest held text form
@@ -121,7 +121,7 @@ LateRest (Digits number) held text form = (form.held ≡ held)
     × (text ≡ digit_texts digits))
 LateRest _ held text form = ⊥
 
-abbrev pub RestAt : Place → ShogiBoard → Side → List HeldItem → List ℕ → SfenForm → Type 0
+abbrev pub RestAt : SfenState → ShogiBoard → Side → List HeldItem → List ℕ → SfenForm → Type 0
 RestAt (Rank rank left) board turn held text form = RankRest rank left board held text form
 RestAt (Promoted rank left) board turn held text form = RankRest rank left board held (43 ∷ text) form
 RestAt Turn board turn held text form = (form.board ≡ board) × TurnRest held text form
@@ -164,7 +164,7 @@ form-of text form h on =
 -- ---- What is read to its end has a form: each byte adds to what is left of the text
 
 -- the squares that are not reached are empty
-abbrev pub FreshAt : Place → ShogiBoard → Type 0
+abbrev pub FreshAt : SfenState → ShogiBoard → Type 0
 FreshAt (Rank rank left) board = Fresh rank left board
 FreshAt (Promoted rank left) board = Fresh rank left board
 FreshAt _ board = IsOnSquares board
@@ -305,7 +305,7 @@ board-back board held text form same turn =
 module _ (board : ShogiBoard) (turn : Side) (held : List HeldItem) (text : List ℕ) (form : SfenForm) where
   -- A step is good: what is left after it, and its byte, are what was left before it, the squares ahead stay empty, and
   -- the numbers of its place keep to their bounds.
-  abbrev Good : Place → ℕ → Place → Action → Type 0
+  abbrev Good : SfenState → ℕ → SfenState → Action → Type 0
   Good place c to action =
       (Rest (moved to action (on place board turn held)) text form → Rest (on place board turn held) (c ∷ text) form)
       × (FreshAt to (moved to action (on place board turn held)).board × IsSane to)
@@ -409,14 +409,14 @@ module _ (board : ShogiBoard) (turn : Side) (held : List HeldItem) (text : List 
       → (form.board ≡ board) × (form.turn ≡ turn) × A → (form.board ≡ board) × (form.turn ≡ turn) × B
   late f h = (h.0, h.1, f h.2)
 
-  hold-back : (P : Place → Action → Type 0) (side : Side) (own : Kind) (count : ℕ)
+  hold-back : (P : SfenState → Action → Type 0) (side : Side) (own : Kind) (count : ℕ)
       → ((kind : HandKind) → kind_on_board kind ≡ own → P Held (Hold side kind count)) → (o : Option HandKind)
       → IsOfKind own o → IfStep P (hold count side o)
   hold-back P side own count h None same = tt
   hold-back P side own count h (Some kind) same = h kind same
 
   -- the first byte of pieces
-  first-back : (place : Place) (c : ℕ) → IsOnSquares board
+  first-back : (place : SfenState) (c : ℕ) → IsOnSquares board
       → ((form.board ≡ board) × (form.turn ≡ turn) × ItemRest held (c ∷ text) form
       → Rest (on place board turn held) (c ∷ text) form) → (sign : Sign) → IsSign sign c
       → IfStep (Good place c) (at_item sign)
@@ -444,7 +444,7 @@ module _ (board : ShogiBoard) (turn : Side) (held : List HeldItem) (text : List 
         (fresh, (omega arith, grind (arith, nat_tests))),
       ))
 
-  back : (place : Place) (sign : Sign) (c : ℕ) → IsSane place → FreshAt place board → IsSign sign c
+  back : (place : SfenState) (sign : Sign) (c : ℕ) → IsSane place → FreshAt place board → IsSign sign c
       → IfStep (Good place c) (next place sign)
   back (Rank rank left) sign c sane fresh is = rank-back rank left sign c sane.0 sane.1 fresh is
   back (Promoted rank left) (Piece side own) c sane fresh is =
@@ -516,12 +516,12 @@ module _ (board : ShogiBoard) (turn : Side) (held : List HeldItem) (text : List 
   back (Digits number) _ c sane fresh is = tt
 
 -- a step leads to a place whose numbers keep to their bounds
-empty-fresh : (place : Place) → FreshAt place map.empty
+empty-fresh : (place : SfenState) → FreshAt place map.empty
 empty-fresh (Rank rank left) = fresh-nothing rank left
 empty-fresh (Promoted rank left) = fresh-nothing rank left
 empty-fresh _ = λ n off. map.get-empty nat_cmp n
 
-pub sane-next : (place : Place) (c : ℕ) → IsSane place → IfStep Leads (next place (sign_of c))
+pub sane-next : (place : SfenState) (c : ℕ) → IsSane place → IfStep Leads (next place (sign_of c))
 sane-next place c sane =
     let form : SfenForm = record { board = map.empty; turn = First; held = []; number = 1 } in
     leads (next place (sign_of c))
@@ -535,7 +535,7 @@ sane-next place c sane =
     leads (Some step) h = h.1.1
 
 -- at the end nothing is left
-ends : (place : Place) (board : ShogiBoard) (turn : Side) (held : List HeldItem) (number : ℕ) → IsSane place
+ends : (place : SfenState) (board : ShogiBoard) (turn : Side) (held : List HeldItem) (number : ℕ) → IsSane place
     → FreshAt place board → number_at_end place ≡ Some number
     → Rest (on place board turn held) [] (record { board = board; turn = turn; held = held; number = number })
     × IsOnSquares board
@@ -548,7 +548,7 @@ ends (Digits n) board turn held number sane h e =
     ((refl, refl, (refl, ([], tt, sym same, subst (λ m. m ≤ 9999) same sane.1, refl))), h)
 ends _ board turn held number sane h e = cc
 
-pub moved-place : (to : Place) (action : Action) (s : Stage) → (moved to action s).place ≡ to
+pub moved-place : (to : SfenState) (action : Action) (s : Stage) → (moved to action s).place ≡ to
 moved-place to Pass s = refl
 moved-place to (Put square piece) s = refl
 moved-place to (Move side) s = refl

@@ -9,8 +9,8 @@ use Rattle.squares.specs.declared.sides.Side.{Side}
 use Rattle.squares.specs.declared.sides.Side.TheVariants.{First, Second}
 use Rattle.squares.specs.declared.shogi.hand.Hands.{Hands}
 use Rattle.squares.specs.ShogiBoard.{ShogiBoard}
-use Rattle.sfen.specs.declared.places.Place.{Place}
-use Rattle.sfen.specs.declared.places.Place.TheVariants.{Rank}
+use Rattle.sfen.specs.declared.places.SfenState.{SfenState}
+use Rattle.sfen.specs.declared.places.SfenState.TheVariants.{Rank}
 use Rattle.sfen.specs.declared.places.Action.{Action}
 use Rattle.sfen.specs.declared.places.Action.TheVariants.{Pass, Put, Move, Hold}
 use Rattle.sfen.specs.declared.reading.Reading.{Reading}
@@ -57,15 +57,15 @@ run-more step s t text i c within is before =
 -- ---- Readings that keep the pieces in the hands as they are listed
 
 pub record Stage : Type 0 where
-  pub place : Place
+  pub place : SfenState
   pub board : ShogiBoard
   pub turn : Side
   pub held : List HeldItem
 
-abbrev pub on : Place → ShogiBoard → Side → List HeldItem → Stage
+abbrev pub on : SfenState → ShogiBoard → Side → List HeldItem → Stage
 on place board turn held = record { place = place; board = board; turn = turn; held = held }
 
-abbrev pub moved : Place → Action → Stage → Stage
+abbrev pub moved : SfenState → Action → Stage → Stage
 moved to Pass s = record s { place = to }
 moved to (Put square piece) s =
     record { place = to; board = map.insert s.board square piece; turn = s.turn; held = s.held }
@@ -109,7 +109,7 @@ tally-more hands (first ∷ items) item = tally-more (holding first.side first.k
 abbrev pub seen : Stage → Reading
 seen s = record { place = s.place; board = s.board; hands = tally s.held; turn = s.turn }
 
-seen-step : (to : Place) (action : Action) (s : Stage)
+seen-step : (to : SfenState) (action : Action) (s : Stage)
     → record (act action (seen s)) { place = to } ≡ seen (moved to action s)
 seen-step to Pass s = refl
 seen-step to (Put square piece) s = refl

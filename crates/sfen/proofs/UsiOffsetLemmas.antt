@@ -3,7 +3,7 @@ use Rattle.std.proofs.Common.{◌≡◌, ℕ, zero, suc, ◌+◌, ◌<◌, ◌�
 use Rattle.std.proofs.Common.{true, false, cond, refl, ap, ◌∙◌, arith, lit≤, ◌-◌, max, is_some, Option, Some, None, sym}
 use Rattle.std.proofs.Common.{subst, inl, inr}
 use Rattle.std.proofs.lemmas.List.{at_drop_more}
-use Rattle.sfen.specs.declared.usi_reading.Place.{Place}
+use Rattle.sfen.specs.declared.usi_reading.UsiField.{UsiField}
 use Rattle.sfen.specs.UsiReading.{fits, reach, step_places, drop_places, usi_reach, usi_reading, kind_reading, is_file}
 use Rattle.sfen.specs.UsiReading.{is_rank}
 use Rattle.std.proofs.lemmas.Bool.{cases_lt, eqb-true}
@@ -18,7 +18,7 @@ use Rattle.sfen.proofs.UsiTextLemmas.{square-bytes, is_file-text, is_rank-text, 
 use Rattle.sfen.proofs.UsiTextLemmas.{usi_reading-sound, text-read}
 
 -- no text goes farther than its end
-pub reach-within : (places : List Place) (text : List ℕ) → reach places text ≤ length text
+pub reach-within : (places : List UsiField) (text : List ℕ) → reach places text ≤ length text
 reach-within [] text = omega arith
 reach-within (p ∷ places) [] = omega arith
 reach-within (p ∷ places) (c ∷ text) =
@@ -27,19 +27,19 @@ reach-within (p ∷ places) (c ∷ text) =
     [ true ↦ omega (arith, rest) | false ↦ omega arith ]
 
 -- a byte that does not fit
-pub reach-stops : (places : List Place) (k : ℕ) (d : Place) (text : List ℕ) → k < length places → 1 ≤ length text
+pub reach-stops : (places : List UsiField) (k : ℕ) (d : UsiField) (text : List ℕ) → k < length places → 1 ≤ length text
     → fits (get_or places k d) (get_or text 0 0) ≡ false → reach (drop k places) text ≡ 0
 reach-stops places k d [] h some e = absurd (omega (arith, some))
 reach-stops places k d (c ∷ text) h some e =
     at_drop_more (λ ps. reach ps (c ∷ text)) places k d h
     ∙ ap (λ b. cond b (suc (reach (drop (k + 1) places) text)) 0) e
 
-pub reach-empty : (places : List Place) → reach places [] ≡ 0
+pub reach-empty : (places : List UsiField) → reach places [] ≡ 0
 reach-empty [] = refl
 reach-empty (p ∷ places) = refl
 
 -- where a beginning goes on to a text that fits, the text goes as far as this beginning
-pub reach-begin : (places : List Place) (n : ℕ) (text rest : List ℕ) → n ≤ length text
+pub reach-begin : (places : List UsiField) (n : ℕ) (text rest : List ℕ) → n ≤ length text
     → length (take n text ++ rest) ≤ reach places (take n text ++ rest) → n ≤ reach places text
 reach-begin places zero text rest h fit = omega arith
 reach-begin places (suc n) [] rest h fit = absurd (omega (arith, h))
@@ -54,14 +54,14 @@ reach-begin (p ∷ places) (suc n) (c ∷ text) rest h fit =
     ] fit
 
 -- a text that fits all the places
-abbrev pub Passes : List Place → List ℕ → Type 0
+abbrev pub Passes : List UsiField → List ℕ → Type 0
 Passes [] [] = Unit {0}
 Passes [] (c ∷ text) = ⊥
 Passes (p ∷ places) [] = ⊥
 Passes (p ∷ places) (c ∷ text) = (fits p c ≡ true) × Passes places text
 
 -- a text that stops fitting goes on to one that fits
-pub fill : (places : List Place) (text more : List ℕ) → Passes places more
+pub fill : (places : List UsiField) (text more : List ℕ) → Passes places more
     → Passes places (take (reach places text) text ++ drop (reach places text) more)
 fill [] text [] h = h
 fill [] text (d ∷ more) h = absurd h
@@ -79,7 +79,7 @@ some-kind (Some kind) e = (kind, refl)
 some-kind None e = cc
 
 -- A step's text, and a drop's, fit their places.
-abbrev pub WholeFits : List Place → List ℕ → Type 0
+abbrev pub WholeFits : List UsiField → List ℕ → Type 0
 WholeFits places text = length text ≤ reach places text
 
 step-fits : (from to : ℕ) (promote : Bool) → from < 81 → to < 81

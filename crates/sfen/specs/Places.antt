@@ -11,14 +11,14 @@ use Rattle.squares.specs.ShogiGeometry.{shogi_number}
 use Rattle.squares.specs.ShogiPieces.{demoted, hand_kind, promotes_to}
 use Rattle.sfen.specs.declared.signs.Sign.{Sign}
 use Rattle.sfen.specs.declared.signs.Sign.TheVariants.{Zero, Digit, Piece, White, Plus, Minus, Slash, Blank}
-use Rattle.sfen.specs.declared.places.Place.{Place}
-use Rattle.sfen.specs.declared.places.Place.TheVariants.{Rank, Promoted, Turn, AfterTurn, Hands, Held, AfterZero}
-use Rattle.sfen.specs.declared.places.Place.TheVariants.{OneDigit, TwoDigits, NoHands, Number, Digits}
+use Rattle.sfen.specs.declared.places.SfenState.{SfenState}
+use Rattle.sfen.specs.declared.places.SfenState.TheVariants.{Rank, Promoted, Turn, AfterTurn, Hands, Held, AfterZero}
+use Rattle.sfen.specs.declared.places.SfenState.TheVariants.{OneDigit, TwoDigits, NoHands, Number, Digits}
 use Rattle.sfen.specs.declared.places.Action.{Action}
 use Rattle.sfen.specs.declared.places.Action.TheVariants.{Pass, Put, Move, Hold}
 
 abbrev pub Step : Type 0
-Step = Option (Place × Action)
+Step = Option (SfenState × Action)
 
 abbrev pub on_board : ℕ → ℕ → Bool
 on_board file rank = (nat_le 1 file && nat_le file 9) && (nat_le 1 rank && nat_le rank 9)
@@ -54,7 +54,7 @@ at_turn (Piece Second kind.Bishop) = Some (AfterTurn, Move First)
 at_turn White = Some (AfterTurn, Move Second)
 at_turn _ = None
 
-abbrev pub past_blank : Place → Sign → Step
+abbrev pub past_blank : SfenState → Sign → Step
 past_blank after Blank = Some (after, Pass)
 past_blank after _ = None
 
@@ -102,7 +102,7 @@ in_number number Zero = one_more number 0
 in_number number (Digit n) = one_more number n
 in_number number _ = None
 
-abbrev pub next : Place → Sign → Step
+abbrev pub next : SfenState → Sign → Step
 next (Rank rank left) sign = in_rank rank left sign
 next (Promoted rank left) sign = after_plus rank left sign
 next Turn sign = at_turn sign
@@ -116,14 +116,14 @@ next NoHands sign = past_blank Number sign
 next Number sign = at_number sign
 next (Digits number) sign = in_number number sign
 
-abbrev pub number_at_end : Place → Option ℕ
+abbrev pub number_at_end : SfenState → Option ℕ
 number_at_end Held = Some 1
 number_at_end NoHands = Some 1
 number_at_end (Digits number) = Some number
 number_at_end _ = None
 
 -- the numbers of a state are within their bounds
-abbrev pub IsSane : Place → Type 0
+abbrev pub IsSane : SfenState → Type 0
 IsSane (Rank rank left) = ((1 ≤ rank) × (rank ≤ 9)) × (left ≤ 9)
 IsSane (Promoted rank left) = ((1 ≤ rank) × (rank ≤ 9)) × ((1 ≤ left) × (left ≤ 9))
 IsSane (OneDigit digit) = (1 ≤ digit) × (digit ≤ 9)

@@ -7,7 +7,7 @@ use Rattle.squares.specs.declared.shogi.piece.HandKind.{HandKind}
 use Rattle.squares.specs.declared.shogi.hand.Hands.{Hands}
 use Rattle.squares.specs.declared.shogi.hand.Hand.{Hand}
 use Rattle.squares.specs.ShogiHands.{count_of, with_count}
-use Rattle.sfen.specs.declared.places.Place.TheVariants.{Rank}
+use Rattle.sfen.specs.declared.places.SfenState.TheVariants.{Rank}
 use Rattle.sfen.specs.declared.places.Action.{Action}
 use Rattle.sfen.specs.declared.places.Action.TheVariants.{Pass, Put, Move, Hold}
 use Rattle.sfen.specs.declared.reading.Reading.{Reading}

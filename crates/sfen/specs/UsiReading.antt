@@ -7,8 +7,8 @@ use Rattle.squares.specs.declared.shogi.piece.HandKind.TheVariants as in_hand
 use Rattle.squares.specs.declared.shogi.moves.SMove.{SMove}
 use Rattle.squares.specs.declared.shogi.moves.SMove.TheVariants.{Step, Drop}
 use Rattle.squares.specs.ShogiGeometry.{shogi_number}
-use Rattle.sfen.specs.declared.usi_reading.Place.{Place}
-use Rattle.sfen.specs.declared.usi_reading.Place.TheVariants as place
+use Rattle.sfen.specs.declared.usi_reading.UsiField.{UsiField}
+use Rattle.sfen.specs.declared.usi_reading.UsiField.TheVariants as place
 
 abbrev pub is_file : ℕ → Bool
 is_file c = nat_le 49 c && nat_le c 57
@@ -52,7 +52,7 @@ usi_reading (a ∷ b ∷ c ∷ d ∷ e ∷ []) =
 usi_reading _ = None
 
 -- whether a byte is allowed at a place of a move's text
-abbrev pub fits : Place → ℕ → Bool
+abbrev pub fits : UsiField → ℕ → Bool
 fits place.File c = is_file c
 fits place.Rank c = is_rank c
 fits place.Plus c = c == 43
@@ -60,16 +60,16 @@ fits place.Piece c = is_some (kind_reading c)
 fits place.Star c = c == 42
 
 -- the number of leading bytes that match the places
-abbrev pub reach : List Place → List ℕ → ℕ
+abbrev pub reach : List UsiField → List ℕ → ℕ
 reach [] text = 0
 reach (p ∷ places) [] = 0
 reach (p ∷ places) (c ∷ text) = if fits p c then suc (reach places text) else 0
 
 -- the places of a board move's text and of a drop's text
-unfoldable pub step_places : List Place
+unfoldable pub step_places : List UsiField
 step_places = place.File ∷ place.Rank ∷ place.File ∷ place.Rank ∷ place.Plus ∷ []
 
-unfoldable pub drop_places : List Place
+unfoldable pub drop_places : List UsiField
 drop_places = place.Piece ∷ place.Star ∷ place.File ∷ place.Rank ∷ []
 
 -- the length of the longest prefix that can begin a move's text

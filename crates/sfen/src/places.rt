@@ -8,7 +8,7 @@ use squares::{HandKind, Kind, Role, SPiece, Side, Ssq};
 
 /// A state of the reader.
 #[derive(Clone, Copy)]
-pub enum Place {
+pub enum SfenState {
     /// In a rank, 1 to 9, with this many files left to fill.
     Rank { rank: u8, left: u8 },
     /// In a rank, after a `+`.
@@ -45,7 +45,7 @@ pub enum Action {
 }
 
 /// A transition: the next state, and the effect on the position.
-pub type Step = (Place, Action);
+pub type Step = (SfenState, Action);
 
 // The square of a file and a rank, if it is on the board.
 fn square_at(file: u8, rank: u8) -> Option<Ssq>
@@ -62,7 +62,7 @@ fn placed(rank: u8, left: u8, piece: SPiece) -> Option<Step>
     match square_at(left, rank) {
         None => None,
         Some(square) => Some((
-            Place::Rank {
+            SfenState::Rank {
                 rank,
                 left: left - 1,
             },
@@ -76,7 +76,7 @@ fn in_rank(rank: u8, left: u8, sign: Sign) -> Option<Step>
 {
     match sign {
         Sign::Digit(n) if n <= left => Some((
-            Place::Rank {
+            SfenState::Rank {
                 rank,
                 left: left - n,
             },
@@ -90,15 +90,15 @@ fn in_rank(rank: u8, left: u8, sign: Sign) -> Option<Step>
                 role: kind.role(),
             },
         ),
-        Sign::Plus if left > 0 => Some((Place::Promoted { rank, left }, Action::Pass)),
+        Sign::Plus if left > 0 => Some((SfenState::Promoted { rank, left }, Action::Pass)),
         Sign::Slash if left == 0 && rank < 9 => Some((
-            Place::Rank {
+            SfenState::Rank {
                 rank: rank + 1,
                 left: 9,
             },
             Action::Pass,
         )),
-        Sign::Blank if left == 0 && rank == 9 => Some((Place::Turn, Action::Pass)),
+        Sign::Blank if left == 0 && rank == 9 => Some((SfenState::Turn, Action::Pass)),
         _ => None,
     }
 }
@@ -126,15 +126,15 @@ fn at_turn(sign: Sign) -> Option<Step>
 {
     match sign {
         Sign::Piece(Side::Second, Kind::Bishop) => {
-            Some((Place::AfterTurn, Action::Move(Side::First)))
+            Some((SfenState::AfterTurn, Action::Move(Side::First)))
         }
-        Sign::White => Some((Place::AfterTurn, Action::Move(Side::Second))),
+        Sign::White => Some((SfenState::AfterTurn, Action::Move(Side::Second))),
         _ => None,
     }
 }
 
 // A space, followed by the state `next`.
-fn past_blank(next: Place, sign: Sign) -> Option<Step>
+fn past_blank(next: SfenState, sign: Sign) -> Option<Step>
     ensures { result ≡ spec.past_blank next sign }
 {
     match sign {
@@ -148,7 +148,7 @@ fn hold(count: u8, side: Side, kind: Option<HandKind>) -> Option<Step>
 {
     match kind {
         None => None,
-        Some(kind) => Some((Place::Held, Action::Hold(side, kind, count))),
+        Some(kind) => Some((SfenState::Held, Action::Hold(side, kind, count))),
     }
 }
 
@@ -157,9 +157,9 @@ fn at_item(sign: Sign) -> Option<Step>
     ensures { result ≡ spec.at_item sign }
 {
     match sign {
-        Sign::Zero => Some((Place::AfterZero, Action::Pass)),
-        Sign::Digit(n) => Some((Place::OneDigit(n), Action::Pass)),
-        Sign::Piece(side, kind) => hold(1, side, kind.in_hand()),
+        Sign::Zero => Some((SfenState::AfterZero, Action::Pass)),
+        Sign::Digit(n) => Some((SfenState::OneDigit(n), Action::Pass)),
+        Sign::Piece(side, kind) => hold(1, side, kind.to_hand_kind()),
         _ => None,
     }
 }
@@ -168,7 +168,7 @@ fn at_hands(sign: Sign) -> Option<Step>
     ensures { result ≡ spec.at_hands sign }
 {
     match sign {
-        Sign::Minus => Some((Place::NoHands, Action::Pass)),
+        Sign::Minus => Some((SfenState::NoHands, Action::Pass)),
         _ => at_item(sign),
     }
 }
@@ -177,7 +177,7 @@ fn at_held(sign: Sign) -> Option<Step>
     ensures { result ≡ spec.at_held sign }
 {
     match sign {
-        Sign::Blank => Some((Place::Number, Action::Pass)),
+        Sign::Blank => Some((SfenState::Number, Action::Pass)),
         _ => at_item(sign),
     }
 }
@@ -186,7 +186,7 @@ fn after_zero(sign: Sign) -> Option<Step>
     ensures { result ≡ spec.after_zero sign }
 {
     match sign {
-        Sign::Digit(n) => Some((Place::TwoDigits(n), Action::Pass)),
+        Sign::Digit(n) => Some((SfenState::TwoDigits(n), Action::Pass)),
         _ => None,
     }
 }
@@ -197,9 +197,9 @@ fn one_digit(digit: u8, sign: Sign) -> Option<Step>
     ensures { result ≡ spec.one_digit digit sign }
 {
     match sign {
-        Sign::Zero => Some((Place::TwoDigits(10 * digit), Action::Pass)),
-        Sign::Digit(n) => Some((Place::TwoDigits(10 * digit + n), Action::Pass)),
-        Sign::Piece(side, kind) => hold(digit, side, kind.in_hand()),
+        Sign::Zero => Some((SfenState::TwoDigits(10 * digit), Action::Pass)),
+        Sign::Digit(n) => Some((SfenState::TwoDigits(10 * digit + n), Action::Pass)),
+        Sign::Piece(side, kind) => hold(digit, side, kind.to_hand_kind()),
         _ => None,
     }
 }
@@ -208,7 +208,7 @@ fn two_digits(count: u8, sign: Sign) -> Option<Step>
     ensures { result ≡ spec.two_digits count sign }
 {
     match sign {
-        Sign::Piece(side, kind) => hold(count, side, kind.in_hand()),
+        Sign::Piece(side, kind) => hold(count, side, kind.to_hand_kind()),
         _ => None,
     }
 }
@@ -217,7 +217,7 @@ fn at_number(sign: Sign) -> Option<Step>
     ensures { result ≡ spec.at_number sign }
 {
     match sign {
-        Sign::Digit(n) => Some((Place::Digits(u16::from(n)), Action::Pass)),
+        Sign::Digit(n) => Some((SfenState::Digits(u16::from(n)), Action::Pass)),
         _ => None,
     }
 }
@@ -227,7 +227,10 @@ fn one_more(number: u16, digit: u8) -> Option<Step>
     ensures { result ≡ spec.one_more number digit }
 {
     if number < 1000 {
-        return Some((Place::Digits(10 * number + u16::from(digit)), Action::Pass));
+        return Some((
+            SfenState::Digits(10 * number + u16::from(digit)),
+            Action::Pass,
+        ));
     }
     None
 }
@@ -243,34 +246,34 @@ fn in_number(number: u16, sign: Sign) -> Option<Step>
 }
 
 /// The transition for a byte, or `None` if no SFEN text continues with it.
-pub fn next(place: Place, sign: Sign) -> Option<Step>
+pub fn next(place: SfenState, sign: Sign) -> Option<Step>
     requires place { spec.IsSane place }
     requires sign { IsSaneSign sign }
     ensures { result ≡ spec.next place sign }
 {
     match place {
-        Place::Rank { rank, left } => in_rank(rank, left, sign),
-        Place::Promoted { rank, left } => after_plus(rank, left, sign),
-        Place::Turn => at_turn(sign),
-        Place::AfterTurn => past_blank(Place::Hands, sign),
-        Place::Hands => at_hands(sign),
-        Place::Held => at_held(sign),
-        Place::AfterZero => after_zero(sign),
-        Place::OneDigit(digit) => one_digit(digit, sign),
-        Place::TwoDigits(count) => two_digits(count, sign),
-        Place::NoHands => past_blank(Place::Number, sign),
-        Place::Number => at_number(sign),
-        Place::Digits(number) => in_number(number, sign),
+        SfenState::Rank { rank, left } => in_rank(rank, left, sign),
+        SfenState::Promoted { rank, left } => after_plus(rank, left, sign),
+        SfenState::Turn => at_turn(sign),
+        SfenState::AfterTurn => past_blank(SfenState::Hands, sign),
+        SfenState::Hands => at_hands(sign),
+        SfenState::Held => at_held(sign),
+        SfenState::AfterZero => after_zero(sign),
+        SfenState::OneDigit(digit) => one_digit(digit, sign),
+        SfenState::TwoDigits(count) => two_digits(count, sign),
+        SfenState::NoHands => past_blank(SfenState::Number, sign),
+        SfenState::Number => at_number(sign),
+        SfenState::Digits(number) => in_number(number, sign),
     }
 }
 
 /// The move number if a text may end in this state; 1 if the text has none.
-pub fn number_at_end(place: Place) -> Option<u16>
+pub fn number_at_end(place: SfenState) -> Option<u16>
     ensures { result ≡ spec.number_at_end place }
 {
     match place {
-        Place::Held | Place::NoHands => Some(1),
-        Place::Digits(number) => Some(number),
+        SfenState::Held | SfenState::NoHands => Some(1),
+        SfenState::Digits(number) => Some(number),
         _ => None,
     }
 }

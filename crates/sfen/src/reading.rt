@@ -6,14 +6,14 @@ ghost use Rattle.squares.specs.ShogiSets.{in_play, set_size};
 ghost use Rattle.sfen.specs.SfenGrammar.{IsSfenText, IsRefused};
 
 use crate::faults::SfenFault;
-use crate::places::{Action, Place, next, number_at_end};
+use crate::places::{Action, SfenState, next, number_at_end};
 use crate::signs::sign_of;
 use squares::{Hand, HandKind, Hands, SBoard, SPos, Side};
 
 // The state of the reader after a prefix of a text.
 #[derive(Drop)]
 struct Reading {
-    place: Place,
+    place: SfenState,
     board: SBoard,
     hands: Hands,
     turn: Side,
@@ -43,7 +43,7 @@ impl Reading {
         ensures { result ≡ beginning }
     {
         Reading {
-            place: Place::Rank { rank: 1, left: 9 },
+            place: SfenState::Rank { rank: 1, left: 9 },
             board: SBoard::empty(),
             hands: Hands {
                 first: Hand::default(),

@@ -9,7 +9,7 @@ use squares::{HandKind, SMove, Ssq};
 
 /// The kind of character that is expected at a place of a move's text.
 #[derive(Clone, Copy)]
-pub enum Place {
+pub enum UsiField {
     File,
     Rank,
     Plus,
@@ -18,16 +18,21 @@ pub enum Place {
 }
 
 // The places of a board move's text; the last is optional.
-const STEP: [Place; 5] = [
-    Place::File,
-    Place::Rank,
-    Place::File,
-    Place::Rank,
-    Place::Plus,
+const STEP: [UsiField; 5] = [
+    UsiField::File,
+    UsiField::Rank,
+    UsiField::File,
+    UsiField::Rank,
+    UsiField::Plus,
 ];
 
 // The places of a drop's text.
-const DROP: [Place; 4] = [Place::Piece, Place::Star, Place::File, Place::Rank];
+const DROP: [UsiField; 4] = [
+    UsiField::Piece,
+    UsiField::Star,
+    UsiField::File,
+    UsiField::Rank,
+];
 
 // The square with this file digit and rank letter.
 fn square_of(file: u8, rank: u8) -> Option<Ssq>
@@ -97,20 +102,20 @@ fn move_of(text: &[u8]) -> Option<SMove>
 }
 
 // Whether a byte is allowed at a place.
-fn fits(place: Place, byte: u8) -> bool
+fn fits(place: UsiField, byte: u8) -> bool
     ensures { result ≡ fits place byte }
 {
     match place {
-        Place::File => (b'1'..=b'9').contains(&byte),
-        Place::Rank => (b'a'..=b'i').contains(&byte),
-        Place::Plus => byte == b'+',
-        Place::Piece => kind_of(byte).is_some(),
-        Place::Star => byte == b'*',
+        UsiField::File => (b'1'..=b'9').contains(&byte),
+        UsiField::Rank => (b'a'..=b'i').contains(&byte),
+        UsiField::Plus => byte == b'+',
+        UsiField::Piece => kind_of(byte).is_some(),
+        UsiField::Star => byte == b'*',
     }
 }
 
 // The number of leading bytes that match the places.
-fn reach(places: &[Place], text: &[u8]) -> usize
+fn reach(places: &[UsiField], text: &[u8]) -> usize
     ensures value { result ≡ reach places.now text.now }
     ensures within { result ≤ length text.now }
 {

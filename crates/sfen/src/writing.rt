@@ -40,7 +40,7 @@ fn piece_at(board: &SBoard, file: u8, rank: u8) -> Option<SPiece>
     ensures { result ≡ map.get board.now (shogi_number file rank) }
 {
     match Ssq::new(file, rank) {
-        Some(square) => board.at(square),
+        Some(square) => board.piece_at(square),
         None => unreachable!(),
     }
 }

@@ -15,8 +15,8 @@ use Rattle.squares.specs.Sides.{other, same_side}
 use Rattle.squares.specs.ShogiBoard.{ShogiBoard}
 use Rattle.squares.specs.ShogiGeometry.{file_of, rank_of}
 use Rattle.squares.specs.In.{In, list_any-found, list_any-finds}
-use Rattle.shogi_moves.specs.declared.heading.Heading.{Heading}
-use Rattle.shogi_moves.specs.declared.heading.Heading.TheVariants.{Forward}
+use Rattle.shogi_moves.specs.declared.heading.MoveDirection.{MoveDirection}
+use Rattle.shogi_moves.specs.declared.heading.MoveDirection.TheVariants.{Forward}
 use Rattle.shogi_moves.proofs.LineLemmas.{line-edge, line-nothing, line-step, Moved, HasAt, line-moved, moved-line}
 use Rattle.shogi_moves.specs.Reach.{step, line, range, AllClear, Attacked}
 use Rattle.shogi_moves.specs.Search.{all_headings, attacked}
@@ -26,19 +26,19 @@ use Rattle.shogi_moves.proofs.ReachLemmas.{In-all_headings, Reach-on}
 use Rattle.shogi_moves.proofs.AttackLemmas.{attacked-is}
 
 -- The same way back, for the other side.
-moved-back : (s : Side) (h : Heading) (k f r g q : ℕ) → Moved s h k f r g q → Moved (other s) (facing h) k g q f r
+moved-back : (s : Side) (h : MoveDirection) (k f r g q : ℕ) → Moved s h k f r g q → Moved (other s) (facing h) k g q f r
 moved-back First Forward k f r g q w = (omega (arith, w.0), omega (arith, w.1))
 moved-back Second Forward k f r g q w = (omega (arith, w.0), omega (arith, w.1))
 moved-back _ _ k f r g q w = (omega (arith, w.0), omega (arith, w.1))
 
 -- What stands j + 1 on the way back stands i + 1 on the way out.
-moved-between : (s : Side) (h : Heading) (i j k f r g q l p : ℕ) → i + j + 1 ≡ k → Moved s h (k + 1) f r g q
+moved-between : (s : Side) (h : MoveDirection) (i j k f r g q l p : ℕ) → i + j + 1 ≡ k → Moved s h (k + 1) f r g q
     → Moved (other s) (facing h) (j + 1) g q l p → Moved s h (i + 1) f r l p
 moved-between First Forward i j k f r g q l p e v w = (omega (arith, e, v.0, w.0), omega (arith, e, v.1, w.1))
 moved-between Second Forward i j k f r g q l p e v w = (omega (arith, e, v.0, w.0), omega (arith, e, v.1, w.1))
 moved-between _ _ i j k f r g q l p e v w = (omega (arith, e, v.0, w.0), omega (arith, e, v.1, w.1))
 
-pub facing-facing : (h : Heading) → facing (facing h) ≡ h
+pub facing-facing : (h : MoveDirection) → facing (facing h) ≡ h
 facing-facing Forward = refl
 facing-facing _ = refl
 
@@ -59,11 +59,11 @@ all-found f [] x h e = absurd h
 all-found f (y ∷ xs) x (inl same) e = ap f (sym same) ∙ (and_parts (f y) (list_all f xs) e).0
 all-found f (y ∷ xs) x (inr h) e = all-found f xs x h (and_parts (f y) (list_all f xs) e).1
 
-range-farthest : (r : Role) (h : Heading) → range r h ≤ farthest h
+range-farthest : (r : Role) (h : MoveDirection) → range r h ≤ farthest h
 range-farthest r h = leb-true (range r h) (farthest h)
     (all-found (λ h. nat_le (range r h) (farthest h)) all_headings h (In-all_headings h) (all-end r))
 
-farthest-facing : (h : Heading) → farthest (facing h) ≡ farthest h
+farthest-facing : (h : MoveDirection) → farthest (facing h) ≡ farthest h
 farthest-facing Forward = refl
 farthest-facing _ = refl
 
@@ -73,7 +73,7 @@ record ComesAt (board : ShogiBoard) (squares : List ℕ) (k y : ℕ) : Type 0 wh
   clear : (i e : ℕ) → i < k → HasAt squares i e → map.get board e ≡ None
 
 -- a line with nothing on it is as clear from its other end
-module _ (board : ShogiBoard) (side : Side) (h : Heading) (far wide : ℕ) (x k y : ℕ) (on : x < 81)
+module _ (board : ShogiBoard) (side : Side) (h : MoveDirection) (far wide : ℕ) (x k y : ℕ) (on : x < 81)
     (sees : ComesAt board (line far side h x) k y) (within : k < wide) where
   moved : (k < far) × (y < 81) × IsMoved side h (k + 1) x y
   moved = line-moved side h far x k y on sees.at
@@ -125,7 +125,7 @@ all-clear board (x ∷ before) after y clear =
     one_on board x (before ++ y ∷ after) (length before) y clear.0 (all-clear board before after y clear.1)
 
 -- what a look along squares finds
-record Faces (board : ShogiBoard) (side : Side) (h : Heading) (start : ℕ) (squares : List ℕ) : Type 0 where
+record Faces (board : ShogiBoard) (side : Side) (h : MoveDirection) (start : ℕ) (squares : List ℕ) : Type 0 where
   place : ℕ
   from : ℕ
   comes : ComesAt board squares place from
@@ -134,7 +134,7 @@ record Faces (board : ShogiBoard) (side : Side) (h : Heading) (start : ℕ) (squ
   enemy : not (same_side piece.side side) ≡ true
   far : start + place < range piece.role (facing h)
 
-module _ (board : ShogiBoard) (side : Side) (h : Heading) where
+module _ (board : ShogiBoard) (side : Side) (h : MoveDirection) where
   faced-sound : (start : ℕ) (squares : List ℕ) → faced board side h start squares ≡ true
       → Faces board side h start squares
   faced-sound start [] e = cc
@@ -238,7 +238,7 @@ module _ (board : ShogiBoard) (side : Side) (square : ℕ) (on : square < 81) wh
       (λ e. (attacked-is board side square).1 (seen-sound e)) (λ e. seen-complete ((attacked-is board side square).0 e))
 
 -- The steps of a look.
-module _ (board : ShogiBoard) (side : Side) (h : Heading) (k d n : ℕ) where
+module _ (board : ShogiBoard) (side : Side) (h : MoveDirection) (k d n : ℕ) where
   pub look-edge : step side h n ≡ None → faced board side h d (line k side h n) ≡ false
   look-edge e = ap (faced board side h d) (line-edge k side h n e)
 

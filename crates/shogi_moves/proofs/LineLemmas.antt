@@ -8,12 +8,12 @@ use Rattle.std.proofs.lemmas.Bool.{lt-ltb}
 use Rattle.squares.specs.declared.sides.Side.{Side}
 use Rattle.squares.specs.ShogiBoard.{ShogiBoard}
 use Rattle.squares.specs.ShogiGeometry.{OnShogiBoard, file_of, rank_of, shogi_number}
-use Rattle.shogi_moves.specs.declared.heading.Heading.{Heading}
+use Rattle.shogi_moves.specs.declared.heading.MoveDirection.{MoveDirection}
 use Rattle.shogi_moves.specs.Reach.{next_file, next_rank, square_at, step, line}
 use Rattle.shogi_moves.specs.Search.{comes_to}
 use Rattle.shogi_moves.proofs.TruthLemmas.{and-is, at_most-is}
 use Rattle.squares.specs.declared.sides.Side.TheVariants.{First, Second}
-use Rattle.shogi_moves.specs.declared.heading.Heading.TheVariants.{Forward}
+use Rattle.shogi_moves.specs.declared.heading.MoveDirection.TheVariants.{Forward}
 use Rattle.shogi_moves.specs.Laws.{FileMoved, RankMoved, IsMoved}
 
 abbrev pub is_on : ℕ → ℕ → Bool
@@ -48,37 +48,37 @@ square_at-is None f r h v =
     ] refl
 square_at-is (Some s) f r h v = ap Some v ∙ sym (square_at-number f r (h.0 refl))
 
-pub step-square_at : (side : Side) (heading : Heading) (n : ℕ) → n < 81
+pub step-square_at : (side : Side) (heading : MoveDirection) (n : ℕ) → n < 81
     → step side heading n ≡ square_at (next_file heading (file_of n)) (next_rank side heading (rank_of n))
 unfolding step
 step-square_at side heading n h =
     ap (λ c. cond c (square_at (next_file heading (file_of n)) (next_rank side heading (rank_of n))) None)
     (lt-ltb n 81 h)
 
-pub line_suc : (k : ℕ) (side : Side) (heading : Heading) (n m : ℕ) → step side heading n ≡ Some m
+pub line_suc : (k : ℕ) (side : Side) (heading : MoveDirection) (n m : ℕ) → step side heading n ≡ Some m
     → line (suc k) side heading n ≡ m ∷ line k side heading m
 unfolding line
 line_suc k side heading n m e = ap (λ o. option_map_or (λ m. m ∷ line k side heading m) o []) e
 
-pub line-step : (k j : ℕ) (side : Side) (heading : Heading) (n m : ℕ) → step side heading n ≡ Some m → k ≡ j + 1
+pub line-step : (k j : ℕ) (side : Side) (heading : MoveDirection) (n m : ℕ) → step side heading n ≡ Some m → k ≡ j + 1
     → line k side heading n ≡ m ∷ line j side heading m
 line-step zero j side heading n m e h = absurd (omega arith)
 line-step (suc k) j side heading n m e h = line_suc k side heading n m e
     ∙ ap (λ i. m ∷ line i side heading m) (omega arith)
 
-pub line-edge : (k : ℕ) (side : Side) (heading : Heading) (n : ℕ) → step side heading n ≡ None
+pub line-edge : (k : ℕ) (side : Side) (heading : MoveDirection) (n : ℕ) → step side heading n ≡ None
     → line k side heading n ≡ []
 unfolding line
 line-edge zero side heading n e = refl
 line-edge (suc k) side heading n e = ap (λ o. option_map_or (λ m. m ∷ line k side heading m) o []) e
 
-pub line-nothing : (k : ℕ) (side : Side) (heading : Heading) (n : ℕ) → k ≡ 0 → line k side heading n ≡ []
+pub line-nothing : (k : ℕ) (side : Side) (heading : MoveDirection) (n : ℕ) → k ≡ 0 → line k side heading n ≡ []
 unfolding line
 line-nothing zero side heading n e = refl
 line-nothing (suc k) side heading n e = absurd (omega arith)
 
 -- The steps of a walk.
-module _ (board : ShogiBoard) (to : ℕ) (k : ℕ) (side : Side) (heading : Heading) (n : ℕ) where
+module _ (board : ShogiBoard) (to : ℕ) (k : ℕ) (side : Side) (heading : MoveDirection) (n : ℕ) where
   pub walk-edge : step side heading n ≡ None → comes_to board to (line k side heading n) ≡ false
   walk-edge e = ap (comes_to board to) (line-edge k side heading n e)
 
@@ -106,34 +106,34 @@ module _ (board : ShogiBoard) (to : ℕ) (k : ℕ) (side : Side) (heading : Head
 -- ---- Lines by steps are lines by files and ranks
 
 -- k times on in a heading, from a file and a rank to others
-abbrev pub Moved : Side → Heading → ℕ → ℕ → ℕ → ℕ → ℕ → Type 0
+abbrev pub Moved : Side → MoveDirection → ℕ → ℕ → ℕ → ℕ → ℕ → Type 0
 Moved s h k f r g q = FileMoved h k f g × RankMoved s h k r q
 
-moved-next : (s : Side) (h : Heading) (f r g q : ℕ) → 1 ≤ f → 1 ≤ r → 1 ≤ g → 1 ≤ q → next_file h f ≡ g
+moved-next : (s : Side) (h : MoveDirection) (f r g q : ℕ) → 1 ≤ f → 1 ≤ r → 1 ≤ g → 1 ≤ q → next_file h f ≡ g
     → next_rank s h r ≡ q → Moved s h 1 f r g q
 moved-next First Forward f r g q a b c d file rank = (omega arith, omega arith)
 moved-next Second Forward f r g q a b c d file rank = (omega arith, omega arith)
 moved-next _ _ f r g q a b c d file rank = (omega arith, omega arith)
 
-next-moved : (s : Side) (h : Heading) (f r g q : ℕ) → Moved s h 1 f r g q
+next-moved : (s : Side) (h : MoveDirection) (f r g q : ℕ) → Moved s h 1 f r g q
     → (next_file h f ≡ g) × (next_rank s h r ≡ q)
 next-moved First Forward f r g q w = (omega (arith, w.0), omega (arith, w.1))
 next-moved Second Forward f r g q w = (omega (arith, w.0), omega (arith, w.1))
 next-moved _ _ f r g q w = (omega (arith, w.0), omega (arith, w.1))
 
-moved-on : (s : Side) (h : Heading) (k f r g q l p : ℕ) → Moved s h 1 f r g q → Moved s h (k + 1) g q l p
+moved-on : (s : Side) (h : MoveDirection) (k f r g q l p : ℕ) → Moved s h 1 f r g q → Moved s h (k + 1) g q l p
     → Moved s h (suc k + 1) f r l p
 moved-on First Forward k f r g q l p a b = (omega (arith, a.0, b.0), omega (arith, a.1, b.1))
 moved-on Second Forward k f r g q l p a b = (omega (arith, a.0, b.0), omega (arith, a.1, b.1))
 moved-on _ _ k f r g q l p a b = (omega (arith, a.0, b.0), omega (arith, a.1, b.1))
 
 -- the next square on the way to a later one
-record NextOnTheWay (s : Side) (h : Heading) (k f r l p : ℕ) : Type 0 where
+record NextOnTheWay (s : Side) (h : MoveDirection) (k f r l p : ℕ) : Type 0 where
   on_board : OnShogiBoard (next_file h f) (next_rank s h r)
   first : Moved s h 1 f r (next_file h f) (next_rank s h r)
   rest : Moved s h (k + 1) (next_file h f) (next_rank s h r) l p
 
-on-the-way : (s : Side) (h : Heading) (k f r l p : ℕ) → OnShogiBoard f r → OnShogiBoard l p
+on-the-way : (s : Side) (h : MoveDirection) (k f r l p : ℕ) → OnShogiBoard f r → OnShogiBoard l p
     → Moved s h (suc k + 1) f r l p → NextOnTheWay s h k f r l p
 on-the-way First Forward k f r l p on there w = record {
   on_board = ((omega (arith, w.0), omega (arith, w.0)), (omega (arith, w.1), omega (arith, w.1)));
@@ -165,7 +165,7 @@ number-rank f r on = omega (arith, on.0.0, on.0.1, on.1.0, on.1.1)
 abbrev pub HasAt : List ℕ → ℕ → ℕ → Type 0
 HasAt xs k m = (k < length xs) × (get_or xs k 0 ≡ m)
 
-module _ (side : Side) (heading : Heading) where
+module _ (side : Side) (heading : MoveDirection) where
   step-moved : (n m : ℕ) → n < 81 → step side heading n ≡ Some m → (m < 81) × IsMoved side heading 1 n m
   step-moved n m h e =
       let f = next_file heading (file_of n) in

@@ -10,13 +10,13 @@ use Rattle.squares.specs.declared.shogi.piece.SPiece.{SPiece}
 use Rattle.squares.specs.ShogiBoard.{ShogiBoard}
 use Rattle.squares.specs.ShogiGeometry.{file_of, rank_of}
 use Rattle.squares.specs.In.{In, list_any-found, list_any-finds}
-use Rattle.shogi_moves.specs.declared.heading.Heading.{Heading}
-use Rattle.shogi_moves.specs.declared.heading.Heading.TheVariants.{Forward}
+use Rattle.shogi_moves.specs.declared.heading.MoveDirection.{MoveDirection}
+use Rattle.shogi_moves.specs.declared.heading.MoveDirection.TheVariants.{Forward}
 use Rattle.shogi_moves.specs.Reach.{next_file, next_rank, square_at, step, line, range, AllClear, Reach}
 use Rattle.shogi_moves.specs.Search.{all_headings, comes_to, piece_reaches}
 use Rattle.shogi_moves.proofs.LineLemmas.{line-edge, HasAt, line-moved}
 
-pub In-all_headings : (heading : Heading) → In heading all_headings
+pub In-all_headings : (heading : MoveDirection) → In heading all_headings
 In-all_headings Forward = inl refl
 In-all_headings _ = search (rules, inl, inr) depth 14
 
@@ -57,7 +57,7 @@ comes_to-split board y (n ∷ before) after clear =
     (λ i. nat_eq n y || (is_none (clear.0 i) && comes_to-split board y before after clear.1 i)) ∙ or-true (nat_eq n y)
 
 module _ (board : ShogiBoard) (piece : SPiece) (x y : ℕ) where
-  abbrev goes : Heading → Bool
+  abbrev goes : MoveDirection → Bool
   goes heading = comes_to board y (line (range piece.role heading) piece.side heading x)
 
   pub piece_reaches-sound : map.get board x ≡ Some piece → piece_reaches board piece x y ≡ true → Reach board piece x y
@@ -78,7 +78,7 @@ has-split : (before after : List ℕ) (y : ℕ) → HasAt (before ++ y ∷ after
 has-split [] after y = (omega arith, refl)
 has-split (x ∷ before) after y = let w = has-split before after y in (omega (arith, w.0), w.1)
 
-step-none : (side : Side) (heading : Heading) (n : ℕ) → 81 ≤ n → step side heading n ≡ None
+step-none : (side : Side) (heading : MoveDirection) (n : ℕ) → 81 ≤ n → step side heading n ≡ None
 unfolding step
 step-none side heading n off =
     ap (λ c. cond c (square_at (next_file heading (file_of n)) (next_rank side heading (rank_of n))) None)

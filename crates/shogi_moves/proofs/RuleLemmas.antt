@@ -18,7 +18,7 @@ use Rattle.squares.specs.ShogiGeometry.{file_of}
 use Rattle.shogi_moves.specs.Search.{piece_reaches}
 use Rattle.shogi_moves.specs.Rules.{held, may_promote, is_stuck, may_land, Goes, Movement, Lacks, StuckAfter, Stays}
 use Rattle.shogi_moves.specs.Rules.{DropsDead, pawn, PawnOnFile, DropsPawn, DropsSecondPawn, target, Pseudo}
-use Rattle.shogi_moves.specs.Computed.{goes, is_free, is_movement, lacks, stuck_after, stays, drops_dead, is_pawn}
+use Rattle.shogi_moves.specs.Computed.{goes, is_free, is_movement, drops_unheld, stuck_after, fails_to_promote, drops_dead, is_pawn}
 use Rattle.shogi_moves.specs.Computed.{holds_pawn, pawn_on_file_at, pawn_on_file, drops_pawn, drops_second_pawn}
 use Rattle.shogi_moves.specs.Computed.{is_pseudo}
 use Rattle.shogi_moves.proofs.ReachLemmas.{piece_reaches-sound, piece_reaches-complete, is_none-none}
@@ -76,7 +76,7 @@ module _ (p : ShogiPosition) where
   is_movement-is (Drop kind to) = and-is (nat_lt to 81) (is_none (map.get p.board to))
       (ltb-true to 81, lt-ltb to 81) (is_none-none (map.get p.board to), ap is_none)
 
-  pub lacks-is : (m : SMove) → IsTrue (lacks p m) ↔ Lacks p m
+  pub lacks-is : (m : SMove) → IsTrue (drops_unheld p m) ↔ Lacks p m
   lacks-is (Step from to promote) = (λ e. cc, λ never. absurd never)
   lacks-is (Drop kind to) = same-is (held p.hands p.turn kind) 0
 
@@ -84,7 +84,7 @@ module _ (p : ShogiPosition) where
   unfolding stuck_after
   stuck_after-is from to = standing-is (λ piece. is_stuck piece.side piece.role to) (map.get p.board from)
 
-  pub stays-is : (m : SMove) → IsTrue (stays p m) ↔ Stays p m
+  pub stays-is : (m : SMove) → IsTrue (fails_to_promote p m) ↔ Stays p m
   stays-is (Step from to true) = (λ e. cc, λ w. let e = w.0 in cc)
   stays-is (Step from to false) = (λ e. (refl, (stuck_after-is from to).0 e), λ w. (stuck_after-is from to).1 w.1)
   stays-is (Drop kind to) = (λ e. cc, λ never. absurd never)
@@ -135,8 +135,8 @@ module _ (p : ShogiPosition) (m : SMove) where
   pub is_pseudo-is : IsTrue (is_pseudo p m) ↔ Pseudo p m
   unfolding is_pseudo
   is_pseudo-is =
-      let holds = not-is (lacks p m) (lacks-is p m) in
-      let promotes = not-is (stays p m) (stays-is p m) in
+      let holds = not-is (drops_unheld p m) (lacks-is p m) in
+      let promotes = not-is (fails_to_promote p m) (stays-is p m) in
       let alive = not-is (drops_dead p m) (drops_dead-is p m) in
       let one = not-is (drops_second_pawn p m) drops_second_pawn-is in
       let all = and-is _ _ (and-is _ _ (and-is _ _ (and-is _ _ (is_movement-is p m) holds) promotes) alive) one in (

@@ -30,7 +30,7 @@ use Rattle.squares.specs.ShogiBoard.{ShogiBoard}
 use Rattle.squares.specs.ShogiSets.{ShogiPosition}
 use Rattle.squares.specs.ShogiWords.{is_side}
 use Rattle.squares.specs.DraughtsMarks.{contains-insert_nat}
-use Rattle.shogi_moves.specs.declared.heading.Heading.{Heading}
+use Rattle.shogi_moves.specs.declared.heading.MoveDirection.{MoveDirection}
 use Rattle.shogi_moves.specs.Reach.{step, line}
 use Rattle.shogi_moves.specs.Rules.{may_land, may_promote, is_stuck, held}
 use Rattle.shogi_moves.specs.Steps.{step_passes}
@@ -128,7 +128,7 @@ nat_eq-turned : (m n : ℕ) → nat_eq m n ≡ nat_eq n m
 nat_eq-turned m n = grind (arith, common_steps)
 
 -- The steps of a walk that gathers squares.
-module _ (board : ShogiBoard) (to : ℕ) (k : ℕ) (side : Side) (h : Heading) (n : ℕ) (found : Numbers) where
+module _ (board : ShogiBoard) (to : ℕ) (k : ℕ) (side : Side) (h : MoveDirection) (n : ℕ) (found : Numbers) where
   abbrev Gathered : Bool
   Gathered = set.contains found to || comes_to board to (line k side h n)
 

@@ -37,16 +37,16 @@ abbrev pub is_movement : ShogiPosition → SMove → Bool
 is_movement p (Step from to promote) = goes p from to promote
 is_movement p (Drop kind to) = is_free p.board to
 
-abbrev pub lacks : ShogiPosition → SMove → Bool
-lacks p (Step from to promote) = false
-lacks p (Drop kind to) = held p.hands p.turn kind == 0
+abbrev pub drops_unheld : ShogiPosition → SMove → Bool
+drops_unheld p (Step from to promote) = false
+drops_unheld p (Drop kind to) = held p.hands p.turn kind == 0
 
 unfoldable pub stuck_after : ShogiPosition → ℕ → ℕ → Bool
 stuck_after p from to = option_map_or (λ piece. is_stuck piece.side piece.role to) (map.get p.board from) false
 
-abbrev pub stays : ShogiPosition → SMove → Bool
-stays p (Step from to promote) = not promote && stuck_after p from to
-stays p (Drop kind to) = false
+abbrev pub fails_to_promote : ShogiPosition → SMove → Bool
+fails_to_promote p (Step from to promote) = not promote && stuck_after p from to
+fails_to_promote p (Drop kind to) = false
 
 abbrev pub drops_dead : ShogiPosition → SMove → Bool
 drops_dead p (Step from to promote) = false
@@ -76,7 +76,7 @@ unfoldable pub drops_second_pawn : ShogiPosition → SMove → Bool
 drops_second_pawn p m = drops_pawn m && pawn_on_file p.board p.turn (target m)
 
 unfoldable pub is_pseudo : ShogiPosition → SMove → Bool
-is_pseudo p m = is_movement p m && not (lacks p m) && not (stays p m) && not (drops_dead p m) && not
+is_pseudo p m = is_movement p m && not (drops_unheld p m) && not (fails_to_promote p m) && not (drops_dead p m) && not
     (drops_second_pawn p m)
 
 -- Whether the move is a drop.
@@ -129,8 +129,8 @@ has_move p = some_move (is_legal p)
 -- Whether the move breaks the rule.
 abbrev pub broken : ShogiPosition → SMove → Illegal → Bool
 broken p m illegal.NoSuchMove = not (is_movement p m)
-broken p m illegal.NotInHand = lacks p m
-broken p m illegal.MustPromote = stays p m
+broken p m illegal.NotInHand = drops_unheld p m
+broken p m illegal.MustPromote = fails_to_promote p m
 broken p m illegal.DeadDrop = drops_dead p m
 broken p m illegal.TwoPawns = drops_second_pawn p m
 broken p m illegal.KingAttacked = leaves_king p m

@@ -5,9 +5,9 @@ use Rattle.squares.specs.declared.sides.Side.{Side}
 use Rattle.squares.specs.declared.sides.Side.TheVariants.{First, Second}
 use Rattle.squares.specs.Sides.{other}
 use Rattle.squares.specs.ShogiGeometry.{file_of, rank_of}
-use Rattle.shogi_moves.specs.declared.heading.Heading.{Heading}
-use Rattle.shogi_moves.specs.declared.heading.Heading.TheVariants.{Forward, ForwardLeft, ForwardRight, Left, Right}
-use Rattle.shogi_moves.specs.declared.heading.Heading.TheVariants.{Back, BackLeft, BackRight, JumpLeft, JumpRight}
+use Rattle.shogi_moves.specs.declared.heading.MoveDirection.{MoveDirection}
+use Rattle.shogi_moves.specs.declared.heading.MoveDirection.TheVariants.{Forward, ForwardLeft, ForwardRight, Left, Right}
+use Rattle.shogi_moves.specs.declared.heading.MoveDirection.TheVariants.{Back, BackLeft, BackRight, JumpLeft, JumpRight}
 use Rattle.squares.specs.declared.shogi.moves.SMove.{SMove}
 use Rattle.squares.specs.ShogiSets.{ShogiPosition}
 use Rattle.shogi_moves.specs.declared.checking.Illegal.{Illegal}
@@ -30,7 +30,7 @@ abbrev pub TurnPasses : Type 0
 TurnPasses = (p : ShogiPosition) (m : SMove) → Legal p m → (play p m).turn ≡ other p.turn
 
 -- The file after k steps along a heading.
-abbrev pub FileMoved : Heading → ℕ → ℕ → ℕ → Type 0
+abbrev pub FileMoved : MoveDirection → ℕ → ℕ → ℕ → Type 0
 FileMoved Forward k from to = to ≡ from
 FileMoved ForwardLeft k from to = to ≡ from + k
 FileMoved ForwardRight k from to = to + k ≡ from
@@ -48,7 +48,7 @@ IsAhead First ranks from to = to + ranks ≡ from
 IsAhead Second ranks from to = to ≡ from + ranks
 
 -- The rank after k steps along a heading.
-abbrev pub RankMoved : Side → Heading → ℕ → ℕ → ℕ → Type 0
+abbrev pub RankMoved : Side → MoveDirection → ℕ → ℕ → ℕ → Type 0
 RankMoved side Forward k from to = IsAhead side k from to
 RankMoved side ForwardLeft k from to = IsAhead side k from to
 RankMoved side ForwardRight k from to = IsAhead side k from to
@@ -61,7 +61,7 @@ RankMoved side JumpLeft k from to = IsAhead side (2 * k) from to
 RankMoved side JumpRight k from to = IsAhead side (2 * k) from to
 
 -- Square m is k steps from n along a heading, for a piece of the side.
-abbrev pub IsMoved : Side → Heading → ℕ → ℕ → ℕ → Type 0
+abbrev pub IsMoved : Side → MoveDirection → ℕ → ℕ → ℕ → Type 0
 IsMoved side heading k n m = FileMoved heading k (file_of n) (file_of m)
     × RankMoved side heading k (rank_of n) (rank_of m)
 
@@ -69,6 +69,6 @@ IsMoved side heading k n m = FileMoved heading k (file_of n) (file_of m)
 -- It ends at the edge of the board.
 abbrev pub LinesFollowCoordinates : Type 0
 LinesFollowCoordinates =
-    (distance : ℕ) (side : Side) (heading : Heading) (n k m : ℕ) → n < 81 →
+    (distance : ℕ) (side : Side) (heading : MoveDirection) (n k m : ℕ) → n < 81 →
     ((k < length (line distance side heading n)) × (slice_index (line distance side heading n) k ≡ m))
     ↔ ((k < distance) × (m < 81) × IsMoved side heading (k + 1) n m)

@@ -12,12 +12,12 @@ use Rattle.squares.specs.declared.shogi.piece.SPiece.{SPiece}
 use Rattle.squares.specs.Sides.{other}
 use Rattle.squares.specs.ShogiBoard.{ShogiBoard}
 use Rattle.squares.specs.ShogiGeometry.{file_of, rank_of, shogi_number}
-use Rattle.shogi_moves.specs.declared.heading.Heading.{Heading}
-use Rattle.shogi_moves.specs.declared.heading.Heading.TheVariants.{Forward, ForwardLeft, ForwardRight, Left, Right}
-use Rattle.shogi_moves.specs.declared.heading.Heading.TheVariants.{Back, BackLeft, BackRight, JumpLeft, JumpRight}
+use Rattle.shogi_moves.specs.declared.heading.MoveDirection.{MoveDirection}
+use Rattle.shogi_moves.specs.declared.heading.MoveDirection.TheVariants.{Forward, ForwardLeft, ForwardRight, Left, Right}
+use Rattle.shogi_moves.specs.declared.heading.MoveDirection.TheVariants.{Back, BackLeft, BackRight, JumpLeft, JumpRight}
 
 -- Files count from 1 at the right to 9 at the left, as First sees the board.
-abbrev pub next_file : Heading → ℕ → ℕ
+abbrev pub next_file : MoveDirection → ℕ → ℕ
 next_file ForwardLeft file = file + 1
 next_file Left file = file + 1
 next_file BackLeft file = file + 1
@@ -34,7 +34,7 @@ abbrev pub ranks_forward : Side → ℕ → ℕ → ℕ
 ranks_forward First ranks rank = rank - ranks
 ranks_forward Second ranks rank = rank + ranks
 
-abbrev pub next_rank : Side → Heading → ℕ → ℕ
+abbrev pub next_rank : Side → MoveDirection → ℕ → ℕ
 next_rank side Forward rank = ranks_forward side 1 rank
 next_rank side ForwardLeft rank = ranks_forward side 1 rank
 next_rank side ForwardRight rank = ranks_forward side 1 rank
@@ -52,49 +52,49 @@ square_at file rank = if (nat_le 1 file && nat_le file 9) && (nat_le 1 rank && n
     (shogi_number file rank) else None
 
 -- The next square for a piece of the side, if there is one; `None` for a number that is no square.
-unfoldable pub step : Side → Heading → ℕ → Option ℕ
+unfoldable pub step : Side → MoveDirection → ℕ → Option ℕ
 step side heading n = if nat_lt n 81 then square_at (next_file heading (file_of n))
     (next_rank side heading (rank_of n)) else None
 
 -- At most k squares from n up to the edge of the board, nearest first, without n.
-unfoldable pub line : ℕ → Side → Heading → ℕ → List ℕ
+unfoldable pub line : ℕ → Side → MoveDirection → ℕ → List ℕ
 line zero side heading n = []
 line (suc k) side heading n = option_map_or (λ m. m ∷ line k side heading m) (step side heading n) []
 
-abbrev pub straight : ℕ → Heading → ℕ
+abbrev pub straight : ℕ → MoveDirection → ℕ
 straight k Forward = k
 straight k Left = k
 straight k Right = k
 straight k Back = k
 straight k _ = 0
 
-abbrev pub diagonal : ℕ → Heading → ℕ
+abbrev pub diagonal : ℕ → MoveDirection → ℕ
 diagonal k ForwardLeft = k
 diagonal k ForwardRight = k
 diagonal k BackLeft = k
 diagonal k BackRight = k
 diagonal k _ = 0
 
-abbrev pub gold : Heading → ℕ
+abbrev pub gold : MoveDirection → ℕ
 gold ForwardLeft = 1
 gold ForwardRight = 1
 gold heading = straight 1 heading
 
-abbrev pub silver : Heading → ℕ
+abbrev pub silver : MoveDirection → ℕ
 silver Forward = 1
 silver heading = diagonal 1 heading
 
-abbrev pub knight : Heading → ℕ
+abbrev pub knight : MoveDirection → ℕ
 knight JumpLeft = 1
 knight JumpRight = 1
 knight _ = 0
 
-abbrev pub ahead : ℕ → Heading → ℕ
+abbrev pub ahead : ℕ → MoveDirection → ℕ
 ahead k Forward = k
 ahead k _ = 0
 
 -- The greatest distance, in squares, that a piece moves along a heading; 8 means any distance.
-abbrev pub range : Role → Heading → ℕ
+abbrev pub range : Role → MoveDirection → ℕ
 range role.King heading = straight 1 heading + diagonal 1 heading
 range role.Rook heading = straight 8 heading
 range role.Bishop heading = diagonal 8 heading
@@ -119,7 +119,7 @@ AllClear board (n ∷ ns) = (map.get board n ≡ None) × AllClear board ns
 -- matter.
 pub record Reach (board : ShogiBoard) (piece : SPiece) (x y : ℕ) : Type 0 where
   pub stands : map.get board x ≡ Some piece
-  pub heading : Heading
+  pub heading : MoveDirection
   pub before : List ℕ
   pub after : List ℕ
   pub along : line (range piece.role heading) piece.side heading x ≡ before ++ y ∷ after

@@ -8,16 +8,16 @@ use Rattle.squares.specs.declared.shogi.piece.SPiece.{SPiece}
 use Rattle.squares.specs.Sides.{other, same_side}
 use Rattle.squares.specs.ShogiBoard.{ShogiBoard}
 use Rattle.squares.specs.ShogiSets.{holds_king}
-use Rattle.shogi_moves.specs.declared.heading.Heading.{Heading}
-use Rattle.shogi_moves.specs.declared.heading.Heading.TheVariants.{Forward, ForwardLeft, ForwardRight, Left, Right}
-use Rattle.shogi_moves.specs.declared.heading.Heading.TheVariants.{Back, BackLeft, BackRight, JumpLeft, JumpRight}
+use Rattle.shogi_moves.specs.declared.heading.MoveDirection.{MoveDirection}
+use Rattle.shogi_moves.specs.declared.heading.MoveDirection.TheVariants.{Forward, ForwardLeft, ForwardRight, Left, Right}
+use Rattle.shogi_moves.specs.declared.heading.MoveDirection.TheVariants.{Back, BackLeft, BackRight, JumpLeft, JumpRight}
 use Rattle.shogi_moves.specs.Reach.{line, range}
 
 -- The squares of the board in order.
 unfoldable pub all_squares : List ℕ
 all_squares = range_with_len 0 81
 
-abbrev pub all_headings : List Heading
+abbrev pub all_headings : List MoveDirection
 all_headings = Forward ∷ ForwardLeft ∷ ForwardRight ∷ Left ∷ Right ∷ Back ∷ BackLeft ∷ BackRight ∷ JumpLeft ∷ JumpRight
     ∷ []
 

@@ -5,7 +5,7 @@ ghost use Rattle.shogi_moves.specs.Reach.{Attacked, KingAttacked, range};
 ghost use Rattle.shogi_moves.specs.Facing.{farthest, facing, faced_along, seen};
 ghost use Rattle.shogi_moves.specs.Search.{attacked};
 
-use crate::heading::{Heading, range, step};
+use crate::heading::{MoveDirection, range, step};
 use crate::kings::is_king_attacked;
 use squares::{SBoard, SPiece, SPos, Side, Ssq};
 
@@ -28,35 +28,35 @@ pub fn in_check(position: &SPos) -> bool
 }
 
 // The greatest distance in squares at which a piece can attack along a heading.
-fn farthest(heading: Heading) -> u8
+fn farthest(heading: MoveDirection) -> u8
     ensures { result ≡ farthest heading }
 {
     match heading {
-        Heading::JumpLeft | Heading::JumpRight => 1,
+        MoveDirection::JumpLeft | MoveDirection::JumpRight => 1,
         _ => 8,
     }
 }
 
 // The heading by which an enemy moves toward the square from which `heading` leads to it.
-fn facing(heading: Heading) -> Heading
+fn facing(heading: MoveDirection) -> MoveDirection
     ensures { result ≡ facing heading }
 {
     match heading {
-        Heading::Forward => Heading::Forward,
-        Heading::ForwardLeft => Heading::ForwardRight,
-        Heading::ForwardRight => Heading::ForwardLeft,
-        Heading::Left => Heading::Right,
-        Heading::Right => Heading::Left,
-        Heading::Back => Heading::Back,
-        Heading::BackLeft => Heading::BackRight,
-        Heading::BackRight => Heading::BackLeft,
-        Heading::JumpLeft => Heading::JumpRight,
-        Heading::JumpRight => Heading::JumpLeft,
+        MoveDirection::Forward => MoveDirection::Forward,
+        MoveDirection::ForwardLeft => MoveDirection::ForwardRight,
+        MoveDirection::ForwardRight => MoveDirection::ForwardLeft,
+        MoveDirection::Left => MoveDirection::Right,
+        MoveDirection::Right => MoveDirection::Left,
+        MoveDirection::Back => MoveDirection::Back,
+        MoveDirection::BackLeft => MoveDirection::BackRight,
+        MoveDirection::BackRight => MoveDirection::BackLeft,
+        MoveDirection::JumpLeft => MoveDirection::JumpRight,
+        MoveDirection::JumpRight => MoveDirection::JumpLeft,
     }
 }
 
 // Whether the piece, with `distance` empty squares before it, is an enemy whose range reaches the square.
-fn comes_here(piece: SPiece, side: Side, distance: u8, heading: Heading) -> bool
+fn comes_here(piece: SPiece, side: Side, distance: u8, heading: MoveDirection) -> bool
     ensures { result ≡ (not (same_side piece.side side)
         && nat_lt distance (range piece.role (facing heading))) }
 {
@@ -64,14 +64,14 @@ fn comes_here(piece: SPiece, side: Side, distance: u8, heading: Heading) -> bool
 }
 
 // Whether the first piece along a heading is an enemy that attacks the square.
-fn is_faced(board: &SBoard, side: Side, heading: Heading, square: Ssq) -> bool
+fn is_faced(board: &SBoard, side: Side, heading: MoveDirection, square: Ssq) -> bool
     ensures { result ≡ faced_along board.now side square heading }
 {
     let mut at = square;
     for distance in 0..farthest(heading) {
         match step(side, heading, at) {
             None => return false,
-            Some(next) => match board.at(next) {
+            Some(next) => match board.piece_at(next) {
                 Some(piece) => return comes_here(piece, side, distance, heading),
                 None => at = next,
             },
@@ -85,7 +85,7 @@ fn is_faced(board: &SBoard, side: Side, heading: Heading, square: Ssq) -> bool
 fn is_seen(board: &SBoard, side: Side, square: Ssq) -> bool
     ensures { result ≡ seen board.now side square }
 {
-    Heading::ALL
+    MoveDirection::ALL
         .iter()
         .any(|heading| is_faced(board, side, *heading, square))
 }

@@ -7,8 +7,8 @@ ghost use Rattle.shogi_moves.specs.Computed.{is_pseudo, is_legal, check_of, has_
 
 use crate::layout::Layout;
 use crate::mating::{leaves_king, mates_by_pawn};
-use crate::pseudo::{drops_dead, drops_second_pawn, is_movement, lacks, stays};
-use crate::seeking::{Seeker, seek};
+use crate::move_visitor::{MoveVisitor, visit_moves};
+use crate::pseudo::{drops_dead, drops_second_pawn, drops_unheld, fails_to_promote, is_movement};
 use squares::{SMove, SPos};
 use std::convert::Infallible;
 use std::fmt;
@@ -86,7 +86,7 @@ pub fn check(position: &SPos, played: &SMove) -> Result<(), Illegal>
     ensures refused { (rule : Illegal)
         → (result ≡ Err rule) ↔ FirstBroken position.now played.now rule }
 {
-    check_layout(&Layout::of(position), played)
+    check_layout(&Layout::from_position(position), played)
 }
 
 // Checks a move on a layout.
@@ -97,10 +97,10 @@ fn check_layout(layout: &Layout, played: &SMove) -> Result<(), Illegal>
     if !is_movement(layout, played) {
         return Err(Illegal::NoSuchMove);
     }
-    if lacks(layout, played) {
+    if drops_unheld(layout, played) {
         return Err(Illegal::NotInHand);
     }
-    if stays(layout, played) {
+    if fails_to_promote(layout, played) {
         return Err(Illegal::MustPromote);
     }
     if drops_dead(layout, played) {
@@ -132,7 +132,7 @@ struct AnyLegal {
     found: bool,
 }
 
-impl Seeker for AnyLegal {
+impl MoveVisitor for AnyLegal {
     type Fault = Infallible;
 
     ghost use Rattle.std.specs.Prelude.{◌||◌};
@@ -167,7 +167,7 @@ impl Seeker for AnyLegal {
 pub fn has_move(position: &SPos) -> bool
     ensures { IsTrue result ↔ HasMove position.now }
 {
-    has_move_on(&Layout::of(position))
+    has_move_on(&Layout::from_position(position))
 }
 
 // Whether the side to move has a legal move on a layout.
@@ -175,7 +175,7 @@ fn has_move_on(layout: &Layout) -> bool
     ensures { result ≡ has_move (position_of layout.now) }
 {
     let mut sought = AnyLegal { found: false };
-    match seek(layout, &mut sought) {
+    match visit_moves(layout, &mut sought) {
         Ok(()) => sought.found,
     }
 }

@@ -74,7 +74,7 @@ fn entered(board: &SBoard, side: Side) -> Camp
     };
     while let Some(number) = rest.pop() {
         let square = Ssq::of_number(number);
-        found = found.with(side, square, board.at(square));
+        found = found.with(side, square, board.piece_at(square));
     }
     found
 }
@@ -131,7 +131,7 @@ fn declares(position: &SPos) -> bool
     let side = position.turn();
     king_entered(board, side)
         && !is_king_attacked(board, side)
-        && has_enough(board, position.hands().of(side), side)
+        && has_enough(board, position.hands().hand(side), side)
 }
 
 /// Whether the side to move may make the entering-king declaration, which wins the game.

@@ -9,7 +9,7 @@ use squares::{Role, Side, Ssq};
 ///
 /// Forward is toward the enemy. A jump goes two ranks forward and one file aside.
 #[derive(Clone, Copy, Debug, PartialEq, Eq)]
-pub enum Heading {
+pub enum MoveDirection {
     Forward,
     ForwardLeft,
     ForwardRight,
@@ -22,35 +22,39 @@ pub enum Heading {
     JumpRight,
 }
 
-impl Heading {
+impl MoveDirection {
     /// A direction of movement. Forward is toward the enemy; left and right are as First sees the board.
     ///
     /// A jump goes two ranks forward and one file aside.
-    pub const ALL: [Heading; 10] = [
-        Heading::Forward,
-        Heading::ForwardLeft,
-        Heading::ForwardRight,
-        Heading::Left,
-        Heading::Right,
-        Heading::Back,
-        Heading::BackLeft,
-        Heading::BackRight,
-        Heading::JumpLeft,
-        Heading::JumpRight,
+    pub const ALL: [MoveDirection; 10] = [
+        MoveDirection::Forward,
+        MoveDirection::ForwardLeft,
+        MoveDirection::ForwardRight,
+        MoveDirection::Left,
+        MoveDirection::Right,
+        MoveDirection::Back,
+        MoveDirection::BackLeft,
+        MoveDirection::BackRight,
+        MoveDirection::JumpLeft,
+        MoveDirection::JumpRight,
     ];
 }
 
 // The file of the next square; 0 or 10 if it is off the board.
-fn next_file(heading: Heading, file: u8) -> u8
+fn next_file(heading: MoveDirection, file: u8) -> u8
     requires { file ≤ 9 }
     ensures { result ≡ next_file heading file }
 {
     match heading {
-        Heading::ForwardLeft | Heading::Left | Heading::BackLeft | Heading::JumpLeft => file + 1,
-        Heading::ForwardRight | Heading::Right | Heading::BackRight | Heading::JumpRight => {
-            file.saturating_sub(1)
-        }
-        Heading::Forward | Heading::Back => file,
+        MoveDirection::ForwardLeft
+        | MoveDirection::Left
+        | MoveDirection::BackLeft
+        | MoveDirection::JumpLeft => file + 1,
+        MoveDirection::ForwardRight
+        | MoveDirection::Right
+        | MoveDirection::BackRight
+        | MoveDirection::JumpRight => { file.saturating_sub(1) }
+        MoveDirection::Forward | MoveDirection::Back => file,
     }
 }
 
@@ -67,24 +71,24 @@ fn ranks_forward(side: Side, ranks: u8, rank: u8) -> u8
 }
 
 // The rank of the next square; 0 or above 9 if it is off the board.
-fn next_rank(side: Side, heading: Heading, rank: u8) -> u8
+fn next_rank(side: Side, heading: MoveDirection, rank: u8) -> u8
     requires { rank ≤ 9 }
     ensures { result ≡ next_rank side heading rank }
 {
     match heading {
-        Heading::Forward | Heading::ForwardLeft | Heading::ForwardRight => {
+        MoveDirection::Forward | MoveDirection::ForwardLeft | MoveDirection::ForwardRight => {
             ranks_forward(side, 1, rank)
         }
-        Heading::Left | Heading::Right => rank,
-        Heading::Back | Heading::BackLeft | Heading::BackRight => {
+        MoveDirection::Left | MoveDirection::Right => rank,
+        MoveDirection::Back | MoveDirection::BackLeft | MoveDirection::BackRight => {
             ranks_forward(side.other(), 1, rank)
         }
-        Heading::JumpLeft | Heading::JumpRight => ranks_forward(side, 2, rank),
+        MoveDirection::JumpLeft | MoveDirection::JumpRight => ranks_forward(side, 2, rank),
     }
 }
 
 /// The next square along a heading for a piece of the side, or `None` at the edge of the board.
-pub fn step(side: Side, heading: Heading, from: Ssq) -> Option<Ssq>
+pub fn step(side: Side, heading: MoveDirection, from: Ssq) -> Option<Ssq>
     ensures { result ≡ step side heading from }
 {
     Ssq::new(
@@ -93,63 +97,66 @@ pub fn step(side: Side, heading: Heading, from: Ssq) -> Option<Ssq>
     )
 }
 
-fn straight(distance: u8, heading: Heading) -> u8
+fn straight(distance: u8, heading: MoveDirection) -> u8
     ensures { result ≡ straight distance heading }
 {
     match heading {
-        Heading::Forward | Heading::Left | Heading::Right | Heading::Back => distance,
-        _ => 0,
-    }
-}
-
-fn diagonal(distance: u8, heading: Heading) -> u8
-    ensures { result ≡ diagonal distance heading }
-{
-    match heading {
-        Heading::ForwardLeft | Heading::ForwardRight | Heading::BackLeft | Heading::BackRight =>
+        MoveDirection::Forward | MoveDirection::Left | MoveDirection::Right | MoveDirection::Back =>
             distance,
         _ => 0,
     }
 }
 
-fn gold(heading: Heading) -> u8
-    ensures { result ≡ gold heading }
+fn diagonal(distance: u8, heading: MoveDirection) -> u8
+    ensures { result ≡ diagonal distance heading }
 {
     match heading {
-        Heading::ForwardLeft | Heading::ForwardRight => 1,
-        _ => straight(1, heading),
-    }
-}
-
-fn silver(heading: Heading) -> u8
-    ensures { result ≡ silver heading }
-{
-    match heading {
-        Heading::Forward => 1,
-        _ => diagonal(1, heading),
-    }
-}
-
-fn knight(heading: Heading) -> u8
-    ensures { result ≡ knight heading }
-{
-    match heading {
-        Heading::JumpLeft | Heading::JumpRight => 1,
+        MoveDirection::ForwardLeft
+        | MoveDirection::ForwardRight
+        | MoveDirection::BackLeft
+        | MoveDirection::BackRight => distance,
         _ => 0,
     }
 }
 
-fn ahead(distance: u8, heading: Heading) -> u8
+fn gold(heading: MoveDirection) -> u8
+    ensures { result ≡ gold heading }
+{
+    match heading {
+        MoveDirection::ForwardLeft | MoveDirection::ForwardRight => 1,
+        _ => straight(1, heading),
+    }
+}
+
+fn silver(heading: MoveDirection) -> u8
+    ensures { result ≡ silver heading }
+{
+    match heading {
+        MoveDirection::Forward => 1,
+        _ => diagonal(1, heading),
+    }
+}
+
+fn knight(heading: MoveDirection) -> u8
+    ensures { result ≡ knight heading }
+{
+    match heading {
+        MoveDirection::JumpLeft | MoveDirection::JumpRight => 1,
+        _ => 0,
+    }
+}
+
+fn ahead(distance: u8, heading: MoveDirection) -> u8
     ensures { result ≡ ahead distance heading }
 {
     match heading {
-        Heading::Forward => distance,
+        MoveDirection::Forward => distance,
         _ => 0,
     }
 }
 
 /// The greatest distance, in squares, that a piece moves along a heading; 8 means any distance.
-pub fn range(role: Role, heading: Heading) -> u8
+pub fn range(role: Role, heading: MoveDirection) -> u8
     ensures { result ≡ range role heading }
 {
     match role {

@@ -4,11 +4,11 @@ ghost use Rattle.shogi_moves.specs.Kings.{AreKings};
 ghost use Rattle.shogi_moves.specs.Search.{king_attacked};
 
 use crate::attacks::is_attacked;
-use masks::Word81;
+use masks::Bitboard81;
 use squares::{Role, SBoard, SPiece, Side, Ssq};
 
 // The squares of the side's kings.
-pub(crate) fn kings_of(board: &SBoard, side: Side) -> Word81
+pub(crate) fn kings_of(board: &SBoard, side: Side) -> Bitboard81
     ensures { AreKings board.now side result }
 {
     board.squares_of(SPiece {

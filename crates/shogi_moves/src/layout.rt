@@ -24,11 +24,11 @@ impl Layout {
     ghost use Rattle.shogi_moves.specs.Layouts.{position_of};
 
     /// The layout of a position.
-    pub fn of(position: &SPos) -> Layout
+    pub fn from_position(position: &SPos) -> Layout
         ensures value { position_of result ≡ position.now }
         ensures sound { IsShogiPosition position.now.board position.now.hands }
     {
-        let board = position.board().copied();
+        let board = position.board().copy();
         let turn = position.turn();
         let checked = is_king_attacked(&board, turn);
         Layout {
@@ -40,10 +40,10 @@ impl Layout {
     }
 
     /// The number of pieces of a kind in the hand of the side to move.
-    pub fn held(&self, kind: HandKind) -> u8
+    pub fn count_in_hand(&self, kind: HandKind) -> u8
         ensures { result ≡ held self.now.hands self.now.turn kind }
     {
-        self.hands.of(self.turn).count(kind)
+        self.hands.hand(self.turn).count(kind)
     }
 
     // Applies a step to a copy of the layout's board.
@@ -51,7 +51,7 @@ impl Layout {
         requires { board.old ≡ self.now.board }
         ensures { board.new ≡ board_after (position_of self.now) (Step from to promote) }
     {
-        match self.board.at(from) {
+        match self.board.piece_at(from) {
             None => {}
             Some(piece) => {
                 board.clear(from);
@@ -89,7 +89,7 @@ impl Layout {
     pub fn board_after(&self, played: &SMove) -> SBoard
         ensures { result ≡ board_after (position_of self.now) played.now }
     {
-        let mut board = self.board.copied();
+        let mut board = self.board.copy();
         self.make(&mut board, played);
         board
     }
@@ -115,7 +115,7 @@ impl Layout {
         if self.uncovers_nothing(played) {
             return false;
         }
-        let mut board = self.board.copied();
+        let mut board = self.board.copy();
         self.make(&mut board, played);
         is_king_attacked(&board, self.turn)
     }
@@ -124,11 +124,11 @@ impl Layout {
     pub fn after_drop(&self, kind: HandKind, to: Ssq) -> Layout
         ensures { position_of result ≡ play (position_of self.now) (Drop kind to) }
     {
-        let mut board = self.board.copied();
+        let mut board = self.board.copy();
         self.make_drop(&mut board, kind, to);
         let turn = self.turn.other();
         let checked = is_king_attacked(&board, turn);
-        let count = self.held(kind).saturating_sub(1);
+        let count = self.count_in_hand(kind).saturating_sub(1);
         Layout {
             board,
             hands: with_held(self.hands, self.turn, kind, count),

@@ -14,10 +14,10 @@ pub mod laws;
 mod layout;
 mod listing;
 mod mating;
+mod move_visitor;
 mod playing;
 mod pseudo;
 mod reaching;
-mod seeking;
 mod zones;
 
 pub use attacks::{attacked, in_check};

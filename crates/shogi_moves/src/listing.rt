@@ -7,7 +7,7 @@ ghost use Rattle.shogi_moves.specs.Listing.{move_cmp};
 
 use crate::checking::is_legal;
 use crate::layout::Layout;
-use crate::seeking::{Seeker, seek};
+use crate::move_visitor::{MoveVisitor, visit_moves};
 use memory::Memory;
 use squares::{SMove, SPos};
 use std::alloc::{AllocError, Global};
@@ -28,7 +28,7 @@ impl Model for Listed {
     ghost view = { λ listed. listed.moves.items };
 }
 
-impl Seeker for Listed {
+impl MoveVisitor for Listed {
     type Fault = AllocError;
 
     ghost use Rattle.std.specs.Prelude.{◌++◌};
@@ -77,6 +77,6 @@ pub fn legal(alloc: Global, position: &SPos) -> Result<Vec<SMove>, Memory>
     let mut listed = Listed {
         moves: Vec::new(alloc),
     };
-    seek(&Layout::of(position), &mut listed)?;
+    visit_moves(&Layout::from_position(position), &mut listed)?;
     Ok(listed.moves)
 }

@@ -5,8 +5,8 @@ ghost use Rattle.shogi_moves.specs.Rules.{Mate};
 ghost use Rattle.shogi_moves.specs.Computed.{leaves_king, escapes, some_move, is_mate, mates_by_pawn};
 
 use crate::layout::Layout;
+use crate::move_visitor::{MoveVisitor, visit_moves};
 use crate::pseudo::drops_pawn;
-use crate::seeking::{Seeker, seek};
 use squares::{SMove, SPos};
 use std::convert::Infallible;
 
@@ -16,7 +16,7 @@ use std::convert::Infallible;
 pub fn mated(position: &SPos) -> bool
     ensures { IsTrue result ↔ Mate position.now }
 {
-    is_mate(&Layout::of(position))
+    is_mate(&Layout::from_position(position))
 }
 
 /// Whether the moving side's king is attacked after the move.
@@ -33,7 +33,7 @@ struct AnyEscape {
     found: bool,
 }
 
-impl Seeker for AnyEscape {
+impl MoveVisitor for AnyEscape {
     type Fault = Infallible;
 
     ghost use Rattle.std.specs.Prelude.{◌||◌};
@@ -67,7 +67,7 @@ fn has_escape(layout: &Layout) -> bool
     ensures { result ≡ some_move (escapes (position_of layout.now)) }
 {
     let mut sought = AnyEscape { found: false };
-    match seek(layout, &mut sought) {
+    match visit_moves(layout, &mut sought) {
         Ok(()) => sought.found,
     }
 }

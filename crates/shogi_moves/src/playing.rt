@@ -15,7 +15,7 @@ pub fn play(position: &SPos, played: &SMove) -> SPos
     requires { Legal position.now played.now }
     ensures { result ≡ play position.now played.now }
 {
-    let layout = Layout::of(position);
+    let layout = Layout::from_position(position);
     let board = layout.board_after(played);
     let hands = hands_after(&layout, played);
     SPos::of_parts(board, hands, layout.turn.other())
@@ -27,7 +27,7 @@ fn taken_kind(there: Option<SPiece>) -> Option<HandKind>
 {
     match there {
         None => None,
-        Some(piece) => piece.role.kind().in_hand(),
+        Some(piece) => piece.role.kind().to_hand_kind(),
     }
 }
 
@@ -36,7 +36,7 @@ fn one_more(layout: &Layout, kind: HandKind) -> u8
     requires { IsShogiPosition layout.now.board layout.now.hands }
     ensures { result ≡ held layout.now.hands layout.now.turn kind + 1 }
 {
-    layout.held(kind) + 1
+    layout.count_in_hand(kind) + 1
 }
 
 fn hands_after(layout: &Layout, played: &SMove) -> Hands
@@ -48,7 +48,7 @@ fn hands_after(layout: &Layout, played: &SMove) -> Hands
             from: _,
             to,
             promote: _,
-        } => match taken_kind(layout.board.at(*to)) {
+        } => match taken_kind(layout.board.piece_at(*to)) {
             None => layout.hands,
             Some(kind) => with_held(layout.hands, layout.turn, kind, one_more(layout, kind)),
         },
@@ -56,7 +56,7 @@ fn hands_after(layout: &Layout, played: &SMove) -> Hands
             layout.hands,
             layout.turn,
             *kind,
-            layout.held(*kind).saturating_sub(1),
+            layout.count_in_hand(*kind).saturating_sub(1),
         ),
     }
 }

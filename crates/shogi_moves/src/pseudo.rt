@@ -7,13 +7,13 @@ ghost use Rattle.squares.specs.Sides.{same_side};
 ghost use Rattle.shogi_moves.specs.Rules.{may_land, may_promote};
 ghost use Rattle.shogi_moves.specs.Search.{piece_reaches};
 ghost use Rattle.shogi_moves.specs.Layouts.{position_of};
-ghost use Rattle.shogi_moves.specs.Computed.{goes, is_free, is_movement, lacks, stuck_after, stays, drops_dead};
+ghost use Rattle.shogi_moves.specs.Computed.{goes, is_free, is_movement, drops_unheld, stuck_after, fails_to_promote, drops_dead};
 ghost use Rattle.shogi_moves.specs.Computed.{holds_pawn, pawn_on_file, drops_pawn, drops_second_pawn, is_pseudo};
 
 use crate::layout::{Layout, dropped_role};
 use crate::reaching::piece_reaches;
 use crate::zones::{is_stuck, may_land, may_promote};
-use masks::Word81;
+use masks::Bitboard81;
 use squares::{HandKind, Role, SBoard, SMove, SPiece, Side, Ssq};
 
 // Whether the piece on `from` belongs to the side and can step to `to`.
@@ -22,7 +22,7 @@ fn piece_goes(board: &SBoard, turn: Side, piece: SPiece, from: Ssq, to: Ssq, pro
         && (not promote || may_promote piece from to) && piece_reaches board.now piece from to) }
 {
     piece.side == turn
-        && may_land(turn, board.at(to))
+        && may_land(turn, board.piece_at(to))
         && (!promote || may_promote(piece, from, to))
         && piece_reaches(board, piece, from, to)
 }
@@ -32,7 +32,7 @@ fn piece_goes(board: &SBoard, turn: Side, piece: SPiece, from: Ssq, to: Ssq, pro
 fn goes(layout: &Layout, from: Ssq, to: Ssq, promote: bool) -> bool
     ensures { result ≡ goes (position_of layout.now) from to promote }
 {
-    match layout.board.at(from) {
+    match layout.board.piece_at(from) {
         None => false,
         Some(piece) => piece_goes(&layout.board, layout.turn, piece, from, to, promote),
     }
@@ -42,7 +42,7 @@ fn goes(layout: &Layout, from: Ssq, to: Ssq, promote: bool) -> bool
 fn is_free(board: &SBoard, square: Ssq) -> bool
     ensures { result ≡ is_free board.now square }
 {
-    match board.at(square) {
+    match board.piece_at(square) {
         None => true,
         Some(_) => false,
     }
@@ -59,12 +59,12 @@ pub fn is_movement(layout: &Layout, played: &SMove) -> bool
 }
 
 /// Whether the move drops a piece that the hand does not hold.
-pub fn lacks(layout: &Layout, played: &SMove) -> bool
-    ensures { result ≡ lacks (position_of layout.now) played.now }
+pub fn drops_unheld(layout: &Layout, played: &SMove) -> bool
+    ensures { result ≡ drops_unheld (position_of layout.now) played.now }
 {
     match played {
         SMove::Step { .. } => false,
-        SMove::Drop { kind, to: _ } => layout.held(*kind) == 0,
+        SMove::Drop { kind, to: _ } => layout.count_in_hand(*kind) == 0,
     }
 }
 
@@ -73,15 +73,15 @@ pub fn lacks(layout: &Layout, played: &SMove) -> bool
 fn stuck_after(layout: &Layout, from: Ssq, to: Ssq) -> bool
     ensures { result ≡ stuck_after (position_of layout.now) from to }
 {
-    match layout.board.at(from) {
+    match layout.board.piece_at(from) {
         None => false,
         Some(piece) => is_stuck(piece.side, piece.role, to),
     }
 }
 
 /// Whether the move is a step that must promote and does not.
-pub fn stays(layout: &Layout, played: &SMove) -> bool
-    ensures { result ≡ stays (position_of layout.now) played.now }
+pub fn fails_to_promote(layout: &Layout, played: &SMove) -> bool
+    ensures { result ≡ fails_to_promote (position_of layout.now) played.now }
 {
     match played {
         SMove::Step { from, to, promote } => !*promote && stuck_after(layout, *from, *to),
@@ -100,7 +100,7 @@ pub fn drops_dead(layout: &Layout, played: &SMove) -> bool
 }
 
 // The squares of the side's unpromoted pawns.
-fn pawns_of(board: &SBoard, side: Side) -> Word81
+fn pawns_of(board: &SBoard, side: Side) -> Bitboard81
     ensures { (q : ℕ) → set.contains result q ≡ holds_pawn side (map.get board.now q) }
 {
     board.squares_of(SPiece {
@@ -162,8 +162,8 @@ pub fn is_pseudo(layout: &Layout, played: &SMove) -> bool
     ensures { result ≡ is_pseudo (position_of layout.now) played.now }
 {
     is_movement(layout, played)
-        && !lacks(layout, played)
-        && !stays(layout, played)
+        && !drops_unheld(layout, played)
+        && !fails_to_promote(layout, played)
         && !drops_dead(layout, played)
         && !drops_second_pawn(layout, played)
 }

@@ -4,13 +4,20 @@ ghost use Rattle.std.specs.FinSet as set;
 ghost use Rattle.shogi_moves.specs.Reach.{line, range};
 ghost use Rattle.shogi_moves.specs.Search.{comes_to, piece_reaches, side_reaches};
 
-use crate::heading::{Heading, range, step};
-use masks::Word81;
+use crate::heading::{MoveDirection, range, step};
+use masks::Bitboard81;
 use squares::{SBoard, SPiece, Side, Ssq};
 
 // Whether a piece on `from` reaches `to` along a heading, over at most `distance` squares, all but the last of them
 // empty.
-fn comes_to(board: &SBoard, side: Side, heading: Heading, distance: u8, from: Ssq, to: Ssq) -> bool
+fn comes_to(
+    board: &SBoard,
+    side: Side,
+    heading: MoveDirection,
+    distance: u8,
+    from: Ssq,
+    to: Ssq,
+) -> bool
     ensures { result ≡ comes_to board.now to (line distance side heading from) }
 {
     let mut at = from;
@@ -21,7 +28,7 @@ fn comes_to(board: &SBoard, side: Side, heading: Heading, distance: u8, from: Ss
                 if next == to {
                     return true;
                 }
-                if board.at(next).is_some() {
+                if board.piece_at(next).is_some() {
                     return false;
                 }
                 at = next;
@@ -36,7 +43,7 @@ fn comes_to(board: &SBoard, side: Side, heading: Heading, distance: u8, from: Ss
 pub fn piece_reaches(board: &SBoard, piece: SPiece, from: Ssq, to: Ssq) -> bool
     ensures { result ≡ piece_reaches board.now piece from to }
 {
-    Heading::ALL.iter().any(|heading| {
+    MoveDirection::ALL.iter().any(|heading| {
         comes_to(
             board,
             piece.side,
@@ -53,7 +60,7 @@ pub fn piece_reaches(board: &SBoard, piece: SPiece, from: Ssq, to: Ssq) -> bool
 pub fn side_reaches(board: &SBoard, side: Side, to: Ssq, from: Ssq) -> bool
     ensures { result ≡ side_reaches board.now side to from }
 {
-    match board.at(from) {
+    match board.piece_at(from) {
         None => false,
         Some(piece) => piece.side == side && piece_reaches(board, piece, from, to),
     }
@@ -63,11 +70,11 @@ pub fn side_reaches(board: &SBoard, side: Side, to: Ssq, from: Ssq) -> bool
 fn with_line(
     board: &SBoard,
     side: Side,
-    heading: Heading,
+    heading: MoveDirection,
     distance: u8,
     from: Ssq,
-    squares: Word81,
-) -> Word81
+    squares: Bitboard81,
+) -> Bitboard81
     ensures { (to : ℕ) → set.contains result to
         ≡ (set.contains squares to || comes_to board.now to (line distance side heading from)) }
 {
@@ -78,7 +85,7 @@ fn with_line(
             None => return found,
             Some(next) => {
                 found = found.with(next.number());
-                if board.at(next).is_some() {
+                if board.piece_at(next).is_some() {
                     return found;
                 }
                 at = next;
@@ -92,10 +99,10 @@ fn with_line(
 fn with_heading(
     board: &SBoard,
     piece: SPiece,
-    heading: Heading,
+    heading: MoveDirection,
     from: Ssq,
-    squares: Word81,
-) -> Word81
+    squares: Bitboard81,
+) -> Bitboard81
     ensures { (to : ℕ) → set.contains result to
         ≡ (set.contains squares to || comes_to board.now to (line (range piece.role heading) piece.side heading from)) }
 {
@@ -104,11 +111,11 @@ fn with_heading(
 }
 
 /// The squares that the piece on `from` attacks.
-pub fn reached(board: &SBoard, piece: SPiece, from: Ssq) -> Word81
+pub fn attacks_from(board: &SBoard, piece: SPiece, from: Ssq) -> Bitboard81
     ensures { (to : ℕ) → set.contains result to ≡ piece_reaches board.now piece from to }
 {
-    let mut found = Word81::new();
-    for heading in &Heading::ALL {
+    let mut found = Bitboard81::new();
+    for heading in &MoveDirection::ALL {
         found = with_heading(board, piece, *heading, from, found);
     }
     found

@@ -8,7 +8,7 @@ use Rattle.std.specs.Option.{option_map_or}
 use Rattle.std.proofs.lemmas.List.{get_or-drop, length-drop, take_all}
 use Rattle.std.proofs.lemmas.List.Sums.{fails_before_first, passes_at_first}
 use Rattle.std.proofs.lemmas.Bool.{cases_lt}
-use Rattle.game_lines.proofs.Proved.{length-positions, get-positions}
+use Rattle.game_history.proofs.Proved.{length-positions, get-positions}
 use Rattle.squares.specs.declared.sides.Side.{Side}
 use Rattle.squares.specs.declared.sides.Side.TheVariants.{First, Second}
 use Rattle.squares.specs.declared.shogi.moves.SMove.{SMove}
@@ -21,7 +21,7 @@ use Rattle.shogi_moves.proofs.Proved.{has_move-is, king_attacked-is}
 use Rattle.shogi_repetition.specs.declared.ends.SEnd.{SEnd}
 use Rattle.shogi_repetition.specs.declared.ends.SEnd.TheVariants.{NoMove, PerpetualCheck, Fourfold, PlyLimit}
 use Rattle.shogi_repetition.specs.Line.{last_position, position_after, positions}
-use Rattle.shogi_repetition.specs.Ends.{StandsAfter, StandsFourTimes, FirstStands, InCheck, GaveCheckThroughout}
+use Rattle.shogi_repetition.specs.Ends.{StandsAfter, StandsFourTimes, FirstOccurs, InCheck, GaveCheckThroughout}
 use Rattle.shogi_repetition.specs.Ends.{ChecksAlone, EndsSo}
 use Rattle.shogi_repetition.specs.Computed.{is_in_check, keeps_checking, checks_throughout, stands_four_times}
 use Rattle.shogi_repetition.specs.Computed.{since_first, end_by_checks, repetition, first_end, end_of}
@@ -113,7 +113,7 @@ module _ (start : ShogiPosition) (ms : List SMove) where
     | inr least ↦ least
   ]
 
-  pub first-stands : FirstStands start ms place
+  pub first-stands : FirstOccurs start ms place
   first-stands =
       record {
         within = no-later;
@@ -165,7 +165,7 @@ module _ (start : ShogiPosition) (ms : List SMove) where
     )
 
   -- the last position stood first at one place
-  pub one-first : (f g : ℕ) → FirstStands start ms f → FirstStands start ms g → f ≡ g
+  pub one-first : (f g : ℕ) → FirstOccurs start ms f → FirstOccurs start ms g → f ≡ g
   one-first f g a b =
       let low : f < g → ⊥ = λ less. b.earliest f less a.stands in
       let high : g < f → ⊥ = λ more. a.earliest g more b.stands in

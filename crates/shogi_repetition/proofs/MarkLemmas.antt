@@ -6,9 +6,9 @@ use Rattle.std.specs.Prelude.{if◌then◌else◌}
 use Rattle.std.specs.BTreeMap.{get}
 use Rattle.std.specs.Ordering.{eq_by_cmp}
 use Rattle.std.proofs.Math.Seq.{take-length}
-use Rattle.game_lines.specs.declared.faults.LineFault.TheVariants.{AfterEnd, Illegal as illegal}
-use Rattle.game_lines.specs.Line as line
-use Rattle.game_lines.proofs.Proved as lines
+use Rattle.game_history.specs.declared.faults.LineFault.TheVariants.{AfterEnd, Illegal as illegal}
+use Rattle.game_history.specs.Line as line
+use Rattle.game_history.proofs.Proved as lines
 use Rattle.squares.specs.declared.sides.Side.TheVariants.{First, Second}
 use Rattle.squares.specs.declared.shogi.moves.SMove.{SMove}
 use Rattle.squares.specs.ShogiSets.{ShogiPosition}
@@ -21,10 +21,10 @@ use Rattle.shogi_moves.specs.Computed.{has_move}
 use Rattle.shogi_repetition.specs.declared.ends.SEnd.{SEnd}
 use Rattle.shogi_repetition.specs.declared.ends.SEnd.TheVariants.{NoMove, PlyLimit}
 use Rattle.shogi_repetition.specs.declared.marks.Marks.{Marks}
-use Rattle.shogi_repetition.specs.declared.marks.Stood.{Stood}
+use Rattle.shogi_repetition.specs.declared.marks.RepetitionCount.{RepetitionCount}
 use Rattle.shogi_repetition.specs.declared.tails.Tail.{Tail}
 use Rattle.shogi_repetition.specs.Line.{last_position, positions}
-use Rattle.shogi_repetition.specs.Ends.{FirstStands, EndsSo}
+use Rattle.shogi_repetition.specs.Ends.{FirstOccurs, EndsSo}
 use Rattle.shogi_repetition.specs.Computed.{is_in_check}
 use Rattle.shogi_repetition.specs.Faults.{shogi_lines, HasFault}
 use Rattle.shogi_repetition.specs.Tails.{no_checks, count_on, tail_after, next_tail, repetition_by, end_by}
@@ -92,7 +92,7 @@ start-follows p marks last plies stood tail seen =
       times = ap (λ s. s.times) stood
           ∙ sym (lines.count_by-one (λ q. same_shogi_position q p) p
           ∙ ap (λ b. cond b 1 0) (same_shogi_position-itself p));
-      first = subst (λ s. FirstStands p [] s.first) (sym stood) (lines.first-of-none play p);
+      first = subst (λ s. FirstOccurs p [] s.first) (sym stood) (lines.first-of-none play p);
       tail = tail ∙ sym (tail-begins p);
       seen = λ q. subst (HasStood p [] q) (sym (seen q ∙ at-key p q _ _))
           (begins-so p q (same_shogi_position p q) refl);
@@ -159,7 +159,7 @@ module _ (start : ShogiPosition) (ms : List SMove) (m : SMove) (marks : Marks) (
               omega (arith, one, none);
         })
 
-    again : marks.plies ≤ 600 → (o : Option Stood) → HasStood start ms next o
+    again : marks.plies ≤ 600 → (o : Option RepetitionCount) → HasStood start ms next o
         → HasStood start more next (Some (stood_again (marks.plies + 1) o))
     again within None none =
         (omega (arith, once-more next true (same_shogi_position-itself next), none), none-before none)
@@ -169,7 +169,7 @@ module _ (start : ShogiPosition) (ms : List SMove) (m : SMove) (marks : Marks) (
         let small : s.times ≤ 601 = omega (arith, stood, few, follows.plies, within) in
         (omega (arith, grown, stood, small), lines.first-longer play start ms (m ∷ []) next s.first first)
 
-    as-before : (q : ShogiPosition) (o : Option Stood) → same_shogi_position next q ≡ false → HasStood start ms q o
+    as-before : (q : ShogiPosition) (o : Option RepetitionCount) → same_shogi_position next q ≡ false → HasStood start ms q o
         → HasStood start more q o
     as-before q None e none = omega (arith, once-more q false e, none)
     as-before q (Some s) e (stood, first) =

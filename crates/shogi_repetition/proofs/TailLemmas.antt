@@ -8,7 +8,7 @@ use Rattle.std.proofs.lemmas.Grind.{common_steps}
 use Rattle.std.proofs.lemmas.List.{take-append-drop, length-drop}
 use Rattle.std.proofs.lemmas.List.Elements.{filter-append}
 use Rattle.std.proofs.Math.Seq.{drop-append_seam, drop-drop}
-use Rattle.game_lines.proofs.Proved.{positions-append}
+use Rattle.game_history.proofs.Proved.{positions-append}
 use Rattle.squares.specs.declared.sides.Side.{Side}
 use Rattle.squares.specs.declared.sides.Side.TheVariants.{First, Second}
 use Rattle.squares.specs.declared.shogi.moves.SMove.{SMove}
@@ -20,7 +20,7 @@ use Rattle.shogi_moves.specs.Computed.{has_move}
 use Rattle.shogi_repetition.specs.declared.ends.SEnd.TheVariants.{NoMove, PlyLimit}
 use Rattle.shogi_repetition.specs.declared.tails.Tail.{Tail}
 use Rattle.shogi_repetition.specs.Line.{last_position, position_after, positions}
-use Rattle.shogi_repetition.specs.Ends.{FirstStands}
+use Rattle.shogi_repetition.specs.Ends.{FirstOccurs}
 use Rattle.shogi_repetition.specs.Computed.{is_in_check, checks_throughout, stands_four_times}
 use Rattle.shogi_repetition.specs.Computed.{since_first, end_by_checks, repetition, first_end, end_of}
 use Rattle.shogi_repetition.specs.Tails.{led_to, checks_in_a_row, tail_of, no_checks, count_on, tail_after, next_tail}
@@ -201,7 +201,7 @@ module _ (side : Side) where
 
 -- ---- the end
 
-module _ (start : ShogiPosition) (ms : List SMove) (f : ℕ) (stands : FirstStands start ms f) where
+module _ (start : ShogiPosition) (ms : List SMove) (f : ℕ) (stands : FirstOccurs start ms f) where
   abbrev last : ShogiPosition
   last = last_position start ms
 

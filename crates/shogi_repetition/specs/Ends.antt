@@ -1,6 +1,6 @@
 -- The ends of a game of shogi. Positions are the same if board, hands and side to move are.
 use Rattle.std.specs.Prelude.{◌≡◌, ◌<◌, ◌≤◌, ◌≢◌, ℕ, ◌+◌, Option, Some, None, List, length}
-use Rattle.game_lines.specs.Line as line
+use Rattle.game_history.specs.Line as line
 use Rattle.squares.specs.declared.sides.Side.{Side}
 use Rattle.squares.specs.declared.sides.Score.{Score}
 use Rattle.squares.specs.declared.sides.Score.TheVariants.{Draw}
@@ -30,8 +30,8 @@ pub record StandsFourTimes (start : ShogiPosition) (ms : List SMove) : Type 0 wh
   pub at_third : StandsAfter start ms third
 
 -- The last position occurs for the first time after f plies.
-abbrev pub FirstStands : ShogiPosition → List SMove → ℕ → Type 0
-FirstStands = line.FirstStands play
+abbrev pub FirstOccurs : ShogiPosition → List SMove → ℕ → Type 0
+FirstOccurs = line.FirstOccurs play
 
 -- The side to move is in check.
 abbrev pub InCheck : ShogiPosition → Type 0
@@ -46,7 +46,7 @@ GaveCheckThroughout start ms side f =
 -- Since the first occurrence of the last position, the side gave check throughout and the other side did not.
 pub record ChecksAlone (start : ShogiPosition) (ms : List SMove) (side : Side) : Type 0 where
   pub since : ℕ
-  pub first : FirstStands start ms since
+  pub first : FirstOccurs start ms since
   pub checks : GaveCheckThroughout start ms side since
   pub alone : GaveCheckThroughout start ms (other side) since → ⊥
 

@@ -1,7 +1,7 @@
 -- Legal shogi histories, and the faults of the others.
 use Rattle.std.specs.Prelude.{ℕ, List}
-use Rattle.game_lines.specs.declared.faults.LineFault.{LineFault}
-use Rattle.game_lines.specs.Faults as lines
+use Rattle.game_history.specs.declared.faults.LineFault.{LineFault}
+use Rattle.game_history.specs.Faults as lines
 use Rattle.squares.specs.declared.shogi.moves.SMove.{SMove}
 use Rattle.squares.specs.ShogiSets.{ShogiPosition}
 use Rattle.shogi_moves.specs.declared.checking.Illegal.{Illegal}

@@ -1,6 +1,6 @@
 -- Shogi histories.
 use Rattle.std.specs.Prelude.{ℕ, List}
-use Rattle.game_lines.specs.Line as line
+use Rattle.game_history.specs.Line as line
 use Rattle.squares.specs.declared.shogi.moves.SMove.{SMove}
 use Rattle.squares.specs.ShogiSets.{ShogiPosition}
 use Rattle.shogi_moves.specs.Rules.{play}

@@ -2,7 +2,7 @@
 use Rattle.std.specs.Prelude.{◌≡◌, ℕ, ◌+◌, ◌-◌, ◌*◌, ◌==◌, ◌++◌, nat_le, not, if◌then◌else◌, Bool, Option, Some, None}
 use Rattle.std.specs.Prelude.{List, [], ◌∷◌, length, drop, filter}
 use Rattle.std.specs.List.{suffix_len}
-use Rattle.game_lines.specs.Line as line
+use Rattle.game_history.specs.Line as line
 use Rattle.squares.specs.declared.sides.Side.{Side}
 use Rattle.squares.specs.declared.sides.Side.TheVariants.{First, Second}
 use Rattle.squares.specs.declared.shogi.moves.SMove.{SMove}
@@ -15,7 +15,7 @@ use Rattle.shogi_repetition.specs.declared.ends.SEnd.{SEnd}
 use Rattle.shogi_repetition.specs.declared.ends.SEnd.TheVariants.{NoMove, PlyLimit}
 use Rattle.shogi_repetition.specs.declared.tails.Tail.{Tail}
 use Rattle.shogi_repetition.specs.Line.{last_position, positions}
-use Rattle.shogi_repetition.specs.Ends.{FirstStands}
+use Rattle.shogi_repetition.specs.Ends.{FirstOccurs}
 use Rattle.shogi_repetition.specs.Computed.{is_in_check, end_by_checks, end_of}
 
 -- The positions after the moves of a side, among all positions of a history.
@@ -81,5 +81,5 @@ times_stood = line.times_stood play same_shogi_position
 -- The end by the tail is the end by all positions.
 abbrev pub TailsTellEnds : Type 0
 TailsTellEnds =
-    (start : ShogiPosition) (ms : List SMove) (first : ℕ) → FirstStands start ms first →
+    (start : ShogiPosition) (ms : List SMove) (first : ℕ) → FirstOccurs start ms first →
     end_by (tail_of start ms) (last_position start ms) (length ms) (times_stood start ms) first ≡ end_of start ms

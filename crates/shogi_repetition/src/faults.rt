@@ -1,6 +1,6 @@
 //! Faults of a sequence of moves.
 
-use game_lines::LineFault;
+use game_history::LineFault;
 use shogi_moves::Illegal;
 
 /// Why a sequence of shogi moves is rejected.

@@ -15,5 +15,5 @@ pub mod tails;
 pub use ends::SEnd;
 pub use faults::SLineFault;
 pub use judging::judge;
-pub use marks::{Marks, Stood};
+pub use marks::{Marks, RepetitionCount};
 pub use tails::Tail;

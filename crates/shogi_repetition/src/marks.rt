@@ -13,7 +13,7 @@ use std::collections::BTreeMap;
 
 /// The repetition count of a position, and the ply after which it first occurred.
 #[derive(Clone, Copy, Debug, PartialEq, Eq, Drop)]
-pub struct Stood {
+pub struct RepetitionCount {
     pub times: u32,
     pub first: usize,
 }
@@ -26,19 +26,19 @@ pub struct Marks {
     last: SPos,
     plies: usize,
     /// The occurrences of the last position.
-    stood: Stood,
+    stood: RepetitionCount,
     tail: Tail,
     /// The occurrences of each position.
-    seen: BTreeMap<SPos, Stood>,
+    seen: BTreeMap<SPos, RepetitionCount>,
     ghost within: { plies ≤ 600 },
     ghost few_first_checks: { tail.first_checks ≤ plies },
     ghost few_second_checks: { tail.second_checks ≤ plies },
 }
 
 impl Marks {
-    ghost use Rattle.game_lines.specs.declared.faults.LineFault.TheVariants.{Memory};
-    ghost use Rattle.game_lines.specs.Following.{GrowsBy, RefusesNext, StaysSo};
-    ghost use Rattle.shogi_repetition.specs.Counting.{Follows, TellsEnd, stood_again};
+    ghost use Rattle.game_history.specs.declared.faults.LineFault.TheVariants.{Memory};
+    ghost use Rattle.game_history.specs.Following.{GrowsBy, RefusesNext, StaysSo};
+    ghost use Rattle.shogi_repetition.specs.Counting.{Follows, IsEndOf, stood_again};
     ghost use Rattle.shogi_repetition.specs.Faults.{shogi_lines};
     ghost use Rattle.shogi_repetition.specs.Tails.{end_by};
 
@@ -51,11 +51,11 @@ impl Marks {
         ensures follows { IfOk result (Follows position.now []) }
         ensures fault { IfErr result (λ fault. fault ≡ Memory) }
     {
-        let stood = Stood { times: 1, first: 0 };
+        let stood = RepetitionCount { times: 1, first: 0 };
         let mut seen = BTreeMap::new(alloc);
-        seen.insert(position.copied(), stood)?;
+        seen.insert(position.copy(), stood)?;
         Ok(Marks {
-            last: position.copied(),
+            last: position.copy(),
             plies: 0,
             stood,
             tail: Tail::start(),
@@ -95,7 +95,7 @@ impl Marks {
         }
         let next = play(&self.last, played);
         let stood = self.stood_again(&next);
-        self.seen.insert(next.copied(), stood)?;
+        self.seen.insert(next.copy(), stood)?;
         self.tail = self.tail.next(&next);
         self.stood = stood;
         self.last = next;
@@ -104,15 +104,15 @@ impl Marks {
     }
 
     // The occurrences of a position, counting one more after the next ply.
-    fn stood_again(&self, position: &SPos) -> Stood
+    fn stood_again(&self, position: &SPos) -> RepetitionCount
         ensures { result ≡ stood_again (self.now.plies + 1) (get position_cmp self.now.seen position.now) }
     {
         match self.seen.get(position).copied() {
-            Some(stood) => Stood {
+            Some(stood) => RepetitionCount {
                 times: stood.times.saturating_add(1),
                 first: stood.first,
             },
-            None => Stood {
+            None => RepetitionCount {
                 times: 1,
                 first: self.plies + 1,
             },
@@ -133,7 +133,7 @@ impl Marks {
 
     /// The end of the game, if the last ply ends it.
     pub fn end(&self) -> Option<SEnd>
-        ensures { TellsEnd self.now result }
+        ensures { IsEndOf self.now result }
     {
         self.end_by_tail()
     }

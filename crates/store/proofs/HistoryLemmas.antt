@@ -20,7 +20,7 @@ use Rattle.club_laws.proofs.Proved.{folds-accepted}
 use Rattle.club_rows.specs.Club.{both_games, ClubState, IsClub, tables}
 use Rattle.store_tables.specs.Contents.{Content, IsEmpty, IsExactlyEmpty}
 use Rattle.store_tables.specs.Club.{Leaves}
-use Rattle.store_tables.specs.Over.{alone, IsBesideThem, IsFirstBeside, LeavesBeside, Neighbours, over}
+use Rattle.store_tables.specs.Over.{alone, HoldsClubAmong, IsFirstBeside, LeavesBeside, Neighbours, over}
 use Rattle.store_tables.specs.Reading.{KeepsContent}
 use Rattle.store_tables.proofs.Proved.{club_held, leaves_beside, leaves_first, left_alone, still_beside}
 use Rattle.store_tables.proofs.Proved.{first_held, versions_apart}
@@ -29,11 +29,11 @@ use Rattle.store.specs.declared.fault.StoreFault.{StoreFault}
 use Rattle.club_changes.specs.Steps.{club_step, club_next}
 use Rattle.store.specs.Runs.{club_fold, club_outcomes, club_accepted}
 use Rattle.store_sql.proofs.Proved.{opens_exactly, schema_once}
-use Rattle.store.specs.Histories.{Chapter, Leads, Place, SessionReaches, Reaches, IsReachable, IsHistory, IsHistoryAt}
+use Rattle.store.specs.Histories.{HistoryStep, StepLeadsTo, Place, SessionReaches, HistoryLeadsTo, IsReachable, IsHistory, IsHistoryAt}
 use Rattle.store.specs.Histories.{IsAfter, is_taken, opens_as, run_session, served, session_of, answered_session}
 use Rattle.store.specs.Histories.{IsExactlyAt, LeavesAt, Session, cut_session}
 use Rattle.club_rows.specs.FirstSchema.{first_tables}
-use Rattle.club_opening.specs.Versions.{HoldsRows}
+use Rattle.club_check.specs.Versions.{HoldsRows}
 use Rattle.store_tables.specs.declared.names.Version.{Version}
 use Rattle.store_tables.specs.declared.names.Version.TheVariants.{First, Current}
 
@@ -93,26 +93,26 @@ leads_on s rs j n a whole is by = record {
 abbrev pub at_state : ClubState → Place
 at_state s = record { version = Current; state = s }
 
-pub leads_then : (s t u : Place) (xs : List Chapter) (x : Chapter) → Reaches s xs t → Leads t x u
-    → Reaches s (xs ++ x ∷ []) u
-leads_then s t u [] x led one = (u, subst (λ v. Leads v x u) led one, refl)
+pub leads_then : (s t u : Place) (xs : List HistoryStep) (x : HistoryStep) → HistoryLeadsTo s xs t → StepLeadsTo t x u
+    → HistoryLeadsTo s (xs ++ x ∷ []) u
+leads_then s t u [] x led one = (u, subst (λ v. StepLeadsTo v x u) led one, refl)
 leads_then s t u (y ∷ xs) x led one = (led.0, led.1, leads_then led.0 t u xs x led.2 one)
 
 -- a session of a club of the last version leads on
-session_then : (from : Version) (xs : List Chapter) {s u : ClubState} {session : Session}
-    → Reaches (opens_as from) xs (at_state s) → SessionReaches s session u
-    → Reaches (opens_as from) (xs ++ served session ∷ []) (at_state u)
+session_then : (from : Version) (xs : List HistoryStep) {s u : ClubState} {session : Session}
+    → HistoryLeadsTo (opens_as from) xs (at_state s) → SessionReaches s session u
+    → HistoryLeadsTo (opens_as from) (xs ++ served session ∷ []) (at_state u)
 session_then from xs led one = leads_then _ _ _ xs _ led (refl, one)
 
-session_reached : (from : Version) (xs : List Chapter) {them : Neighbours} {s u : ClubState} {session : Session}
-    {db : Trees} → Reaches (opens_as from) xs (at_state s) → SessionReaches s session u → IsClub u
+session_reached : (from : Version) (xs : List HistoryStep) {them : Neighbours} {s u : ClubState} {session : Session}
+    {db : Trees} → HistoryLeadsTo (opens_as from) xs (at_state s) → SessionReaches s session u → IsClub u
     → LeavesBeside them (tables u) db → IsReachable them (xs ++ served session ∷ []) db
 session_reached from xs led one legal left =
     record { from = from; after = at_state _; legal = legal; leads = session_then from xs led one; leaves = left }
 
-session_stood : {them : Neighbours} {old now : State} {xs : List Chapter} {session : Session} {u : ClubState}
+session_stood : {them : Neighbours} {old now : State} {xs : List HistoryStep} {session : Session} {u : ClubState}
     → (at : IsHistory them xs old) → SessionReaches at.after session u → IsClub u
-    → IsBesideThem them (tables u) now → IsHistory them (xs ++ served session ∷ []) now
+    → HoldsClubAmong them (tables u) now → IsHistory them (xs ++ served session ∷ []) now
 session_stood at one legal exactly =
     record { from = at.from; after = _; legal = legal; leads = session_then _ _ at.leads one; exactly = exactly }
 
@@ -169,7 +169,7 @@ run_leads s rs run n told by =
     (elim by [ inl e ↦ inl e | inr (failed, e) ↦ inr (is_stopped run.fault failed, e) ]))
 
 -- what a stop leaves is led to with this session added
-pub session_leads : {them : Neighbours} {sessions : List Chapter} {rs : List given_request.Request} (run : Run)
+pub session_leads : {them : Neighbours} {sessions : List HistoryStep} {rs : List given_request.Request} (run : Run)
     {old : State} {db : Trees} → (at : IsHistory them sessions old) → Told at.after rs run →
     IsAfter them at.after rs (length run.outcomes.items) db
     ⊎ (IsSome run.fault × IsAfter them at.after rs (length run.outcomes.items + 1) db)
@@ -180,10 +180,10 @@ session_leads run at told (inr (failed, later)) =
     session_reached _ _ at.leads (run_leads _ _ run _ told (inr (failed, refl))) later.legal later.leaves
 
 -- without a fault, the tables are led to with this session added
-pub session_stands : {them : Neighbours} {sessions : List Chapter} (rs : List given_request.Request) (run : Run)
+pub session_stands : {them : Neighbours} {sessions : List HistoryStep} (rs : List given_request.Request) (run : Run)
     {old now : State} → (at : IsHistory them sessions old) → Told at.after rs run
     → length run.outcomes.items ≡ length rs → IsClub (club_fold at.after (map request_of rs))
-    → IsBesideThem them (tables (club_fold at.after (map request_of rs))) now
+    → HoldsClubAmong them (tables (club_fold at.after (map request_of rs))) now
     → IsHistory them (sessions ++ session_of rs run ∷ []) now
 session_stands rs run at told whole legal exactly =
     session_stood at
@@ -197,14 +197,14 @@ one_counted : (s : ClubState) (r : Request) → (if is_accepted (club_step s r) 
 one_counted s r = elim (cases_Bool (is_accepted (club_step s r))) [ inl took ↦ rw took refl | inr left ↦ rw left refl ]
 
 -- the session of one request, as the machine takes it
-abbrev pub taken_session : ClubState → Request → Chapter
+abbrev pub taken_session : ClubState → Request → HistoryStep
 taken_session s r =
     served (record { requests = r ∷ []; returned = if is_accepted (club_step s r) then 1 else 0; is_whole = true })
 
 -- a request that was answered leads, as a session of its own, to the state after it
-pub one_stands : {them : Neighbours} {sessions : List Chapter} (r : Request) (o : given_outcome.Outcome)
+pub one_stands : {them : Neighbours} {sessions : List HistoryStep} (r : Request) (o : given_outcome.Outcome)
     {old now : State} → (at : IsHistory them sessions old) → outcome_of o ≡ answered (club_step at.after r)
-    → IsClub (club_next at.after r) → IsBesideThem them (tables (club_next at.after r)) now
+    → IsClub (club_next at.after r) → HoldsClubAmong them (tables (club_next at.after r)) now
     → IsHistory them (sessions ++ answered_session r o ∷ []) now
 one_stands r o at told =
     session_stood at (leads_on at.after (r ∷ []) 1 1 _ true
@@ -212,15 +212,15 @@ one_stands r o at told =
     (inl refl))
 
 -- a request leads, as a session of its own, to the state after it
-pub one_leads : (from : Version) (s : ClubState) (sessions : List Chapter) (r : Request)
-    → Reaches (opens_as from) sessions (at_state s)
-    → Reaches (opens_as from) (sessions ++ taken_session s r ∷ []) (at_state (club_next s r))
+pub one_leads : (from : Version) (s : ClubState) (sessions : List HistoryStep) (r : Request)
+    → HistoryLeadsTo (opens_as from) sessions (at_state s)
+    → HistoryLeadsTo (opens_as from) (sessions ++ taken_session s r ∷ []) (at_state (club_next s r))
 one_leads from s sessions r led =
     session_then from sessions led (leads_on s (r ∷ []) 1 1 _ true (one_counted s r) (inl refl))
 
 -- a request that a fault cut off leads to the state before it or to the one after
-pub one_cut : (from : Version) (them : Neighbours) (s : ClubState) (sessions : List Chapter) (r : Request) (db : Trees)
-    → Reaches (opens_as from) sessions (at_state s)
+pub one_cut : (from : Version) (them : Neighbours) (s : ClubState) (sessions : List HistoryStep) (r : Request) (db : Trees)
+    → HistoryLeadsTo (opens_as from) sessions (at_state s)
     → IsClub s → IsClub (club_next s r)
     → LeavesBeside them (tables s) db ⊎ LeavesBeside them (tables (club_next s r)) db
     → IsReachable them (sessions ++ cut_session r ∷ []) db
@@ -240,7 +240,7 @@ pub made_led : (them : Neighbours) (trees : Trees) → LeavesBeside them (tables
 made_led them trees left =
     record { from = Current; after = at_state opening_state; legal = opening_legal; leads = refl; leaves = left }
 
-pub made_stands : (them : Neighbours) (now : State) → IsBesideThem them (tables opening_state) now
+pub made_stands : (them : Neighbours) (now : State) → HoldsClubAmong them (tables opening_state) now
     → IsHistory them [] now
 made_stands them now exactly =
     record { from = Current; after = opening_state; legal = opening_legal; leads = refl; exactly = exactly }
@@ -255,7 +255,7 @@ pub left_at : (version : Version) (them : Neighbours) (after : ClubState) (now :
 left_at First them after now k trees left = leaves_first them (first_tables after) now k trees left
 left_at Current them after now k trees left = leaves_beside them (tables after) now k trees left
 
-pub stops_led : (version : Version) (them : Neighbours) (chapters : List Chapter) (now : State)
+pub stops_led : (version : Version) (them : Neighbours) (chapters : List HistoryStep) (now : State)
     → IsHistoryAt version them chapters now → (trees : Trees) → now.may_leave trees → IsReachable them chapters trees
 stops_led version them chapters now at trees left = record {
   from = at.from;
@@ -266,7 +266,7 @@ stops_led version them chapters now at trees left = record {
 }
 
 -- a history whose tables were taken as those of the last schema, if they are a club's, is one of the last version
-pub current_taken : (them : Neighbours) (chapters : List Chapter) (s : State)
+pub current_taken : (them : Neighbours) (chapters : List HistoryStep) (s : State)
     → (HasClubTables s.now.schema → HasTablesOf Current s.now.schema)
     → (version : Version) × IsHistoryAt version them chapters s → IsHistory them chapters s
 current_taken them chapters s taken (First, at) =
@@ -275,7 +275,7 @@ current_taken them chapters s taken (First, at) =
 current_taken them chapters s taken (Current, at) = at
 
 -- what keeps the tables keeps where they stand
-pub still_stands : (them : Neighbours) (chapters : List Chapter) (old new : State) → KeepsContent old new
+pub still_stands : (them : Neighbours) (chapters : List HistoryStep) (old new : State) → KeepsContent old new
     → IsHistory them chapters old → IsHistory them chapters new
 still_stands them chapters old new kept at = record {
   from = at.from;
@@ -289,7 +289,7 @@ still_stands them chapters old new kept at = record {
 module _ (s : State) (opens : Opens s) (live : IsLive s)
     (settled : (db : Trees) → IsTrue s.is_open → s.may_leave db → db ≡ s.committed.trees) where
   pub opens_beside : (them : Neighbours) (content : Content) → LeavesBeside them content s.committed.trees
-      → IsBesideThem them content s
+      → HoldsClubAmong them content s
   opens_beside them content left = record {
     clear = left.clear;
     exactly =
@@ -306,7 +306,7 @@ module _ (s : State) (opens : Opens s) (live : IsLive s)
   }
   opens_at Current them after left = opens_beside them (tables after) left
 
-  pub opens_led : (them : Neighbours) (chapters : List Chapter) → IsReachable them chapters s.committed.trees
+  pub opens_led : (them : Neighbours) (chapters : List HistoryStep) → IsReachable them chapters s.committed.trees
       → (version : Version) × IsHistoryAt version them chapters s
   opens_led them chapters led = (
     led.after.version,
@@ -320,7 +320,7 @@ module _ (s : State) (opens : Opens s) (live : IsLive s)
   )
 
   -- what keeps the tables of a connection that was taken as the last schema's stands where the chapters lead
-  pub opens_taken : {them : Neighbours} {chapters : List Chapter} {now : State}
+  pub opens_taken : {them : Neighbours} {chapters : List HistoryStep} {now : State}
       → IsReachable them chapters s.committed.trees
       → (HasClubTables s.now.schema → HasTablesOf Current s.now.schema) → KeepsContent s now
       → IsHistory them chapters now
@@ -346,7 +346,7 @@ module _ (s : State) (opens : Opens s) (live : IsLive s)
 -- ---- the rows of a club among those of all tables
 
 -- what an opening is told of a club beside its neighbours
-pub holds_beside : (them : Neighbours) (content : Content) (s : State) → IsBesideThem them content s
+pub holds_beside : (them : Neighbours) (content : Content) (s : State) → HoldsClubAmong them content s
     → HoldsRows Current content s.now
 holds_beside them content s k = record {
   schema = subst (HasTablesOf Current) (sym k.exactly.now.schema) k.clear.club;

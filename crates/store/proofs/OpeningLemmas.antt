@@ -13,7 +13,7 @@ use Rattle.store_tables.specs.declared.names.Table.TheVariants.{EventRules}
 use Rattle.store_tables.specs.declared.names.Version.TheVariants.{First, Current}
 use Rattle.sqlite_catalog.proofs.SoundLemmas.{lowered}
 use Rattle.sqlite_schema.specs.Names.{same_name}
-use Rattle.table_shapes.specs.Shapes.{answers_as, is_of_club}
+use Rattle.schema_match.specs.Shapes.{answers_as, is_of_club}
 use Rattle.club_rows.specs.Club.{tables}
 use Rattle.store_tables.specs.Contents.{Content, opening}
 use Rattle.store_tables.specs.Tables.{event_rules}

@@ -4,7 +4,7 @@ use Rattle.std.proofs.Common.{sym, ap, subst, ◌∙◌, ◌⊎◌, inl, inr}
 use Rattle.std.proofs.lemmas.List.{take_more, take_all, map-append}
 use Rattle.sqlite.specs.State.{State}
 use Rattle.sqlite.specs.Tree.{Trees}
-use Rattle.store_tables.specs.Over.{IsBesideThem, LeavesBeside, Neighbours}
+use Rattle.store_tables.specs.Over.{HoldsClubAmong, LeavesBeside, Neighbours}
 use Rattle.club_requests.specs.declared.requests.Request as given_request
 use Rattle.club_requests.specs.declared.answers.Outcome as given_outcome
 use Rattle.club_core.specs.Answer.{answered, outcome_of, request_of}
@@ -39,7 +39,7 @@ first_of-more rs k {r} within is =
 pub record Served (them : Neighbours) (s : ClubState) (rs : List Request) (outcomes : List given_outcome.Outcome)
     (now : State) : Type 0 where
   pub is_club : IsClub (club_fold s rs)
-  pub exactly : IsBesideThem them (tables (club_fold s rs)) now
+  pub exactly : HoldsClubAmong them (tables (club_fold s rs)) now
   pub answers : map outcome_of outcomes ≡ map answered (club_outcomes s rs)
 
 -- one more request is served
@@ -48,7 +48,7 @@ pub served-next : {them : Neighbours} {s : ClubState} (rs : List given_request.R
     {now new : State} →
     k < length rs → r ≡ get_or rs k r → more ≡ outcomes ++ outcome ∷ [] → Served them s (first_of rs k) outcomes now →
     IsClub (club_next (club_fold s (first_of rs k)) (request_of r)) →
-    IsBesideThem them (tables (club_next (club_fold s (first_of rs k)) (request_of r))) new →
+    HoldsClubAmong them (tables (club_next (club_fold s (first_of rs k)) (request_of r))) new →
     outcome_of outcome ≡ answered (club_step (club_fold s (first_of rs k)) (request_of r)) →
     Served them s (first_of rs (k + 1)) more new
 served-next {them} {s} rs k {r} {outcomes} {more} outcome {now} {new} within is pushed served legal exactly told =
@@ -56,7 +56,7 @@ served-next {them} {s} rs k {r} {outcomes} {more} outcome {now} {new} within is 
     subst (λ xs. Served them s xs more new) (sym (first_of-more rs k within is)) (record {
       is_club = subst IsClub (sym (fold-more s before (request_of r))) legal;
       exactly =
-          subst (λ (u : ClubState). IsBesideThem them (tables u) new) (sym (fold-more s before (request_of r))) exactly;
+          subst (λ (u : ClubState). HoldsClubAmong them (tables u) new) (sym (fold-more s before (request_of r))) exactly;
       answers =
           ap (map outcome_of) pushed
           ∙ (map-append outcome_of outcomes (outcome ∷ [])

@@ -11,7 +11,7 @@ use Rattle.store_tables.specs.Changed.{widened}
 use Rattle.store_tables.specs.Changes.{Alters, HaveSame}
 use Rattle.store_tables.specs.Content.{put}
 use Rattle.store_tables.specs.Contents.{put_each, put_in}
-use Rattle.store_tables.specs.Over.{IsBesideThem, LeavesBeside, Neighbours}
+use Rattle.store_tables.specs.Over.{HoldsClubAmong, LeavesBeside, Neighbours}
 use Rattle.store_tables.specs.Placed.{HasTablesOf}
 use Rattle.store_tables.specs.declared.names.Version.{Version}
 use Rattle.store_tables.specs.declared.names.Version.TheVariants.{First, Current}
@@ -19,7 +19,7 @@ use Rattle.store_tables.specs.declared.rows.EventRuleRow.{EventRuleRow}
 use Rattle.store_tables.specs.declared.rows.MetaRow.{MetaRow}
 use Rattle.store_tables.specs.declared.rows.Rows.{Rows}
 use Rattle.sqlite.specs.declared.types.Value.TheVariants.{Int}
-use Rattle.club_opening.specs.Places.{IsRegisterOf}
+use Rattle.club_check.specs.Places.{IsRegisterOf}
 use Rattle.store_tables.proofs.Proved.{altered, each_at, same_by}
 use Rattle.club_changes.proofs.Proved.{◌&◌, ids_agree, ids_same, numbered_had}
 use Rattle.club_changes.specs.Steps.{AreSame}
@@ -27,8 +27,8 @@ use Rattle.club_core.specs.Events.{Event}
 use Rattle.club_rows.specs.Club.{ClubState, tables}
 use Rattle.club_rows.specs.FirstSchema.{first_tables}
 use Rattle.club_rows.specs.Tables.{meta_row, numbered_from, rule_row}
-use Rattle.club_opening.proofs.Proved.{club_of_version}
-use Rattle.store.specs.Histories.{Chapter, IsHistory, IsHistoryAt, IsReachable, LeavesAt, Place, upgraded}
+use Rattle.club_check.proofs.Proved.{club_of_version}
+use Rattle.store.specs.Histories.{HistoryStep, IsHistory, IsHistoryAt, IsReachable, LeavesAt, Place, upgraded}
 use Rattle.store.proofs.HistoryLemmas.{at_state, holds_beside, leads_then}
 
 -- ---- the tables
@@ -102,7 +102,7 @@ pub not_newer : {found : Version} → found ≡ First → ¬ (found ≡ Current)
 not_newer first current = absurd (let x = sym first ∙ current in cc)
 
 -- a history by tables that were found to be those of schema 1 is one of the first version
-pub first_history : {them : Neighbours} {chapters : List Chapter} {s : State} {found : Version} → found ≡ First
+pub first_history : {them : Neighbours} {chapters : List HistoryStep} {s : State} {found : Version} → found ≡ First
     → (HasTablesOf Current s.now.schema → found ≡ Current)
     → (version : Version) × IsHistoryAt version them chapters s → IsHistoryAt First them chapters s
 first_history first newer (First, at) = at
@@ -110,8 +110,8 @@ first_history {them} {s = s} first newer (Current, at) =
     absurd (not_newer first (newer (holds_beside them (tables at.after) s at.exactly).schema))
 
 -- an upgrade that was answered leads to the last version
-pub upgraded_stands : {version : Version} {them : Neighbours} {chapters : List Chapter} {old new : State}
-    → (at : IsHistoryAt version them chapters old) → IsBesideThem them (tables at.after) new
+pub upgraded_stands : {version : Version} {them : Neighbours} {chapters : List HistoryStep} {old new : State}
+    → (at : IsHistoryAt version them chapters old) → HoldsClubAmong them (tables at.after) new
     → IsHistory them (chapters ++ upgraded true ∷ []) new
 upgraded_stands {version} at exactly = record {
   from = at.from;
@@ -122,7 +122,7 @@ upgraded_stands {version} at exactly = record {
 }
 
 -- one that was cut off leads to it, or stays where it was
-pub upgraded_cut : {version : Version} {them : Neighbours} {chapters : List Chapter} {old : State} {db : Trees}
+pub upgraded_cut : {version : Version} {them : Neighbours} {chapters : List HistoryStep} {old : State} {db : Trees}
     → (at : IsHistoryAt version them chapters old)
     → LeavesAt version them at.after db ⊎ LeavesBeside them (tables at.after) db
     → IsReachable them (chapters ++ upgraded false ∷ []) db

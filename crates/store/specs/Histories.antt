@@ -5,7 +5,7 @@ use Rattle.std.specs.List.{count_by}
 use Rattle.sqlite.specs.Tree.{Trees}
 use Rattle.sqlite.specs.State.{State}
 use Rattle.store_tables.specs.Club.{Leaves}
-use Rattle.store_tables.specs.Over.{Neighbours, alone, IsBesideThem, IsFirstBeside, LeavesBeside, LeavesFirst}
+use Rattle.store_tables.specs.Over.{Neighbours, alone, HoldsClubAmong, IsFirstBeside, LeavesBeside, LeavesFirst}
 use Rattle.store_tables.specs.declared.names.Version.{Version}
 use Rattle.store_tables.specs.declared.names.Version.TheVariants.{First, Current}
 use Rattle.club_requests.specs.declared.requests.Request as given_request
@@ -14,7 +14,7 @@ use Rattle.club_core.specs.Answer.{outcome_of, request_of}
 use Rattle.club_core.specs.State.{Request, opening_state, is_accepted}
 use Rattle.club_rows.specs.Club.{ClubState, IsClub, tables}
 use Rattle.club_rows.specs.FirstSchema.{IsClubOf, first_tables}
-use Rattle.table_shapes.specs.Shapes.{is_of_club}
+use Rattle.schema_match.specs.Shapes.{is_of_club}
 use Rattle.store.specs.declared.club.run.Run.{Run}
 use Rattle.store.specs.FirstRuns.{first_accepted, first_fold}
 use Rattle.store.specs.Runs.{club_fold, club_accepted}
@@ -45,9 +45,9 @@ pub record FirstSessionReaches (before : ClubState) (session : Session) (after :
   pub is : after ≡ first_fold before (take k (first_accepted before session.requests))
 
 -- A step of a history: a session, or an upgrade, which was answered or cut off.
-pub data Chapter : Type 0 where
-  served : Session → Chapter
-  upgraded : (answered : Bool) → Chapter
+pub data HistoryStep : Type 0 where
+  served : Session → HistoryStep
+  upgraded : (answered : Bool) → HistoryStep
 
 -- the schema version and the state of a club
 pub record Place : Type 0 where
@@ -60,17 +60,17 @@ SessionLeads Current before session after = SessionReaches before session after
 
 -- A session keeps the version. An upgrade keeps the state and ends in the last version, or, if it was cut off, perhaps
 -- in the one before.
-abbrev pub Leads : Place → Chapter → Place → Type 0
-Leads before (served session) after =
+abbrev pub StepLeadsTo : Place → HistoryStep → Place → Type 0
+StepLeadsTo before (served session) after =
     (after.version ≡ before.version) × SessionLeads before.version before.state session after.state
-Leads before (upgraded answered) after = (after.state ≡ before.state)
+StepLeadsTo before (upgraded answered) after = (after.state ≡ before.state)
     × ((after.version ≡ Current) ⊎ ((answered ≡ false) × (after.version ≡ before.version)))
 
 -- the steps lead from one place to another
-abbrev pub Reaches : Place → List Chapter → Place → Type 0
-Reaches before [] after = after ≡ before
-Reaches before (chapter ∷ chapters) after = (between : Place) × Leads before chapter between
-    × Reaches between chapters after
+abbrev pub HistoryLeadsTo : Place → List HistoryStep → Place → Type 0
+HistoryLeadsTo before [] after = after ≡ before
+HistoryLeadsTo before (chapter ∷ chapters) after = (between : Place) × StepLeadsTo before chapter between
+    × HistoryLeadsTo between chapters after
 
 -- an empty club of this version
 abbrev pub opens_as : Version → Place
@@ -85,7 +85,7 @@ LeavesAt Current them s trees = LeavesBeside them (tables s) trees
 -- the open connection holds exactly these tables, and so does whatever a crash leaves of it
 abbrev pub IsExactlyAt : Version → Neighbours → ClubState → State → Type 0
 IsExactlyAt First them s now = IsFirstBeside them (first_tables s) now
-IsExactlyAt Current them s now = IsBesideThem them (tables s) now
+IsExactlyAt Current them s now = HoldsClubAmong them (tables s) now
 
 -- The database has the tables of this state, alone or beside foreign tables, in a schema equivalent to a club's.
 pub record HasState (s : ClubState) (trees : Trees) : Type 0 where
@@ -95,22 +95,22 @@ pub record HasState (s : ClubState) (trees : Trees) : Type 0 where
 
 -- From an empty club of some version the steps lead to a legal state, whose tables a later opening finds in the
 -- database, beside these foreign tables.
-pub record IsReachable (them : Neighbours) (chapters : List Chapter) (trees : Trees) : Type 0 where
+pub record IsReachable (them : Neighbours) (chapters : List HistoryStep) (trees : Trees) : Type 0 where
   pub from : Version
   pub after : Place
   pub legal : IsClubOf after.version after.state
-  pub leads : Reaches (opens_as from) chapters after
+  pub leads : HistoryLeadsTo (opens_as from) chapters after
   pub leaves : LeavesAt after.version them after.state trees
 
 -- the same for an open connection with tables of this version, and for whatever a crash leaves of it
-pub record IsHistoryAt (version : Version) (them : Neighbours) (chapters : List Chapter) (now : State) : Type 0 where
+pub record IsHistoryAt (version : Version) (them : Neighbours) (chapters : List HistoryStep) (now : State) : Type 0 where
   pub from : Version
   pub after : ClubState
   pub legal : IsClubOf version after
-  pub leads : Reaches (opens_as from) chapters (record { version = version; state = after })
+  pub leads : HistoryLeadsTo (opens_as from) chapters (record { version = version; state = after })
   pub exactly : IsExactlyAt version them after now
 
-abbrev pub IsHistory : Neighbours → List Chapter → State → Type 0
+abbrev pub IsHistory : Neighbours → List HistoryStep → State → Type 0
 IsHistory = IsHistoryAt Current
 
 -- whether the outcome is that the request was accepted
@@ -126,16 +126,16 @@ run_session requests run = record {
 }
 
 -- a run as a step of a history
-abbrev pub session_of : List given_request.Request → Run → Chapter
+abbrev pub session_of : List given_request.Request → Run → HistoryStep
 session_of requests run = served (run_session requests run)
 
 -- a session of one request with this outcome
-abbrev pub answered_session : Request → given_outcome.Outcome → Chapter
+abbrev pub answered_session : Request → given_outcome.Outcome → HistoryStep
 answered_session request outcome =
     served (record { requests = request ∷ []; returned = if is_taken outcome then 1 else 0; is_whole = true })
 
 -- a session of one request that was cut off by a fault
-abbrev pub cut_session : Request → Chapter
+abbrev pub cut_session : Request → HistoryStep
 cut_session request = served (record { requests = request ∷ []; returned = 0; is_whole = false })
 
 -- the state after `count` requests is legal, and the database has its tables beside these foreign tables

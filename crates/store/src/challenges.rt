@@ -14,12 +14,12 @@ ghost use Rattle.club_rows.specs.Club.{ClubState, IsClub, tables};
 ghost use Rattle.store_tables.specs.Over.{HasRows};
 ghost use Rattle.store_tables.specs.Reading.{Reads};
 
-use crate::decides::Decides;
+use crate::decides::Decide;
 use clocks::Moment;
-use club_changes::{Decided, put_answered, put_challenge};
+use club_changes::{CommandEffect, put_answered, put_challenge};
 use club_core::seats::find_member;
 use club_core::{ChallengeDecision, Member, answer_challenge, open_challenge, withdraw};
-use club_reads::{CallFault, all_events, all_members, challenge_by, games_in};
+use club_reads::{LookupFault, all_events, all_members, challenge_by, count_games};
 use club_requests::{AnswerChallenge, Caller, OpenChallenge, Withdraw};
 use sqlite::{Alter, Connection};
 use std::alloc::Global;
@@ -33,7 +33,7 @@ fn member_id(caller: Caller) -> Option<u32>
     }
 }
 
-impl Decides for OpenChallenge {
+impl Decide for OpenChallenge {
     ghost command = { λ c. open_challenge c.number (string_bytes c.event) (string_bytes c.other) c.first };
 
     fn decide<S: Alter>(
@@ -42,7 +42,7 @@ impl Decides for OpenChallenge {
         conn: &mut Connection<S>,
         caller: Caller,
         moment: Moment,
-    ) -> Result<Decided, CallFault> {
+    ) -> Result<CommandEffect, LookupFault> {
         let under = challenge_by(alloc, conn, member_id(caller), self.number)?;
         let members = all_members(alloc, conn)?;
         let events = all_events(alloc, conn)?;
@@ -51,7 +51,7 @@ impl Decides for OpenChallenge {
     }
 }
 
-impl Decides for Withdraw {
+impl Decide for Withdraw {
     ghost command = { λ c. withdraw_challenge c.number };
 
     fn decide<S: Alter>(
@@ -60,7 +60,7 @@ impl Decides for Withdraw {
         conn: &mut Connection<S>,
         caller: Caller,
         moment: Moment,
-    ) -> Result<Decided, CallFault> {
+    ) -> Result<CommandEffect, LookupFault> {
         let under = challenge_by(alloc, conn, member_id(caller), self.number)?;
         Ok(put_challenge(alloc, withdraw(under, caller), moment)?)
     }
@@ -73,7 +73,7 @@ fn decided_answer<S: Alter>(
     members: &[Member],
     caller: Caller,
     command: &AnswerChallenge,
-) -> Result<ChallengeDecision, CallFault>
+) -> Result<ChallengeDecision, LookupFault>
     requires { length members.now ≤ 200 }
     ensures reads { Reads (is_ok result) (state S.Store conn.old) (state S.Store conn.new) }
     ensures decided { HasCleanDisk (state S.Store conn.new) → IfOk result (λ d. (s : ClubState) → IsClub s →
@@ -84,11 +84,11 @@ fn decided_answer<S: Alter>(
 {
     let challenger = find_member(members, command.challenger.as_str());
     let under = challenge_by(alloc, conn, challenger, command.number)?;
-    let games = games_in(conn)?;
+    let games = count_games(conn)?;
     Ok(answer_challenge(under, games, caller, command.accept))
 }
 
-impl Decides for AnswerChallenge {
+impl Decide for AnswerChallenge {
     ghost command = { λ c. answer_challenge (string_bytes c.challenger) c.number c.accept };
 
     fn decide<S: Alter>(
@@ -97,7 +97,7 @@ impl Decides for AnswerChallenge {
         conn: &mut Connection<S>,
         caller: Caller,
         moment: Moment,
-    ) -> Result<Decided, CallFault> {
+    ) -> Result<CommandEffect, LookupFault> {
         let members = all_members(alloc, conn)?;
         let events = all_events(alloc, conn)?;
         let decision = decided_answer(alloc, conn, &members, caller, self)?;

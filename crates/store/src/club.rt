@@ -8,14 +8,14 @@ ghost use Rattle.sqlite_trees.specs.View.{doubt};
 ghost use Rattle.store_tables.specs.Placed.{HasClubTables, HasTables, HasTablesOf};
 ghost use Rattle.store_tables.specs.Contents.{IsExactlyEmpty, IsEmpty};
 ghost use Rattle.store_tables.specs.Club.{IsExactly, IsOpened, Leaves};
-ghost use Rattle.store_tables.specs.Over.{alone, HasRows, IsBesideThem, IsFirstBeside, LeavesBeside};
+ghost use Rattle.store_tables.specs.Over.{alone, HasRows, HoldsClubAmong, IsFirstBeside, LeavesBeside};
 ghost use Rattle.store_tables.specs.Room.{IsWithoutClub, LeavesNoClub};
 ghost use Rattle.store_tables.specs.Reading.{KeepsContent, KeepsMay, OnlyReads, Reads};
 ghost use Rattle.store_tables.specs.declared.names.Version.TheVariants.{First, Current};
-ghost use Rattle.table_shapes.specs.Shapes.{is_of_club};
-ghost use Rattle.club_opening.specs.Blames.{Names};
-ghost use Rattle.club_opening.specs.RightTables.{NamesFirst};
-ghost use Rattle.club_opening.specs.Versions.{HasClub, HoldsRows};
+ghost use Rattle.schema_match.specs.Shapes.{is_of_club};
+ghost use Rattle.club_check.specs.ReasonIsRight.{IsRightFault};
+ghost use Rattle.club_check.specs.RightTables.{NamesFirstDamaged};
+ghost use Rattle.club_check.specs.Versions.{HasClub, HoldsRows};
 ghost use Rattle.club_rows.specs.FirstSchema.{IsFirstClub, first_tables};
 ghost use Rattle.store.specs.Histories.{IsReachable, IsHistory, answered_session, cut_session};
 ghost use Rattle.store_tables.specs.Changed.{changed};
@@ -34,8 +34,8 @@ mod shut;
 use crate::command::decide_request;
 use crate::fault::StoreFault;
 use clocks::Moment;
-use club_changes::Decided;
-use club_opening::{OpenFault, examine, fault_of};
+use club_changes::CommandEffect;
+use club_check::{OpenFault, check_database, fault_of};
 use club_requests::{Command, Outcome, Who};
 pub use run::Run;
 pub use sessions::resume;
@@ -83,7 +83,7 @@ pub struct Unopened<S: Alter> {
 ///
 /// # Guarantees
 ///
-/// `cut_off`, `behind_fault`: after an error or a crash there is the empty club or no club, and foreign tables keep
+/// `after_crash`, `behind_fault`: after an error or a crash there is the empty club or no club, and foreign tables keep
 /// their rows. `begins`: the history of the new club is empty.
 pub fn create<S: Alter>(_alloc: Global, conn: Connection<S>) -> Result<Club<S>, Unopened<S>>
     requires { conn.in_transaction ≡ false }
@@ -95,14 +95,14 @@ pub fn create<S: Alter>(_alloc: Global, conn: Connection<S>) -> Result<Club<S>, 
     ensures clean { IfOk result (λ club. doubt (state S.Store conn).is_clean ≤ doubt
         (state S.Store club.connection).is_clean) }
     ensures idle { IfErr result (λ u. u.conn.in_transaction ≡ false) }
-    ensures named { IfErr result (λ u. (u.fault ≡ OpenFault.Foreign) ⊎ (u.fault ≡ OpenFault.Store)) }
+    ensures possible_faults { IfErr result (λ u. (u.fault ≡ OpenFault.Foreign) ⊎ (u.fault ≡ OpenFault.Store)) }
     ensures empty { IfErr result (λ u. HasCleanDisk (state S.Store u.conn) → IsExactlyEmpty (state S.Store conn) →
         u.fault ≡ OpenFault.Store) }
     ensures fault { IfErr result (λ u. HasCleanDisk (state S.Store u.conn) → IsExactlyEmpty (state S.Store conn) →
         (db : _) → (state S.Store u.conn).may_leave db → IsEmpty db ⊎ Leaves (tables opening_state) db) }
     ensures begins { IfOk result (λ club. HasCleanDisk (state S.Store club.connection) → IsExactlyEmpty
         (state S.Store conn) → IsHistory alone [] (state S.Store club.connection)) }
-    ensures cut_off { IfErr result (λ u. HasCleanDisk (state S.Store u.conn) → IsExactlyEmpty (state S.Store conn) →
+    ensures after_crash { IfErr result (λ u. HasCleanDisk (state S.Store u.conn) → IsExactlyEmpty (state S.Store conn) →
         (db : _) → (state S.Store u.conn).may_leave db → IsEmpty db ⊎ IsReachable alone [] db) }
     // Beside foreign tables, which keep their rows.
     ensures behind { IfOk result (λ club. HasCleanDisk (state S.Store club.connection) → (them : _) →
@@ -130,15 +130,15 @@ pub fn create<S: Alter>(_alloc: Global, conn: Connection<S>) -> Result<Club<S>, 
     }
 }
 
-/// Opens the club of schema 2 in the connection's database, after checking every row (`examine`). Changes nothing.
+/// Opens the club of schema 2 in the connection's database, after checking every row (`check_database`). Changes nothing.
 ///
 /// # Errors
 ///
-/// The errors of `examine`, with the connection. Schema 1 is `OpenFault::Schema(1)`; see `upgrade`.
+/// The errors of `check_database`, with the connection. Schema 1 is `OpenFault::Schema(1)`; see `upgrade`.
 ///
 /// # Guarantees
 ///
-/// `held`: the database holds a legal club. `good`: a legal club is accepted, unless a call fails or memory runs out.
+/// `held`: the database holds a legal club. `accepts_sound`: a legal club is accepted, unless a call fails or memory runs out.
 pub fn adopt<S: Alter>(alloc: Global, conn: Connection<S>) -> Result<Club<S>, Unopened<S>>
     requires { conn.in_transaction ≡ false }
     ensures ready { IfOk result (λ club. club.needs_reopening ≡ false) }
@@ -158,10 +158,10 @@ pub fn adopt<S: Alter>(alloc: Global, conn: Connection<S>) -> Result<Club<S>, Un
     // Whatever tables there are.
     ensures kept { IfOk result (λ club. Reads true (state S.Store conn) (state S.Store club.connection)) }
     ensures idle { IfErr result (λ u. u.conn.in_transaction ≡ false) }
-    ensures blames { IfErr result (λ u. HasCleanDisk (state S.Store u.conn) →
-        HasClubTables (state S.Store conn).now.schema → Names Current (state S.Store conn).now u.fault) }
-    ensures named { IfErr result (λ u. HasCleanDisk (state S.Store u.conn) →
-        HasClubTables (state S.Store conn).now.schema → NamesFirst (state S.Store conn).now u.fault) }
+    ensures reason_is_right { IfErr result (λ u. HasCleanDisk (state S.Store u.conn) →
+        HasClubTables (state S.Store conn).now.schema → IsRightFault Current (state S.Store conn).now u.fault) }
+    ensures possible_faults { IfErr result (λ u. HasCleanDisk (state S.Store u.conn) →
+        HasClubTables (state S.Store conn).now.schema → NamesFirstDamaged (state S.Store conn).now u.fault) }
     ensures older { IfOk result (λ club. HasCleanDisk (state S.Store club.connection) → (them : _) (s : _) →
         IsFirstClub s → ¬ IsFirstBeside them (first_tables s) (state S.Store conn)) }
     ensures first { IfErr result (λ u. HasCleanDisk (state S.Store u.conn) → (them : _) (s : _) → IsFirstClub s →
@@ -169,14 +169,14 @@ pub fn adopt<S: Alter>(alloc: Global, conn: Connection<S>) -> Result<Club<S>, Un
         is_of_club First (state S.Store conn).now.schema ≡ true → (u.fault ≡ OpenFault.Schema (pos 1))
         ⊎ ((u.fault ≡ OpenFault.Store) ⊎ (u.fault ≡ OpenFault.Memory))) }
     // A legal club, alone or beside foreign tables, is accepted.
-    ensures good { IfErr result (λ u. HasCleanDisk (state S.Store u.conn) → (s : _) → IsClub s →
+    ensures accepts_sound { IfErr result (λ u. HasCleanDisk (state S.Store u.conn) → (s : _) → IsClub s →
         HoldsRows Current (tables s) (state S.Store conn).now →
         is_of_club Current (state S.Store conn).now.schema ≡ true →
         (u.fault ≡ OpenFault.Store) ⊎ (u.fault ≡ OpenFault.Memory)) }
     ensures reads { IfErr result (λ u. OnlyReads (state S.Store conn) (state S.Store u.conn)) }
 {
     let mut conn = conn;
-    match examine(alloc, &mut conn) {
+    match check_database(alloc, &mut conn) {
         Ok(()) => Ok(Club {
             connection: conn,
             needs_reopening: false,
@@ -203,15 +203,15 @@ impl<S: Alter> Club<S> {
         ensures clean { doubt (state S.Store self.old.connection).is_clean ≤ doubt
             (state S.Store self.new.connection).is_clean }
         ensures shut { self.old.needs_reopening ≡ true → (result ≡ Err StoreFault.Reopen) × (self.new ≡ self.old) }
-        ensures goes_on { OnOk result (self.new.needs_reopening ≡ false) }
+        ensures stays_open { OnOk result (self.new.needs_reopening ≡ false) }
         ensures ends { OnErr result (self.new.needs_reopening ≡ true) }
-        ensures named { IfErr result (λ fault. self.old.needs_reopening ≡ false → fault ≡ StoreFault.Store) }
+        ensures possible_faults { IfErr result (λ fault. self.old.needs_reopening ≡ false → fault ≡ StoreFault.Store) }
         ensures stored { HasCleanDisk (state S.Store self.new.connection) → OnOk result ((them : _) (content : _) →
-            IsBesideThem them content (state S.Store self.old.connection) →
-            IsBesideThem them (changed changes.now content) (state S.Store self.new.connection)) }
+            HoldsClubAmong them content (state S.Store self.old.connection) →
+            HoldsClubAmong them (changed changes.now content) (state S.Store self.new.connection)) }
         ensures fault { HasCleanDisk (state S.Store self.new.connection) →
             OnErr result (self.old.needs_reopening ≡ false → (them : _) (content : _) →
-            IsBesideThem them content (state S.Store self.old.connection) → (db : _) →
+            HoldsClubAmong them content (state S.Store self.old.connection) → (db : _) →
             (state S.Store self.new.connection).may_leave db →
             LeavesBeside them content db ⊎ LeavesBeside them (changed changes.now content) db) }
     {
@@ -240,7 +240,7 @@ impl<S: Alter> Club<S> {
     ///
     /// # Guarantees
     ///
-    /// `answer`, `step`: the outcome and the new state are those of the club's specification. `fault`, `cut_off`: after
+    /// `answer`, `step`: the outcome and the new state are those of the club's specification. `fault`, `after_crash`: after
     /// an error or a crash the file holds the state before or after the command.
     pub fn apply(
         &mut self,
@@ -250,9 +250,9 @@ impl<S: Alter> Club<S> {
         moment: Moment,
     ) -> Result<Outcome, StoreFault>
         ensures shut { self.old.needs_reopening ≡ true → (result ≡ Err StoreFault.Reopen) × (self.new ≡ self.old) }
-        ensures goes_on { OnOk result (self.new.needs_reopening ≡ false) }
+        ensures stays_open { OnOk result (self.new.needs_reopening ≡ false) }
         ensures ends { OnErr result (self.new.needs_reopening ≡ true) }
-        ensures named { IfErr result (λ fault. self.old.needs_reopening ≡ false →
+        ensures possible_faults { IfErr result (λ fault. self.old.needs_reopening ≡ false →
             (fault ≡ StoreFault.Store) ⊎ (fault ≡ StoreFault.Memory)) }
         ensures clean { doubt (state S.Store self.old.connection).is_clean ≤ doubt
             (state S.Store self.new.connection).is_clean }
@@ -260,18 +260,18 @@ impl<S: Alter> Club<S> {
             IsClub s → HasRows (tables s) (state S.Store self.old.connection) →
             outcome_of outcome ≡ answered (club_step s (request who.now command.now moment))) }
         ensures step { HasCleanDisk (state S.Store self.new.connection) → OnOk result ((them : _) (s : ClubState) →
-            IsClub s → IsBesideThem them (tables s) (state S.Store self.old.connection) → IsBesideThem them
+            IsClub s → HoldsClubAmong them (tables s) (state S.Store self.old.connection) → HoldsClubAmong them
             (tables (club_next s (request who.now command.now moment))) (state S.Store self.new.connection)) }
         ensures fault { HasCleanDisk (state S.Store self.new.connection) →
             OnErr result (self.old.needs_reopening ≡ false → (them : _) (s : ClubState) → IsClub s →
-            IsBesideThem them (tables s) (state S.Store self.old.connection) →
+            HoldsClubAmong them (tables s) (state S.Store self.old.connection) →
             (db : _) → (state S.Store self.new.connection).may_leave db → LeavesBeside them (tables s) db ⊎
             LeavesBeside them (tables (club_next s (request who.now command.now moment))) db) }
         ensures stands { HasCleanDisk (state S.Store self.new.connection) → IfOk result (λ outcome.
             (them : _) (sessions : _) → IsHistory them sessions (state S.Store self.old.connection) →
             IsHistory them (sessions ++ answered_session (request who.now command.now moment) outcome ∷ [])
             (state S.Store self.new.connection)) }
-        ensures cut_off { HasCleanDisk (state S.Store self.new.connection) →
+        ensures after_crash { HasCleanDisk (state S.Store self.new.connection) →
             OnErr result (self.old.needs_reopening ≡ false → (them : _) (sessions : _) → IsHistory them sessions
             (state S.Store self.old.connection) → (db : _) → (state S.Store self.new.connection).may_leave db →
             IsReachable them (sessions ++ cut_session (request who.now command.now moment) ∷ []) db) }
@@ -290,7 +290,7 @@ impl<S: Alter> Club<S> {
                 return Err(StoreFault::from(fault));
             }
         };
-        let Decided { outcome, changes } = decided;
+        let CommandEffect { outcome, changes } = decided;
         match changes {
             Some(changes) => match self.apply_changes(&changes) {
                 Ok(()) => Ok(outcome),

@@ -12,16 +12,16 @@ ghost use Rattle.club_changes.specs.Steps.{request, club_step};
 ghost use Rattle.club_changes.specs.Steps.{IsDecided};
 ghost use Rattle.club_changes.specs.Whole.{IsWhole};
 
-use crate::decides::Decides;
+use crate::decides::Decide;
 use crate::sweep::Sweep;
 use clocks::Moment;
-use club_changes::{Decided, on_event, on_member, unchanged};
-use club_reads::{CallFault, all_events, all_members, caller_by, last_moment};
+use club_changes::{CommandEffect, on_event, on_member, without_changes};
+use club_reads::{LookupFault, all_events, all_members, identify_caller, last_moment};
 use club_requests::{AddEvent, AddMember, Caller, Command, Outcome, Refusal, Who};
 use sqlite::{Alter, Connection};
 use std::alloc::Global;
 
-impl Decides for AddMember {
+impl Decide for AddMember {
     ghost command = { λ c. add_member (string_bytes c.name) (string_bytes c.key) };
 
     fn decide<S: Alter>(
@@ -30,13 +30,13 @@ impl Decides for AddMember {
         conn: &mut Connection<S>,
         caller: Caller,
         moment: Moment,
-    ) -> Result<Decided, CallFault> {
+    ) -> Result<CommandEffect, LookupFault> {
         let members = all_members(alloc, conn)?;
         Ok(on_member(alloc, &members, caller, self, moment)?)
     }
 }
 
-impl Decides for AddEvent {
+impl Decide for AddEvent {
     ghost command = { λ c. add_event (added_event c) };
 
     fn decide<S: Alter>(
@@ -45,13 +45,13 @@ impl Decides for AddEvent {
         conn: &mut Connection<S>,
         caller: Caller,
         moment: Moment,
-    ) -> Result<Decided, CallFault> {
+    ) -> Result<CommandEffect, LookupFault> {
         let events = all_events(alloc, conn)?;
         Ok(on_event(alloc, &events, caller, self, moment)?)
     }
 }
 
-impl Decides for Command {
+impl Decide for Command {
     ghost command = { command_of };
 
     fn decide<S: Alter>(
@@ -60,7 +60,7 @@ impl Decides for Command {
         conn: &mut Connection<S>,
         caller: Caller,
         moment: Moment,
-    ) -> Result<Decided, CallFault> {
+    ) -> Result<CommandEffect, LookupFault> {
         match self {
             Command::AddMember(command) => command.decide(alloc, conn, caller, moment),
             Command::AddEvent(command) => command.decide(alloc, conn, caller, moment),
@@ -83,7 +83,7 @@ pub(crate) fn decide_request<S: Alter>(
     who: &Who,
     command: &Command,
     moment: Moment,
-) -> Result<Decided, CallFault>
+) -> Result<CommandEffect, LookupFault>
     ensures reads { Reads (is_ok result) (state S.Store conn.old) (state S.Store conn.new) }
     ensures acts { IfOk result IsWhole }
     ensures step { HasCleanDisk (state S.Store conn.new) → IfOk result (λ d. (s : ClubState) → IsClub s →
@@ -91,8 +91,8 @@ pub(crate) fn decide_request<S: Alter>(
         IsDecided s (club_step s (request who.now command.now moment)) d) }
 {
     let last = last_moment(alloc, conn)?;
-    match caller_by(alloc, conn, who)? {
+    match identify_caller(alloc, conn, who)? {
         Some(caller) => command.decide(alloc, conn, caller, moment.later(last)),
-        None => Ok(unchanged(Outcome::Refused(Refusal::UnknownKey))),
+        None => Ok(without_changes(Outcome::Refused(Refusal::UnknownKey))),
     }
 }

@@ -11,14 +11,14 @@ ghost use Rattle.club_changes.specs.Steps.{caller_step, IsDecided};
 ghost use Rattle.club_changes.specs.Whole.{IsWhole};
 
 use clocks::Moment;
-use club_changes::Decided;
-use club_reads::CallFault;
+use club_changes::CommandEffect;
+use club_reads::LookupFault;
 use club_requests::Caller;
 use sqlite::{Alter, Connection};
 use std::alloc::Global;
 
 /// A command of an authenticated caller.
-pub(crate) trait Decides {
+pub(crate) trait Decide {
     /// The command in the specification of the club.
     ghost command: { Self → Command };
 
@@ -30,7 +30,7 @@ pub(crate) trait Decides {
         conn: &mut Connection<S>,
         caller: Caller,
         moment: Moment,
-    ) -> Result<Decided, CallFault>
+    ) -> Result<CommandEffect, LookupFault>
         ensures reads { Reads (is_ok result) (state S.Store conn.old) (state S.Store conn.new) }
         ensures acts { IfOk result IsWhole }
         ensures step { HasCleanDisk (state S.Store conn.new) → IfOk result (λ d. (s : ClubState) → IsClub s →

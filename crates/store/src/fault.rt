@@ -1,6 +1,6 @@
 //! Errors of calls on an open club.
 
-use club_reads::CallFault;
+use club_reads::LookupFault;
 use std::error::Error;
 use std::fmt;
 
@@ -33,16 +33,16 @@ impl fmt::Display for StoreFault {
 
 impl Error for StoreFault {}
 
-impl From<CallFault> for StoreFault {
+impl From<LookupFault> for StoreFault {
     ghost use Rattle.std.specs.Prelude.{◌≡◌};
     ghost use Rattle.store.specs.Faults.{called};
 
     ghost from_gives = { λ fault given. given ≡ called fault };
 
-    fn from(fault: CallFault) -> StoreFault {
+    fn from(fault: LookupFault) -> StoreFault {
         match fault {
-            CallFault::Store => StoreFault::Store,
-            CallFault::Memory => StoreFault::Memory,
+            LookupFault::Store => StoreFault::Store,
+            LookupFault::Memory => StoreFault::Memory,
         }
     }
 }

@@ -19,15 +19,18 @@ ghost use Rattle.store_tables.specs.Reading.{Reads};
 ghost use Rattle.store_tables.specs.Names.{tree_of};
 ghost use Rattle.store_tables.specs.declared.names.Table.TheVariants.{Scores};
 ghost use Rattle.club_changes.specs.Steps.{IsDecidedIn, IsRecordOf, IsSeenAfter, AreScoresAfter, HasTwoPlayers};
-ghost use Rattle.club_changes.specs.Steps.{TellsMoves, TellsSeen};
+ghost use Rattle.club_changes.specs.Steps.{FindsMoveRows, FindsSeenRows};
 ghost use Rattle.club_changes.specs.Whole.{IsWhole};
 
-use crate::decides::Decides;
+use crate::decides::Decide;
 use clocks::Moment;
-use club_changes::{Decided, DerivedRows, StoredGame, put_decision, unchanged};
+use club_changes::{CommandEffect, DerivedRows, StoredGame, put_decision, without_changes};
 use club_core::{Decision, GameView, asked_ply, conclude, decide, refusal_without_game, settle};
 use club_games::by_kind;
-use club_reads::{CallFault, asked_view, scores_by, seen_by, stood_by, stored_game};
+use club_reads::{
+    LookupFault, occurrences_of, score_rows_of_decision, seen_row_of_decision, stored_game,
+    view_at_ply,
+};
 use club_requests::{Caller, GameCommand, OnGame, Outcome};
 use club_rules::Rules;
 use sqlite::{Alter, Connection};
@@ -48,23 +51,23 @@ fn counted<R: Rules, S: Alter>(
     game: u32,
     decision: Decision<R>,
     plies: u32,
-) -> Result<Concluded<R>, CallFault>
+) -> Result<Concluded<R>, LookupFault>
     requires { plies ≤ 600 }
     ensures reads { Reads (is_ok result) (state S.Store conn.old) (state S.Store conn.new) }
     ensures concluded { HasCleanDisk (state S.Store conn.new) → IfOk result (λ new. (content : Content)
         (terms : core.Terms) (old : Game R.Move) (moment : ℕ) (who : Caller) (command : machine.GameCommand) →
-        HasRows content (state S.Store conn.old) → TellsSeen R.rules game old content →
+        HasRows content (state S.Store conn.old) → FindsSeenRows R.rules game old content →
         IsLegalGame R.rules terms old → plies ≡ length old.entries →
         IsDecision R.rules terms old (game_step R.rules terms old moment who command) decision →
         IsConcluded R.rules terms old (game_step R.rules terms old moment who command) new.decision
         × IsSeenAfter R.rules game (game_step R.rules terms old moment who command) new.decision new.counts.seen
         × (HasTwoPlayers new.decision → AreScoresAfter (content (tree_of Scores)) new.decision new.counts.scores)) }
 {
-    let seen = seen_by(alloc, conn, game, &decision, plies)?;
-    let stood = stood_by::<R>(&seen);
+    let seen = seen_row_of_decision(alloc, conn, game, &decision, plies)?;
+    let stood = occurrences_of::<R>(&seen);
     let settled = settle(&decision, stood.times, stood.first_ply);
     let decision = conclude(decision, settled);
-    let scores = scores_by(alloc, conn, &decision)?;
+    let scores = score_rows_of_decision(alloc, conn, &decision)?;
     Ok(Concluded {
         decision,
         counts: DerivedRows { seen, scores },
@@ -72,7 +75,7 @@ fn counted<R: Rules, S: Alter>(
 }
 
 // Executes a command in the game of this view.
-fn on_view<R: Rules, S: Alter>(
+fn decide_in_game<R: Rules, S: Alter>(
     alloc: Global,
     conn: &mut Connection<S>,
     game: u32,
@@ -80,12 +83,12 @@ fn on_view<R: Rules, S: Alter>(
     caller: Caller,
     command: &GameCommand,
     moment: Moment,
-) -> Result<Decided, CallFault>
+) -> Result<CommandEffect, LookupFault>
     requires { IsSound R.rules view.now }
     ensures reads { Reads (is_ok result) (state S.Store conn.old) (state S.Store conn.new) }
     ensures acts { IfOk result IsWhole }
     ensures step { HasCleanDisk (state S.Store conn.new) → IfOk result (λ d. (content : Content) (old : Game R.Move) →
-        HasRows content (state S.Store conn.old) → TellsSeen R.rules game old content →
+        HasRows content (state S.Store conn.old) → FindsSeenRows R.rules game old content →
         IsTrue (is_budget view.now.budget) →
         IsTrue (is_increment view.now.increment) → IsLegalGame R.rules (terms_of view.now) old →
         Shows R.rules old view.now →
@@ -108,23 +111,23 @@ fn act<R: Rules, S: Alter>(
     caller: Caller,
     command: &GameCommand,
     moment: Moment,
-) -> Result<Decided, CallFault>
+) -> Result<CommandEffect, LookupFault>
     ensures reads { Reads (is_ok result) (state S.Store conn.old) (state S.Store conn.new) }
     ensures acts { IfOk result IsWhole }
     ensures step { HasCleanDisk (state S.Store conn.new) → IfOk result (λ d. (content : Content) (old : Game R.Move) →
-        HasRows content (state S.Store conn.old) → TellsSeen R.rules stored.now.id old content →
-        TellsMoves R.rules (terms_given stored.now.terms) stored.now.id old content →
+        HasRows content (state S.Store conn.old) → FindsSeenRows R.rules stored.now.id old content →
+        FindsMoveRows R.rules (terms_given stored.now.terms) stored.now.id old content →
         IsRecordOf R.rules (terms_given stored.now.terms) stored.now.id stored.now.row old →
         (clocks_of old (terms_given stored.now.terms)).since ≤ moment →
         IsDecidedIn R.rules (terms_given stored.now.terms) stored.now.id moment (content (tree_of Scores)) old
         (game_step R.rules (terms_given stored.now.terms) old moment caller (game_command_of command.now)) d) }
 {
     let ply = asked_ply(command);
-    let view = asked_view::<R, S>(alloc, conn, stored, ply)?;
-    on_view(alloc, conn, stored.id, &view, caller, command, moment)
+    let view = view_at_ply::<R, S>(alloc, conn, stored, ply)?;
+    decide_in_game(alloc, conn, stored.id, &view, caller, command, moment)
 }
 
-impl Decides for OnGame {
+impl Decide for OnGame {
     ghost command = { λ c. on_game c.game (game_command_of c.command) };
 
     fn decide<S: Alter>(
@@ -133,7 +136,7 @@ impl Decides for OnGame {
         conn: &mut Connection<S>,
         caller: Caller,
         moment: Moment,
-    ) -> Result<Decided, CallFault> {
+    ) -> Result<CommandEffect, LookupFault> {
         match stored_game(alloc, conn, self.game)? {
             Some(stored) => by_kind!(
                 stored.kind,
@@ -141,7 +144,7 @@ impl Decides for OnGame {
             ),
             None => {
                 let refusal = refusal_without_game(caller, &self.command);
-                Ok(unchanged(Outcome::Refused(refusal)))
+                Ok(without_changes(Outcome::Refused(refusal)))
             }
         }
     }

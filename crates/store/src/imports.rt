@@ -18,13 +18,16 @@ ghost use Rattle.store_tables.specs.declared.names.Table.TheVariants.{Scores};
 ghost use Rattle.club_changes.specs.Importing.{IsOfKind, IsImportedIn, PutsNewGame, imported_by};
 ghost use Rattle.club_changes.specs.Whole.{IsWhole};
 
-use crate::decides::Decides;
+use crate::decides::Decide;
 use clocks::Moment;
-use club_changes::{Decided, Known, event_at, event_kind, new_rows, put_rows, terms_of, unchanged};
+use club_changes::{
+    CommandEffect, ImportContext, event_at, event_kind, new_rows, put_rows, terms_of,
+    without_changes,
+};
 use club_core::Event;
 use club_games::by_kind;
-use club_imports::{Importing, NewGame, import};
-use club_reads::{CallFault, played_under, read_known, scores_with};
+use club_imports::{ImportDecision, NewGame, import};
+use club_reads::{LookupFault, played_under, read_known, score_rows_after};
 use club_requests::values::{is_budget, is_increment};
 use club_requests::{Answer, Caller, Import, Outcome};
 use club_rules::{GameKind, Records, Rules};
@@ -40,7 +43,7 @@ fn added<R: Rules, S: Alter>(
     new: &NewGame<R::Move>,
     key: &str,
     moment: Moment,
-) -> Result<Changes, CallFault>
+) -> Result<Changes, LookupFault>
     requires { IsGameByRules R.rules (recorded_of new.now.recorded) }
     ensures reads { Reads (is_ok result) (state S.Store conn.old) (state S.Store conn.new) }
     ensures puts { HasCleanDisk (state S.Store conn.new) → IfOk result (λ changes. (content : Content) →
@@ -52,15 +55,15 @@ fn added<R: Rules, S: Alter>(
     let event = event_at(events, new.pairing.event)?;
     let terms = terms_of(event);
     if !is_budget(terms.budget) {
-        return Err(CallFault::Store);
+        return Err(LookupFault::Store);
     }
     if !is_increment(terms.increment) {
-        return Err(CallFault::Store);
+        return Err(LookupFault::Store);
     }
     let rows = new_rows::<R>(alloc, key, terms, moment, new)?;
     let pairing = new.pairing;
     let score = new.recorded.score;
-    let scores = scores_with(
+    let scores = score_rows_after(
         alloc,
         conn,
         pairing.event,
@@ -75,12 +78,12 @@ fn added<R: Rules, S: Alter>(
 fn import_as<R: Records, S: Alter>(
     alloc: Global,
     conn: &mut Connection<S>,
-    known: &Known,
+    known: &ImportContext,
     kind: GameKind,
     caller: Caller,
     command: &Import,
     moment: Moment,
-) -> Result<Decided, CallFault>
+) -> Result<CommandEffect, LookupFault>
     requires members { length known.now.members.items ≤ 200 }
     requires events { length known.now.events.items ≤ 50 }
     ensures reads { Reads (is_ok result) (state S.Store conn.old) (state S.Store conn.new) }
@@ -105,19 +108,21 @@ fn import_as<R: Records, S: Alter>(
         caller,
         command,
     )? {
-        Importing::Adds(new) => {
+        ImportDecision::Adds(new) => {
             let changes = added::<R, S>(alloc, conn, events, &new, command.key.as_str(), moment)?;
-            Ok(Decided {
+            Ok(CommandEffect {
                 outcome: Outcome::Accepted(Answer::Game(new.game)),
                 changes: Some(changes),
             })
         }
-        Importing::Repeated(game) => Ok(unchanged(Outcome::Repeated(Answer::Game(game)))),
-        Importing::Refused(refusal) => Ok(unchanged(Outcome::Refused(refusal))),
+        ImportDecision::Repeated(game) => Ok(without_changes(Outcome::Repeated(Answer::Game(
+            game,
+        )))),
+        ImportDecision::Refused(refusal) => Ok(without_changes(Outcome::Refused(refusal))),
     }
 }
 
-impl Decides for Import {
+impl Decide for Import {
     ghost command = { λ c. import_record (import_of c) };
 
     fn decide<S: Alter>(
@@ -126,7 +131,7 @@ impl Decides for Import {
         conn: &mut Connection<S>,
         caller: Caller,
         moment: Moment,
-    ) -> Result<Decided, CallFault> {
+    ) -> Result<CommandEffect, LookupFault> {
         let known = read_known(alloc, conn, self.key.as_str())?;
         let kind = event_kind(known.events.as_slice(), self.event.as_str());
         by_kind!(

@@ -9,7 +9,7 @@ use sqlite::{Alter, Connection};
 
 /// If a history leads to the stored tables, then it leads to what a newly opened connection holds, in some schema
 /// version, beside the same foreign tables.
-pub fn holds_what_sessions_left<S: Alter>(conn: &Connection<S>)
+pub fn opened_history_holds<S: Alter>(conn: &Connection<S>)
     ensures { Opens (state S.Store conn.now) → IsLive (state S.Store conn.now) → (them : _) (chapters : _) →
         IsReachable them chapters (state S.Store conn.now).committed.trees →
         (version : _) × IsHistoryAt version them chapters (state S.Store conn.now) }
@@ -18,7 +18,7 @@ pub fn holds_what_sessions_left<S: Alter>(conn: &Connection<S>)
 }
 
 /// A crash between two steps of a history leaves tables that the history leads to.
-pub fn leaves_what_sessions_left<S: Alter>(conn: &Connection<S>)
+pub fn crash_keeps_history<S: Alter>(conn: &Connection<S>)
     ensures { (version : _) (them : _) (chapters : _) → IsHistoryAt version them chapters (state S.Store conn.now) →
         (db : _) → (state S.Store conn.now).may_leave db → IsReachable them chapters db }
 {
@@ -26,7 +26,7 @@ pub fn leaves_what_sessions_left<S: Alter>(conn: &Connection<S>)
 }
 
 /// A newly opened connection to a database without tables is empty, as `create` requires.
-pub fn holds_nothing<S: Alter>(conn: &Connection<S>)
+pub fn opened_empty_holds<S: Alter>(conn: &Connection<S>)
     ensures { Opens (state S.Store conn.now) → IsLive (state S.Store conn.now) → IsEmpty
         (state S.Store conn.now).committed.trees → IsExactlyEmpty (state S.Store conn.now) }
 {

@@ -14,16 +14,16 @@ ghost use Rattle.club_rows.specs.Club.{ClubState, IsClub, tables};
 ghost use Rattle.club_changes.specs.Steps.{caller_step, IsDecided};
 ghost use Rattle.club_changes.specs.Whole.{IsWhole};
 
-use crate::decides::Decides;
+use crate::decides::Decide;
 use clocks::Moment;
-use club_changes::{ChangeFault, Decided, seated_rows, unchanged};
-use club_core::{Event, Member, Seating, seat};
-use club_reads::{CallFault, all_events, all_members, game_under};
+use club_changes::{ChangeFault, CommandEffect, seated_rows, without_changes};
+use club_core::{Event, Member, SeatDecision, seat};
+use club_reads::{LookupFault, all_events, all_members, game_under};
 use club_requests::{Answer, Caller, Outcome, Seat};
 use sqlite::{Alter, Connection};
 use std::alloc::Global;
 use store_sql::count;
-use store_tables::GameRecord;
+use store_tables::GameTableRow;
 
 // The decision on a seating.
 fn decided_seating<S: Alter>(
@@ -33,7 +33,7 @@ fn decided_seating<S: Alter>(
     events: &[Event],
     caller: Caller,
     command: &Seat,
-) -> Result<Seating, CallFault>
+) -> Result<SeatDecision, LookupFault>
     requires members { length members.now ≤ 200 }
     requires events { length events.now ≤ 50 }
     ensures reads { Reads (is_ok result) (state S.Store conn.old) (state S.Store conn.new) }
@@ -45,8 +45,8 @@ fn decided_seating<S: Alter>(
         (string_bytes command.now.event) (string_bytes command.now.first) (string_bytes command.now.second))) }
 {
     let under_key = game_under(alloc, conn, command.key.as_str())?;
-    let Ok(games) = u32::try_from(count::<GameRecord, S>(conn)?) else {
-        return Err(CallFault::Store);
+    let Ok(games) = u32::try_from(count::<GameTableRow, S>(conn)?) else {
+        return Err(LookupFault::Store);
     };
     Ok(seat(members, events, under_key, games, caller, command))
 }
@@ -55,10 +55,10 @@ fn decided_seating<S: Alter>(
 fn put_seating(
     alloc: Global,
     events: &[Event],
-    seating: Seating,
+    seating: SeatDecision,
     key: &str,
     moment: Moment,
-) -> Result<Decided, ChangeFault>
+) -> Result<CommandEffect, ChangeFault>
     ensures acts { IfOk result IsWhole }
     ensures step { IfOk result (λ d. (s : ClubState) (caller : Caller) (event first second : List ℕ) → IsClub s →
         events_of events.now ≡ s.events →
@@ -67,19 +67,19 @@ fn put_seating(
         IsDecided s (caller_step s moment caller (club.seat key.now event first second)) d) }
 {
     match seating {
-        Seating::Starts(new) => {
+        SeatDecision::Starts(new) => {
             let changes = seated_rows(alloc, events, new, Some(key), moment)?;
-            Ok(Decided {
+            Ok(CommandEffect {
                 outcome: Outcome::Accepted(Answer::Game(new.game)),
                 changes: Some(changes),
             })
         }
-        Seating::Repeated(game) => Ok(unchanged(Outcome::Repeated(Answer::Game(game)))),
-        Seating::Refused(refusal) => Ok(unchanged(Outcome::Refused(refusal))),
+        SeatDecision::Repeated(game) => Ok(without_changes(Outcome::Repeated(Answer::Game(game)))),
+        SeatDecision::Refused(refusal) => Ok(without_changes(Outcome::Refused(refusal))),
     }
 }
 
-impl Decides for Seat {
+impl Decide for Seat {
     ghost command = { λ c. club.seat (string_bytes c.key) (string_bytes c.event) (string_bytes c.first)
         (string_bytes c.second) };
 
@@ -89,7 +89,7 @@ impl Decides for Seat {
         conn: &mut Connection<S>,
         caller: Caller,
         moment: Moment,
-    ) -> Result<Decided, CallFault> {
+    ) -> Result<CommandEffect, LookupFault> {
         let members = all_members(alloc, conn)?;
         let events = all_events(alloc, conn)?;
         let seating = decided_seating(alloc, conn, &members, &events, caller, self)?;

@@ -11,28 +11,28 @@ ghost use Rattle.store_tables.specs.Reading.{Reads};
 ghost use Rattle.club_changes.specs.Steps.{caller_step, IsDecided};
 ghost use Rattle.club_changes.specs.Whole.{IsWhole};
 
-use crate::decides::Decides;
+use crate::decides::Decide;
 use clocks::Moment;
-use club_changes::{Decided, sweep_games, unchanged};
-use club_reads::CallFault;
+use club_changes::{CommandEffect, sweep_games, without_changes};
+use club_reads::LookupFault;
 use club_requests::{Caller, Outcome, Refusal};
 use sqlite::{Alter, Connection};
 use std::alloc::Global;
 use store_sql::list;
-use store_tables::{GameRecord, ScoreRow};
+use store_tables::{GameTableRow, ScoreRow};
 
 // Executes a sweep for the officer.
 fn swept<S: Alter>(
     alloc: Global,
     conn: &mut Connection<S>,
     moment: Moment,
-) -> Result<Decided, CallFault>
+) -> Result<CommandEffect, LookupFault>
     ensures reads { Reads (is_ok result) (state S.Store conn.old) (state S.Store conn.new) }
     ensures acts { IfOk result IsWhole }
     ensures step { HasCleanDisk (state S.Store conn.new) → IfOk result (λ d. (s : ClubState) → IsClub s →
         HasRows (tables s) (state S.Store conn.old) → IsDecided s (caller_step s moment Officer sweep) d) }
 {
-    let games = list::<GameRecord, S>(alloc, conn)?;
+    let games = list::<GameTableRow, S>(alloc, conn)?;
     let scores = list::<ScoreRow, S>(alloc, conn)?;
     let decided = sweep_games(alloc, &games, &scores, moment)?;
     Ok(decided)
@@ -42,7 +42,7 @@ fn swept<S: Alter>(
 #[derive(Drop)]
 pub(crate) struct Sweep;
 
-impl Decides for Sweep {
+impl Decide for Sweep {
     ghost command = { λ c. sweep };
 
     fn decide<S: Alter>(
@@ -51,10 +51,10 @@ impl Decides for Sweep {
         conn: &mut Connection<S>,
         caller: Caller,
         moment: Moment,
-    ) -> Result<Decided, CallFault> {
+    ) -> Result<CommandEffect, LookupFault> {
         match caller {
             Caller::Officer => swept(alloc, conn, moment),
-            Caller::Member(_) => Ok(unchanged(Outcome::Refused(Refusal::NotAllowed))),
+            Caller::Member(_) => Ok(without_changes(Outcome::Refused(Refusal::NotAllowed))),
         }
     }
 }

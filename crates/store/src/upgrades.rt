@@ -8,23 +8,23 @@ ghost use Rattle.sqlite.specs.declared.types.Value.TheVariants.{Int};
 ghost use Rattle.store_tables.specs.Placed.{HasClubTables, HasTablesOf};
 ghost use Rattle.store_tables.specs.Cells.{meta_cells};
 ghost use Rattle.store_tables.specs.Club.{IsExactly};
-ghost use Rattle.store_tables.specs.Over.{IsBesideThem, IsFirstBeside, LeavesBeside, LeavesFirst};
+ghost use Rattle.store_tables.specs.Over.{HoldsClubAmong, IsFirstBeside, LeavesBeside, LeavesFirst};
 ghost use Rattle.store_tables.specs.Reading.{KeepsMay, OnlyReads};
-ghost use Rattle.table_shapes.specs.Shapes.{is_of_club};
+ghost use Rattle.schema_match.specs.Shapes.{is_of_club};
 ghost use Rattle.store_tables.specs.declared.names.Version.TheVariants.{First, Current};
-ghost use Rattle.club_opening.specs.Blames.{Names};
-ghost use Rattle.club_opening.specs.RightTables.{NamesFirst};
-ghost use Rattle.club_opening.specs.Versions.{HoldsRows, IsOpenedAt};
+ghost use Rattle.club_check.specs.ReasonIsRight.{IsRightFault};
+ghost use Rattle.club_check.specs.RightTables.{NamesFirstDamaged};
+ghost use Rattle.club_check.specs.Versions.{HoldsRows, IsOpenedAt};
 ghost use Rattle.club_rows.specs.Club.{ClubState, IsClub, tables};
 ghost use Rattle.club_rows.specs.FirstSchema.{IsClubOf, IsFirstClub, first_tables, tables_at};
 ghost use Rattle.store.specs.Histories.{IsHistory, IsReachable, upgraded};
 
 use crate::club::Unopened;
-use crate::found::Upgrade;
-use club_opening::{OpenFault, examine_from};
+use crate::upgrade_result::Upgrade;
+use club_check::{OpenFault, check_schemas};
 use sqlite::{Alter, Connection};
 use std::alloc::Global;
-use store_sql::widen;
+use store_sql::migrate;
 use store_tables::{MetaRow, Version};
 
 fn of_current(meta: &MetaRow) -> MetaRow
@@ -43,11 +43,11 @@ fn of_current(meta: &MetaRow) -> MetaRow
 ///
 /// # Errors
 ///
-/// The errors of `examine_from`, with the connection; `OpenFault::Store` also if the migration fails.
+/// The errors of `check_schemas`, with the connection; `OpenFault::Store` also if the migration fails.
 ///
 /// # Guarantees
 ///
-/// `done`, `already`: the connection holds the same state in schema 2. `fault`, `cut_off`: after an error or a crash
+/// `done`, `already`: the connection holds the same state in schema 2. `fault`, `after_crash`: after an error or a crash
 /// the file is of schema 1 or of schema 2, with the same state. `kept`: only `Store` may leave a changed file.
 pub fn upgrade<S: Alter>(
     alloc: Global,
@@ -61,10 +61,10 @@ pub fn upgrade<S: Alter>(
     // Beside foreign tables, too, which keep their rows.
     ensures done { IfOk result (λ done. HasCleanDisk (state S.Store done.0) → (them : _) (s : ClubState) →
         IsFirstClub s → IsFirstBeside them (first_tables s) (state S.Store conn) →
-        (done.1 ≡ Upgrade.Done) × IsBesideThem them (tables s) (state S.Store done.0)) }
+        (done.1 ≡ Upgrade.Done) × HoldsClubAmong them (tables s) (state S.Store done.0)) }
     ensures already { IfOk result (λ done. HasCleanDisk (state S.Store done.0) → (them : _) (s : ClubState) →
-        IsClub s → IsBesideThem them (tables s) (state S.Store conn) →
-        (done.1 ≡ Upgrade.Already) × IsBesideThem them (tables s) (state S.Store done.0)) }
+        IsClub s → HoldsClubAmong them (tables s) (state S.Store conn) →
+        (done.1 ≡ Upgrade.Already) × HoldsClubAmong them (tables s) (state S.Store done.0)) }
     ensures unchanged { IfOk result (λ done. HasCleanDisk (state S.Store done.0) → done.1 ≡ Upgrade.Already →
         KeepsMay (state S.Store conn) (state S.Store done.0)) }
     ensures found { IfOk result (λ done. HasCleanDisk (state S.Store done.0) → (version : _) → IsOpenedAt version
@@ -78,25 +78,25 @@ pub fn upgrade<S: Alter>(
     ensures stays { IfErr result (λ u. HasCleanDisk (state S.Store u.conn) →
         HasTablesOf Current (state S.Store conn).now.schema →
         OnlyReads (state S.Store conn) (state S.Store u.conn)) }
-    ensures good { IfErr result (λ u. HasCleanDisk (state S.Store u.conn) → (version : _) (s : ClubState) →
+    ensures accepts_sound { IfErr result (λ u. HasCleanDisk (state S.Store u.conn) → (version : _) (s : ClubState) →
         IsClubOf version s → HoldsRows version (tables_at version s) (state S.Store conn).now →
         is_of_club version (state S.Store conn).now.schema ≡ true →
         (u.fault ≡ OpenFault.Store) ⊎ (u.fault ≡ OpenFault.Memory)) }
-    ensures blames { IfErr result (λ u. HasCleanDisk (state S.Store u.conn) →
-        HasClubTables (state S.Store conn).now.schema → Names First (state S.Store conn).now u.fault) }
-    ensures named { IfErr result (λ u. HasCleanDisk (state S.Store u.conn) →
-        HasClubTables (state S.Store conn).now.schema → NamesFirst (state S.Store conn).now u.fault) }
-    ensures led { IfOk result (λ done. HasCleanDisk (state S.Store done.0) → Opens (state S.Store conn) →
+    ensures reason_is_right { IfErr result (λ u. HasCleanDisk (state S.Store u.conn) →
+        HasClubTables (state S.Store conn).now.schema → IsRightFault First (state S.Store conn).now u.fault) }
+    ensures possible_faults { IfErr result (λ u. HasCleanDisk (state S.Store u.conn) →
+        HasClubTables (state S.Store conn).now.schema → NamesFirstDamaged (state S.Store conn).now u.fault) }
+    ensures history { IfOk result (λ done. HasCleanDisk (state S.Store done.0) → Opens (state S.Store conn) →
         IsLive (state S.Store conn) → (them : _) (chapters : _) →
         IsReachable them chapters (state S.Store conn).committed.trees →
         IsHistory them (chapters ++ upgraded true ∷ []) (state S.Store done.0)) }
-    ensures cut_off { IfErr result (λ u. HasCleanDisk (state S.Store u.conn) → Opens (state S.Store conn) →
+    ensures after_crash { IfErr result (λ u. HasCleanDisk (state S.Store u.conn) → Opens (state S.Store conn) →
         IsLive (state S.Store conn) → (them : _) (chapters : _) →
         IsReachable them chapters (state S.Store conn).committed.trees →
         (db : _) → (state S.Store u.conn).may_leave db → IsReachable them (chapters ++ upgraded false ∷ []) db) }
 {
     let mut conn = conn;
-    let found = match examine_from(alloc, &mut conn, Version::First) {
+    let found = match check_schemas(alloc, &mut conn, Version::First) {
         Ok(found) => found,
         Err(fault) => return Err(Unopened { fault, conn }),
     };
@@ -105,7 +105,7 @@ pub fn upgrade<S: Alter>(
         Version::First => {}
     }
     let meta = of_current(&found.rows.meta);
-    match widen(&mut conn, &found.rows.event_rules, &meta) {
+    match migrate(&mut conn, &found.rows.event_rules, &meta) {
         Ok(()) => Ok((conn, Upgrade::Done)),
         Err(_) => Err(Unopened {
             fault: OpenFault::Store,

@@ -4,7 +4,7 @@ use Rattle.sqlite.specs.Held.{Held, state}
 use Rattle.sqlite.specs.State.{Shows}
 use Rattle.store_tables.specs.Club.{Leaves}
 use Rattle.store_tables.specs.Contents.{Content, Holds, IsExactlyEmpty}
-use Rattle.store_tables.specs.Over.{HoldsBeside, HoldsFirst, IsBesideThem, IsFirstBeside, LeavesBeside, Neighbours}
+use Rattle.store_tables.specs.Over.{HoldsBeside, HoldsFirst, HoldsClubAmong, IsFirstBeside, LeavesBeside, Neighbours}
 use Rattle.store_tables.specs.Over.{alone, over}
 use Rattle.store_tables.specs.Placed.{TakesClub}
 use Rattle.store_tables.specs.Room.{HasRoom, IsWithoutClub}
@@ -40,9 +40,9 @@ pub commits_beside : {S : Type 0} (g : Ghosts S) (them : Neighbours) (content : 
     → end ≡ new → TakesClub Current them.schema → HoldsBeside them content (state g last).now
     → Shows (state g last) (state g end) (state g last).now (state g last).now false
     → ((db : Trees) → IsTrue (state g end).is_open → (state g end).may_leave db → db ≡ (state g end).committed.trees)
-    → IsBesideThem them content (state g new)
+    → HoldsClubAmong them content (state g new)
 commits_beside g them content last end new same clear holds shown settled =
-    subst (λ h. IsBesideThem them content (state g h)) same (record {
+    subst (λ h. HoldsClubAmong them content (state g h)) same (record {
       clear = clear;
       exactly = commits them.schema (over them.schema content them.rows) (state g last) (state g end) holds shown
           settled;

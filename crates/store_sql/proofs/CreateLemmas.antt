@@ -16,7 +16,7 @@ use Rattle.store_tables.specs.Sql.{understood, Row, Schema, State, Table}
 use Rattle.store_tables.specs.Contents.{Holds, Ran}
 use Rattle.store_tables.specs.Names.{in_order, table_name}
 use Rattle.store_tables.specs.Over.{Neighbours}
-use Rattle.store_tables.specs.Placed.{HasTables, Stands, TakesClub}
+use Rattle.store_tables.specs.Placed.{HasTables, HasTableAt, TakesClub}
 use Rattle.store_tables.specs.Put.{on_key}
 use Rattle.store_tables.specs.Reading.{IsNoInput}
 use Rattle.store_tables.specs.Room.{AreUnused, HasRoom, Makes, made_in}
@@ -34,10 +34,10 @@ use Rattle.store_sql.proofs.RefusedLemmas.{IsQuiet, quiet_create, quiet_upsert, 
 -- So many tables were made in turn; where tables of a club stand, not even the first was.
 pub record Progress (k : ℕ) (old now : State) : Type 0 where
   pub makes : MakesHere (take k in_order) old now
-  pub stands : HasTables First old.now.schema → (k ≡ 0) × Stands now.now.schema Meta
+  pub stands : HasTables First old.now.schema → (k ≡ 0) × HasTableAt now.now.schema Meta
 
 -- where a table stands it is not made again
-never_made : (sql : List ℕ) (old new : State) → sql ≡ create_of Meta → Stands old.now.schema Meta
+never_made : (sql : List ℕ) (old new : State) → sql ≡ create_of Meta → HasTableAt old.now.schema Meta
     → ¬ Ran sql old new
 unfolding ExecutesIn
 never_made sql old new text stands h =

@@ -21,7 +21,7 @@ use Rattle.store_tables.specs.Queries.{Finds}
 use Rattle.store_tables.proofs.Proved.{has_index, has_mapped, has_turned}
 use Rattle.sqlite_rules.proofs.ListLemmas.{all_has, has_filtered}
 use Rattle.store_sql.specs.declared.fault.ReadFault.{ReadFault}
-use Rattle.store_sql.specs.declared.fault.ReadFault.TheVariants.{Mistyped, Memory}
+use Rattle.store_sql.specs.declared.fault.ReadFault.TheVariants.{WrongType, Memory}
 use Rattle.store_sql.specs.Read.{AreReadOf, Blames, beginning_with}
 
 passing : {A B : Type 0} (p : A → Bool) (g : A → B) (xs : List A)
@@ -70,7 +70,7 @@ shown_typed table width n IsTyped old new shown read rows kept all i d within =
 pub blame : (table : Table) (IsTyped : Row → Type 0) (old : State) (slice shown : List Row) (e : ReadFault)
     → slice ≡ shown
     → ((rows : List Row) → Keeps table (club_trees old.now) rows → AllByRecursion IsTyped rows → All IsTyped shown)
-    → (e ≡ Memory) ⊎ ((e ≡ Mistyped) × (¬ All IsTyped slice)) → Blames table IsTyped old e
+    → (e ≡ Memory) ⊎ ((e ≡ WrongType) × (¬ All IsTyped slice)) → Blames table IsTyped old e
 blame table IsTyped old slice shown e is typed (inl memory) = inr (inl memory)
 blame table IsTyped old slice shown e is typed (inr (named, wrong)) =
     inr (inr (named, λ rows kept apart all. (rw is at wrong) (typed rows kept all)))

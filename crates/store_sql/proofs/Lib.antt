@@ -1,7 +1,9 @@
 pub mod BoundLemmas
 pub mod CommitLemmas
+pub mod CopyLemmas
 pub mod CreateLemmas
 pub mod GroupLemmas
+pub mod KeyLemmas
 pub mod OpenLemmas
 pub mod Proved
 pub mod RefusedLemmas

@@ -16,12 +16,12 @@ use Rattle.sqlite.specs.declared.error.Error.{Error}
 use Rattle.sqlite.specs.State.{FailsToQuery, CommitsShowing}
 use Rattle.sqlite.proofs.Callers.{IsPlain, reads_as}
 use Rattle.store_tables.specs.Over.{HasRows}
-use Rattle.store_tables.specs.Placed.{AsksAnywhere, Stands, club_trees}
+use Rattle.store_tables.specs.Placed.{AsksAnywhere, HasTableAt, club_trees}
 use Rattle.store_tables.specs.Changes.{HaveSame}
 use Rattle.store_tables.specs.Content.{Keeps, cells}
 use Rattle.store_tables.specs.Contents.{Content, Stores, AreThose}
 use Rattle.store_tables.specs.Queries.{AreShownBy, Finds, IsSelect, by_others}
-use Rattle.store_tables.specs.Reading.{by_columns, Tells, TellsIds, IsNoInput, KeepsContent, KeepsMay, Reads}
+use Rattle.store_tables.specs.Reading.{by_columns, ReturnsRows, TellsIds, IsNoInput, KeepsContent, KeepsMay, Reads}
 use Rattle.store_tables.proofs.Proved.{select_unchanged, only_reads, reads_by, unchanged_exactly, tells, tells_ids}
 use Rattle.store_tables.proofs.Proved.{tells_first, finds, no_input, ids_of, each_shown, one_list, sorted_rows, has_map}
 use Rattle.store_tables.proofs.Proved.{in_order as in_order_by}
@@ -33,7 +33,7 @@ use Rattle.store_tables.specs.Names.{in_order, tree_of}
 use Rattle.store_tables.specs.declared.names.Table as of_club
 use Rattle.store_tables.specs.declared.names.Table.TheVariants.{Meta}
 use Rattle.store_sql.specs.declared.fault.ReadFault.{ReadFault}
-use Rattle.store_sql.specs.declared.fault.ReadFault.TheVariants.{Mistyped}
+use Rattle.store_sql.specs.declared.fault.ReadFault.TheVariants.{WrongType}
 use Rattle.store_sql.specs.Read.{AreReadOf, BeginWithPlaces, beginning_with, was_read}
 use Rattle.store_sql.proofs.GroupLemmas.{each_found}
 
@@ -95,8 +95,8 @@ pub moved_to : {table : Table} (which : of_club.Table) → table ≡ standing wh
     → record table { tree = tree } ≡ made_as which tree
 moved_to which is tree = ap (λ (t : Table). record t { tree = tree }) is ∙ same_but_tree which tree
 
-pub standing_alone : (table : of_club.Table) → Stands club_schema table
-standing_alone table = all_has (Stands club_schema) in_order table alone_takes.club (in_all table)
+pub standing_alone : (table : of_club.Table) → HasTableAt club_schema table
+standing_alone table = all_has (HasTableAt club_schema) in_order table alone_takes.club (in_all table)
 
 -- a table of the club has the rows of the club
 stored_here : (table : of_club.Table) (content : Content) (s : State) → HasRows content s
@@ -152,9 +152,9 @@ module _ {X : Type 0} {table : of_club.Table} {key : List ℕ} {wanted params gi
       (asks k.0 stands).finds (asked stands.tree) same survives clean (items x) shown).0) ok
 
 -- a call that failed for another cause than the types of its rows
-pub failed_read : (e : ReadFault) (old new : State) → e ≢ Mistyped → Reads false old new
+pub failed_read : (e : ReadFault) (old new : State) → e ≢ WrongType → Reads false old new
     → Reads (was_read {T = ℕ} (Err e)) old new
-failed_read Mistyped old new other reads = absurd (other refl)
+failed_read WrongType old new other reads = absurd (other refl)
 failed_read _ old new other reads = reads
 
 places_first : (rows : List Row) → BeginWithPlaces rows → BeginWithPlaces (map (λ r. column r 0 ∷ []) rows)
@@ -170,13 +170,13 @@ moved table db xs ys one two z h = let r = one.stored z h in subst (Has ys) r.2 
 -- ---- what the texts of a table tell, wherever it stands
 
 module _ {which : of_club.Table} {table : Table} {width : ℕ} (is_table : table ≡ standing which)
-    (read : (schema : Schema) (stands : Stands schema which) → AreShownBy schema (made_as which stands.tree) width)
+    (read : (schema : Schema) (stands : HasTableAt schema which) → AreShownBy schema (made_as which stands.tree) width)
     (old new : State) where
   alike : (tree : ℕ) (r : Row) → cells (made_as which tree) r ≡ cells table r
   alike tree r = cells_are which tree r ∙ ap (λ t. cells t r) (sym is_table)
 
   -- where its rows stand
-  module _ (stands : Stands old.now.schema which) where
+  module _ (stands : HasTableAt old.now.schema which) where
     abbrev there : Table
     there = made_as which stands.tree
 
@@ -189,9 +189,9 @@ module _ {which : of_club.Table} {table : Table} {width : ℕ} (is_table : table
         ∙ ap (λ (t : Table). club_trees old.now t.tree) (sym is_table)
 
     pub all_told : {sql : List ℕ} → sql ≡ all_text table → (rows : List Row) → Shown sql [] old new rows
-        → Tells table width rows (club_trees old.now) old new
+        → ReturnsRows table width rows (club_trees old.now) old new
     all_told text rows shown =
-        subst (λ t. Tells t width rows (club_trees old.now) old new) (sym is_table)
+        subst (λ t. ReturnsRows t width rows (club_trees old.now) old new) (sym is_table)
         (told_here which old new stands rows width
         (tells old.now.schema there width (all_text there) shows.columns shows.rows shows.whole old new rows refl
         (subst (λ s. Shown s [] old new rows) (text ∙ ap all_text (moved_to which is_table stands.tree)) shown)))
@@ -241,8 +241,8 @@ module _ {which : of_club.Table} {table : Table} {width : ℕ} (is_table : table
     stored = subst (λ t. Stores t (club_trees old.now) content) (sym is_table) (stored_here which content old k)
 
     -- the table stands in the schema that the connection has
-    stands_now : Stands old.now.schema which
-    stands_now = subst (λ s. Stands s which) (sym k.4.now.schema) (rows_standing content old k which).0
+    stands_now : HasTableAt old.now.schema which
+    stands_now = subst (λ s. HasTableAt s which) (sym k.4.now.schema) (rows_standing content old k which).0
 
     pub some_found : {sql : List ℕ} → sql ≡ by_first_text table → (n : ℤ) (params : Row) → params ≡ Int n ∷ []
         → Survives old new (CommitsShowing sql params old) → HasCleanDisk new
@@ -279,7 +279,7 @@ module _ {which : of_club.Table} {table : Table} {width : ℕ} (is_table : table
 
     -- a table is shown with the rows that it has
     pub same_rows : (shown : List Row)
-        → (Stands old.now.schema which → Tells table width shown (club_trees old.now) old new)
+        → (HasTableAt old.now.schema which → ReturnsRows table width shown (club_trees old.now) old new)
         → HaveSame shown (content table.tree)
     same_rows shown told =
         let keeps = (told stands_now).keeps in
@@ -290,7 +290,7 @@ module _ {which : of_club.Table} {table : Table} {width : ℕ} (is_table : table
 
     -- where ids are places, a table is shown as the list that it is
     pub told_rows : (width ≡ 1) × ((r : Row) → column (cells table r) 0 ≡ rowid r) → (shown : List Row)
-        → (Stands old.now.schema which → Tells table width shown (club_trees old.now) old new)
+        → (HasTableAt old.now.schema which → ReturnsRows table width shown (club_trees old.now) old new)
         → BeginWithPlaces (content table.tree) → shown ≡ content table.tree
     told_rows (one_column, id) shown told places =
         let it = told stands_now in

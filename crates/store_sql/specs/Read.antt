@@ -12,7 +12,7 @@ use Rattle.store_tables.specs.Placed.{club_trees}
 use Rattle.store_tables.specs.Queries.{by_others}
 use Rattle.store_tables.specs.Reading.{by_columns}
 use Rattle.store_sql.specs.declared.fault.ReadFault.{ReadFault}
-use Rattle.store_sql.specs.declared.fault.ReadFault.TheVariants.{Mistyped, Store, Memory}
+use Rattle.store_sql.specs.declared.fault.ReadFault.TheVariants.{WrongType, Store, Memory}
 
 -- These are exactly the rows of the table, in the order of the key; the connection is unchanged.
 pub record IsReadAs (table : Table) (width : ℕ) (rows : List Row) (old new : State) : Type 0 where
@@ -42,7 +42,7 @@ pub record AreReadOf (table : Table) (width : ℕ) (n : ℤ) (rows : List Row) (
 -- The fault has a cause: a call failed, memory ran out, or a row has a value of a wrong type.
 abbrev pub Blames : Table → (Row → Type 0) → State → ReadFault → Type 0
 Blames table IsTyped old fault =
-    (fault ≡ Store) ⊎ ((fault ≡ Memory) ⊎ ((fault ≡ Mistyped)
+    (fault ≡ Store) ⊎ ((fault ≡ Memory) ⊎ ((fault ≡ WrongType)
     × ((rows : List Row) → Keeps table (club_trees old.now) rows → AreApart (club_trees old.now table.tree)
     → ¬ AllByRecursion IsTyped rows)))
 
@@ -53,5 +53,5 @@ BeginWithPlaces rows = (k : ℕ) → k < length rows → column (get_or rows k [
 -- The rows were read, or the fault is a value of a wrong type.
 abbrev pub was_read : {T : Type 0} → Result T ReadFault → Bool
 was_read (Ok rows) = true
-was_read (Err Mistyped) = true
+was_read (Err WrongType) = true
 was_read (Err fault) = false

@@ -4,12 +4,12 @@ ghost use Rattle.std.specs.Prelude.{◌≡◌, ◌≤◌, ◌⊎◌, false, [], 
 ghost use Rattle.sqlite.specs.State.{HasCleanDisk, Survives};
 ghost use Rattle.sqlite.specs.Held.{state};
 ghost use Rattle.sqlite_trees.specs.View.{doubt};
-ghost use Rattle.store_tables.specs.Over.{HoldsBeside, IsBesideThem, LeavesBeside, StepsBeside};
+ghost use Rattle.store_tables.specs.Over.{HoldsBeside, HoldsClubAmong, LeavesBeside, StepsBeside};
 ghost use Rattle.store_tables.specs.Placed.{TakesClub};
 ghost use Rattle.store_tables.specs.declared.names.Version.TheVariants.{Current};
 ghost use Rattle.store_tables.specs.Changed.{people_put, play_put, counts_put, meta_put, changed};
 
-use crate::upsert::{Put, put_all};
+use crate::upsert::{Upsert, put_all};
 use sqlite::{Alter, Connection, Error, Transaction};
 use store_tables::Changes;
 
@@ -100,10 +100,10 @@ pub fn commit_changes<S: Alter>(conn: &mut Connection<S>, changes: &Changes) -> 
     requires { conn.old.in_transaction ≡ false }
     ensures idle { conn.new.in_transaction ≡ false }
     ensures stored { HasCleanDisk (state S.Store conn.new) → OnOk result ((them : _) (content : _) →
-        IsBesideThem them content (state S.Store conn.old) →
-        IsBesideThem them (changed changes.now content) (state S.Store conn.new)) }
+        HoldsClubAmong them content (state S.Store conn.old) →
+        HoldsClubAmong them (changed changes.now content) (state S.Store conn.new)) }
     ensures fault { HasCleanDisk (state S.Store conn.new) → OnErr result ((them : _) (content : _) →
-        IsBesideThem them content (state S.Store conn.old) → (db : _) → (state S.Store conn.new).may_leave db →
+        HoldsClubAmong them content (state S.Store conn.old) → (db : _) → (state S.Store conn.new).may_leave db →
         LeavesBeside them content db ⊎ LeavesBeside them (changed changes.now content) db) }
     ensures survives { Survives (state S.Store conn.old) (state S.Store conn.new) (λ db. (them : _) →
         TakesClub Current them.schema → (content : _) → HoldsBeside them content (state S.Store conn.old).now →

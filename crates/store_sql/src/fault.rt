@@ -7,7 +7,7 @@ use sqlite::Error;
 
 /// Why the rows of an open, checked club cannot be read.
 #[derive(Debug, Clone, Copy, PartialEq, Eq, Drop)]
-pub enum CallFault {
+pub enum TableFault {
     /// A call of the database failed, or a value has another type than its column.
     Store,
     /// Out of memory, except inside a database call.
@@ -20,7 +20,7 @@ pub enum ReadFault {
     /// SQLite rejected the statement: the table or one of its columns is missing.
     Missing,
     /// A rowid occurs twice, or a value has another type than its column.
-    Mistyped,
+    WrongType,
     /// A call of the database failed.
     Store,
     /// Out of memory, except inside a database call.

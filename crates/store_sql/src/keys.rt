@@ -9,12 +9,12 @@ ghost use Rattle.store_tables.specs.Contents.{AreThose};
 ghost use Rattle.store_tables.specs.Over.{HasRows};
 ghost use Rattle.store_tables.specs.Reading.{Reads};
 
-use crate::fault::CallFault;
-use crate::read::parsed;
+use crate::fault::TableFault;
+use crate::read::parse_shown_rows;
 use crate::texts::Select;
 use sqlite::{Alter, Connection, Error, Row, params};
 use std::alloc::Global;
-use store_tables::{ChallengeRow, EventRow, GameRecord, MemberRow, MoveRow, ScoreRow, SeenRow};
+use store_tables::{ChallengeRow, EventRow, GameTableRow, MemberRow, MoveRow, ScoreRow, SeenRow};
 
 const MEMBERS_BY_NAME: &str = "SELECT id, name, key FROM members WHERE name = ?1";
 
@@ -38,7 +38,7 @@ const SCORES_BY_PAIR: &str =
     "SELECT event, member, opponent, points, wins, draws, losses FROM scores WHERE event = ?1 AND member = ?2 AND opponent = ?3";
 
 /// A query for the row with given values in columns that are a key or UNIQUE.
-pub trait Question {
+pub trait UniqueKey {
     /// The type of the row.
     type Row: Select;
 
@@ -65,7 +65,7 @@ pub struct MemberName<'a> {
     pub name: &'a str,
 }
 
-impl Question for MemberName<'_> {
+impl UniqueKey for MemberName<'_> {
     type Row = MemberRow;
 
     ghost columns = { 1 ∷ [] };
@@ -83,7 +83,7 @@ pub struct MemberKey<'a> {
     pub key: &'a str,
 }
 
-impl Question for MemberKey<'_> {
+impl UniqueKey for MemberKey<'_> {
     type Row = MemberRow;
 
     ghost columns = { 2 ∷ [] };
@@ -101,7 +101,7 @@ pub struct EventName<'a> {
     pub name: &'a str,
 }
 
-impl Question for EventName<'_> {
+impl UniqueKey for EventName<'_> {
     type Row = EventRow;
 
     ghost columns = { 1 ∷ [] };
@@ -119,8 +119,8 @@ pub struct GameKey<'a> {
     pub key: &'a str,
 }
 
-impl Question for GameKey<'_> {
-    type Row = GameRecord;
+impl UniqueKey for GameKey<'_> {
+    type Row = GameTableRow;
 
     ghost columns = { 1 ∷ [] };
 
@@ -138,7 +138,7 @@ pub struct ChallengeNumber {
     pub number: i64,
 }
 
-impl Question for ChallengeNumber {
+impl UniqueKey for ChallengeNumber {
     type Row = ChallengeRow;
 
     ghost columns = { 0 ∷ 1 ∷ [] };
@@ -157,7 +157,7 @@ pub struct MovePly {
     pub ply: i64,
 }
 
-impl Question for MovePly {
+impl UniqueKey for MovePly {
     type Row = MoveRow;
 
     ghost columns = { 0 ∷ 1 ∷ [] };
@@ -176,7 +176,7 @@ pub struct SeenPosition<'a> {
     pub position: &'a str,
 }
 
-impl Question for SeenPosition<'_> {
+impl UniqueKey for SeenPosition<'_> {
     type Row = SeenRow;
 
     ghost columns = { 0 ∷ 1 ∷ [] };
@@ -190,13 +190,13 @@ impl Question for SeenPosition<'_> {
 
 /// A query for a member's score against an opponent in an event.
 #[derive(Debug, Clone, Copy)]
-pub struct ScorePair {
+pub struct ScoreKey {
     pub event: i64,
     pub member: i64,
     pub opponent: i64,
 }
 
-impl Question for ScorePair {
+impl UniqueKey for ScoreKey {
     type Row = ScoreRow;
 
     ghost columns = { 0 ∷ 1 ∷ 2 ∷ [] };
@@ -221,18 +221,18 @@ impl Question for ScorePair {
 /// # Guarantees
 ///
 /// `rows`: exactly the rows of the table with these values; `reads`: nothing is written.
-pub fn find<Q: Question, S: Alter>(
+pub fn find<Q: UniqueKey, S: Alter>(
     alloc: Global,
     conn: &mut Connection<S>,
     question: &Q,
-) -> Result<Vec<Q::Row>, CallFault>
+) -> Result<Vec<Q::Row>, TableFault>
     ensures reads { Reads (is_ok result) (state S.Store conn.old) (state S.Store conn.new) }
     ensures rows { HasCleanDisk (state S.Store conn.new) → IfOk result (λ found. (content : _) →
         HasRows content (state S.Store conn.old) →
         AreThose Q.columns (Q.wanted question.now) (content Q.Row.table.tree) (map Q.Row.cells found.items)) }
 {
     match question.show(conn) {
-        Ok(shown) => parsed(alloc, &shown),
-        Err(_) => Err(CallFault::Store),
+        Ok(shown) => parse_shown_rows(alloc, &shown),
+        Err(_) => Err(TableFault::Store),
     }
 }

@@ -1,31 +1,37 @@
-//! Reads and upserts the rows of a club's tables over a SQLite connection, one transaction for each change.
+//! Reads, upserts and copies the rows of a club's tables over a SQLite connection, one transaction for each change.
 //!
 //! All guarantees about rows assume `HasCleanDisk`: no doubt about the disk has arisen.
 #![tactic(auto)]
 
 mod commit;
+mod copy;
+mod copy_fault;
+mod creation;
 mod fault;
-mod filled;
 mod keys;
 mod make;
+mod migration;
 mod read;
 mod reopen;
+mod rows;
 mod texts;
 mod upsert;
-mod wider;
 
 pub use commit::commit_changes;
-pub use fault::{CallFault, ReadFault, is_refused};
-pub use filled::create_filled;
+pub use copy::copy_tables;
+pub use copy_fault::CopyFault;
+pub use creation::create_with_rows;
+pub use fault::{ReadFault, TableFault, is_refused};
 pub use keys::{
-    ChallengeNumber, EventName, GameKey, MemberKey, MemberName, MovePly, Question, ScorePair,
-    SeenPosition, find,
+    ChallengeNumber, EventName, GameKey, MemberKey, MemberName, MovePly, ScoreKey, SeenPosition,
+    UniqueKey, find,
 };
 pub use make::create_tables;
+pub use migration::{has_event_rules, migrate};
 pub use read::{
     check_columns, check_rowids, count, find_by_first, list, read_all, read_by_first, show_all,
 };
 pub use reopen::holds_exactly;
+pub use rows::read_rows;
 pub use texts::Select;
-pub use upsert::{Put, put_all};
-pub use wider::{has_event_rules, widen};
+pub use upsert::{Upsert, put_all};

@@ -7,7 +7,7 @@ ghost use Rattle.sqlite_trees.specs.View.{doubt};
 ghost use Rattle.store_tables.specs.Reading.{IsNoInput, KeepsMay};
 ghost use Rattle.store_tables.specs.Contents.{Holds, Ran, IsExactlyEmpty, IsEmpty, opening};
 ghost use Rattle.store_tables.specs.Club.{IsExactly, Leaves};
-ghost use Rattle.store_tables.specs.Over.{IsBesideThem, LeavesBeside};
+ghost use Rattle.store_tables.specs.Over.{HoldsClubAmong, LeavesBeside};
 ghost use Rattle.store_tables.specs.Placed.{HasTables};
 ghost use Rattle.store_tables.specs.Room.{Fills, HasRoom, IsWithoutClub, LeavesNoClub, Makes};
 ghost use Rattle.store_tables.specs.declared.names.Version.TheVariants.{First};
@@ -102,7 +102,7 @@ pub fn create_tables<S: Alter>(conn: &mut Connection<S>) -> Result<(), Error>
         (db : _) → (state S.Store conn.new).may_leave db → IsEmpty db ⊎ Leaves opening db) }
     // Beside foreign tables, whose rows stay.
     ensures behind { HasCleanDisk (state S.Store conn.new) → OnOk result ((them : _) →
-        IsWithoutClub them (state S.Store conn.old) → IsBesideThem them opening (state S.Store conn.new)) }
+        IsWithoutClub them (state S.Store conn.old) → HoldsClubAmong them opening (state S.Store conn.new)) }
     ensures behind_fault { HasCleanDisk (state S.Store conn.new) → OnErr result ((them : _) →
         IsWithoutClub them (state S.Store conn.old) → (db : _) → (state S.Store conn.new).may_leave db →
         LeavesNoClub them db ⊎ LeavesBeside them opening db) }

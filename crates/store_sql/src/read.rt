@@ -1,5 +1,5 @@
 //! Reads the rows of a table, all or by their first column, as row types.
-//! Functions that return `ReadFault` serve a database that is not yet checked; those with `CallFault` an open club.
+//! Functions that return `ReadFault` serve a database that is not yet checked; those with `TableFault` an open club.
 
 ghost use Rattle.std.specs.Prelude.{◌≡◌, ◌≢◌, ◌⊎◌, IsTrue, IfOk, IfErr, OnOk, is_ok, All, [], ◌∷◌, map, length};
 ghost use Rattle.std.specs.List.Sorted.{IsSorted};
@@ -10,16 +10,16 @@ ghost use Rattle.store_tables.specs.Changes.{HaveSame};
 ghost use Rattle.store_tables.specs.Content.{AreApart};
 ghost use Rattle.store_tables.specs.Contents.{AreThose};
 ghost use Rattle.store_tables.specs.Over.{HasRows};
-ghost use Rattle.store_tables.specs.Placed.{Stands, club_trees};
+ghost use Rattle.store_tables.specs.Placed.{HasTableAt, club_trees};
 ghost use Rattle.store_tables.specs.Queries.{by_others};
-ghost use Rattle.store_tables.specs.Reading.{AreIds, by_columns, IsNoInput, Reads, Tells, TellsIds};
+ghost use Rattle.store_tables.specs.Reading.{AreIds, by_columns, IsNoInput, Reads, ReturnsRows, TellsIds};
 ghost use Rattle.store_sql.specs.Read.{AreCounted, AreReadOf, IsReadAs, Blames, BeginWithPlaces, was_read};
 
-use crate::fault::{CallFault, ReadFault, is_refused};
+use crate::fault::{ReadFault, TableFault, is_refused};
 use crate::texts::Select;
 use sqlite::{Alter, Connection, Error, Row, params};
 use std::alloc::Global;
-use store_tables::{TableRow, Unread, check_ids, parse_all};
+use store_tables::{RowError, TableRow, check_ids, parse_all};
 
 /// Returns the values of all rows of a table, in the order of its key.
 ///
@@ -29,32 +29,32 @@ use store_tables::{TableRow, Unread, check_ids, parse_all};
 pub fn show_all<T: Select, S: Alter>(conn: &mut Connection<S>) -> Result<Vec<Row>, Error>
     ensures reads { Reads (is_ok result) (state S.Store conn.old) (state S.Store conn.new) }
     ensures rows { HasCleanDisk (state S.Store conn.new) → IfOk result (λ rows.
-        Stands (state S.Store conn.old).now.schema T.which →
-        Tells T.table T.width rows.items (club_trees (state S.Store conn.old).now) (state S.Store conn.old)
+        HasTableAt (state S.Store conn.old).now.schema T.which →
+        ReturnsRows T.table T.width rows.items (club_trees (state S.Store conn.old).now) (state S.Store conn.old)
         (state S.Store conn.new)) }
     ensures known { HasCleanDisk (state S.Store conn.new) → IfErr result (λ e.
-        Stands (state S.Store conn.old).now.schema T.which → IsNoInput e) }
+        HasTableAt (state S.Store conn.old).now.schema T.which → IsNoInput e) }
 {
-    conn.query_all(T::kept_in().all(), &[])
+    conn.query_all(T::table().all(), &[])
 }
 
 /// Returns the rowids of a table in ascending order.
 fn show_ids<T: Select, S: Alter>(conn: &mut Connection<S>) -> Result<Vec<Row>, Error>
     ensures reads { Reads (is_ok result) (state S.Store conn.old) (state S.Store conn.new) }
     ensures ids { HasCleanDisk (state S.Store conn.new) → IfOk result (λ rows.
-        Stands (state S.Store conn.old).now.schema T.which →
+        HasTableAt (state S.Store conn.old).now.schema T.which →
         TellsIds (club_trees (state S.Store conn.old).now T.table.tree) rows.items (state S.Store conn.old)
         (state S.Store conn.new)) }
     ensures known { HasCleanDisk (state S.Store conn.new) → IfErr result (λ e.
-        Stands (state S.Store conn.old).now.schema T.which → IsNoInput e) }
+        HasTableAt (state S.Store conn.old).now.schema T.which → IsNoInput e) }
     ensures number { HasCleanDisk (state S.Store conn.new) → IfOk result (λ rows.
-        Stands (state S.Store conn.old).now.schema T.which →
+        HasTableAt (state S.Store conn.old).now.schema T.which →
         length rows.items ≡ length (club_trees (state S.Store conn.old).now T.table.tree)) }
     ensures count { HasCleanDisk (state S.Store conn.new) → IfOk result (λ rows. IsTrue T.has_id → (content : _) →
         HasRows content (state S.Store conn.old) →
         BeginWithPlaces (content T.table.tree) → length rows.items ≡ length (content T.table.tree)) }
 {
-    conn.query_all(T::kept_in().ids(), &[])
+    conn.query_all(T::table().ids(), &[])
 }
 
 /// Returns the values of the rows whose first column is `first`.
@@ -68,29 +68,32 @@ fn show_by_first<T: Select, S: Alter>(
         AreThose (0 ∷ []) (Int first.now ∷ []) (content T.table.tree) rows.items ×
         IsSorted (by_others T.width) rows.items) }
     ensures told { HasCleanDisk (state S.Store conn.new) → IfOk result (λ rows.
-        Stands (state S.Store conn.old).now.schema T.which →
+        HasTableAt (state S.Store conn.old).now.schema T.which →
         AreReadOf T.table T.width first.now rows.items (state S.Store conn.old) (state S.Store conn.new)) }
     ensures known { HasCleanDisk (state S.Store conn.new) → IfErr result (λ e.
-        Stands (state S.Store conn.old).now.schema T.which → IsNoInput e) }
+        HasTableAt (state S.Store conn.old).now.schema T.which → IsNoInput e) }
 {
-    conn.query_all(T::kept_in().by_first(), params![first])
+    conn.query_all(T::table().by_first(), params![first])
 }
 
 /// Parses rows of a checked club. A wrong type means that the file was changed meanwhile: `Store`.
-pub(crate) fn parsed<T: TableRow>(alloc: Global, shown: &[Row]) -> Result<Vec<T>, CallFault>
+pub(crate) fn parse_shown_rows<T: TableRow>(
+    alloc: Global,
+    shown: &[Row],
+) -> Result<Vec<T>, TableFault>
     ensures rows { IfOk result (λ found. shown.now ≡ map T.cells found.items) }
 {
     match parse_all(alloc, shown) {
         Ok(found) => Ok(found),
-        Err(Unread::Mistyped) => Err(CallFault::Store),
-        Err(Unread::Memory) => Err(CallFault::Memory),
+        Err(RowError::WrongType) => Err(TableFault::Store),
+        Err(RowError::Memory) => Err(TableFault::Memory),
     }
 }
 
 /// A rejected statement names a table or column that is missing.
 fn failed(error: Error) -> ReadFault
     ensures store { IsNoInput error → result ≡ ReadFault.Store }
-    ensures typed { result ≢ ReadFault.Mistyped }
+    ensures parse_rows { result ≢ ReadFault.WrongType }
 {
     if is_refused(&error) {
         ReadFault::Missing
@@ -99,20 +102,20 @@ fn failed(error: Error) -> ReadFault
     }
 }
 
-fn unread(why: Unread) -> ReadFault
-    ensures mistyped { why ≡ Unread.Mistyped → result ≡ ReadFault.Mistyped }
-    ensures memory { why ≡ Unread.Memory → result ≡ ReadFault.Memory }
+fn unread(why: RowError) -> ReadFault
+    ensures mistyped { why ≡ RowError.WrongType → result ≡ ReadFault.WrongType }
+    ensures memory { why ≡ RowError.Memory → result ≡ ReadFault.Memory }
 {
     match why {
-        Unread::Mistyped => ReadFault::Mistyped,
-        Unread::Memory => ReadFault::Memory,
+        RowError::WrongType => ReadFault::WrongType,
+        RowError::Memory => ReadFault::Memory,
     }
 }
 
 /// Parses rows of a database that is not yet checked.
-fn typed<T: TableRow>(alloc: Global, shown: &[Row]) -> Result<Vec<T>, ReadFault>
+fn parse_rows<T: TableRow>(alloc: Global, shown: &[Row]) -> Result<Vec<T>, ReadFault>
     ensures rows { IfOk result (λ found. shown.now ≡ map T.cells found.items) }
-    ensures blames { IfErr result (λ e. (e ≡ ReadFault.Memory) ⊎ ((e ≡ ReadFault.Mistyped) ×
+    ensures reason_is_right { IfErr result (λ e. (e ≡ ReadFault.Memory) ⊎ ((e ≡ ReadFault.WrongType) ×
         (¬ All T.IsTyped shown.now))) }
 {
     match parse_all(alloc, shown) {
@@ -124,7 +127,7 @@ fn typed<T: TableRow>(alloc: Global, shown: &[Row]) -> Result<Vec<T>, ReadFault>
 /// Checks that the rowids are distinct integers.
 fn identified(alloc: Global, shown: &[Row]) -> Result<(), ReadFault>
     ensures apart { OnOk result (AreIds shown.now) }
-    ensures blames { IfErr result (λ e. (e ≡ ReadFault.Memory) ⊎ ((e ≡ ReadFault.Mistyped) ×
+    ensures reason_is_right { IfErr result (λ e. (e ≡ ReadFault.Memory) ⊎ ((e ≡ ReadFault.WrongType) ×
         (IsSorted (by_columns 1) shown.now → ¬ AreIds shown.now))) }
 {
     match check_ids(alloc, shown) {
@@ -138,7 +141,7 @@ fn identified(alloc: Global, shown: &[Row]) -> Result<(), ReadFault>
 /// # Errors
 ///
 /// - `Missing` if SQLite rejects the statement.
-/// - `Mistyped` if a rowid is no integer or occurs twice.
+/// - `WrongType` if a rowid is no integer or occurs twice.
 /// - `Store` if a call of the database fails.
 /// - `Memory` if out of memory.
 pub fn check_rowids<T: Select, S: Alter>(
@@ -147,13 +150,13 @@ pub fn check_rowids<T: Select, S: Alter>(
 ) -> Result<usize, ReadFault>
     ensures reads { Reads (was_read result) (state S.Store conn.old) (state S.Store conn.new) }
     ensures counted { HasCleanDisk (state S.Store conn.new) → IfOk result (λ count.
-        Stands (state S.Store conn.old).now.schema T.which →
+        HasTableAt (state S.Store conn.old).now.schema T.which →
         AreCounted T.table.tree count (state S.Store conn.old) (state S.Store conn.new)) }
-    ensures blames { HasCleanDisk (state S.Store conn.new) → IfErr result (λ e.
-        Stands (state S.Store conn.old).now.schema T.which →
+    ensures reason_is_right { HasCleanDisk (state S.Store conn.new) → IfErr result (λ e.
+        HasTableAt (state S.Store conn.old).now.schema T.which →
         Blames T.table T.IsTyped (state S.Store conn.old) e) }
-    ensures apart { HasCleanDisk (state S.Store conn.new) → IfErr result (λ e. e ≡ ReadFault.Mistyped →
-        Stands (state S.Store conn.old).now.schema T.which →
+    ensures apart { HasCleanDisk (state S.Store conn.new) → IfErr result (λ e. e ≡ ReadFault.WrongType →
+        HasTableAt (state S.Store conn.old).now.schema T.which →
         ¬ AreApart (club_trees (state S.Store conn.old).now T.table.tree)) }
 {
     let ids = match show_ids::<T, S>(conn) {
@@ -175,10 +178,10 @@ pub fn check_rowids<T: Select, S: Alter>(
 pub fn check_columns<T: Select, S: Alter>(conn: &mut Connection<S>) -> Result<(), ReadFault>
     ensures reads { Reads (is_ok result) (state S.Store conn.old) (state S.Store conn.new) }
     ensures same { HasCleanDisk (state S.Store conn.new) → OnOk result (
-        Stands (state S.Store conn.old).now.schema T.which →
+        HasTableAt (state S.Store conn.old).now.schema T.which →
         IsUnchanged (state S.Store conn.old) (state S.Store conn.new)) }
-    ensures blames { HasCleanDisk (state S.Store conn.new) → IfErr result (λ e.
-        Stands (state S.Store conn.old).now.schema T.which → e ≡ ReadFault.Store) }
+    ensures reason_is_right { HasCleanDisk (state S.Store conn.new) → IfErr result (λ e.
+        HasTableAt (state S.Store conn.old).now.schema T.which → e ≡ ReadFault.Store) }
 {
     match show_by_first::<T, S>(conn, &0) {
         Ok(_) => Ok(()),
@@ -191,7 +194,7 @@ pub fn check_columns<T: Select, S: Alter>(conn: &mut Connection<S>) -> Result<()
 /// # Errors
 ///
 /// - `Missing` if SQLite rejects the statement.
-/// - `Mistyped` if a rowid is no integer or occurs twice, or a value has another type than its column.
+/// - `WrongType` if a rowid is no integer or occurs twice, or a value has another type than its column.
 /// - `Store` if a call of the database fails.
 /// - `Memory` if out of memory.
 pub fn read_all<T: Select, S: Alter>(
@@ -200,10 +203,10 @@ pub fn read_all<T: Select, S: Alter>(
 ) -> Result<Vec<T>, ReadFault>
     ensures reads { Reads (was_read result) (state S.Store conn.old) (state S.Store conn.new) }
     ensures rows { HasCleanDisk (state S.Store conn.new) → IfOk result (λ found.
-        Stands (state S.Store conn.old).now.schema T.which →
+        HasTableAt (state S.Store conn.old).now.schema T.which →
         IsReadAs T.table T.width (map T.cells found.items) (state S.Store conn.old) (state S.Store conn.new)) }
-    ensures blames { HasCleanDisk (state S.Store conn.new) → IfErr result (λ e.
-        Stands (state S.Store conn.old).now.schema T.which →
+    ensures reason_is_right { HasCleanDisk (state S.Store conn.new) → IfErr result (λ e.
+        HasTableAt (state S.Store conn.old).now.schema T.which →
         Blames T.table T.IsTyped (state S.Store conn.old) e) }
 {
     match check_rowids::<T, S>(alloc, conn) {
@@ -214,7 +217,7 @@ pub fn read_all<T: Select, S: Alter>(
         Ok(shown) => shown,
         Err(error) => return Err(failed(error)),
     };
-    typed(alloc, &shown)
+    parse_rows(alloc, &shown)
 }
 
 /// Returns the rows whose first column is `first`, in the order of the other columns of the key.
@@ -222,7 +225,7 @@ pub fn read_all<T: Select, S: Alter>(
 /// # Errors
 ///
 /// - `Missing` if SQLite rejects the statement.
-/// - `Mistyped` if a value has another type than its column.
+/// - `WrongType` if a value has another type than its column.
 /// - `Store` if a call of the database fails.
 /// - `Memory` if out of memory.
 pub fn read_by_first<T: Select, S: Alter>(
@@ -232,21 +235,21 @@ pub fn read_by_first<T: Select, S: Alter>(
 ) -> Result<Vec<T>, ReadFault>
     ensures reads { Reads (was_read result) (state S.Store conn.old) (state S.Store conn.new) }
     ensures rows { HasCleanDisk (state S.Store conn.new) → IfOk result (λ found.
-        Stands (state S.Store conn.old).now.schema T.which →
+        HasTableAt (state S.Store conn.old).now.schema T.which →
         AreReadOf T.table T.width first.now (map T.cells found.items) (state S.Store conn.old)
         (state S.Store conn.new)) }
-    ensures blames { HasCleanDisk (state S.Store conn.new) → IfErr result (λ e.
-        Stands (state S.Store conn.old).now.schema T.which →
+    ensures reason_is_right { HasCleanDisk (state S.Store conn.new) → IfErr result (λ e.
+        HasTableAt (state S.Store conn.old).now.schema T.which →
         Blames T.table T.IsTyped (state S.Store conn.old) e) }
-    ensures same { HasCleanDisk (state S.Store conn.new) → IfErr result (λ e. e ≡ ReadFault.Mistyped →
-        Stands (state S.Store conn.old).now.schema T.which →
+    ensures same { HasCleanDisk (state S.Store conn.new) → IfErr result (λ e. e ≡ ReadFault.WrongType →
+        HasTableAt (state S.Store conn.old).now.schema T.which →
         IsUnchanged (state S.Store conn.old) (state S.Store conn.new)) }
 {
     let shown = match show_by_first::<T, S>(conn, first) {
         Ok(shown) => shown,
         Err(error) => return Err(failed(error)),
     };
-    typed(alloc, &shown)
+    parse_rows(alloc, &shown)
 }
 
 /// Returns all rows of a table of an open club, in the order of its key.
@@ -258,7 +261,7 @@ pub fn read_by_first<T: Select, S: Alter>(
 pub fn list<T: Select, S: Alter>(
     alloc: Global,
     conn: &mut Connection<S>,
-) -> Result<Vec<T>, CallFault>
+) -> Result<Vec<T>, TableFault>
     ensures reads { Reads (is_ok result) (state S.Store conn.old) (state S.Store conn.new) }
     ensures rows { HasCleanDisk (state S.Store conn.new) → IfOk result (λ found. IsTrue T.has_id → (content : _) →
         HasRows content (state S.Store conn.old) →
@@ -268,8 +271,8 @@ pub fn list<T: Select, S: Alter>(
         HaveSame (map T.cells found.items) (content T.table.tree)) }
 {
     match show_all::<T, S>(conn) {
-        Ok(shown) => parsed(alloc, &shown),
-        Err(_) => Err(CallFault::Store),
+        Ok(shown) => parse_shown_rows(alloc, &shown),
+        Err(_) => Err(TableFault::Store),
     }
 }
 
@@ -287,7 +290,7 @@ pub fn find_by_first<T: Select, S: Alter>(
     alloc: Global,
     conn: &mut Connection<S>,
     first: &i64,
-) -> Result<Vec<T>, CallFault>
+) -> Result<Vec<T>, TableFault>
     ensures reads { Reads (is_ok result) (state S.Store conn.old) (state S.Store conn.new) }
     ensures rows { HasCleanDisk (state S.Store conn.new) → IfOk result (λ found. (content : _) →
         HasRows content (state S.Store conn.old) →
@@ -295,8 +298,8 @@ pub fn find_by_first<T: Select, S: Alter>(
         IsSorted (by_others T.width) (map T.cells found.items)) }
 {
     match show_by_first::<T, S>(conn, first) {
-        Ok(shown) => parsed(alloc, &shown),
-        Err(_) => Err(CallFault::Store),
+        Ok(shown) => parse_shown_rows(alloc, &shown),
+        Err(_) => Err(TableFault::Store),
     }
 }
 
@@ -309,7 +312,7 @@ pub fn find_by_first<T: Select, S: Alter>(
 /// # Guarantees
 ///
 /// `count`: exact for tables whose key is an id, with ids 1, 2, 3 and so on.
-pub fn count<T: Select, S: Alter>(conn: &mut Connection<S>) -> Result<usize, CallFault>
+pub fn count<T: Select, S: Alter>(conn: &mut Connection<S>) -> Result<usize, TableFault>
     ensures reads { Reads (is_ok result) (state S.Store conn.old) (state S.Store conn.new) }
     ensures count { HasCleanDisk (state S.Store conn.new) → IfOk result (λ n. IsTrue T.has_id → (content : _) →
         HasRows content (state S.Store conn.old) →
@@ -317,6 +320,6 @@ pub fn count<T: Select, S: Alter>(conn: &mut Connection<S>) -> Result<usize, Cal
 {
     match show_ids::<T, S>(conn) {
         Ok(ids) => Ok(ids.len()),
-        Err(_) => Err(CallFault::Store),
+        Err(_) => Err(TableFault::Store),
     }
 }

@@ -8,14 +8,14 @@ ghost use Rattle.sqlite.specs.Table.{Table};
 ghost use Rattle.sqlite_trees.specs.Tree.{rowid};
 ghost use Rattle.store_tables.specs.Content.{cells as shown};
 ghost use Rattle.store_tables.specs.Queries.{AreShownBy};
-ghost use Rattle.store_tables.specs.Placed.{Stands};
+ghost use Rattle.store_tables.specs.Placed.{HasTableAt};
 ghost use Rattle.store_tables.specs.Tables.{made_as, standing};
 ghost use Rattle.store_tables.specs.declared.names.Table as of_club;
 ghost use Rattle.store_tables.specs.declared.names.Table.TheVariants as variant;
 ghost use Rattle.store_tables.proofs.Proved.{placed_shown};
 
 use store_tables::{
-    ChallengeRow, EventRow, EventRuleRow, GameRecord, MemberRow, MetaRow, MoveRow, ScoreRow,
+    ChallengeRow, EventRow, EventRuleRow, GameTableRow, MemberRow, MetaRow, MoveRow, ScoreRow,
     SeenRow, Table, TableRow,
 };
 
@@ -32,13 +32,13 @@ pub trait Select: TableRow {
     ghost has_id: { Bool } = { true };
 
     /// The table that holds these rows.
-    fn kept_in() -> Table
+    fn table() -> Table
         ensures { standing result ≡ table };
 
     ghost is_table: { table ≡ standing which };
 
     // its statements return its rows, whatever other tables exist
-    ghost read: { (schema : Schema) (stands : Stands schema which) → AreShownBy schema (made_as which stands.tree)
+    ghost read: { (schema : Schema) (stands : HasTableAt schema which) → AreShownBy schema (made_as which stands.tree)
         width };
 
     ghost numbered: { IsTrue has_id → (width ≡ 1) × ((r : Row) → column (shown table r) 0 ≡ rowid r) };
@@ -55,7 +55,7 @@ impl Select for MetaRow {
 
     ghost numbered = { λ it. (refl, λ r. refl) };
 
-    fn kept_in() -> Table {
+    fn table() -> Table {
         Table::Meta
     }
 }
@@ -71,7 +71,7 @@ impl Select for MemberRow {
 
     ghost numbered = { λ it. (refl, λ r. refl) };
 
-    fn kept_in() -> Table {
+    fn table() -> Table {
         Table::Members
     }
 }
@@ -87,7 +87,7 @@ impl Select for EventRow {
 
     ghost numbered = { λ it. (refl, λ r. refl) };
 
-    fn kept_in() -> Table {
+    fn table() -> Table {
         Table::Events
     }
 }
@@ -103,7 +103,7 @@ impl Select for EventRuleRow {
 
     ghost numbered = { λ it. (refl, λ r. refl) };
 
-    fn kept_in() -> Table {
+    fn table() -> Table {
         Table::EventRules
     }
 }
@@ -123,7 +123,7 @@ impl Select for ChallengeRow {
 
     ghost numbered = { λ it. absurd (true≢false (sym it)) };
 
-    fn kept_in() -> Table {
+    fn table() -> Table {
         Table::Challenges
     }
 }
@@ -143,12 +143,12 @@ impl Select for MoveRow {
 
     ghost numbered = { λ it. absurd (true≢false (sym it)) };
 
-    fn kept_in() -> Table {
+    fn table() -> Table {
         Table::Moves
     }
 }
 
-impl Select for GameRecord {
+impl Select for GameTableRow {
     ghost which = { variant.Games };
 
     ghost table = { standing variant.Games };
@@ -159,7 +159,7 @@ impl Select for GameRecord {
 
     ghost numbered = { λ it. (refl, λ r. refl) };
 
-    fn kept_in() -> Table {
+    fn table() -> Table {
         Table::Games
     }
 }
@@ -179,7 +179,7 @@ impl Select for SeenRow {
 
     ghost numbered = { λ it. absurd (true≢false (sym it)) };
 
-    fn kept_in() -> Table {
+    fn table() -> Table {
         Table::Seen
     }
 }
@@ -199,7 +199,7 @@ impl Select for ScoreRow {
 
     ghost numbered = { λ it. absurd (true≢false (sym it)) };
 
-    fn kept_in() -> Table {
+    fn table() -> Table {
         Table::Scores
     }
 }

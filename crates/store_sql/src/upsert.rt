@@ -14,12 +14,12 @@ ghost use Rattle.store_tables.specs.declared.names.Version.TheVariants.{Current}
 
 use sqlite::{Alter, Error, Transaction, params};
 use store_tables::{
-    ChallengeRow, EventRow, EventRuleRow, GameRecord, MemberRow, MetaRow, MoveRow, ScoreRow,
+    ChallengeRow, EventRow, EventRuleRow, GameTableRow, MemberRow, MetaRow, MoveRow, ScoreRow,
     SeenRow, Table, TableRow,
 };
 
 /// A row type with an upsert statement.
-pub trait Put: TableRow {
+pub trait Upsert: TableRow {
     // the number of the table's tree, and the columns of its key
     ghost tree: { ℕ };
 
@@ -61,7 +61,7 @@ pub(crate) fn put_meta<S: Alter>(row: &MetaRow, tx: &mut Transaction<'_, S>) -> 
     }
 }
 
-impl Put for MetaRow {
+impl Upsert for MetaRow {
     ghost tree = { tree_of of_club.Meta };
 
     ghost key = { 0 ∷ [] };
@@ -71,7 +71,7 @@ impl Put for MetaRow {
     }
 }
 
-impl Put for MemberRow {
+impl Upsert for MemberRow {
     ghost tree = { tree_of of_club.Members };
 
     ghost key = { 0 ∷ [] };
@@ -85,7 +85,7 @@ impl Put for MemberRow {
     }
 }
 
-impl Put for EventRow {
+impl Upsert for EventRow {
     ghost tree = { tree_of of_club.Events };
 
     ghost key = { 0 ∷ [] };
@@ -105,7 +105,7 @@ impl Put for EventRow {
     }
 }
 
-impl Put for EventRuleRow {
+impl Upsert for EventRuleRow {
     ghost tree = { tree_of of_club.EventRules };
 
     ghost key = { 0 ∷ [] };
@@ -116,7 +116,7 @@ impl Put for EventRuleRow {
     }
 }
 
-impl Put for MoveRow {
+impl Upsert for MoveRow {
     ghost tree = { tree_of of_club.Moves };
 
     ghost key = { 0 ∷ 1 ∷ [] };
@@ -137,7 +137,7 @@ impl Put for MoveRow {
     }
 }
 
-impl Put for GameRecord {
+impl Upsert for GameTableRow {
     ghost tree = { tree_of of_club.Games };
 
     ghost key = { 0 ∷ [] };
@@ -169,7 +169,7 @@ impl Put for GameRecord {
     }
 }
 
-impl Put for ChallengeRow {
+impl Upsert for ChallengeRow {
     ghost tree = { tree_of of_club.Challenges };
 
     ghost key = { 0 ∷ 1 ∷ [] };
@@ -191,7 +191,7 @@ impl Put for ChallengeRow {
     }
 }
 
-impl Put for SeenRow {
+impl Upsert for SeenRow {
     ghost tree = { tree_of of_club.Seen };
 
     ghost key = { 0 ∷ 1 ∷ [] };
@@ -210,7 +210,7 @@ impl Put for SeenRow {
     }
 }
 
-impl Put for ScoreRow {
+impl Upsert for ScoreRow {
     ghost tree = { tree_of of_club.Scores };
 
     ghost key = { 0 ∷ 1 ∷ 2 ∷ [] };
@@ -241,7 +241,7 @@ impl Put for ScoreRow {
 /// # Guarantees
 ///
 /// `survives`: a crash before the commit leaves none of them.
-pub fn put_all<T: Put, S: Alter>(tx: &mut Transaction<'_, S>, rows: &[T]) -> Result<(), Error>
+pub fn put_all<T: Upsert, S: Alter>(tx: &mut Transaction<'_, S>, rows: &[T]) -> Result<(), Error>
     ensures same_reference { tx.new.conn.ghost_name ≡ tx.old.conn.ghost_name }
     ensures put { HasCleanDisk (state S.Store tx.new.conn.now) → IsTrue
         (state S.Store tx.old.conn.now).in_transaction →

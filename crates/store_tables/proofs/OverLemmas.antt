@@ -16,9 +16,9 @@ use Rattle.store_tables.specs.Contents as of_schema
 use Rattle.store_tables.specs.Contents.{AreStored, Content, Stores, nothing}
 use Rattle.store_tables.specs.Club.{IsExactly, Leaves}
 use Rattle.store_tables.specs.Names.{in_order, table_name, tree_of}
-use Rattle.store_tables.specs.Over.{HasRows, HoldsBeside, HoldsFirst, IsBesideThem, IsFirstBeside, IsUpgraded}
+use Rattle.store_tables.specs.Over.{HasRows, HoldsBeside, HoldsFirst, HoldsClubAmong, IsFirstBeside, IsUpgraded}
 use Rattle.store_tables.specs.Over.{LeavesBeside, LeavesFirst, Neighbours, alone, over}
-use Rattle.store_tables.specs.Placed.{HasTables, HasTablesOf, Stands, TakesClub, by_club, club_trees, tables_of}
+use Rattle.store_tables.specs.Placed.{HasTables, HasTablesOf, HasTableAt, TakesClub, by_club, club_trees, tables_of}
 use Rattle.store_tables.specs.Placed.{tree_in}
 use Rattle.store_tables.specs.Reading.{KeepsContent}
 use Rattle.store_tables.specs.Room.{AreUnused, HasRoom, IsWithoutClub, LeavesNoClub}
@@ -70,7 +70,7 @@ module _ (one other : Content) (same : AreSame club_schema one other) where
       all_of (λ (t : Table). HaveSame (over them.schema one them.rows t.tree) (over them.schema other them.rows t.tree))
       (λ t. over_same them.schema them.rows (all_stand them.schema takes.club) t.tree) them.schema.tables
 
-  pub beside_same : (them : Neighbours) (s : State) → IsBesideThem them one s → IsBesideThem them other s
+  pub beside_same : (them : Neighbours) (s : State) → HoldsClubAmong them one s → HoldsClubAmong them other s
   beside_same them s k = record {
     clear = k.clear;
     exactly = exactly_on them.schema (over them.schema one them.rows) (over them.schema other them.rows) s
@@ -86,7 +86,7 @@ module _ (one other : Content) (same : AreSame club_schema one other) where
 
 -- ---- what a stop may leave, and what a call that answered leaves
 
-pub leaves_beside : (them : Neighbours) (content : Content) (s : State) → IsBesideThem them content s → (db : Trees)
+pub leaves_beside : (them : Neighbours) (content : Content) (s : State) → HoldsClubAmong them content s → (db : Trees)
     → s.may_leave db → LeavesBeside them content db
 leaves_beside them content s k db h = record { clear = k.clear; leaves = k.exactly.may_leave db h }
 
@@ -100,7 +100,7 @@ pub leaves_no_club : (them : Neighbours) (s : State) → IsWithoutClub them s �
 leaves_no_club them s k db h = record { schema = k.schema; before = k.before; leaves = k.exactly.may_leave db h }
 
 pub still_beside : (old new : State) → KeepsContent old new → (them : Neighbours) (content : Content)
-    → IsBesideThem them content old → IsBesideThem them content new
+    → HoldsClubAmong them content old → HoldsClubAmong them content new
 still_beside old new kept them content k = record { clear = k.clear; exactly = kept _ _ k.exactly }
 
 pub still_first : (old new : State) → KeepsContent old new → (them : Neighbours) (content : Content)
@@ -110,14 +110,14 @@ still_first old new kept them content k =
 
 -- ---- the rows of a club among those of all tables
 
-pub rows_beside : (them : Neighbours) (content : Content) (s : State) → IsBesideThem them content s → HasRows content s
+pub rows_beside : (them : Neighbours) (content : Content) (s : State) → HoldsClubAmong them content s → HasRows content s
 rows_beside them content s k =
     let schema = them.schema in
     let whole = over schema content them.rows in (
       schema,
       whole,
       k.clear.club,
-      all_weaker (Stands schema) (λ table. by_club schema whole (tree_of table) ≡ content (tree_of table))
+      all_weaker (HasTableAt schema) (λ table. by_club schema whole (tree_of table) ≡ content (tree_of table))
           (λ table stands. over_club schema (all_stand schema k.clear.club) content them.rows table stands) in_order
           k.clear.club,
       k.exactly,
@@ -142,13 +142,13 @@ keeps_moved one other here there rows wanted alike trees are keeps = record {
 }
 
 module _ (schema : Schema) (trees : Trees) where
-  pub trees_here : (table : of_club.Table) (s : Stands schema table)
+  pub trees_here : (table : of_club.Table) (s : HasTableAt schema table)
       → trees (made_as table s.tree).tree ≡ by_club schema trees (standing table).tree
   trees_here table s =
       ap trees (tree_is table s.tree) ∙ sym (by_club_at schema trees table s)
       ∙ ap (by_club schema trees) (sym (tree_is_of table))
 
-  stores_here : (table : of_club.Table) (s : Stands schema table) (whole content : Content)
+  stores_here : (table : of_club.Table) (s : HasTableAt schema table) (whole content : Content)
       → Stores (made_as table s.tree) trees whole → whole s.tree ≡ content (tree_of table)
       → Stores (standing table) (by_club schema trees) content
   stores_here table s whole content was are = record {
@@ -161,12 +161,12 @@ module _ (schema : Schema) (trees : Trees) where
 
   -- What all tables keep, those of the club keep.
   each_stored : (whole content : Content) → AreStored schema trees whole → (tables : List of_club.Table)
-      → AllByRecursion (Stands schema) tables
-      → AllByRecursion (λ table. (s : Stands schema table) → whole s.tree ≡ content (tree_of table)) tables
+      → AllByRecursion (HasTableAt schema) tables
+      → AllByRecursion (λ table. (s : HasTableAt schema table) → whole s.tree ≡ content (tree_of table)) tables
       → AllByRecursion (λ t. Stores t (by_club schema trees) content) (map standing tables)
   each_stored whole content all tables stand are =
       all-map (λ t. Stores t (by_club schema trees) content) standing tables
-      (all_both (Stands schema) (λ table. (s : Stands schema table) → whole s.tree ≡ content (tree_of table))
+      (all_both (HasTableAt schema) (λ table. (s : HasTableAt schema table) → whole s.tree ≡ content (tree_of table))
       (λ table. Stores (standing table) (by_club schema trees) content) (λ table s is.
       stores_here table s whole content
       (all_has (λ t. Stores t trees whole) schema.tables (made_as table s.tree) all
@@ -174,12 +174,12 @@ module _ (schema : Schema) (trees : Trees) where
 
   -- So they do of rows that are over those of others.
   over_stored : (content rows : Content) → AreStored schema trees (over schema content rows)
-      → (tables : List of_club.Table) → AllByRecursion (Stands schema) tables
+      → (tables : List of_club.Table) → AllByRecursion (HasTableAt schema) tables
       → AllByRecursion (StandsOrNot schema) in_order
       → AllByRecursion (λ t. Stores t (by_club schema trees) content) (map standing tables)
   over_stored content rows all tables stand or_not =
       each_stored (over schema content rows) content all tables stand
-      (all_of (λ table. (s : Stands schema table) → over schema content rows s.tree ≡ content (tree_of table))
+      (all_of (λ table. (s : HasTableAt schema table) → over schema content rows s.tree ≡ content (tree_of table))
       (λ table s. over_at schema or_not content rows table s) tables)
 
 pub club_held : (them : Neighbours) (content : Content) (db : Database) → TakesClub Current them.schema
@@ -198,9 +198,9 @@ first_held them content db k =
 
 -- the rows of a table of the club, where it stands
 pub rows_standing : (content : Content) (s : State) (k : HasRows content s) (table : of_club.Table)
-    → (stands : Stands k.0 table) × (k.1 stands.tree ≡ content (tree_of table))
+    → (stands : HasTableAt k.0 table) × (k.1 stands.tree ≡ content (tree_of table))
 rows_standing content s (schema, whole, club, are, exactly) table =
-    let stands = all_has (Stands schema) in_order table club (in_all table) in (
+    let stands = all_has (HasTableAt schema) in_order table club (in_all table) in (
       stands,
       sym (by_club_at schema whole table stands)
           ∙ all_has (λ t. by_club schema whole (tree_of t) ≡ content (tree_of t)) in_order table are (in_all table),
@@ -212,7 +212,7 @@ rows_stored content s k =
     subst (λ d. AreStored club_schema (by_club d s.now.trees) content) (sym exactly.now.schema)
     (each_stored schema s.now.trees whole content exactly.now.tables in_order club
     (all_weaker (λ table. by_club schema whole (tree_of table) ≡ content (tree_of table))
-    (λ table. (stands : Stands schema table) → whole stands.tree ≡ content (tree_of table))
+    (λ table. (stands : HasTableAt schema table) → whole stands.tree ≡ content (tree_of table))
     (λ table is stands. sym (by_club_at schema whole table stands) ∙ is) in_order are))
 
 -- ---- the two versions
@@ -223,7 +223,7 @@ first_of_current schema (a, (b, (c, (d, (e, (f, (g, (h, rest)))))))) = (a, (b, (
 -- A schema has the tables of one version alone.
 pub versions_apart : (schema : Schema) → HasTablesOf First schema → HasTablesOf Current schema → ⊥
 versions_apart schema first current =
-    let stands = all_has (Stands schema) in_order EventRules current (in_all EventRules) in
+    let stands = all_has (HasTableAt schema) in_order EventRules current (in_all EventRules) in
     let missing = (is_free schema (table_name EventRules) first.1).table in
     let is : ◌≡◌ {A = Option ℕ} (Some stands.place) None = sym stands.named ∙ missing in
     absurd (cc)
@@ -265,7 +265,7 @@ alone_takes =
 
 first_stands : HasTables First first_schema
 first_stands =
-    all_weaker (Taken 0 first_schema) (Stands first_schema) (λ table it. it.stands) (tables_of First)
+    all_weaker (Taken 0 first_schema) (HasTableAt first_schema) (λ table it. it.stands) (tables_of First)
     (all_taken 0 (tables_of First) (schema_after 0) room_alone
     (unused_parts (schema_after 0) (tables_of First) (EventRules ∷ []) unused_alone).0 (omega arith)).0
 
@@ -310,7 +310,7 @@ module _ (version : Version) (content : Content) where
   same_alone : AllByRecursion (λ t. HaveSame (content t.tree) (rows_alone t.tree)) (map standing (tables_of version))
   same_alone =
       all-map (λ (t : Table). HaveSame (content t.tree) (rows_alone t.tree)) standing (tables_of version)
-      (all_both (Stands (schema_of version)) (λ table. tree_in (schema_of version) table ≡ Some (tree_of table))
+      (all_both (HasTableAt (schema_of version)) (λ table. tree_in (schema_of version) table ≡ Some (tree_of table))
       (λ table. HaveSame (content (standing table).tree) (rows_alone (standing table).tree)) (λ table s is.
       same_by _ _ (ap content (tree_is_of table)
       ∙ sym (over_at (schema_of version) (or_not_alone version) content nothing table s)
@@ -323,13 +323,13 @@ same_back content =
     (λ (t : Table). HaveSame (over club_schema content nothing t.tree) (content t.tree))
     (λ t same. record { there = same.back; back = same.there }) club_schema.tables (same_alone Current content)
 
-pub beside_alone : (content : Content) (s : State) → IsExactly content s → IsBesideThem alone content s
+pub beside_alone : (content : Content) (s : State) → IsExactly content s → HoldsClubAmong alone content s
 beside_alone content s k = record {
   clear = alone_takes;
   exactly = exactly_same content (over club_schema content nothing) s (same_alone Current content) k;
 }
 
-pub alone_exactly : (content : Content) (s : State) → IsBesideThem alone content s → IsExactly content s
+pub alone_exactly : (content : Content) (s : State) → HoldsClubAmong alone content s → IsExactly content s
 alone_exactly content s k = exactly_same (over club_schema content nothing) content s (same_back content) k.exactly
 
 pub left_alone : (content : Content) (db : Trees) → Leaves content db → LeavesBeside alone content db
@@ -360,7 +360,7 @@ itself_stored version db content k =
     (sym k.schema)
     (each_stored schema db.trees content content k.tables (tables_of version) (stand_alone version)
     (all_weaker (λ table. tree_in schema table ≡ Some (tree_of table))
-    (λ table. (s : Stands schema table) → content s.tree ≡ content (tree_of table))
+    (λ table. (s : HasTableAt schema table) → content s.tree ≡ content (tree_of table))
     (λ table is s. ap content (same_Some _ _ (sym (tree_found schema table s) ∙ is))) (tables_of version)
     (trees_alone version)))
 

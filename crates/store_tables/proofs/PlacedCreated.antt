@@ -12,7 +12,7 @@ use Rattle.sqlite_catalog.specs.Listing.{automatic}
 use Rattle.sqlite_rules.proofs.ListLemmas.{has_left, has_right}
 use Rattle.sqlite_schema.specs.Names.{same_name, table_named}
 use Rattle.store_tables.specs.Names.{table_name}
-use Rattle.store_tables.specs.Placed.{Stands}
+use Rattle.store_tables.specs.Placed.{HasTableAt}
 use Rattle.store_tables.specs.Tables.{indexes_of, made_as}
 use Rattle.store_tables.specs.declared.names.Table as of_club
 use Rattle.store_tables.specs.declared.names.Table.TheVariants.{Meta}
@@ -80,8 +80,8 @@ abbrev pub grown : Schema → Table → Schema
 grown schema table =
     record schema { tables = schema.tables ++ table ∷ []; indexes = schema.indexes ++ indexes_of table }
 
-abbrev pub stands_kept : (schema : Schema) (new : Table) (table : of_club.Table) → Stands schema table
-    → Stands (grown schema new) table
+abbrev pub stands_kept : (schema : Schema) (new : Table) (table : of_club.Table) → HasTableAt schema table
+    → HasTableAt (grown schema new) table
 stands_kept schema new table stands = record {
   place = stands.place;
   tree = stands.tree;
@@ -97,8 +97,8 @@ stands_kept schema new table stands = record {
 }
 
 -- What stood before another table was made stands.
-unfoldable pub stands_on : (schema : Schema) (new : Table) (table : of_club.Table) → Stands schema table
-    → Stands (created schema new) table
+unfoldable pub stands_on : (schema : Schema) (new : Table) (table : of_club.Table) → HasTableAt schema table
+    → HasTableAt (created schema new) table
 stands_on schema new table = stands_kept schema (record new { tree = next_tree schema }) table
 
 pub same_table : (table : of_club.Table) (tree : ℕ) → with_tree (made_as table 0) tree ≡ made_as table tree
@@ -124,7 +124,7 @@ module _ (schema : Schema) (table : of_club.Table) (free : table_named schema (t
   abbrev pub made : Table
   made = made_as table (next_tree schema)
 
-  abbrev pub stands_grown : Stands (grown schema made) table
+  abbrev pub stands_grown : HasTableAt (grown schema made) table
   stands_grown = record {
     place = length schema.tables;
     tree = next_tree schema;

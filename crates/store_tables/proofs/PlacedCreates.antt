@@ -25,7 +25,7 @@ use Rattle.sqlite_schema.specs.Names.{index_named, table_named, view_named}
 use Rattle.sqlite_tied.specs.Compute.{everything}
 use Rattle.store_tables.proofs.PlacedTexts.{understood_as}
 use Rattle.store_tables.specs.Names.{table_name}
-use Rattle.store_tables.specs.Placed.{Stands}
+use Rattle.store_tables.specs.Placed.{HasTableAt}
 use Rattle.store_tables.specs.Texts.{create_of}
 use Rattle.store_tables.specs.declared.names.Table as of_club
 use Rattle.store_tables.specs.declared.names.Table.TheVariants.{Meta}
@@ -147,7 +147,7 @@ made_once table schema stands =
       | inr plainly ↦ rw plainly plain
     ]
 
-pub stands_already : (table : of_club.Table) (schema : Schema) → Stands schema table
+pub stands_already : (table : of_club.Table) (schema : Schema) → HasTableAt schema table
     → is_ok (understood schema (create_of table)) ≡ false
 stands_already table schema stands = made_once table schema (ap is_some stands.named)
 

@@ -15,7 +15,7 @@ use Rattle.store_tables.specs.Content.{Keeps}
 use Rattle.store_tables.specs.Contents.{Content, Holds, Ran, Stores, nothing, opening_meta, put_each, put_in}
 use Rattle.store_tables.specs.Names.{in_order, table_name, tree_of}
 use Rattle.store_tables.specs.Over.{HoldsBeside, HoldsFirst, IsUpgraded, Neighbours, StepsBeside, is_tree, over}
-use Rattle.store_tables.specs.Placed.{EachStanding, HasTables, HasTablesOf, Stands, TakesClub, tables_of, tree_in}
+use Rattle.store_tables.specs.Placed.{EachStanding, HasTables, HasTablesOf, HasTableAt, TakesClub, tables_of, tree_in}
 use Rattle.store_tables.specs.Room.{Fills, HasRoom, Makes}
 use Rattle.store_tables.specs.Tables.{made_as, standing}
 use Rattle.store_tables.specs.Texts.{create_of, put_text}
@@ -39,20 +39,20 @@ use Rattle.store_tables.proofs.StepLemmas.{put_each-push}
 -- ---- which of a club's tables stand
 
 pub all_stand : (schema : Schema) → HasTables Current schema → AllByRecursion (StandsOrNot schema) in_order
-all_stand schema = all_weaker (Stands schema) (StandsOrNot schema) (λ table stands. inl stands) in_order
+all_stand schema = all_weaker (HasTableAt schema) (StandsOrNot schema) (λ table stands. inl stands) in_order
 
 -- Of schema 1 the last does not.
 pub last_missing : (schema : Schema) → HasTablesOf First schema → AllByRecursion (StandsOrNot schema) in_order
 last_missing schema (first, unused) =
     all-append (StandsOrNot schema) (tables_of First) (EventRules ∷ [])
-    (all_weaker (Stands schema) (StandsOrNot schema) (λ table stands. inl stands) (tables_of First) first)
+    (all_weaker (HasTableAt schema) (StandsOrNot schema) (λ table stands. inl stands) (tables_of First) first)
     (inr (is_free schema (table_name EventRules) unused).table, tt)
 
 past_tree : (tree next : ℕ) → tree < next → (next == tree) ≡ false
 past_tree tree next less = grind (arith, common_steps, less)
 
 -- a table that stands has a tree below the next one
-below : (schema : Schema) (table : of_club.Table) (s : Stands schema table) → s.tree < next_tree schema
+below : (schema : Schema) (table : of_club.Table) (s : HasTableAt schema table) → s.tree < next_tree schema
 below schema table s =
     subst (λ n. n < next_tree schema) (tree_is table s.tree)
     (table_below schema (made_as table s.tree) (has_got schema.tables s.place (made_as table s.tree) s.at))
@@ -210,12 +210,12 @@ module _ (schema : Schema) (them : Neighbours) (before : IsUpgraded schema them)
   free = (is_free schema (table_name EventRules) before.tables.1).table
 
   -- A tree that no table of the club has, has the rows of the others.
-  past_at : (n : ℕ) (table : of_club.Table) → ((s : Stands schema table) → (n == s.tree) ≡ false)
+  past_at : (n : ℕ) (table : of_club.Table) → ((s : HasTableAt schema table) → (n == s.tree) ≡ false)
       → StandsOrNot schema table → is_tree n (tree_in schema table) ≡ false
   past_at n table other (inl s) = ap (is_tree n) (tree_found schema table s) ∙ other s
   past_at n table other (inr missing) = ap (is_tree n) (tree_missing schema table missing)
 
-  outside : (n : ℕ) → ((table : of_club.Table) → Has in_order table → (s : Stands schema table) → (n == s.tree) ≡ false)
+  outside : (n : ℕ) → ((table : of_club.Table) → Has in_order table → (s : HasTableAt schema table) → (n == s.tree) ≡ false)
       → whole n ≡ them.rows n
   outside n other =
       over_past schema content them.rows n
@@ -227,27 +227,27 @@ module _ (schema : Schema) (them : Neighbours) (before : IsUpgraded schema them)
   bare_next = outside next (λ table has s. past_tree s.tree next (below schema table s)) ∙ before.bare
 
   -- A table of schema 1 has its rows where it stood, and the new one has none.
-  had : (table : of_club.Table) → Has (tables_of First) table → (s : Stands after table)
+  had : (table : of_club.Table) → Has (tables_of First) table → (s : HasTableAt after table)
       → whole s.tree ≡ content (tree_of table)
   unfolding stands_on
   had table has s =
-      let was = all_has (Stands schema) (tables_of First) table before.tables.0 has in
+      let was = all_has (HasTableAt schema) (tables_of First) table before.tables.0 has in
       ap whole (one_tree after table s (stands_on schema (made_as EventRules 0) table was))
       ∙ over_at schema (last_missing schema before.tables) content them.rows table was
 
-  new_one : (s : Stands after EventRules) → whole s.tree ≡ content (tree_of EventRules)
+  new_one : (s : HasTableAt after EventRules) → whole s.tree ≡ content (tree_of EventRules)
   new_one s =
       ap whole (one_tree after EventRules s (stands_grown schema EventRules free before.stored))
       ∙ bare_next ∙ sym none
 
-  either : (table : of_club.Table) → Has in_order table → (s : Stands after table)
+  either : (table : of_club.Table) → Has in_order table → (s : HasTableAt after table)
       → whole s.tree ≡ content (tree_of table)
   either table has s = elim (has_either (tables_of First) (EventRules ∷ []) table has) [
     | inl first ↦ had table first s
     | inr last ↦
         elim last [
           | inl same ↦
-              subst (λ u. (it : Stands after u) → whole it.tree ≡ content (tree_of u)) (sym same) new_one s
+              subst (λ u. (it : HasTableAt after u) → whole it.tree ≡ content (tree_of u)) (sym same) new_one s
           | inr nothing ↦ absurd nothing
         ]
   ]

@@ -23,11 +23,11 @@ use Rattle.sqlite_rules.specs.declared.error.Rowids.TheVariants.{Chosen}
 use Rattle.sqlite_schema.specs.declared.schema.Constraint.TheVariants.{Unique}
 use Rattle.sqlite_schema.specs.declared.schema.Keys.TheVariants.{Enforced}
 use Rattle.sqlite_value.specs.declared.value.Value.{Value}
-use Rattle.store_tables.specs.Cells.{MetaRow, MemberRow, EventRow, EventRuleRow, ChallengeRow, MoveRow, GameRecord}
+use Rattle.store_tables.specs.Cells.{MetaRow, MemberRow, EventRow, EventRuleRow, ChallengeRow, MoveRow, GameTableRow}
 use Rattle.store_tables.specs.Cells.{SeenRow, ScoreRow, meta_cells, member_cells, event_cells, challenge_cells}
 use Rattle.store_tables.specs.Cells.{move_cells, game_cells, event_rule_cells, seen_cells, score_cells}
 use Rattle.store_tables.specs.Content.{cells, same_key}
-use Rattle.store_tables.specs.Placed.{IsAlike, IsLeftAlone, Stands, only, IsOfOthers}
+use Rattle.store_tables.specs.Placed.{IsAlike, IsLeftAlone, HasTableAt, only, IsOfOthers}
 use Rattle.store_tables.specs.Put.{IsPut}
 use Rattle.store_tables.specs.Tables.{made_as, standing}
 use Rattle.store_tables.specs.declared.names.Table as of_club
@@ -177,7 +177,7 @@ module _ (table : Table) (new row : Row) where
 -- ---- a row that is put
 
 -- the text of the table puts this row where the table stands
-abbrev PutsHere : (schema : Schema) (table : of_club.Table) → Stands schema table → Row → Type 0
+abbrev PutsHere : (schema : Schema) (table : of_club.Table) → HasTableAt schema table → Row → Type 0
 PutsHere schema table stands row =
     IsPut schema (made_as table stands.tree) (key_of table) row row (source_of (made_as table stands.tree))
     (made_as table stands.tree).primary (length (made_as table stands.tree).columns)
@@ -186,10 +186,10 @@ PutsHere schema table stands row =
 -- it puts it wherever the table stands, and what other programs made has no part in it
 abbrev pub PutsAnywhere : of_club.Table → Row → Type 0
 PutsAnywhere table row =
-    (schema : Schema) (stands : Stands schema table) → IsLeftAlone schema (made_as table stands.tree)
+    (schema : Schema) (stands : HasTableAt schema table) → IsLeftAlone schema (made_as table stands.tree)
     → PutsHere schema table stands row
 
-module _ (of_this : of_club.Table) (schema : Schema) (stands : Stands schema of_this)
+module _ (of_this : of_club.Table) (schema : Schema) (stands : HasTableAt schema of_this)
     (clear : IsLeftAlone schema (made_as of_this stands.tree)) where
   abbrev there : Table
   there = made_as of_this stands.tree
@@ -333,7 +333,7 @@ event_rule_placed r schema stands clear =
     puts_by_id EventRules schema stands clear r.event (drop 1 (event_rule_cells r)) refl (λ db rows h. h.1, refl)
     (simp (cast_null, cast_int)) (λ n. refl, λ s n. refl, λ was n. refl, λ stood was n. refl) (λ s. refl)
 
-pub game_placed : (r : GameRecord) → PutsAnywhere Games (game_cells r)
+pub game_placed : (r : GameTableRow) → PutsAnywhere Games (game_cells r)
 game_placed r schema stands clear =
     puts_by_id Games schema stands clear r.id (drop 1 (game_cells r)) refl (λ db rows h. h.1, refl)
     (simp (cast_null, cast_int, cast_maybe_int, cast_maybe_text))

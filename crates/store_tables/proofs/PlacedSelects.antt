@@ -7,7 +7,7 @@ use Rattle.sqlite_sql.specs.Term.{col, Term, op2, eval_all, holds}
 use Rattle.sqlite.specs.declared.types.Value.TheVariants.{Int}
 use Rattle.sqlite_schema.specs.Names.{table_named, is_key, place_of as stored_at}
 use Rattle.store_tables.specs.Names.{table_name}
-use Rattle.store_tables.specs.Placed.{Stands}
+use Rattle.store_tables.specs.Placed.{HasTableAt}
 use Rattle.store_tables.specs.Queries.{AreShownBy, is_read_as_select, by_others}
 use Rattle.store_tables.specs.Tables.{made_as}
 use Rattle.store_tables.specs.Texts.{names_of, id_name, key_names, all_text, ids_text, by_first_text}
@@ -142,7 +142,7 @@ pub tree_is : (table : of_club.Table) (tree : ℕ) → (made_as table tree).tree
 tree_is Meta tree = refl
 tree_is _ tree = refl
 
-module _ (schema : Schema) (of_this : of_club.Table) (stands : Stands schema of_this) where
+module _ (schema : Schema) (of_this : of_club.Table) (stands : HasTableAt schema of_this) where
   abbrev pub table : Table
   table = made_as of_this stands.tree
 

@@ -15,7 +15,7 @@ use Rattle.sqlite_schema.specs.Rules.{clashes, guards}
 use Rattle.sqlite_schema.specs.declared.schema.Constraint.TheVariants.{Unique}
 use Rattle.sqlite_value.specs.Keys.{plain}
 use Rattle.store_tables.specs.Names.{tree_of}
-use Rattle.store_tables.specs.Placed.{Stands, by_club}
+use Rattle.store_tables.specs.Placed.{HasTableAt, by_club}
 use Rattle.store_tables.specs.Tables.{made_as}
 use Rattle.store_tables.specs.declared.names.Table as of_club
 use Rattle.store_tables.proofs.PlacedSelects.{tree_is}
@@ -63,7 +63,7 @@ sound_stored schema db sound table has =
 
 -- Of a sound database no row of a club's table has the UNIQUE key of another.
 pub unique_here : (schema : Schema) (trees : Trees) → IsSound schema trees → (table : of_club.Table)
-    (s : Stands schema table) (key : List ℕ) → slice_get (made_as table s.tree).uniques 0 ≡ Some key
+    (s : HasTableAt schema table) (key : List ℕ) → slice_get (made_as table s.tree).uniques 0 ≡ Some key
     → slice_index_or (made_as table s.tree).orders 0 plain ≡ plain
     → (r : Row) → Has (by_club schema trees (tree_of table)) r
     → clashes plain key (by_club schema trees (tree_of table)) r ≡ false

@@ -12,7 +12,7 @@ use Rattle.sqlite_trees.specs.Tree.{IsAscending}
 use Rattle.store_tables.specs.Contents.{Content, Steps, Stores, put_in, AreStored, Holds}
 use Rattle.store_tables.specs.Names.{in_order, table_name, tree_of}
 use Rattle.store_tables.specs.Content.{put, AreApart, Keeps}
-use Rattle.store_tables.specs.Placed.{EachStanding, IsLeftAlone, Stands, tables_of, HasTables, TakesClub}
+use Rattle.store_tables.specs.Placed.{EachStanding, IsLeftAlone, HasTableAt, tables_of, HasTables, TakesClub}
 use Rattle.store_tables.specs.Tables.{made_as, standing}
 use Rattle.store_tables.specs.Texts.{put_text}
 use Rattle.store_tables.specs.declared.names.Table as of_club
@@ -96,17 +96,17 @@ same_text _ tree = refl
 
 -- ---- what holds of each table where it stands
 
-pub each_has : (schema : Schema) (P : (table : of_club.Table) → Stands schema table → Type 0)
-    (tables : List of_club.Table) (stand : AllByRecursion (Stands schema) tables) → EachStanding schema P tables stand
-    → (table : of_club.Table) → Has tables table → (stands : Stands schema table) × P table stands
+pub each_has : (schema : Schema) (P : (table : of_club.Table) → HasTableAt schema table → Type 0)
+    (tables : List of_club.Table) (stand : AllByRecursion (HasTableAt schema) tables) → EachStanding schema P tables stand
+    → (table : of_club.Table) → Has tables table → (stands : HasTableAt schema table) × P table stands
 each_has schema P [] stand each table has = absurd has
 each_has schema P (t ∷ tables) stand each table (inl same) =
-    subst (λ u. (stands : Stands schema u) × P u stands) (sym same) (stand.0, each.0)
+    subst (λ u. (stands : HasTableAt schema u) × P u stands) (sym same) (stand.0, each.0)
 each_has schema P (t ∷ tables) stand each table (inr has) = each_has schema P tables stand.1 each.1 table has
 
-pub each_from : (schema : Schema) (P : (table : of_club.Table) → Stands schema table → Type 0)
-    (tables : List of_club.Table) (stand : AllByRecursion (Stands schema) tables)
-    → ((table : of_club.Table) → Has tables table → (stands : Stands schema table) → P table stands)
+pub each_from : (schema : Schema) (P : (table : of_club.Table) → HasTableAt schema table → Type 0)
+    (tables : List of_club.Table) (stand : AllByRecursion (HasTableAt schema) tables)
+    → ((table : of_club.Table) → Has tables table → (stands : HasTableAt schema table) → P table stands)
     → EachStanding schema P tables stand
 each_from schema P [] stand each = tt
 each_from schema P (t ∷ tables) stand each =
@@ -115,13 +115,13 @@ each_from schema P (t ∷ tables) stand each =
 -- ---- one table has one tree, and two have two
 
 module _ (schema : Schema) where
-  pub one_tree : (table : of_club.Table) (one two : Stands schema table) → one.tree ≡ two.tree
+  pub one_tree : (table : of_club.Table) (one two : HasTableAt schema table) → one.tree ≡ two.tree
   one_tree table one two =
       let place = same_Some _ _ (sym one.named ∙ two.named) in
       let same = same_Some _ _ (sym one.at ∙ ap (slice_get schema.tables) place ∙ two.at) in
       sym (tree_is table one.tree) ∙ ap (λ (t : Table). t.tree) same ∙ tree_is table two.tree
 
-  pub two_tables : (table other : of_club.Table) (one : Stands schema table) (two : Stands schema other)
+  pub two_tables : (table other : of_club.Table) (one : HasTableAt schema table) (two : HasTableAt schema other)
       → one.tree ≡ two.tree → table ≡ other
   two_tables table other one two trees =
       let same = same_Some _ _
@@ -132,14 +132,14 @@ module _ (schema : Schema) where
 
   -- What holds of each table of its tree, holds wherever the table is said to stand.
   pub each_at : (Q : of_club.Table → ℕ → Type 0) (tables : List of_club.Table)
-      (stand : AllByRecursion (Stands schema) tables) → EachStanding schema (λ table s. Q table s.tree) tables stand
-      → (table : of_club.Table) → Has tables table → (s : Stands schema table) → Q table s.tree
+      (stand : AllByRecursion (HasTableAt schema) tables) → EachStanding schema (λ table s. Q table s.tree) tables stand
+      → (table : of_club.Table) → Has tables table → (s : HasTableAt schema table) → Q table s.tree
   each_at Q tables stand each table has s =
       let found = each_has schema (λ t it. Q t it.tree) tables stand each table has in
       subst (Q table) (one_tree table found.0 s) found.1
 
   -- They have one tree if the club gives them one number.
-  trees_agree : (table other : of_club.Table) (one : Stands schema table) (two : Stands schema other)
+  trees_agree : (table other : of_club.Table) (one : HasTableAt schema table) (two : HasTableAt schema other)
       → (one.tree == two.tree) ≡ (tree_of table == tree_of other)
   trees_agree table other one two =
       same_test (one.tree == two.tree) (tree_of table == tree_of other)
@@ -149,12 +149,12 @@ module _ (schema : Schema) where
       let number = eqb-true (tree_of table) (tree_of other) h in
       let same = same_Some _ _ (sym (numbered_back table) ∙ ap by_number number ∙ numbered_back other) in
       eq-eqb one.tree two.tree
-      (subst (λ t. (it : Stands schema t) → one.tree ≡ it.tree) same (λ it. one_tree table one it) two))
+      (subst (λ t. (it : HasTableAt schema t) → one.tree ≡ it.tree) same (λ it. one_tree table one it) two))
 
   -- A row that is put into the table here is put into the club's.
-  pub put_here : (tables : List of_club.Table) (stand : AllByRecursion (Stands schema) tables) (whole content : Content)
+  pub put_here : (tables : List of_club.Table) (stand : AllByRecursion (HasTableAt schema) tables) (whole content : Content)
       → EachStanding schema (λ t s. whole s.tree ≡ content (tree_of t)) tables stand
-      → (table : of_club.Table) (it : Stands schema table) (key : List ℕ) (row : Row)
+      → (table : of_club.Table) (it : HasTableAt schema table) (key : List ℕ) (row : Row)
       → EachStanding schema
       (λ t s. put_in it.tree key row whole s.tree ≡ put_in (tree_of table) key row content (tree_of t)) tables stand
   put_here tables stand whole content are table it key row =
@@ -166,7 +166,7 @@ module _ (schema : Schema) where
 -- ---- the text that puts a row
 
 module _ (schema : Schema) (apart : IsAscending (λ (a b : Table). a.tree ≡ b.tree → ⊥) schema.tables)
-    (of_this : of_club.Table) (stands : Stands schema of_this)
+    (of_this : of_club.Table) (stands : HasTableAt schema of_this)
     (clear : IsLeftAlone schema (made_as of_this stands.tree)) (row : Row) (is_put : PutsAnywhere of_this row) where
   abbrev there : Table
   there = made_as of_this stands.tree

@@ -24,7 +24,7 @@ use Rattle.sqlite_value.specs.Keys.{plain}
 use Rattle.sqlite_value.specs.declared.keys.Order.{Order}
 use Rattle.store_tables.specs.Contents.{Content, nothing}
 use Rattle.store_tables.specs.Names.{in_order, table_name, tree_of}
-use Rattle.store_tables.specs.Placed.{HasTables, IsAlike, IsLeftAlone, IsOfOthers, Stands, TakesClub, only, tables_of}
+use Rattle.store_tables.specs.Placed.{HasTables, IsAlike, IsLeftAlone, IsOfOthers, HasTableAt, TakesClub, only, tables_of}
 use Rattle.store_tables.proofs.PlacedCreates.{is_free}
 use Rattle.store_tables.specs.Room.{AreUnused, IsNoName, IsUnrelated, made_in}
 use Rattle.store_tables.proofs.PlacedSteps.{AreHere, IsEmptyFrom, IsOwned, LeavesRoom, each_from, one_tree}
@@ -252,7 +252,7 @@ new_keyed schema room table =
 
 -- the table stands, takes its rows, and was made when this tree was the next
 pub record Taken (start : ℕ) (schema : Schema) (table : of_club.Table) : Type 0 where
-  pub stands : Stands schema table
+  pub stands : HasTableAt schema table
   pub clear : IsLeftAlone schema (made_as table stands.tree)
   pub late : start ≤ stands.tree
 
@@ -323,7 +323,7 @@ made_takes_club schema room free whole empty =
     let all = all_taken start (tables_of Current) schema room free (le_refl start) in
     let taken = all.0 in
     let club : HasTables Current made =
-    all_weaker (Taken start made) (Stands made) (λ table it. it.stands) (tables_of Current) taken in
+    all_weaker (Taken start made) (HasTableAt made) (λ table it. it.stands) (tables_of Current) taken in
     let takes : TakesClub Current made = record {
       club = club;
       clear = each_from made (λ table s. IsLeftAlone made (made_as table s.tree)) (tables_of Current) club

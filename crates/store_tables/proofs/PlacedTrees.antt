@@ -9,7 +9,7 @@ use Rattle.sqlite_schema.specs.Names.{table_named}
 use Rattle.store_tables.specs.Contents.{Content}
 use Rattle.store_tables.specs.Names.{in_order, table_name, tree_of}
 use Rattle.store_tables.specs.Over.{is_tree, over, over_each}
-use Rattle.store_tables.specs.Placed.{Stands, by_club, rows_at, tree_at, tree_in, tree_of_found}
+use Rattle.store_tables.specs.Placed.{HasTableAt, by_club, rows_at, tree_at, tree_in, tree_of_found}
 use Rattle.store_tables.specs.declared.names.Table as of_club
 use Rattle.store_tables.specs.declared.names.Table.TheVariants.{Meta}
 use Rattle.store_tables.proofs.PlacedSelects.{tree_is}
@@ -17,7 +17,7 @@ use Rattle.store_tables.proofs.PlacedSteps.{numbered_back, two_tables}
 
 -- ---- the tree of a table that stands, or does not
 
-pub tree_found : (schema : Schema) (table : of_club.Table) (stands : Stands schema table)
+pub tree_found : (schema : Schema) (table : of_club.Table) (stands : HasTableAt schema table)
     → tree_in schema table ≡ Some stands.tree
 unfolding tree_in
 tree_found schema table stands =
@@ -34,7 +34,7 @@ unfolding by_club
 at_table schema content Meta = refl
 at_table schema content _ = refl
 
-pub by_club_at : (schema : Schema) (content : Content) (table : of_club.Table) (stands : Stands schema table)
+pub by_club_at : (schema : Schema) (content : Content) (table : of_club.Table) (stands : HasTableAt schema table)
     → by_club schema content (tree_of table) ≡ content stands.tree
 by_club_at schema content table stands =
     at_table schema content table ∙ ap (rows_at content) (tree_found schema table stands)
@@ -43,17 +43,17 @@ by_club_at schema content table stands =
 
 -- A table of a club stands in the schema, or there is none of its name.
 abbrev pub StandsOrNot : Schema → of_club.Table → Type 0
-StandsOrNot schema table = Stands schema table ⊎ (table_named schema (table_name table) ≡ None)
+StandsOrNot schema table = HasTableAt schema table ⊎ (table_named schema (table_name table) ≡ None)
 
 abbrev is_at : Schema → ℕ → of_club.Table → Bool
 is_at schema n table = is_tree n (tree_in schema table)
 
-standing_at : (schema : Schema) (n : ℕ) (table : of_club.Table) (stands : Stands schema table)
+standing_at : (schema : Schema) (n : ℕ) (table : of_club.Table) (stands : HasTableAt schema table)
     → is_at schema n table ≡ (n == stands.tree)
 standing_at schema n table stands = ap (is_tree n) (tree_found schema table stands)
 
 found_at : (schema : Schema) (n : ℕ) (table : of_club.Table) → StandsOrNot schema table → is_at schema n table ≡ true
-    → (stands : Stands schema table) × (n ≡ stands.tree)
+    → (stands : HasTableAt schema table) × (n ≡ stands.tree)
 found_at schema n table (inl stands) here =
     (stands, eqb-true n stands.tree (sym (standing_at schema n table stands) ∙ here))
 found_at schema n table (inr missing) here =
@@ -62,7 +62,7 @@ found_at schema n table (inr missing) here =
 module _ (schema : Schema) (club others : Content) where
   -- A table that stands has its rows of the club.
   over_in : (tables : List of_club.Table) → AllByRecursion (StandsOrNot schema) tables → (table : of_club.Table)
-      (stands : Stands schema table) → Has tables table
+      (stands : HasTableAt schema table) → Has tables table
       → over_each schema tables club others stands.tree ≡ club (tree_of table)
   over_in [] all table stands has = absurd has
   over_in (t ∷ tables) all table stands has = elim (cases_Bool (is_at schema stands.tree t)) [
@@ -95,13 +95,13 @@ pub in_all : (table : of_club.Table) → Has in_order table
 in_all table = (has_found (λ t. tree_of t == tree_of table) in_order table (numbered_back table)).0
 
 module _ (schema : Schema) (all : AllByRecursion (StandsOrNot schema) in_order) (club others : Content) where
-  pub over_at : (table : of_club.Table) (stands : Stands schema table)
+  pub over_at : (table : of_club.Table) (stands : HasTableAt schema table)
       → over schema club others stands.tree ≡ club (tree_of table)
   unfolding over
   over_at table stands = over_in schema club others in_order all table stands (in_all table)
 
   -- The rows of a club that are over others are the club's.
-  pub over_club : (table : of_club.Table) → Stands schema table
+  pub over_club : (table : of_club.Table) → HasTableAt schema table
       → by_club schema (over schema club others) (tree_of table) ≡ club (tree_of table)
   over_club table stands = by_club_at schema (over schema club others) table stands ∙ over_at table stands
 
@@ -115,7 +115,7 @@ over_past schema club others n past = past_each schema club others in_order n pa
 
 pub one_or_none : (schema : Schema) (n : ℕ) (tables : List of_club.Table)
     → AllByRecursion (StandsOrNot schema) tables
-    → ((table : of_club.Table) × (stands : Stands schema table) × (n ≡ stands.tree) × Has tables table)
+    → ((table : of_club.Table) × (stands : HasTableAt schema table) × (n ≡ stands.tree) × Has tables table)
     ⊎ AllByRecursion (λ table. is_tree n (tree_in schema table) ≡ false) tables
 one_or_none schema n [] all = inr tt
 one_or_none schema n (t ∷ tables) all = elim (cases_Bool (is_tree n (tree_in schema t))) [

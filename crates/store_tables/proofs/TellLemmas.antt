@@ -28,7 +28,7 @@ use Rattle.sqlite_rules.proofs.ListLemmas.{all_has, has_got}
 use Rattle.store_tables.specs.Content.{cells, same_key, Keeps, AreApart}
 use Rattle.store_tables.specs.Contents.{Content, Stores, AreStored, IsExactly, AreThose}
 use Rattle.store_tables.specs.Put.{selects}
-use Rattle.store_tables.specs.Reading.{AreIds, by_columns, Tells, TellsIds, IsNoInput}
+use Rattle.store_tables.specs.Reading.{AreIds, by_columns, ReturnsRows, TellsIds, IsNoInput}
 use Rattle.store_tables.specs.Queries.{Selects, Finds}
 use Rattle.store_tables.proofs.ApartLemmas.{pairs_turned, each_shown}
 use Rattle.store_tables.proofs.OrderLemmas.{sorted_rows, has_index}
@@ -95,7 +95,7 @@ module _ (show : Row → Row) (stored rows : List Row) (first : (r : Row) → co
 pub tells : (schema : Schema) (table : Table) (count : ℕ) (sql : List ℕ) (project : List Term)
     → Selects schema table.tree count sql project → ((r : Row) → eval_all project ([] ∷ r ∷ []) ≡ cells table r)
     → (old new : State) (rows : List Row) → old.now.schema ≡ schema → Shown sql [] old new rows
-    → Tells table count rows old.now.trees old new
+    → ReturnsRows table count rows old.now.trees old new
 tells schema table count sql project is shows old new rows has h = record {
   keeps = found_rows table project is.order is.names is.overlaid shows old.now rows
       (read_by schema table.tree count sql project is old new rows has h);

@@ -12,7 +12,7 @@ pub use Rattle.store_tables.specs.declared.rows.EventRow.{EventRow}
 pub use Rattle.store_tables.specs.declared.rows.EventRuleRow.{EventRuleRow}
 pub use Rattle.store_tables.specs.declared.rows.ChallengeRow.{ChallengeRow}
 pub use Rattle.store_tables.specs.declared.rows.MoveRow.{MoveRow}
-pub use Rattle.store_tables.specs.declared.rows.GameRecord.{GameRecord}
+pub use Rattle.store_tables.specs.declared.rows.GameTableRow.{GameTableRow}
 pub use Rattle.store_tables.specs.declared.rows.SeenRow.{SeenRow}
 pub use Rattle.store_tables.specs.declared.rows.ScoreRow.{ScoreRow}
 
@@ -36,7 +36,7 @@ abbrev pub move_cells : MoveRow → Row
 move_cells r = Int r.game ∷ Int r.ply ∷ Text (string_bytes r.text) ∷ Int r.moment ∷ Int r.left
     ∷ Text (string_bytes r.position) ∷ []
 
-abbrev pub game_cells : GameRecord → Row
+abbrev pub game_cells : GameTableRow → Row
 game_cells r =
     Int r.id ∷ or_null (λ s. Text (string_bytes s)) r.key ∷ Int r.event ∷ Int r.first ∷ Int r.second ∷ Int r.start
     ∷ Int r.since ∷ Int r.plies ∷ Int r.left1 ∷ Int r.left2

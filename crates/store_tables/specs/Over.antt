@@ -56,7 +56,7 @@ HoldsBeside them content db = Holds them.schema db (over them.schema content the
 
 -- The connection has exactly these rows of a club and the foreign rows, also after a crash. No foreign object affects
 -- upserts of the club's rows.
-pub record IsBesideThem (them : Neighbours) (content : Content) (s : State) : Type 0 where
+pub record HoldsClubAmong (them : Neighbours) (content : Content) (s : State) : Type 0 where
   pub clear : TakesClub Current them.schema
   pub exactly : IsExactly them.schema (over them.schema content them.rows) s
 

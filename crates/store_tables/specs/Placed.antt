@@ -29,7 +29,7 @@ use Rattle.store_tables.specs.declared.names.Version.{Version}
 use Rattle.store_tables.specs.declared.names.Version.TheVariants.{First, Current}
 
 -- The schema has this table of a club, with a tree of its own.
-pub record Stands (schema : Schema) (table : of_club.Table) : Type 0 where
+pub record HasTableAt (schema : Schema) (table : of_club.Table) : Type 0 where
   pub place : ℕ
   pub tree : ℕ
   -- its name resolves to its place
@@ -49,7 +49,7 @@ tables_of Current = in_order
 
 -- The schema has the tables of this version, and perhaps others.
 abbrev pub HasTables : Version → Schema → Type 0
-HasTables version schema = AllByRecursion (Stands schema) (tables_of version)
+HasTables version schema = AllByRecursion (HasTableAt schema) (tables_of version)
 
 -- The schema has the tables of exactly this version: no table, view or index uses the name of a table of a later
 -- version.
@@ -62,8 +62,8 @@ abbrev pub HasClubTables : Schema → Type 0
 HasClubTables schema = HasTablesOf First schema ⊎ HasTablesOf Current schema
 
 -- a property of each of these tables at its place
-abbrev pub EachStanding : (schema : Schema) → ((table : of_club.Table) → Stands schema table → Type 0)
-    → (tables : List of_club.Table) → AllByRecursion (Stands schema) tables → Type 0
+abbrev pub EachStanding : (schema : Schema) → ((table : of_club.Table) → HasTableAt schema table → Type 0)
+    → (tables : List of_club.Table) → AllByRecursion (HasTableAt schema) tables → Type 0
 EachStanding schema P [] stand = Unit {0}
 EachStanding schema P (table ∷ tables) stand = P table stand.0 × EachStanding schema P tables stand.1
 
@@ -99,7 +99,7 @@ abbrev pub club_trees : Database → Trees
 club_trees db = by_club db.schema db.trees
 
 -- The query by these columns returns the rows of the table with the wanted values, at this place.
-pub record AsksHere (schema : Schema) (table : of_club.Table) (stands : Stands schema table) (key : List ℕ)
+pub record AsksHere (schema : Schema) (table : of_club.Table) (stands : HasTableAt schema table) (key : List ℕ)
     (wanted params : Row) : Type 0 where
   pub is_select : IsSelect (question_text (made_as table stands.tree) key)
   pub finds : Finds schema (made_as table stands.tree) stands.place key wanted params
@@ -108,7 +108,7 @@ pub record AsksHere (schema : Schema) (table : of_club.Table) (stands : Stands s
 -- it does so wherever the table is
 abbrev pub AsksAnywhere : of_club.Table → List ℕ → Row → Row → Type 0
 AsksAnywhere table key wanted params =
-    (schema : Schema) (stands : Stands schema table) → AsksHere schema table stands key wanted params
+    (schema : Schema) (stands : HasTableAt schema table) → AsksHere schema table stands key wanted params
 
 -- ---- upserts beside foreign objects
 

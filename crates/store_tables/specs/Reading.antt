@@ -40,7 +40,7 @@ abbrev pub by_ply : Row → Row → Ordering
 by_ply = key_cmp 1 (rising 1)
 
 -- These are exactly the rows of the table, in the order of the key; the connection is unchanged.
-pub record Tells (table : Table) (keys : ℕ) (rows : List Row) (trees : Trees) (old new : State) : Type 0 where
+pub record ReturnsRows (table : Table) (keys : ℕ) (rows : List Row) (trees : Trees) (old new : State) : Type 0 where
   pub keeps : Keeps table trees rows
   pub once : IsPermutation (map (cells table) (trees table.tree)) rows
   pub sorted : IsSorted (by_columns keys) rows

@@ -4,33 +4,33 @@ ghost use Rattle.std.specs.Prelude.{◌≡◌, ◌<◌, true, false, IfOk, IfErr
 ghost use Rattle.std.specs.List.Sorted.{IsSorted};
 ghost use Rattle.sqlite_value.specs.declared.value.Value.TheVariants.{Int};
 ghost use Rattle.sqlite.specs.Order.{column};
-ghost use Rattle.store_tables.specs.declared.parse.Unread.TheVariants.{Mistyped};
+ghost use Rattle.store_tables.specs.declared.parse.RowError.TheVariants.{WrongType};
 ghost use Rattle.store_tables.specs.Reading.{AreIds, by_columns};
 ghost use Rattle.store_tables.specs.Cells.{Rises, BeginsWithInteger};
 
-use crate::parse::{Unread, read};
+use crate::parse::{RowError, read};
 use sqlite::Row;
 use std::alloc::Global;
 
-fn first_integer(row: &Row) -> Result<i64, Unread>
+fn first_integer(row: &Row) -> Result<i64, RowError>
     ensures shows { IfOk result (λ id. column row.now 0 ≡ Int id) }
-    ensures mistyped { IfErr result (λ e. e ≡ Mistyped → ¬ BeginsWithInteger row.now) }
+    ensures mistyped { IfErr result (λ e. e ≡ WrongType → ¬ BeginsWithInteger row.now) }
 {
     if row.column_count() == 0 {
-        return Err(Unread::Mistyped);
+        return Err(RowError::WrongType);
     }
     read(row, 0)
 }
 
-fn first_integers(alloc: Global, rows: &[Row]) -> Result<Vec<i64>, Unread>
+fn first_integers(alloc: Global, rows: &[Row]) -> Result<Vec<i64>, RowError>
     ensures shows { IfOk result (λ ids. map (λ r. column r 0) rows.now ≡ map Int ids.items) }
-    ensures mistyped { IfErr result (λ e. e ≡ Mistyped → ¬ All BeginsWithInteger rows.now) }
+    ensures mistyped { IfErr result (λ e. e ≡ WrongType → ¬ All BeginsWithInteger rows.now) }
 {
     let mut ids = Vec::new(alloc);
     'rows: for row in rows {
         let id = first_integer(row)?;
         if ids.push(id).is_err() {
-            return Err(Unread::Memory);
+            return Err(RowError::Memory);
         }
     }
     Ok(ids)
@@ -53,20 +53,20 @@ fn rise(ids: &[i64]) -> bool
 ///
 /// # Errors
 ///
-/// - `Mistyped` if a row does not begin with an integer, or begins with the same integer as the row before it.
+/// - `WrongType` if a row does not begin with an integer, or begins with the same integer as the row before it.
 /// - `Memory` if out of memory.
 ///
 /// # Guarantees
 ///
 /// `mistyped`: if the rows are sorted by their first column, they are not distinct integers.
-pub fn check_ids(alloc: Global, rows: &[Row]) -> Result<(), Unread>
+pub fn check_ids(alloc: Global, rows: &[Row]) -> Result<(), RowError>
     ensures apart { OnOk result (AreIds rows.now) }
-    ensures mistyped { IfErr result (λ e. e ≡ Mistyped → IsSorted (by_columns 1) rows.now → ¬ AreIds rows.now) }
+    ensures mistyped { IfErr result (λ e. e ≡ WrongType → IsSorted (by_columns 1) rows.now → ¬ AreIds rows.now) }
 {
     let ids = first_integers(alloc, rows)?;
     if rise(&ids) {
         Ok(())
     } else {
-        Err(Unread::Mistyped)
+        Err(RowError::WrongType)
     }
 }

@@ -12,8 +12,8 @@ mod texts;
 
 pub use ids::check_ids;
 pub use names::{Table, Version};
-pub use parse::{TableRow, Unread, parse_all};
+pub use parse::{RowError, TableRow, parse_all};
 pub use rows::{
-    ChallengeRow, Changes, EventRow, EventRuleRow, GameRecord, MemberRow, MetaRow, MoveRow, Rows,
+    ChallengeRow, Changes, EventRow, EventRuleRow, GameTableRow, MemberRow, MetaRow, MoveRow, Rows,
     ScoreRow, SeenRow,
 };

@@ -4,14 +4,14 @@ ghost use Rattle.std.specs.Prelude.{◌≡◌, ◌<◌, IfOk, IfErr, All, map, l
 ghost use Rattle.sqlite_value.specs.declared.value.Value.TheVariants.{Int, Text};
 ghost use Rattle.sqlite.specs.Values.{IsInt, or_null};
 ghost use Rattle.sqlite.specs.Order.{Row as Cells, column};
-ghost use Rattle.store_tables.specs.declared.parse.Unread.TheVariants.{Mistyped};
+ghost use Rattle.store_tables.specs.declared.parse.RowError.TheVariants.{WrongType};
 ghost use Rattle.store_tables.specs.Cells.{meta_cells, member_cells, event_cells, challenge_cells, move_cells};
 ghost use Rattle.store_tables.specs.Cells.{event_rule_cells, game_cells, seen_cells, score_cells};
 ghost use Rattle.store_tables.specs.Cells.{IsText, OrNull, IsMeta, IsMember, IsEvent, IsChallenge, IsMove, IsGame};
 ghost use Rattle.store_tables.specs.Cells.{IsEventRule, IsSeen, IsScore};
 
 use crate::rows::{
-    ChallengeRow, EventRow, EventRuleRow, GameRecord, MemberRow, MetaRow, MoveRow, ScoreRow,
+    ChallengeRow, EventRow, EventRuleRow, GameTableRow, MemberRow, MetaRow, MoveRow, ScoreRow,
     SeenRow,
 };
 use sqlite::types::FromSql;
@@ -20,9 +20,9 @@ use std::alloc::Global;
 
 /// Why a row cannot be parsed.
 #[derive(Debug, Clone, Copy, PartialEq, Eq, Drop)]
-pub enum Unread {
+pub enum RowError {
     /// The row has another number of columns, or a value has another type than its column.
-    Mistyped,
+    WrongType,
     /// Out of memory.
     Memory,
 }
@@ -39,45 +39,45 @@ pub trait TableRow: Sized + Drop {
     ///
     /// # Errors
     ///
-    /// - `Mistyped` if the number of columns or the type of a value is wrong.
+    /// - `WrongType` if the number of columns or the type of a value is wrong.
     /// - `Memory` if out of memory.
-    fn parse(row: &Row) -> Result<Self, Unread>
+    fn parse(row: &Row) -> Result<Self, RowError>
         ensures shows { IfOk result (λ r. row.now ≡ cells r) }
-        ensures mistyped { IfErr result (λ e. e ≡ Mistyped → ¬ IsTyped row.now) };
+        ensures mistyped { IfErr result (λ e. e ≡ WrongType → ¬ IsTyped row.now) };
 }
 
 /// Reads the value in a column (counted from 0).
 ///
 /// # Errors
 ///
-/// - `Mistyped` if the value has another type.
+/// - `WrongType` if the value has another type.
 /// - `Memory` if out of memory.
-pub(crate) fn read<T: FromSql>(row: &Row, at: usize) -> Result<T, Unread>
+pub(crate) fn read<T: FromSql>(row: &Row, at: usize) -> Result<T, RowError>
     requires { at < length row.now }
     ensures reads { IfOk result (λ x. T.FromSql.reads_as (column row.now at) x) }
-    ensures mistyped { IfErr result (λ e. e ≡ Mistyped → ¬ T.FromSql.is_readable (column row.now at)) }
+    ensures mistyped { IfErr result (λ e. e ≡ WrongType → ¬ T.FromSql.is_readable (column row.now at)) }
 {
     match row.get(at) {
         Ok(value) => Ok(value),
-        Err(Error::SqliteFailure(ErrorCode::OutOfMemory)) => Err(Unread::Memory),
-        Err(_) => Err(Unread::Mistyped),
+        Err(Error::SqliteFailure(ErrorCode::OutOfMemory)) => Err(RowError::Memory),
+        Err(_) => Err(RowError::WrongType),
     }
 }
 
 /// Reads an integer column that may be NULL.
-fn read_integer(row: &Row, at: usize) -> Result<Option<i64>, Unread>
+fn read_integer(row: &Row, at: usize) -> Result<Option<i64>, RowError>
     requires { at < length row.now }
     ensures reads { IfOk result (λ o. column row.now at ≡ or_null Int o) }
-    ensures mistyped { IfErr result (λ e. e ≡ Mistyped → ¬ OrNull IsInt (column row.now at)) }
+    ensures mistyped { IfErr result (λ e. e ≡ WrongType → ¬ OrNull IsInt (column row.now at)) }
 {
     read(row, at)
 }
 
 /// Reads a text column that may be NULL.
-fn read_text(row: &Row, at: usize) -> Result<Option<String>, Unread>
+fn read_text(row: &Row, at: usize) -> Result<Option<String>, RowError>
     requires { at < length row.now }
     ensures reads { IfOk result (λ o. column row.now at ≡ or_null (λ s. Text (string_bytes s)) o) }
-    ensures mistyped { IfErr result (λ e. e ≡ Mistyped → ¬ OrNull IsText (column row.now at)) }
+    ensures mistyped { IfErr result (λ e. e ≡ WrongType → ¬ OrNull IsText (column row.now at)) }
 {
     read(row, at)
 }
@@ -86,17 +86,17 @@ fn read_text(row: &Row, at: usize) -> Result<Option<String>, Unread>
 ///
 /// # Errors
 ///
-/// - `Mistyped` if a row has another number of columns or a value of another type.
+/// - `WrongType` if a row has another number of columns or a value of another type.
 /// - `Memory` if out of memory.
-pub fn parse_all<T: TableRow>(alloc: Global, rows: &[Row]) -> Result<Vec<T>, Unread>
+pub fn parse_all<T: TableRow>(alloc: Global, rows: &[Row]) -> Result<Vec<T>, RowError>
     ensures shows { IfOk result (λ found. rows.now ≡ map T.cells found.items) }
-    ensures mistyped { IfErr result (λ e. e ≡ Mistyped → ¬ All T.IsTyped rows.now) }
+    ensures mistyped { IfErr result (λ e. e ≡ WrongType → ¬ All T.IsTyped rows.now) }
 {
     let mut found = Vec::new(alloc);
     'rows: for row in rows {
         let parsed = T::parse(row)?;
         if found.push(parsed).is_err() {
-            return Err(Unread::Memory);
+            return Err(RowError::Memory);
         }
     }
     Ok(found)
@@ -107,9 +107,9 @@ impl TableRow for MetaRow {
 
     ghost IsTyped = { IsMeta };
 
-    fn parse(row: &Row) -> Result<MetaRow, Unread> {
+    fn parse(row: &Row) -> Result<MetaRow, RowError> {
         if row.column_count() != 3 {
-            return Err(Unread::Mistyped);
+            return Err(RowError::WrongType);
         }
         Ok(MetaRow {
             id: read(row, 0)?,
@@ -124,9 +124,9 @@ impl TableRow for MemberRow {
 
     ghost IsTyped = { IsMember };
 
-    fn parse(row: &Row) -> Result<MemberRow, Unread> {
+    fn parse(row: &Row) -> Result<MemberRow, RowError> {
         if row.column_count() != 3 {
-            return Err(Unread::Mistyped);
+            return Err(RowError::WrongType);
         }
         Ok(MemberRow {
             id: read(row, 0)?,
@@ -141,9 +141,9 @@ impl TableRow for EventRow {
 
     ghost IsTyped = { IsEvent };
 
-    fn parse(row: &Row) -> Result<EventRow, Unread> {
+    fn parse(row: &Row) -> Result<EventRow, RowError> {
         if row.column_count() != 5 {
-            return Err(Unread::Mistyped);
+            return Err(RowError::WrongType);
         }
         Ok(EventRow {
             id: read(row, 0)?,
@@ -160,9 +160,9 @@ impl TableRow for EventRuleRow {
 
     ghost IsTyped = { IsEventRule };
 
-    fn parse(row: &Row) -> Result<EventRuleRow, Unread> {
+    fn parse(row: &Row) -> Result<EventRuleRow, RowError> {
         if row.column_count() != 2 {
-            return Err(Unread::Mistyped);
+            return Err(RowError::WrongType);
         }
         Ok(EventRuleRow {
             event: read(row, 0)?,
@@ -176,9 +176,9 @@ impl TableRow for ChallengeRow {
 
     ghost IsTyped = { IsChallenge };
 
-    fn parse(row: &Row) -> Result<ChallengeRow, Unread> {
+    fn parse(row: &Row) -> Result<ChallengeRow, RowError> {
         if row.column_count() != 7 {
-            return Err(Unread::Mistyped);
+            return Err(RowError::WrongType);
         }
         Ok(ChallengeRow {
             member: read(row, 0)?,
@@ -197,9 +197,9 @@ impl TableRow for MoveRow {
 
     ghost IsTyped = { IsMove };
 
-    fn parse(row: &Row) -> Result<MoveRow, Unread> {
+    fn parse(row: &Row) -> Result<MoveRow, RowError> {
         if row.column_count() != 6 {
-            return Err(Unread::Mistyped);
+            return Err(RowError::WrongType);
         }
         Ok(MoveRow {
             game: read(row, 0)?,
@@ -212,16 +212,16 @@ impl TableRow for MoveRow {
     }
 }
 
-impl TableRow for GameRecord {
+impl TableRow for GameTableRow {
     ghost cells = { game_cells };
 
     ghost IsTyped = { IsGame };
 
-    fn parse(row: &Row) -> Result<GameRecord, Unread> {
+    fn parse(row: &Row) -> Result<GameTableRow, RowError> {
         if row.column_count() != 17 {
-            return Err(Unread::Mistyped);
+            return Err(RowError::WrongType);
         }
-        Ok(GameRecord {
+        Ok(GameTableRow {
             id: read(row, 0)?,
             key: read_text(row, 1)?,
             event: read(row, 2)?,
@@ -248,9 +248,9 @@ impl TableRow for SeenRow {
 
     ghost IsTyped = { IsSeen };
 
-    fn parse(row: &Row) -> Result<SeenRow, Unread> {
+    fn parse(row: &Row) -> Result<SeenRow, RowError> {
         if row.column_count() != 4 {
-            return Err(Unread::Mistyped);
+            return Err(RowError::WrongType);
         }
         Ok(SeenRow {
             game: read(row, 0)?,
@@ -266,9 +266,9 @@ impl TableRow for ScoreRow {
 
     ghost IsTyped = { IsScore };
 
-    fn parse(row: &Row) -> Result<ScoreRow, Unread> {
+    fn parse(row: &Row) -> Result<ScoreRow, RowError> {
         if row.column_count() != 7 {
-            return Err(Unread::Mistyped);
+            return Err(RowError::WrongType);
         }
         Ok(ScoreRow {
             event: read(row, 0)?,

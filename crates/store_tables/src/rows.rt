@@ -77,7 +77,7 @@ pub struct MoveRow {
 
 /// A row of `games`.
 #[derive(Debug, PartialEq, Drop)]
-pub struct GameRecord {
+pub struct GameTableRow {
     pub id: i64,
     /// The key under which the officer seated or imported the game.
     pub key: Option<String>,
@@ -143,7 +143,7 @@ pub struct Rows {
     pub events: Vec<EventRow>,
     pub event_rules: Vec<EventRuleRow>,
     pub challenges: Vec<ChallengeRow>,
-    pub games: Vec<GameRecord>,
+    pub games: Vec<GameTableRow>,
 }
 
 /// Rows to upsert: each replaces the row of its table with the same key, if there is one.
@@ -153,7 +153,7 @@ pub struct Changes {
     pub events: Vec<EventRow>,
     pub event_rules: Vec<EventRuleRow>,
     pub challenges: Vec<ChallengeRow>,
-    pub games: Vec<GameRecord>,
+    pub games: Vec<GameTableRow>,
     pub moves: Vec<MoveRow>,
     pub seen: Vec<SeenRow>,
     pub scores: Vec<ScoreRow>,

@@ -1,4 +1,4 @@
-// Which of the wrong bodies is taken: the number that WRONG gives, counted from 1; none where there is no WRONG.
+// The number of the mutant that runs, counted from 1, by the environment variable WRONG; 0 (none) without it.
 #include <stdlib.h>
 
 unsigned chosen(void) {

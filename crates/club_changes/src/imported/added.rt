@@ -15,17 +15,17 @@ use club_imports::{NewGame, imported_row};
 use club_rows::{Terms, record_of};
 use club_rules::{Memory, Rules};
 use std::alloc::Global;
-use store_tables::{GameRecord, MoveRow, SeenRow};
+use store_tables::{GameTableRow, MoveRow, SeenRow};
 
 /// The rows of a new game: its own, one for each ply and one for each distinct position.
 #[derive(Drop)]
 pub struct NewRows {
-    pub game: GameRecord,
+    pub game: GameTableRow,
     pub moves: Vec<MoveRow>,
     pub seen: Vec<SeenRow>,
 }
 
-/// Returns the rows of a recorded game that is imported under a key. All plies have the timestamp `moment`.
+/// Returns the rows of a recorded game that is imported under a key. All plies have the timestamp `to_moment`.
 ///
 /// # Errors
 ///

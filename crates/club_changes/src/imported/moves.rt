@@ -10,9 +10,9 @@ ghost use Rattle.store_tables.specs.Cells.{move_cells};
 ghost use Rattle.club_changes.specs.AtOnce.{rows_at_once};
 
 use clocks::Moment;
-use club_imports::rows::Left;
+use club_imports::rows::RemainingTimes;
 use club_rows::Terms;
-use club_rows::numbers::stored;
+use club_rows::numbers::to_i64;
 use club_rules::{Memory, Rules};
 use std::alloc::Global;
 use store_tables::MoveRow;
@@ -39,15 +39,15 @@ fn ply_row<R: Rules>(
     let position = R::write_position(alloc, after)?;
     Ok(MoveRow {
         game: i64::from(game),
-        ply: stored(ply as u64),
+        ply: to_i64(ply as u64),
         text,
-        moment: stored(moment.seconds()),
-        left: stored(left),
+        moment: to_i64(moment.seconds()),
+        left: to_i64(left),
         position,
     })
 }
 
-/// Returns the rows of moves that all have the timestamp `moment`.
+/// Returns the rows of moves that all have the timestamp `to_moment`.
 ///
 /// # Errors
 ///
@@ -68,7 +68,7 @@ pub fn move_rows<R: Rules>(
 {
     let mut rows = Vec::new(alloc);
     let mut position = R::start();
-    let mut left = Left {
+    let mut left = RemainingTimes {
         first: terms.budget,
         second: terms.budget,
     };
@@ -76,7 +76,7 @@ pub fn move_rows<R: Rules>(
         let made = &moves[i];
         let turn = R::turn(&position);
         let after = R::play(&position, made);
-        left = left.with(turn, terms.increment);
+        left = left.with_increment(turn, terms.increment);
         rows.push(ply_row::<R>(
             alloc,
             game,
@@ -85,7 +85,7 @@ pub fn move_rows<R: Rules>(
             made,
             &after,
             moment,
-            left.of(turn),
+            left.seconds_of(turn),
         )?)?;
         position = after;
     }

@@ -8,7 +8,7 @@ ghost use Rattle.club_rows.specs.Seen.{times_in, seen_row, rows_from, rows_of_te
 ghost use Rattle.store_tables.specs.Cells.{seen_cells};
 ghost use Rattle.club_changes.specs.MoveTexts.{bytes_of};
 
-use club_rows::numbers::stored;
+use club_rows::numbers::to_i64;
 use club_rules::{Memory, Rules};
 use std::alloc::Global;
 use store_tables::SeenRow;
@@ -49,8 +49,8 @@ fn seen_row(game: u32, text: &String, count: usize, ply: usize) -> Result<SeenRo
     Ok(SeenRow {
         game: i64::from(game),
         position: text.clone()?,
-        count: stored(count as u64),
-        first_ply: stored(ply as u64),
+        count: to_i64(count as u64),
+        first_ply: to_i64(ply as u64),
     })
 }
 

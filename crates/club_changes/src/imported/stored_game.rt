@@ -15,7 +15,7 @@ use club_rows::columns::stored_game;
 use club_rows::replay::replay;
 use club_rules::{Memory, Rules};
 use std::alloc::Global;
-use store_tables::{GameRecord, MoveRow};
+use store_tables::{GameTableRow, MoveRow};
 
 /// Replays the rows of a stored game and returns its moves and result; the rows must be in the order of plies. None if
 /// they are not those of a legal game with these terms.
@@ -27,7 +27,7 @@ pub fn played_of<R: Rules>(
     alloc: Global,
     terms: Terms,
     id: u32,
-    row: &GameRecord,
+    row: &GameTableRow,
     moves: &[MoveRow],
 ) -> Result<Option<PlayedGame<R::Move>>, Memory>
     ensures { IfOk result (λ found. IfSome found (λ played. (game : Game R.Move) →

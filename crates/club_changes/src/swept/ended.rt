@@ -9,21 +9,21 @@ use club_requests::OutsideEnd;
 use club_rules::Memory;
 use squares::Score;
 use std::alloc::Global;
-use store_tables::GameRecord;
+use store_tables::GameTableRow;
 
 /// Returns the game's row with the end `Time` and this score.
 ///
 /// # Errors
 ///
 /// `Memory` if out of memory.
-pub fn lost_row(alloc: Global, row: &GameRecord, score: Score) -> Result<GameRecord, Memory>
+pub fn lost_row(alloc: Global, row: &GameTableRow, score: Score) -> Result<GameTableRow, Memory>
     ensures { IfOk result (λ lost. game_cells lost ≡ cells_lost row.now score) }
 {
     let key = copy_key(&row.key)?;
     let end = String::from_str(alloc, OutsideEnd::Time.name())?;
     let result = String::from_str(alloc, score.text())?;
     let position = row.position.clone()?;
-    Ok(GameRecord {
+    Ok(GameTableRow {
         id: row.id,
         key,
         event: row.event,

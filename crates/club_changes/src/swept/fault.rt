@@ -11,7 +11,7 @@ pub enum SweepFault {
     /// Out of memory.
     Memory,
     /// The given rows are not those of a legal club, or a sum overflows.
-    Unfit,
+    InconsistentRows,
 }
 
 impl fmt::Display for SweepFault {
@@ -23,7 +23,7 @@ impl fmt::Display for SweepFault {
     fn fmt<W: fmt::Write>(&self, f: &mut fmt::Formatter<W>) -> fmt::Result {
         match self {
             SweepFault::Memory => f.write_str("out of memory"),
-            SweepFault::Unfit => f.write_str("the rows are those of no club"),
+            SweepFault::InconsistentRows => f.write_str("the rows are those of no club"),
         }
     }
 }

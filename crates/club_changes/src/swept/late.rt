@@ -6,7 +6,7 @@ ghost use Rattle.club_rows.specs.Columns.{columns_in};
 ghost use Rattle.club_changes.specs.Late.{late_side};
 
 use clocks::Moment;
-use club_rows::columns::StoredGame;
+use club_rows::columns::GameColumns;
 use squares::Side;
 
 /// The side to move after this number of plies.
@@ -20,8 +20,8 @@ pub fn side_after(plies: u32) -> Side
     }
 }
 
-/// The side to move if the game runs and that side has used more seconds by `moment` than it had left; else None.
-pub fn late_side(stored: &StoredGame<'_>, moment: Moment) -> Option<Side>
+/// The side to move if the game runs and that side has used more seconds by `to_moment` than it had left; else None.
+pub fn late_side(stored: &GameColumns<'_>, moment: Moment) -> Option<Side>
     ensures { result ≡ late_side (columns_in stored.now) moment }
 {
     if stored.result.is_some() {

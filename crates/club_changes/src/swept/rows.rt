@@ -16,13 +16,13 @@ use clocks::Moment;
 use club_rows::columns::stored_game;
 use squares::Score;
 use std::alloc::Global;
-use store_tables::{GameRecord, ScoreRow};
+use store_tables::{GameTableRow, ScoreRow};
 
 /// The rows to upsert, in order. A later row of scores replaces an earlier one of the same two players.
 #[derive(Debug, PartialEq, Drop)]
 pub struct SweptRows {
     /// The rows of the games that end.
-    pub games: Vec<GameRecord>,
+    pub games: Vec<GameTableRow>,
     /// The rows of scores, two for each of these games, in the same order.
     pub scores: Vec<ScoreRow>,
     /// The number of games that end.
@@ -34,11 +34,11 @@ pub struct SweptRows {
 ///
 /// # Errors
 ///
-/// - `Unfit` if the rows are not those of a legal club, or a sum overflows.
+/// - `InconsistentRows` if the rows are not those of a legal club, or a sum overflows.
 /// - `Memory` if out of memory.
 pub fn swept_rows(
     alloc: Global,
-    games: &[GameRecord],
+    games: &[GameTableRow],
     scores: &[ScoreRow],
     moment: Moment,
 ) -> Result<SweptRows, SweepFault>
@@ -46,7 +46,7 @@ pub fn swept_rows(
         map game_cells games.now ≡ tables s (tree_of Games) →
         HaveSame (map score_cells scores.now) (tables s (tree_of Scores)) → IsSwept s moment rows) }
     // With the rows of a legal club the only fault is out of memory.
-    ensures unfit { IsErrOf result SweepFault.Unfit → (s : ClubState) → IsClub s →
+    ensures unfit { IsErrOf result SweepFault.InconsistentRows → (s : ClubState) → IsClub s →
         map game_cells games.now ≡ tables s (tree_of Games) →
         ¬ HaveSame (map score_cells scores.now) (tables s (tree_of Scores)) }
 {
@@ -55,7 +55,7 @@ pub fn swept_rows(
     let mut changed = Vec::new(alloc);
     for game in games {
         let Some(stored) = stored_game(game) else {
-            return Err(SweepFault::Unfit);
+            return Err(SweepFault::InconsistentRows);
         };
         let Some(side) = late_side(&stored, moment) else {
             continue;
@@ -65,7 +65,7 @@ pub fn swept_rows(
         ended.push(lost_row(alloc, game, score)?)?;
     }
     let Ok(count) = u32::try_from(ended.len()) else {
-        return Err(SweepFault::Unfit);
+        return Err(SweepFault::InconsistentRows);
     };
     Ok(SweptRows {
         games: ended,

@@ -13,9 +13,9 @@ ghost use Rattle.club_rows.specs.Pairs.{pair_in, sums_at};
 ghost use Rattle.club_changes.specs.Standing.{AreStanding, PutsRows};
 
 use crate::swept::fault::SweepFault;
-use club_rows::columns::StoredGame;
+use club_rows::columns::GameColumns;
 use club_rows::score_after;
-use club_rows::scores::{Pair, Sums, pair_in, pair_of, sums_of};
+use club_rows::scores::{Pair, ScoreSums, pair_in, pair_of, sums_of};
 use club_rules::Memory;
 use squares::Score;
 use std::alloc::Global;
@@ -23,7 +23,7 @@ use std::collections::HashMap;
 use store_tables::ScoreRow;
 
 // The row of a pair, if they have met.
-fn row_of(standings: &HashMap<Pair, Sums>, pair: Pair) -> Option<ScoreRow>
+fn row_of(standings: &HashMap<Pair, ScoreSums>, pair: Pair) -> Option<ScoreRow>
     ensures { result ≡ option_map (row_with pair) (sums_at standings.now pair) }
 {
     match standings.get(&pair).copied() {
@@ -41,7 +41,7 @@ fn row_of(standings: &HashMap<Pair, Sums>, pair: Pair) -> Option<ScoreRow>
 }
 
 // Stores the sums of the row for its pair.
-fn keep(standings: &mut HashMap<Pair, Sums>, row: &ScoreRow) -> Result<(), Memory>
+fn keep(standings: &mut HashMap<Pair, ScoreSums>, row: &ScoreRow) -> Result<(), Memory>
     ensures { OnOk result ((pair : given_pair.Pair) → sums_at standings.new pair
         ≡ cond (same_pair (pair_in row.now) pair) (Some (sums_found (Some row.now))) (sums_at standings.old pair)) }
 {
@@ -54,7 +54,7 @@ fn keep(standings: &mut HashMap<Pair, Sums>, row: &ScoreRow) -> Result<(), Memor
 /// # Errors
 ///
 /// `Memory` if out of memory.
-pub fn standings_of(alloc: Global, rows: &[ScoreRow]) -> Result<HashMap<Pair, Sums>, Memory>
+pub fn standings_of(alloc: Global, rows: &[ScoreRow]) -> Result<HashMap<Pair, ScoreSums>, Memory>
     ensures { IfOk result (λ standings. (all : List Row) → HaveSame (map score_cells rows.now) all →
         AreStanding (λ pair. sums_at standings pair) all) }
 {
@@ -67,7 +67,7 @@ pub fn standings_of(alloc: Global, rows: &[ScoreRow]) -> Result<HashMap<Pair, Su
 
 // Stores the sums of the row, and adds it to the rows to upsert.
 fn put(
-    standings: &mut HashMap<Pair, Sums>,
+    standings: &mut HashMap<Pair, ScoreSums>,
     changed: &mut Vec<ScoreRow>,
     row: ScoreRow,
 ) -> Result<(), Memory>
@@ -84,16 +84,16 @@ fn put(
 ///
 /// # Errors
 ///
-/// - `Unfit` if a sum overflows.
+/// - `InconsistentRows` if a sum overflows.
 /// - `Memory` if out of memory.
 ///
 /// # Guarantees
 ///
 /// `unfit`: a sum overflows only after at least 2^61 results.
 pub fn put_scores(
-    standings: &mut HashMap<Pair, Sums>,
+    standings: &mut HashMap<Pair, ScoreSums>,
     changed: &mut Vec<ScoreRow>,
-    stored: &StoredGame<'_>,
+    stored: &GameColumns<'_>,
     score: Score,
 ) -> Result<(), SweepFault>
     ensures puts { OnOk result ((before after : List Meeting) → stored.now.first ≢ stored.now.second →
@@ -101,7 +101,7 @@ pub fn put_scores(
         PutsRows (score_rows (before ++ after)) (score_rows (before ++
         (meetings (pos stored.now.event) (pos stored.now.first) (pos stored.now.second) score ++ after)))
         (λ pair. sums_at standings.new pair) changed.old.items changed.new.items) }
-    ensures unfit { IsErrOf result SweepFault.Unfit → (ms : List Meeting) →
+    ensures unfit { IsErrOf result SweepFault.InconsistentRows → (ms : List Meeting) →
         AreStanding (λ pair. sums_at standings.old pair) (score_rows ms) → 2 ^ 61 ≤ length ms }
 {
     let firsts_pair = pair_of(stored.event, stored.first, stored.second);
@@ -122,6 +122,6 @@ pub fn put_scores(
             put(standings, changed, pair.second)?;
             Ok(())
         }
-        None => Err(SweepFault::Unfit),
+        None => Err(SweepFault::InconsistentRows),
     }
 }

@@ -24,7 +24,7 @@ impl Model for Numbers {
 
 impl Numbers {
     /// The squares of a set, in ascending order.
-    pub fn of(set: DSet) -> Numbers
+    pub fn from_set(set: DSet) -> Numbers
         ensures { result ≡ ascending set }
     {
         let mut rest = set;

@@ -14,7 +14,7 @@ use crate::draughts::piece::DPiece;
 use crate::draughts::set::DSet;
 use crate::draughts::square::Dsq;
 use crate::sides::Side;
-use masks::Word50;
+use masks::Bitboard50;
 use std::hash::{Hash, Hasher};
 use std::marker::Model;
 
@@ -25,9 +25,9 @@ use std::marker::Model;
 #[derive(Clone, Copy, Debug)]
 pub struct DPos {
     cells: [Option<DPiece>; 50],
-    first: Word50,
-    second: Word50,
-    kings: Word50,
+    first: Bitboard50,
+    second: Bitboard50,
+    kings: Bitboard50,
     turn: Side,
 }
 
@@ -81,9 +81,9 @@ impl DPos {
     {
         DPos {
             cells: [None; 50],
-            first: Word50::new(),
-            second: Word50::new(),
-            kings: Word50::new(),
+            first: Bitboard50::new(),
+            second: Bitboard50::new(),
+            kings: Bitboard50::new(),
             turn,
         }
     }
@@ -101,7 +101,7 @@ impl DPos {
             cells,
             first: squares_in(&cells, Side::First),
             second: squares_in(&cells, Side::Second),
-            kings: Word50::new(),
+            kings: Bitboard50::new(),
             turn: Side::First,
         }
     }
@@ -114,7 +114,7 @@ impl DPos {
     }
 
     /// The piece on a square, or `None` if the square is empty.
-    pub fn at(&self, square: Dsq) -> Option<DPiece>
+    pub fn piece_at(&self, square: Dsq) -> Option<DPiece>
         ensures { result ≡ map.get self.now.board square }
     {
         self.cells[usize::from(square.number()) - 1]
@@ -144,7 +144,7 @@ impl DPos {
         ensures off_board { (n : ℕ) → (n < 1) ⊎ (50 < n) → set.contains result n ≡ false }
     {
         let occupied = self.first.union(self.second);
-        let empty = Word50::full().difference(occupied);
+        let empty = Bitboard50::full().difference(occupied);
         empty.keeps_to_its_squares();
         DSet::of_word(empty)
     }
@@ -189,7 +189,7 @@ impl DPos {
     }
 
     /// Passes the turn to the other side.
-    pub fn pass(&mut self)
+    pub fn pass_turn(&mut self)
         ensures { self.new ≡ record self.old { turn = other self.old.turn } }
     {
         self.turn = self.turn.other();
@@ -250,11 +250,11 @@ fn same_cells(mine: &[Option<DPiece>], theirs: &[Option<DPiece>]) -> bool
 }
 
 // The squares of a side's pieces in a list of 50 cells.
-fn squares_in(cells: &[Option<DPiece>], side: Side) -> Word50
+fn squares_in(cells: &[Option<DPiece>], side: Side) -> Bitboard50
     requires { length cells.now ≡ 50 }
     ensures { Marks (is_of side) result (board_of cells.now) }
 {
-    let mut squares = Word50::new();
+    let mut squares = Bitboard50::new();
     for i in 0..50 {
         if is_of(side, cells[i]) {
             squares = squares.with(i as u8 + 1);
@@ -264,7 +264,7 @@ fn squares_in(cells: &[Option<DPiece>], side: Side) -> Word50
 }
 
 // Adds the square to the set if `is_in`, otherwise removes it.
-fn noted(squares: Word50, square: Dsq, is_in: bool) -> Word50
+fn noted(squares: Bitboard50, square: Dsq, is_in: bool) -> Bitboard50
     ensures { result ≡ noted squares square is_in }
 {
     if is_in {

@@ -7,7 +7,7 @@ ghost use Rattle.squares.specs.DraughtsGeometry.{ray};
 use crate::draughts::direction::Direction;
 use crate::draughts::set::DSet;
 use crate::draughts::square::{Dsq, place_of};
-use masks::Word50;
+use masks::Bitboard50;
 
 impl Dsq {
     /// The squares on the diagonal from this square to the edge of the board, without this square.
@@ -15,7 +15,7 @@ impl Dsq {
         ensures { (n : ℕ) → set.contains result n ≡ list_any (λ m. m == n) (ray toward self) }
     {
         let word = line_word(place_of(toward) + usize::from(self.number()));
-        let squares = Word50::of_word(word);
+        let squares = Bitboard50::of_word(word);
         squares.keeps_to_its_squares();
         DSet::of_word(squares)
     }

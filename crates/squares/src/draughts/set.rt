@@ -11,14 +11,14 @@ ghost use Rattle.std.specs.Cmp.Lexicographic.{slice_cmp};
 use crate::draughts::direction::Direction;
 use crate::draughts::numbers::Numbers;
 use crate::draughts::square::Dsq;
-use masks::Word50;
+use masks::Bitboard50;
 use std::cmp::Ordering;
 use std::marker::Model;
 
 /// A set of draughts squares, in a bitboard.
 #[derive(Clone, Copy, Debug)]
 pub struct DSet {
-    squares: Word50,
+    squares: Bitboard50,
 }
 
 impl Model for DSet {
@@ -41,7 +41,7 @@ impl DSet {
         ensures { result ≡ set.empty }
     {
         DSet {
-            squares: Word50::new(),
+            squares: Bitboard50::new(),
         }
     }
 
@@ -88,9 +88,9 @@ impl DSet {
     pub fn compare(self, other: DSet) -> Ordering
         ensures { result ≡ slice_cmp nat_cmp (ascending self) (ascending other) }
     {
-        Numbers::of(self)
+        Numbers::from_set(self)
             .as_slice()
-            .cmp(Numbers::of(other).as_slice())
+            .cmp(Numbers::from_set(other).as_slice())
     }
 
     /// Removes and returns the lowest square, or returns `None` if the set is empty.
@@ -154,40 +154,40 @@ impl DSet {
     }
 
     /// The squares from which one step in a direction leads into the set.
-    pub fn beside(self, toward: Direction) -> DSet
+    pub fn predecessors(self, toward: Direction) -> DSet
         ensures { (n : ℕ) → set.contains result n
             ≡ option_map_or (set.contains self) (step toward n) false }
     {
         let all = self.squares;
         match toward {
             Direction::UpLeft => in_rows(
-                all.raised(5),
+                all.shift_up(5),
                 0x1f07_c1f0_7c00,
-                all.raised(6),
+                all.shift_up(6),
                 0x3_c0f0_3c0f_03c0,
             ),
             Direction::UpRight => in_rows(
-                all.raised(4),
+                all.shift_up(4),
                 0xf03_c0f0_3c00,
-                all.raised(5),
+                all.shift_up(5),
                 0x3_e0f8_3e0f_83e0,
             ),
             Direction::DownLeft => in_rows(
-                all.lowered(5),
+                all.shift_down(5),
                 0x1f07_c1f0_7c1f,
-                all.lowered(4),
+                all.shift_down(4),
                 0xf0_3c0f_03c0,
             ),
             Direction::DownRight => in_rows(
-                all.lowered(6),
+                all.shift_down(6),
                 0xf03_c0f0_3c0f,
-                all.lowered(5),
+                all.shift_down(5),
                 0xf8_3e0f_83e0,
             ),
         }
     }
 
-    pub(crate) fn of_word(squares: Word50) -> DSet
+    pub(crate) fn of_word(squares: Bitboard50) -> DSet
         ensures { result ≡ squares }
     {
         DSet { squares }
@@ -202,7 +202,7 @@ impl DSet {
 }
 
 // The squares of `even` in the rows of the mask `even_rows`, and those of `odd` in the rows of the mask `odd_rows`.
-fn in_rows(even: Word50, even_rows: u64, odd: Word50, odd_rows: u64) -> DSet
+fn in_rows(even: Bitboard50, even_rows: u64, odd: Bitboard50, odd_rows: u64) -> DSet
     requires even_fits { even_rows < 2 ^ 50 }
     requires odd_fits { odd_rows < 2 ^ 50 }
     ensures squares { (n : ℕ) → set.contains result (n + 1)
@@ -210,8 +210,8 @@ fn in_rows(even: Word50, even_rows: u64, odd: Word50, odd_rows: u64) -> DSet
         || set.contains odd (n + 1) && has_bit odd_rows n) }
     ensures none { set.contains result 0 ≡ false }
 {
-    let even = even.intersection(Word50::of_word(even_rows));
-    let odd = odd.intersection(Word50::of_word(odd_rows));
+    let even = even.intersection(Bitboard50::of_word(even_rows));
+    let odd = odd.intersection(Bitboard50::of_word(odd_rows));
     let squares = even.union(odd);
     squares.keeps_to_its_squares();
     DSet { squares }

@@ -79,7 +79,7 @@ impl Dsq {
     /// The square at a row and a column.
     ///
     /// `None` if one of them is above 9 or the square is light, that is, if their sum is even.
-    pub fn at(row: u8, column: u8) -> Option<Dsq>
+    pub fn from_coords(row: u8, column: u8) -> Option<Dsq>
         ensures dark { IsSome result ↔ IsDark row column }
         ensures value { IfSome result (λ s. s ≡ number_at row column) }
     {

@@ -11,7 +11,7 @@ use crate::shogi::piece::{HandKind, Role, SPiece};
 use crate::shogi::square::Ssq;
 use crate::shogi::words::{add_to, role_place, side_place, squares_at, take_from};
 use crate::sides::Side;
-use masks::Word81;
+use masks::Bitboard81;
 use std::cmp::Ordering;
 use std::marker::Model;
 
@@ -21,8 +21,8 @@ use std::marker::Model;
 #[derive(Drop)]
 pub struct SBoard {
     cells: [Option<SPiece>; 81],
-    sides: [Word81; 2],
-    roles: [Word81; 14],
+    sides: [Bitboard81; 2],
+    roles: [Bitboard81; 14],
 }
 
 impl Model for SBoard {
@@ -48,20 +48,20 @@ impl SBoard {
     {
         SBoard {
             cells: [None; 81],
-            sides: [Word81::new(); 2],
-            roles: [Word81::new(); 14],
+            sides: [Bitboard81::new(); 2],
+            roles: [Bitboard81::new(); 14],
         }
     }
 
     /// The piece on a square, or `None` if the square is empty.
-    pub fn at(&self, square: Ssq) -> Option<SPiece>
+    pub fn piece_at(&self, square: Ssq) -> Option<SPiece>
         ensures { result ≡ map.get self.now square }
     {
         self.cells[square.index()]
     }
 
     /// A copy of the board.
-    pub fn copied(&self) -> SBoard
+    pub fn copy(&self) -> SBoard
         ensures { result ≡ self.now }
     {
         SBoard {
@@ -103,14 +103,14 @@ impl SBoard {
     }
 
     /// The squares of a side's pieces.
-    pub fn squares_of_side(&self, side: Side) -> Word81
+    pub fn squares_of_side(&self, side: Side) -> Bitboard81
         ensures { (q : ℕ) → set.contains result q ≡ is_side side (map.get self.now q) }
     {
         squares_at(&self.sides, side_place(side))
     }
 
     /// The squares that hold the given piece.
-    pub fn squares_of(&self, piece: SPiece) -> Word81
+    pub fn squares_of(&self, piece: SPiece) -> Bitboard81
         ensures { (q : ℕ) → set.contains result q ≡ holds piece (map.get self.now q) }
     {
         let own = squares_at(&self.sides, side_place(piece.side));
@@ -166,7 +166,7 @@ fn is_cell_of(cell: Option<SPiece>, kind: HandKind) -> bool
 {
     match cell {
         None => false,
-        Some(piece) => match piece.role.kind().in_hand() {
+        Some(piece) => match piece.role.kind().to_hand_kind() {
             None => false,
             Some(own) => own == kind,
         },

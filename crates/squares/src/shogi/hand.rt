@@ -61,7 +61,7 @@ impl Hand {
 
 impl Hands {
     /// The hand of a side.
-    pub fn of(self, side: Side) -> Hand
+    pub fn hand(self, side: Side) -> Hand
         ensures { result ≡ hand_of side self }
     {
         match side {

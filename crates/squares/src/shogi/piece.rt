@@ -88,7 +88,7 @@ impl HandKind {
 
 impl Kind {
     /// The kind as a `HandKind`, or `None` for the king.
-    pub fn in_hand(self) -> Option<HandKind>
+    pub fn to_hand_kind(self) -> Option<HandKind>
         ensures { result ≡ hand_kind self }
     {
         match self {

@@ -89,11 +89,11 @@ impl SPos {
     }
 
     /// A copy of the position.
-    pub fn copied(&self) -> SPos
+    pub fn copy(&self) -> SPos
         ensures { result ≡ self.now }
     {
         SPos {
-            board: self.board.copied(),
+            board: self.board.copy(),
             hands: self.hands,
             turn: self.turn,
         }

@@ -7,7 +7,7 @@ ghost use Rattle.squares.specs.ShogiWords.{side_place, role_place, squares_at};
 use crate::shogi::piece::Role;
 use crate::shogi::square::Ssq;
 use crate::sides::Side;
-use masks::Word81;
+use masks::Bitboard81;
 
 /// The index of a side's bitboard.
 pub(crate) fn side_place(side: Side) -> usize
@@ -43,7 +43,7 @@ pub(crate) fn role_place(role: Role) -> usize
     }
 }
 
-pub(crate) fn squares_at(words: &[Word81], place: usize) -> Word81
+pub(crate) fn squares_at(words: &[Bitboard81], place: usize) -> Bitboard81
     requires { place < length words.now }
     ensures { result ≡ squares_at words.now place }
 {
@@ -51,7 +51,7 @@ pub(crate) fn squares_at(words: &[Word81], place: usize) -> Word81
 }
 
 /// Adds a square to the bitboard at an index.
-pub(crate) fn add_to(words: &mut [Word81], place: usize, square: Ssq)
+pub(crate) fn add_to(words: &mut [Bitboard81], place: usize, square: Ssq)
     requires { place < length words.old }
     ensures { words.new ≡ slice_set words.old place (set.insert (squares_at words.old place) square) }
 {
@@ -59,7 +59,7 @@ pub(crate) fn add_to(words: &mut [Word81], place: usize, square: Ssq)
 }
 
 /// Removes a square from the bitboard at an index.
-pub(crate) fn take_from(words: &mut [Word81], place: usize, square: Ssq)
+pub(crate) fn take_from(words: &mut [Bitboard81], place: usize, square: Ssq)
     requires { place < length words.old }
     ensures { words.new ≡ slice_set words.old place (set.remove (squares_at words.old place) square) }
 {

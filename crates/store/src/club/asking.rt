@@ -6,15 +6,14 @@ ghost use Rattle.sqlite.specs.Held.{state};
 ghost use Rattle.store_tables.specs.Over.{HasRows};
 ghost use Rattle.store_tables.specs.Reading.{Reads};
 ghost use Rattle.club_rows.specs.Club.{ClubState, IsClub, tables};
-ghost use Rattle.club_answers.specs.AnswerTexts.{HasShown, HasShownSome};
+ghost use Rattle.club_answers.specs.AnswerTexts.{HasWrittenAnswer, HasShownSome};
 ghost use Rattle.store.specs.Asking.{stays_open};
 
 use super::Club;
 use crate::fault::{AskFault, StoreFault};
 use clocks::Moment;
-use club_answers::{Stopped, answer};
-use club_questions::Question;
-use club_requests::Refusal;
+use club_answers::{ViewFault, answer};
+use club_requests::{Question, Refusal};
 use sqlite::Alter;
 use std::alloc::Global;
 use std::io::Write;
@@ -41,16 +40,16 @@ impl<S: Alter> Club<S> {
     ) -> Result<Option<Refusal>, AskFault>
         ensures shut { self.old.needs_reopening ≡ true →
             (result ≡ Err (AskFault.Club StoreFault.Reopen)) × (self.new ≡ self.old) × (writer.new ≡ writer.old) }
-        ensures goes_on { OnOk result (self.new.needs_reopening ≡ false) }
+        ensures stays_open { OnOk result (self.new.needs_reopening ≡ false) }
         ensures output { result ≡ Err AskFault.Output → self.new.needs_reopening ≡ false }
         ensures ends { IfErr result (λ fault. (fault ≡ AskFault.Output) ⊎ (self.new.needs_reopening ≡ true)) }
-        ensures named { IfErr result (λ fault. self.old.needs_reopening ≡ false → (fault ≡ AskFault.Output) ⊎
+        ensures possible_faults { IfErr result (λ fault. self.old.needs_reopening ≡ false → (fault ≡ AskFault.Output) ⊎
             ((fault ≡ AskFault.Club StoreFault.Store) ⊎ (fault ≡ AskFault.Club StoreFault.Memory))) }
         ensures reads { Reads (stays_open result) (state S.Store self.old.connection)
             (state S.Store self.new.connection) }
         ensures shown { HasCleanDisk (state S.Store self.new.connection) → IfOk result (λ refusal. (s : ClubState) →
             IsClub s → HasRows (tables s) (state S.Store self.old.connection) →
-            HasShown s moment question.now refusal (W.contents writer.old) (W.contents writer.new)) }
+            HasWrittenAnswer s moment question.now refusal (W.contents writer.old) (W.contents writer.new)) }
         ensures begun { HasCleanDisk (state S.Store self.new.connection) → (s : ClubState) → IsClub s →
             HasRows (tables s) (state S.Store self.old.connection) →
             HasShownSome s moment question.now (W.contents writer.old) (W.contents writer.new) }
@@ -60,8 +59,8 @@ impl<S: Alter> Club<S> {
         }
         match answer(alloc, &mut self.connection, question, moment, writer) {
             Ok(refusal) => Ok(refusal),
-            Err(Stopped::Output) => Err(AskFault::Output),
-            Err(Stopped::Call(fault)) => {
+            Err(ViewFault::Output) => Err(AskFault::Output),
+            Err(ViewFault::Call(fault)) => {
                 self.needs_reopening = true;
                 Err(AskFault::Club(StoreFault::from(fault)))
             }

@@ -7,11 +7,11 @@ ghost use Rattle.sqlite.specs.Held.{state};
 ghost use Rattle.store_tables.specs.Over.{HasRows};
 ghost use Rattle.store_tables.specs.Reading.{Reads};
 ghost use Rattle.club_rows.specs.Club.{ClubState, IsClub, tables};
-ghost use Rattle.club_reads.specs.Keys.{holder_of};
+ghost use Rattle.club_reads.specs.Keys.{member_by_key};
 
 use super::Club;
 use crate::fault::StoreFault;
-use club_reads::holder_of;
+use club_reads::member_by_key;
 use sqlite::Alter;
 use std::alloc::Global;
 
@@ -25,22 +25,22 @@ impl<S: Alter> Club<S> {
     /// - `StoreFault::Reopen`: an earlier call failed.
     ///
     /// After any of these every later call returns `Reopen`.
-    pub fn holder_of(&mut self, alloc: Global, key: &str) -> Result<Option<String>, StoreFault>
+    pub fn member_by_key(&mut self, alloc: Global, key: &str) -> Result<Option<String>, StoreFault>
         ensures shut { self.old.needs_reopening ≡ true → (result ≡ Err StoreFault.Reopen) × (self.new ≡ self.old) }
-        ensures goes_on { OnOk result (self.new.needs_reopening ≡ false) }
+        ensures stays_open { OnOk result (self.new.needs_reopening ≡ false) }
         ensures ends { OnErr result (self.new.needs_reopening ≡ true) }
-        ensures named { IfErr result (λ fault. self.old.needs_reopening ≡ false →
+        ensures possible_faults { IfErr result (λ fault. self.old.needs_reopening ≡ false →
             (fault ≡ StoreFault.Store) ⊎ (fault ≡ StoreFault.Memory)) }
         ensures reads { Reads (is_ok result) (state S.Store self.old.connection)
             (state S.Store self.new.connection) }
         ensures held { HasCleanDisk (state S.Store self.new.connection) → IfOk result (λ name. (s : ClubState) →
             IsClub s → HasRows (tables s) (state S.Store self.old.connection) →
-            option_map string_bytes name ≡ holder_of s key.now) }
+            option_map string_bytes name ≡ member_by_key s key.now) }
     {
         if self.needs_reopening {
             return Err(StoreFault::Reopen);
         }
-        match holder_of(alloc, &mut self.connection, key) {
+        match member_by_key(alloc, &mut self.connection, key) {
             Ok(name) => Ok(name),
             Err(fault) => {
                 self.needs_reopening = true;

@@ -5,7 +5,7 @@ ghost use Rattle.std.specs.Prelude.{OnOk, OnErr, [], map, length, take};
 ghost use Rattle.sqlite.specs.State.{HasCleanDisk};
 ghost use Rattle.sqlite.specs.Held.{state};
 ghost use Rattle.sqlite_trees.specs.View.{doubt};
-ghost use Rattle.store_tables.specs.Over.{HasRows, IsBesideThem, LeavesBeside};
+ghost use Rattle.store_tables.specs.Over.{HasRows, HoldsClubAmong, LeavesBeside};
 ghost use Rattle.club_core.specs.Answer.{answered, outcome_of, request_of};
 ghost use Rattle.club_rows.specs.Club.{ClubState, IsClub, tables};
 ghost use Rattle.club_changes.specs.Steps.{club_step, club_next};
@@ -42,9 +42,9 @@ impl Run {
 impl<S: Alter> Club<S> {
     // Executes one request. The range of `Moment` keeps a legal state legal.
     fn serve(&mut self, alloc: Global, request: &Request) -> Result<Outcome, StoreFault>
-        ensures goes_on { OnOk result (self.new.needs_reopening ≡ false) }
+        ensures stays_open { OnOk result (self.new.needs_reopening ≡ false) }
         ensures ends { OnErr result (self.new.needs_reopening ≡ true) }
-        ensures named { IfErr result (λ fault. self.old.needs_reopening ≡ false →
+        ensures possible_faults { IfErr result (λ fault. self.old.needs_reopening ≡ false →
             (fault ≡ StoreFault.Store) ⊎ (fault ≡ StoreFault.Memory)) }
         ensures clean { doubt (state S.Store self.old.connection).is_clean ≤ doubt
             (state S.Store self.new.connection).is_clean }
@@ -53,11 +53,11 @@ impl<S: Alter> Club<S> {
             IsClub s → HasRows (tables s) (state S.Store self.old.connection) →
             outcome_of outcome ≡ answered (club_step s (request_of request.now))) }
         ensures step { HasCleanDisk (state S.Store self.new.connection) → OnOk result ((them : _) (s : ClubState) →
-            IsClub s → IsBesideThem them (tables s) (state S.Store self.old.connection) →
-            IsBesideThem them (tables (club_next s (request_of request.now))) (state S.Store self.new.connection)) }
+            IsClub s → HoldsClubAmong them (tables s) (state S.Store self.old.connection) →
+            HoldsClubAmong them (tables (club_next s (request_of request.now))) (state S.Store self.new.connection)) }
         ensures fault { HasCleanDisk (state S.Store self.new.connection) →
             OnErr result (self.old.needs_reopening ≡ false → (them : _) (s : ClubState) → IsClub s →
-            IsBesideThem them (tables s) (state S.Store self.old.connection) →
+            HoldsClubAmong them (tables s) (state S.Store self.old.connection) →
             (db : _) → (state S.Store self.new.connection).may_leave db → LeavesBeside them (tables s) db ⊎
             LeavesBeside them (tables (club_next s (request_of request.now))) db) }
     {
@@ -70,42 +70,42 @@ impl<S: Alter> Club<S> {
     ///
     /// # Guarantees
     ///
-    /// `outcomes`: the outcomes are those of the club's specification. `whole`, `stored`: without a fault every request
-    /// is answered, and the tables hold the state after all. `fault`, `left`: after a fault or a crash the file holds
+    /// `outcomes`: the outcomes are those of the club's specification. `whole`, `to_i64`: without a fault every request
+    /// is answered, and the tables hold the state after all. `fault`, `seconds_left`: after a fault or a crash the file holds
     /// the state after the answered requests, or after one more.
     pub fn run(&mut self, alloc: Global, requests: &[Request]) -> Run
         ensures shut { self.old.needs_reopening ≡ true → (result.fault ≡ Some StoreFault.Reopen) ×
             (result.outcomes.items ≡ []) × (self.new ≡ self.old) }
-        ensures named { self.old.needs_reopening ≡ false →
+        ensures possible_faults { self.old.needs_reopening ≡ false →
             IfSome result.fault (λ fault. (fault ≡ StoreFault.Store) ⊎ (fault ≡ StoreFault.Memory)) }
-        ensures goes_on { result.fault ≡ None → self.new.needs_reopening ≡ false }
+        ensures stays_open { result.fault ≡ None → self.new.needs_reopening ≡ false }
         ensures ends { IsSome result.fault → self.new.needs_reopening ≡ true }
         ensures clean { doubt (state S.Store self.old.connection).is_clean ≤ doubt
             (state S.Store self.new.connection).is_clean }
         ensures within { length result.outcomes.items ≤ length requests.now }
         ensures whole { result.fault ≡ None → length result.outcomes.items ≡ length requests.now }
         ensures outcomes { HasCleanDisk (state S.Store self.new.connection) → (them : _) (s : ClubState) → IsClub s →
-            IsBesideThem them (tables s) (state S.Store self.old.connection) →
+            HoldsClubAmong them (tables s) (state S.Store self.old.connection) →
             map outcome_of result.outcomes.items ≡ map answered
             (club_outcomes s (map request_of (take (length result.outcomes.items) requests.now))) }
         ensures stored { HasCleanDisk (state S.Store self.new.connection) → result.fault ≡ None →
             (them : _) (s : ClubState) → IsClub s →
-            IsBesideThem them (tables s) (state S.Store self.old.connection) → IsBesideThem them
+            HoldsClubAmong them (tables s) (state S.Store self.old.connection) → HoldsClubAmong them
             (tables (club_fold s (map request_of requests.now))) (state S.Store self.new.connection) }
         ensures legal { HasCleanDisk (state S.Store self.new.connection) → result.fault ≡ None →
             (them : _) (s : ClubState) → IsClub s →
-            IsBesideThem them (tables s) (state S.Store self.old.connection) →
+            HoldsClubAmong them (tables s) (state S.Store self.old.connection) →
             IsClub (club_fold s (map request_of requests.now)) }
         ensures fault { HasCleanDisk (state S.Store self.new.connection) → IsSome result.fault →
             self.old.needs_reopening ≡ false → (them : _) (s : ClubState) → IsClub s →
-            IsBesideThem them (tables s) (state S.Store self.old.connection) →
+            HoldsClubAmong them (tables s) (state S.Store self.old.connection) →
             (db : _) → (state S.Store self.new.connection).may_leave db → LeavesBeside them
             (tables (club_fold s (map request_of (take (length result.outcomes.items) requests.now)))) db
             ⊎ LeavesBeside them
             (tables (club_fold s (map request_of (take (length result.outcomes.items + 1) requests.now)))) db }
         ensures left { HasCleanDisk (state S.Store self.new.connection) → self.old.needs_reopening ≡ false →
             (them : _) (s : ClubState) → IsClub s →
-            IsBesideThem them (tables s) (state S.Store self.old.connection) →
+            HoldsClubAmong them (tables s) (state S.Store self.old.connection) →
             (db : _) → (state S.Store self.new.connection).may_leave db →
             IsAfter them s requests.now (length result.outcomes.items) db
             ⊎ (IsSome result.fault × IsAfter them s requests.now (length result.outcomes.items + 1) db) }

@@ -5,7 +5,7 @@ ghost use Rattle.std.specs.Prelude.{map, length, take};
 ghost use Rattle.sqlite.specs.State.{HasCleanDisk, Opens, IsLive};
 ghost use Rattle.sqlite.specs.Held.{state};
 ghost use Rattle.sqlite_trees.specs.View.{doubt};
-ghost use Rattle.store_tables.specs.Over.{IsBesideThem};
+ghost use Rattle.store_tables.specs.Over.{HoldsClubAmong};
 ghost use Rattle.club_core.specs.Answer.{answered, outcome_of, request_of};
 ghost use Rattle.club_rows.specs.Club.{ClubState, IsClub, tables};
 ghost use Rattle.store.specs.Runs.{club_outcomes};
@@ -14,7 +14,7 @@ ghost use Rattle.store.specs.Histories.{HasState, IsReachable, IsHistory, sessio
 use super::run::Run;
 use super::{Club, Unopened, adopt};
 use crate::fault::StoreFault;
-use club_opening::OpenFault;
+use club_check::OpenFault;
 use club_requests::Request;
 use sqlite::{Alter, Connection};
 use std::alloc::Global;
@@ -29,16 +29,16 @@ impl<S: Alter> Club<S> {
     pub fn session(&mut self, alloc: Global, requests: &[Request]) -> Run
         ensures shut { self.old.needs_reopening ≡ true → (result.fault ≡ Some StoreFault.Reopen) ×
             (result.outcomes.items ≡ []) × (self.new ≡ self.old) }
-        ensures named { self.old.needs_reopening ≡ false →
+        ensures possible_faults { self.old.needs_reopening ≡ false →
             IfSome result.fault (λ fault. (fault ≡ StoreFault.Store) ⊎ (fault ≡ StoreFault.Memory)) }
-        ensures goes_on { result.fault ≡ None → self.new.needs_reopening ≡ false }
+        ensures stays_open { result.fault ≡ None → self.new.needs_reopening ≡ false }
         ensures ends { IsSome result.fault → self.new.needs_reopening ≡ true }
         ensures clean { doubt (state S.Store self.old.connection).is_clean ≤ doubt
             (state S.Store self.new.connection).is_clean }
         ensures within { length result.outcomes.items ≤ length requests.now }
         ensures whole { result.fault ≡ None → length result.outcomes.items ≡ length requests.now }
         ensures outcomes { HasCleanDisk (state S.Store self.new.connection) → (them : _) (s : ClubState) → IsClub s →
-            IsBesideThem them (tables s) (state S.Store self.old.connection) →
+            HoldsClubAmong them (tables s) (state S.Store self.old.connection) →
             map outcome_of result.outcomes.items ≡ map answered
             (club_outcomes s (map request_of (take (length result.outcomes.items) requests.now))) }
         ensures history { HasCleanDisk (state S.Store self.new.connection) → self.old.needs_reopening ≡ false →
@@ -62,7 +62,7 @@ impl<S: Alter> Club<S> {
 /// # Guarantees
 ///
 /// `history`: whatever a crash leaves is reached by the earlier sessions and this one. `kept`: after an error, by the
-/// earlier sessions. `good`: a legal club is opened, unless a call fails or memory runs out.
+/// earlier sessions. `accepts_sound`: a legal club is opened, unless a call fails or memory runs out.
 pub fn resume<S: Alter>(
     alloc: Global,
     conn: Connection<S>,
@@ -71,10 +71,10 @@ pub fn resume<S: Alter>(
     requires { conn.in_transaction ≡ false }
     ensures clean { IfOk result (λ resumed. doubt (state S.Store conn).is_clean ≤ doubt
         (state S.Store resumed.1.connection).is_clean) }
-    ensures goes_on { IfOk result (λ resumed. resumed.0.fault ≡ None → resumed.1.needs_reopening ≡ false) }
+    ensures stays_open { IfOk result (λ resumed. resumed.0.fault ≡ None → resumed.1.needs_reopening ≡ false) }
     ensures ends { IfOk result (λ resumed. IsSome resumed.0.fault → resumed.1.needs_reopening ≡ true) }
     // Never `Reopen`: the club was opened just now.
-    ensures named { IfOk result (λ resumed. IfSome resumed.0.fault (λ fault. (fault ≡ StoreFault.Store) ⊎ (fault ≡
+    ensures possible_faults { IfOk result (λ resumed. IfSome resumed.0.fault (λ fault. (fault ≡ StoreFault.Store) ⊎ (fault ≡
         StoreFault.Memory))) }
     ensures within { IfOk result (λ resumed. length resumed.0.outcomes.items ≤ length requests.now) }
     ensures whole { IfOk result (λ resumed. resumed.0.fault ≡ None →
@@ -97,7 +97,7 @@ pub fn resume<S: Alter>(
     ensures idle { IfErr result (λ unopened. unopened.conn.in_transaction ≡ false) }
     ensures known { IfErr result (λ unopened. doubt (state S.Store conn).is_clean ≤ doubt
         (state S.Store unopened.conn).is_clean) }
-    ensures good { IfErr result (λ unopened. HasCleanDisk (state S.Store unopened.conn) → Opens (state S.Store conn) →
+    ensures accepts_sound { IfErr result (λ unopened. HasCleanDisk (state S.Store unopened.conn) → Opens (state S.Store conn) →
         IsLive (state S.Store conn) →
         (s : ClubState) → IsClub s → HasState s (state S.Store conn).committed.trees →
         (unopened.fault ≡ OpenFault.Store) ⊎ (unopened.fault ≡ OpenFault.Memory)) }

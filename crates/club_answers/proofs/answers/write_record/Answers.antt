@@ -7,12 +7,12 @@ returns-in-Ok-true-clause-shown g c clean s moment is_club k =
 
 pub returns-in-Ok-true-clause-begun : goal.returns-in-Ok-true-clause-begun
 returns-in-Ok-true-clause-begun g c clean s moment is_club k =
-    record_begun s c.args.game _ _ (c.export_of.ensures.begun clean s is_club k)
+    record_begun s c.args.game _ _ (c.export_game.ensures.begun clean s is_club k)
 
 pub returns-in-Ok-false-clause-begun : goal.returns-in-Ok-false-clause-begun
 returns-in-Ok-false-clause-begun g c clean s moment is_club k =
-    record_begun s c.args.game _ _ (c.export_of.ensures.begun clean s is_club k)
+    record_begun s c.args.game _ _ (c.export_game.ensures.begun clean s is_club k)
 
 pub returns-in-Err-clause-begun : goal.returns-in-Err-clause-begun
 returns-in-Err-clause-begun g c clean s moment is_club k =
-    record_begun s c.args.game _ _ (c.export_of.ensures.begun clean s is_club k)
+    record_begun s c.args.game _ _ (c.export_game.ensures.begun clean s is_club k)

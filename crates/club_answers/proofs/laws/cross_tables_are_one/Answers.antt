@@ -1,4 +1,4 @@
-use Rattle.club_views.proofs.Proved.{table_one}
+use Rattle.club_answers.proofs.Proved.{table_one}
 use Rattle.club_answers.proofs.laws.cross_tables_are_one.Goals as goal
 
 pub returns : goal.returns

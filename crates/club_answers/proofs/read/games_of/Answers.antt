@@ -10,6 +10,6 @@ returns-clause-reads g c = ended _ c.in_ok-rows.ensures.reads
 
 pub returns-clause-told : goal.returns-clause-told
 returns-clause-told g c clean =
-    IfOk-weaker c.all_told.result _ _ (λ games told s is_club k.
+    IfOk-weaker c.entries_of.result _ _ (λ games told s is_club k.
     told s is_club (rw c.deref.ensures.value (c.in_ok-rows.ensures.rows clean refl (tables s) k (games_begin s))))
-    c.all_told.ensures
+    c.entries_of.ensures

@@ -20,7 +20,7 @@ loop-id-preserved g c =
       first = not_first c.args.ids.now c.loop-id.id-index c.loop-id-test.true;
       reads = reads_on c.loop-id.invariant.reads c.in-Ok.ensures.reads;
       written = λ clean s is_club k.
-          let (early, kept) = between s c.loop-id.invariant.reads c.write_behind.ensures.reads clean k in
+          let (early, kept) = between s c.loop-id.invariant.reads c.write_record_after.ensures.reads clean k in
           more_written s c.args.kind c.args.ids.now c.loop-id.id-index _ c.loop-id.is_first _ _ _ _
           c.loop-id-test.true c.loop-id.invariant.first c.opening.ensures
           (c.loop-id.invariant.written early s is_club k)
@@ -32,11 +32,11 @@ returns-in-Err-clause-reads g c = reads_on c.loop-id.invariant.reads c.in-Err.en
 
 pub returns-in-Err-clause-begun : goal.returns-in-Err-clause-begun
 returns-in-Err-clause-begun g c clean s is_club k =
-    let (early, kept) = between s c.loop-id.invariant.reads c.write_behind.ensures.reads clean k in
+    let (early, kept) = between s c.loop-id.invariant.reads c.write_record_after.ensures.reads clean k in
     more_begun s c.args.kind c.args.ids.now c.loop-id.id-index _ c.loop-id.is_first _ _ _ _
     c.loop-id-test.true c.loop-id.invariant.first c.opening.ensures
     (c.loop-id.invariant.written early s is_club k)
-    (c.write_behind.ensures.begun clean s is_club kept)
+    (c.write_record_after.ensures.begun clean s is_club kept)
 
 pub returns-clause-written : goal.returns-clause-written
 returns-clause-written g c clean s is_club k =

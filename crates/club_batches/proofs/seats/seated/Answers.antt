@@ -1,6 +1,6 @@
 use Rattle.std.proofs.Common.{◌+◌, drop, get_or, ap, ◌∙◌, arith}
 use Rattle.std.proofs.lemmas.List.{drop_more}
-use Rattle.pairings.specs.declared.table.Pairing.{Pairing}
+use Rattle.pairings.specs.declared.table.BoardPairing.{BoardPairing}
 use Rattle.club_core.specs.Answer.{request_of}
 use Rattle.club_core.specs.State.{Command, Request, officer}
 use Rattle.club_batches.specs.Orders.{order_at}
@@ -12,7 +12,7 @@ pub loop-game-preserved : goal.loop-game-preserved
 loop-game-preserved c =
     let games = c.args.games.now in
     let k = c.loop-game.game-index in
-    let none : Pairing = record { round = 0; board = 0; first = 0; second = 0 } in
+    let none : BoardPairing = record { round = 0; board = 0; first = 0; second = 0 } in
     let given : Command → Request = λ command.
     record { who = officer; command = command; moment = c.args.moment } in
     record {

@@ -14,11 +14,11 @@ returns-in_ok-changes-in-Accepted-clause-step c s accept is_club es leaves =
 
 pub returns-in-Repeated-clause-step : goal.returns-in-Repeated-clause-step
 returns-in-Repeated-clause-step c s accept is_club es leaves =
-    challenge_unmoved s is_club c.args.moment (with_answer s c.args.moment accept) c.args.decision c.unchanged.result
-    (rw c.in-Repeated.is c.unchanged.ensures.outcome) c.unchanged.ensures.none
+    challenge_unmoved s is_club c.args.moment (with_answer s c.args.moment accept) c.args.decision c.without_changes.result
+    (rw c.in-Repeated.is c.without_changes.ensures.outcome) c.without_changes.ensures.none
 
 pub returns-in-Refused-clause-step : goal.returns-in-Refused-clause-step
 returns-in-Refused-clause-step c s accept is_club es leaves =
     challenge_unmoved s is_club c.args.moment (with_answer s c.args.moment accept) c.args.decision
-    c.unchanged-in-Refused.result
-    (rw c.in-Refused.is c.unchanged-in-Refused.ensures.outcome) c.unchanged-in-Refused.ensures.none
+    c.without_changes-in-Refused.result
+    (rw c.in-Refused.is c.without_changes-in-Refused.ensures.outcome) c.without_changes-in-Refused.ensures.none

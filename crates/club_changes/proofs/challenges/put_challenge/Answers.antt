@@ -7,15 +7,15 @@ pub returns-in_ok-changes-in-Accepted-clause-step : goal.returns-in_ok-changes-i
 returns-in_ok-changes-in-Accepted-clause-step c s is_club =
     rw c.in-Accepted.is
     (challenge_decided s is_club c.args.moment c.in-Accepted.challenge c.in-Accepted.answer
-    c.in_ok-changes-in-Accepted.changes (c.in_ok-changes-in-Accepted.ensures c.args.moment [] [] c.at.ensures))
+    c.in_ok-changes-in-Accepted.changes (c.in_ok-changes-in-Accepted.ensures c.args.moment [] [] c.changes_at.ensures))
 
 pub returns-in-Repeated-clause-step : goal.returns-in-Repeated-clause-step
 returns-in-Repeated-clause-step c s is_club =
-    challenge_unmoved s is_club c.args.moment (with_challenge s c.args.moment) c.args.decision c.unchanged.result
-    (rw c.in-Repeated.is c.unchanged.ensures.outcome) c.unchanged.ensures.none
+    challenge_unmoved s is_club c.args.moment (with_challenge s c.args.moment) c.args.decision c.without_changes.result
+    (rw c.in-Repeated.is c.without_changes.ensures.outcome) c.without_changes.ensures.none
 
 pub returns-in-Refused-clause-step : goal.returns-in-Refused-clause-step
 returns-in-Refused-clause-step c s is_club =
     challenge_unmoved s is_club c.args.moment (with_challenge s c.args.moment) c.args.decision
-    c.unchanged-in-Refused.result
-    (rw c.in-Refused.is c.unchanged-in-Refused.ensures.outcome) c.unchanged-in-Refused.ensures.none
+    c.without_changes-in-Refused.result
+    (rw c.in-Refused.is c.without_changes-in-Refused.ensures.outcome) c.without_changes-in-Refused.ensures.none

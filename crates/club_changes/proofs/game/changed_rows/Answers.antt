@@ -4,7 +4,7 @@ use Rattle.club_changes.proofs.game.changed_rows.Goals as goal
 
 pub returns : goal.returns
 returns g c terms new first second left is =
-    let games = one_pushed game_cells c.at-changes.result.games.items c.push.new.self.items c.in_ok-record_of.field-0 _
-    c.at-changes.ensures.games_are c.in_ok-push.ensures.items (c.in_ok-record_of.ensures first second terms new is) in
+    let games = one_pushed game_cells c.changes_at-changes.result.games.items c.push.new.self.items c.in_ok-record_of.field-0 _
+    c.changes_at-changes.ensures.games_are c.in_ok-push.ensures.items (c.in_ok-record_of.ensures first second terms new is) in
     let moves = c.in_ok-changes.ensures left in
-    search (games, moves, c.in_ok-changes-2.ensures, c.in_ok-changes-3.ensures, c.at-changes.ensures)
+    search (games, moves, c.in_ok-changes-2.ensures, c.in_ok-changes-3.ensures, c.changes_at-changes.ensures)

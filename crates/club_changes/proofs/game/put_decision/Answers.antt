@@ -6,14 +6,14 @@ use Rattle.club_changes.proofs.game.put_decision.Goals as goal
 pub returns-in-Repeated-clause-step : goal.returns-in-Repeated-clause-step
 returns-in-Repeated-clause-step g c terms old who command table budget increment legal is seen scores =
     none_given g.R.Rules.rules terms c.args.game old c.args.moment table
-    (game_step g.R.Rules.rules terms old c.args.moment who command) c.args.shown c.unchanged.result is
-    (rw c.in-Repeated.is c.unchanged.ensures.outcome) c.unchanged.ensures.none
+    (game_step g.R.Rules.rules terms old c.args.moment who command) c.args.shown c.without_changes.result is
+    (rw c.in-Repeated.is c.without_changes.ensures.outcome) c.without_changes.ensures.none
 
 pub returns-in-Refused-clause-step : goal.returns-in-Refused-clause-step
 returns-in-Refused-clause-step g c terms old who command table budget increment legal is seen scores =
     none_given g.R.Rules.rules terms c.args.game old c.args.moment table
-    (game_step g.R.Rules.rules terms old c.args.moment who command) c.args.shown c.unchanged-in-Refused.result is
-    (rw c.in-Refused.is c.unchanged-in-Refused.ensures.outcome) c.unchanged-in-Refused.ensures.none
+    (game_step g.R.Rules.rules terms old c.args.moment who command) c.args.shown c.without_changes-in-Refused.result is
+    (rw c.in-Refused.is c.without_changes-in-Refused.ensures.outcome) c.without_changes-in-Refused.ensures.none
 
 pub returns-clause-step : goal.returns-clause-step
 returns-clause-step g c terms old who command table budget increment legal is seen scores =

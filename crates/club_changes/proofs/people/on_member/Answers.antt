@@ -14,8 +14,8 @@ pub returns-then-not-is_accepted-clause-step : goal.returns-then-not-is_accepted
 returns-then-not-is_accepted-clause-step c s same =
     let name = string_bytes c.args.command.now.name in
     let key = string_bytes c.args.command.now.key in
-    officer_none s (with_members s c.args.moment) c.args.caller (member_step s.members name key) c.unchanged.result
-    c.add_member-outcome.result c.unchanged.ensures.outcome c.unchanged.ensures.none
+    officer_none s (with_members s c.args.moment) c.args.caller (member_step s.members name key) c.without_changes.result
+    c.add_member-outcome.result c.without_changes.ensures.outcome c.without_changes.ensures.none
     (c.add_member-outcome.ensures ∙ ap (λ ms. answered (by_officer c.args.caller (member_step ms name key))) same)
     (sym c.if-not-is_accepted.ensures)
 
@@ -26,10 +26,10 @@ returns-clause-step c s same =
     let m : Member = record { name = name; key = key } in
     let counted : length (members_of c.args.members.now) ≡ length c.args.members.now = simp length-map in
     let next : length c.args.members.now + 1 ≡ 1 + length s.members = omega (arith, counted, ap length same) in
-    let members = one_pushed member_cells c.at-changes.result.members.items c.push.new.self.items
-    c.in_ok-member_row.field-0 (member_row (1 + length s.members) m) c.at-changes.ensures.members_are
+    let members = one_pushed member_cells c.changes_at-changes.result.members.items c.push.new.self.items
+    c.in_ok-member_row.field-0 (member_row (1 + length s.members) m) c.changes_at-changes.ensures.members_are
     c.in_ok-push.ensures.items (c.in_ok-member_row.ensures ∙ ap (λ k. member_row k m) next) in
     member_decided s c.args.moment c.args.caller name key c.add_member-outcome.result _
     (c.add_member-outcome.ensures ∙ ap (λ ms. answered (by_officer c.args.caller (member_step ms name key))) same)
     (sym c.if-not-is_accepted.ensures)
-    (search (members, c.at-changes.ensures))
+    (search (members, c.changes_at-changes.ensures))

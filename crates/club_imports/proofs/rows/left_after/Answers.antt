@@ -12,8 +12,8 @@ loop-ply-preserved c =
     let now = c.loop-ply.invariant in
     let increment : ℕ = c.args.increment in
     let low : increment ≤ 2592000 = let is = c.requires.increment in grind (arith, nat_tests, is) in
-    let first = ap (λ k. k.left_first) (c.with-left.ensures 0) in
-    let second = ap (λ k. k.left_second) (c.with-left.ensures 0) in
+    let first = ap (λ k. k.left_first) (c.with_increment-left.ensures 0) in
+    let second = ap (λ k. k.left_second) (c.with_increment-left.ensures 0) in
     let more_first = spend-first increment c.loop-ply.left.first c.loop-ply.left.second 0 c.loop-ply.side low in
     let more_second = spend-second increment c.loop-ply.left.first c.loop-ply.left.second 0 c.loop-ply.side low in
     let was_first = now.first in
@@ -21,7 +21,7 @@ loop-ply-preserved c =
     record {
       side = c.other-side.ensures ∙ ap other now.side ∙ sym (turns-more c.loop-ply.ply First);
       clocks = λ moment.
-          c.with-left.ensures moment ∙ (λ i. spend increment (now.side i) moment (now.clocks moment i))
+          c.with_increment-left.ensures moment ∙ (λ i. spend increment (now.side i) moment (now.clocks moment i))
           ∙ spend-more increment moment c.loop-ply.ply (clocks_with c.args.budget c.args.budget moment);
       first = omega (arith, first, more_first, was_first);
       second = omega (arith, second, more_second, was_second);

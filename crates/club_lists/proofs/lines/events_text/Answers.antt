@@ -2,13 +2,13 @@ use Rattle.std.proofs.Common.{◌+◌, ap, ◌∙◌, rules}
 use Rattle.std.specs.Prelude.{string_bytes}
 use Rattle.club_core.specs.Answer.{event_of}
 use Rattle.club_lists.specs.Lines.{event_line}
-use Rattle.club_lists.specs.SummaryViews.{all_by}
+use Rattle.club_lists.specs.SummaryViews.{summaries_of}
 use Rattle.club_lists.proofs.Numbered.{numbered_more}
 use Rattle.club_lists.proofs.lines.events_text.Goals as goal
 
 pub loop-event-preserved : goal.loop-event-preserved
 loop-event-preserved c =
-    let games = all_by c.args.games.now in
+    let games = summaries_of c.args.games.now in
     let id_is = c.loop-event.invariant.count in
     record {
       count = ap (λ n. n + 1) id_is;

@@ -9,10 +9,10 @@ pub returns-clause-known : goal.returns-clause-known
 returns-clause-known g c clean s is_club k =
     let at_members : HasCleanDisk (state g.S.Store c.all_members.new.conn) =
     omega (arith, c.all_events.ensures.reads.clean) in
-    let at_games : HasCleanDisk (state g.S.Store c.games_in.new.conn) =
+    let at_games : HasCleanDisk (state g.S.Store c.count_games.new.conn) =
     omega (arith, at_members, c.all_members.ensures.reads.clean) in
     let at_under : HasCleanDisk (state g.S.Store c.stored_under.new.conn) =
-    omega (arith, at_games, c.games_in.ensures.reads.clean) in
+    omega (arith, at_games, c.count_games.ensures.reads.clean) in
     let one = still_rows _ _ (c.in_ok-under.ensures.reads.kept refl at_under) (tables s) k in
     let two = still_rows _ _ (c.in_ok-games.ensures.reads.kept refl at_games) (tables s) one in
     let three = still_rows _ _ (c.in_ok-members.ensures.reads.kept refl at_members) (tables s) two in

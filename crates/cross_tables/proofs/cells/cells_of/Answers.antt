@@ -1,17 +1,17 @@
 use Rattle.std.proofs.Common.{◌≡◌, ◌∙◌, ◌==◌, ℕ, true, false, cond, Some, List, [], ◌∷◌, refl, ap}
 use Rattle.std.specs.Prelude.{◌&&◌, if◌then◌else◌, map}
 use Rattle.std.specs.List.{filter}
-use Rattle.cross_tables.specs.declared.sums.Scored.{Scored}
+use Rattle.cross_tables.specs.declared.sums.OpponentScore.{OpponentScore}
 use Rattle.cross_tables.specs.declared.cells.Cell.TheVariants.{Oneself}
 use Rattle.cross_tables.specs.Cells.{cell_of, points_cell, row_of}
 use Rattle.cross_tables.proofs.cells.cells_of.Goals as goal
 
 module _ (member other : ℕ) where
-  abbrev own : List Scored → List Scored
+  abbrev own : List OpponentScore → List OpponentScore
   own rows = filter (λ row. row.member == member) rows
 
   -- a member's own rows show what all rows do
-  row_of-own : (rows : List Scored) → row_of (own rows) member other ≡ row_of rows member other
+  row_of-own : (rows : List OpponentScore) → row_of (own rows) member other ≡ row_of rows member other
   row_of-own [] = refl
   row_of-own (row ∷ rows) =
       elim (row.member == member) as (λ b. (row.member == member) ≡ b

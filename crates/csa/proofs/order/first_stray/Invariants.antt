@@ -1,5 +1,5 @@
 use Rattle.std.proofs.Common.{◌≡◌, drop}
-use Rattle.csa.specs.declared.order.Place.TheVariants as place
+use Rattle.csa.specs.declared.order.RecordStage.TheVariants as place
 use Rattle.csa.specs.Order.{first_stray}
 use Rattle.csa.proofs.order.first_stray.Given as goal
 

@@ -9,7 +9,7 @@ use Rattle.shogi_repetition.specs.Line.{last_position}
 use Rattle.csa.specs.declared.end_words.EndWord.{EndWord}
 use Rattle.csa.specs.declared.faults.CsaFault.{CsaFault}
 use Rattle.csa.specs.declared.faults.CsaFault.TheVariants as fault
-use Rattle.csa.specs.declared.lines.Placed.{Placed}
+use Rattle.csa.specs.declared.lines.NumberedStatement.{NumberedStatement}
 use Rattle.csa.specs.Endings.{claimed, claim_settled, ending}
 use Rattle.csa.specs.Records.{Plays, score_in, end_in, EndFails, RecordFails}
 use Rattle.csa.proofs.records.game_of.Goals as goal
@@ -33,7 +33,7 @@ of-ends None p end f e = let is : f ≡ fault.Unfinished = cc in inl is
 of-ends (Some w) p end f e = of-claim w (claimed w p.turn) p end f e
 
 -- a record whose end has a fault
-end-fails : (placed : List Placed) (ms : List SMove) (end : Option SEnd) (f : CsaFault) → Plays placed ms end
+end-fails : (placed : List NumberedStatement) (ms : List SMove) (end : Option SEnd) (f : CsaFault) → Plays placed ms end
     → score_in placed ms end ≡ Err f → RecordFails placed f
 end-fails placed ms end f plays e =
     let fails : EndFails placed f = record { moves = ms; end = end; plays = plays; score = e } in
@@ -46,7 +46,7 @@ end-fails placed ms end f plays e =
 
 pub returns-in-Err-clause-fault : goal.returns-in-Err-clause-fault
 returns-in-Err-clause-fault c =
-    let placed : List Placed = c.args.placed.now in
+    let placed : List NumberedStatement = c.args.placed.now in
     let ms : List SMove = c.args.replay.moves.items in
     let end = c.end-end.result in
     let score : score_in placed ms end ≡ Err c.in-Err.fault =

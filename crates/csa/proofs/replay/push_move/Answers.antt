@@ -1,5 +1,5 @@
 use Rattle.std.proofs.Common.{◌≡◌, List, [], ◌∷◌, ◌++◌, sym, ap, subst, ◌∙◌}
-use Rattle.game_lines.proofs.Proved.{last-legal, last_position-append}
+use Rattle.game_history.proofs.Proved.{last-legal, last_position-append}
 use Rattle.squares.specs.declared.shogi.moves.SMove.{SMove}
 use Rattle.squares.specs.ShogiOpening.{opening}
 use Rattle.squares.specs.ShogiSets.{ShogiPosition}

@@ -1,7 +1,7 @@
 use Rattle.std.proofs.Common.{◌≡◌, ◌+◌, ◌++◌, ◌∷◌, [], List, take, sym, ap, subst, ◌∙◌, rules}
 use Rattle.std.proofs.lemmas.List.{take_more}
 use Rattle.squares.specs.ShogiOpening.{opening}
-use Rattle.csa.specs.declared.lines.Placed.{Placed}
+use Rattle.csa.specs.declared.lines.NumberedStatement.{NumberedStatement}
 use Rattle.csa.specs.Moves.{MeanAll}
 use Rattle.csa.specs.Replays.{written_moves, RefusesMoves}
 use Rattle.csa.proofs.RecordLemmas.{written-more, refuses-record}
@@ -9,7 +9,7 @@ use Rattle.csa.proofs.replay.replay_of.Goals as goal
 
 pub returns-in_err-push_statement-clause-fault : goal.returns-in_err-push_statement-clause-fault
 returns-in_err-push_statement-clause-fault c =
-    let placed : List Placed = c.args.placed.now in
+    let placed : List NumberedStatement = c.args.placed.now in
     let held : RefusesMoves (written_moves placed) c.in_err-push_statement.field-0.0 =
     refuses-record placed c.loop-each.each-index c.each-item.result c.loop-each.replay.moves.items
     c.in_err-push_statement.field-0.0 c.loop-each-test.true c.each-item.is
@@ -19,9 +19,9 @@ returns-in_err-push_statement-clause-fault c =
 
 pub loop-each-preserved : goal.loop-each-preserved
 loop-each-preserved c =
-    let placed : List Placed = c.args.placed.now in
+    let placed : List NumberedStatement = c.args.placed.now in
     let k = c.loop-each.each-index in
-    let each : Placed = c.each-item.result in
+    let each : NumberedStatement = c.each-item.result in
     let longer : take (k + 1) placed ≡ take k placed ++ each ∷ [] = take_more placed k each c.loop-each-test.true
     ∙ ap (λ e. take k placed ++ e ∷ []) (sym c.each-item.is) in
     record {

@@ -14,8 +14,8 @@ returns c =
       pieces = λ n. rw c.union.ensures
           (pieces-are p c.squares_of-first.result c.squares_of.result c.squares_of-first.ensures
           c.squares_of.ensures n);
-      up_left = λ n. c.exposed.ensures n ∙ are direction.UpLeft n;
-      up_right = λ n. c.exposed-2.ensures n ∙ are direction.UpRight n;
-      down_left = λ n. c.exposed-3.ensures n ∙ are direction.DownLeft n;
-      down_right = λ n. c.exposed-4.ensures n ∙ are direction.DownRight n;
+      up_left = λ n. c.exposed_squares.ensures n ∙ are direction.UpLeft n;
+      up_right = λ n. c.exposed_squares-2.ensures n ∙ are direction.UpRight n;
+      down_left = λ n. c.exposed_squares-3.ensures n ∙ are direction.DownLeft n;
+      down_right = λ n. c.exposed_squares-4.ensures n ∙ are direction.DownRight n;
     }

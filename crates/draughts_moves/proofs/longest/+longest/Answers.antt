@@ -28,10 +28,10 @@ longest-more-requires t c =
     let jump = jumps-sound b m.piece m.taken m.at item.0 item.1 among in
     let left_by : Mover → ℕ = λ mover. prey_left (without c.args.position.now.board mover.origin) mover.piece
     mover.taken in
-    let less : left_by c.jumped-next.result ≡ prey_left b m.piece (set.insert m.taken item.0) =
-    ap left_by c.jumped-next.ensures in
+    let less : left_by c.after_jump-next.result ≡ prey_left b m.piece (set.insert m.taken item.0) =
+    ap left_by c.after_jump-next.ensures in
     let at_most : prey_left b m.piece m.taken ≡ t = c.decreases in
-    let smaller : left_by c.jumped-next.result < t = omega
+    let smaller : left_by c.after_jump-next.result < t = omega
     (arith, prey_left-falls b m.piece m.taken m.at item.0 item.1 jump, less, at_most) in
     (smaller, tt)
 

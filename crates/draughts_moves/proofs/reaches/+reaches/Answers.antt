@@ -18,7 +18,7 @@ returns-then-reaches t c =
     c.loop-over-item.is c.loop-over.invariant.items_are in (
       λ _. Reaches-by (without c.args.position.now.board m.origin) m.piece c.args.left m.taken m.at item
           c.args.played.now.taken c.args.played.now.to (omega arith) among
-          (rw c.jumped-next.ensures at (c.reaches.ensures.0 c.if-reaches.true)),
+          (rw c.after_jump-next.ensures at (c.reaches.ensures.0 c.if-reaches.true)),
       λ _. refl,
     )
 
@@ -31,7 +31,7 @@ loop-over-preserved t c =
             | inl before ↦ c.loop-over.invariant.none j before r
             | inr this ↦
                 let same : j ≡ c.loop-over-item.result = sym this ∙ sym c.loop-over-item.is in
-                let found = c.reaches.ensures.1 (rw c.jumped-next.ensures (rw same at r)) in
+                let found = c.reaches.ensures.1 (rw c.after_jump-next.ensures (rw same at r)) in
                 let not_found = c.if-reaches.false in
                 cc
           ];

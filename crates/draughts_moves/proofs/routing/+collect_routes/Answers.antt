@@ -33,7 +33,7 @@ loop-over-preserved t c =
           put_all-more route_cmp route_cmp-total (by_jump b q m.taken m.to (c.args.left - 1) taken path)
           c.items-over-items.result.now w.over-index item (lists_in c.args.routes.now.items) (lists_in w.routes.items)
           (lists_in c.collect_routes.new.routes.items) c.loop-over-test.true c.loop-over-item.is w.invariant.so_far
-          (rw (c.jumped-next.ensures, on) at c.in_ok-collect_routes.ensures.found);
+          (rw (c.after_jump-next.ensures, on) at c.in_ok-collect_routes.ensures.found);
       items_are = w.invariant.items_are;
       path_is = without_last path c.collect_routes.new.path.items c.pop.new.self.items item.1
           (c.in_ok-collect_routes.ensures.path ∙ longer) (vec_len c.collect_routes.new.path)

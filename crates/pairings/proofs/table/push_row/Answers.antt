@@ -1,5 +1,5 @@
 use Rattle.std.proofs.Common.{◌≡◌, ◌+◌, ◌++◌, ◌∷◌, [], List, suc, length, ℕ, ◌-◌, sym, ap, subst, ◌∙◌, arith}
-use Rattle.pairings.specs.declared.table.Pairing.{Pairing}
+use Rattle.pairings.specs.declared.table.BoardPairing.{BoardPairing}
 use Rattle.pairings.specs.Table.{pairs_from, pair_of, game_of, row}
 use Rattle.pairings.proofs.Ahead.{ahead, step-yes, step-no, one_more, length_one}
 use Rattle.pairings.proofs.table.push_row.Goals as goal
@@ -11,10 +11,10 @@ loop-higher-preserved c =
     let round : ℕ = c.args.round in
     let lower : ℕ = c.args.lower in
     let higher : ℕ = c.loop-higher.higher in
-    let made : List Pairing = c.loop-higher.pairings.items in
-    let whole : List Pairing = ahead players round c.args.pairings.now.items (row players lower) in
+    let made : List BoardPairing = c.loop-higher.pairings.items in
+    let whole : List BoardPairing = ahead players round c.args.pairings.now.items (row players lower) in
     let before = c.loop-higher.invariant in
-    let P : List Pairing → Type 0 = λ xs.
+    let P : List BoardPairing → Type 0 = λ xs.
     ahead players round xs (pairs_from lower (higher + 1) (players + 1 - (higher + 1))) ≡ whole in
     elim c.if-meet.branch [
       | then-meet+in_ok-push w ↦

@@ -1,13 +1,13 @@
 use Rattle.std.proofs.Common.{rules, ◌≡◌, ◌+◌, ℕ, ◌-◌, sym, subst, List, arith}
 use Rattle.std.specs.List.{flat_map, range_with_len}
-use Rattle.pairings.specs.declared.table.Pairing.{Pairing}
+use Rattle.pairings.specs.declared.table.BoardPairing.{BoardPairing}
 use Rattle.pairings.specs.Table.{row, games}
 use Rattle.pairings.proofs.Ahead.{ahead, step-row, begin-row}
 use Rattle.pairings.proofs.table.round.Goals as goal
 
 pub loop-lower-init : goal.loop-lower-init
 loop-lower-init c =
-    let P : List Pairing → Type 0 = λ made. ahead c.args.players c.args.round made
+    let P : List BoardPairing → Type 0 = λ made. ahead c.args.players c.args.round made
     (flat_map (row c.args.players) (range_with_len 1 (c.args.players + 1 - 1))) ≡ games c.args.players c.args.round in
     record {
       games = subst P (sym c.new-pairings.ensures.items) (begin-row c.args.players c.args.round);
@@ -19,7 +19,7 @@ pub loop-lower-preserved : goal.loop-lower-preserved
 loop-lower-preserved c =
     let players : ℕ = c.args.players in
     let lower : ℕ = c.loop-lower.lower in
-    let P : List Pairing → Type 0 = λ made. ahead players c.args.round made
+    let P : List BoardPairing → Type 0 = λ made. ahead players c.args.round made
     (flat_map (row players) (range_with_len (lower + 1) (players + 1 - (lower + 1)))) ≡ games players c.args.round in
     let few = c.in_ok-push_row.ensures.few in
     record {

@@ -7,7 +7,7 @@ use Rattle.draughts_moves.specs.Capture.{without}
 use Rattle.draughts_moves.specs.Search.{jumps, prey_left}
 use Rattle.draughts_moves.proofs.Proved.{jumps-sound, prey_left-falls}
 use Rattle.draughts_moves.specs.declared.mover.Mover.{Mover}
-use Rattle.pdn.specs.Subsequence.{past}
+use Rattle.pdn.specs.Subsequence.{unmatched_after}
 use Rattle.pdn.specs.Reaching.{GoesTo, StepsTo}
 use Rattle.pdn.proofs.PassingLemmas.{GoesTo-by, GoesTo-first}
 use Rattle.pdn.proofs.reaching.+goes_to.Goals as goal
@@ -45,10 +45,10 @@ goes_to-requires t c =
     in
     let left_by : Mover → ℕ = λ mover. prey_left (without c.args.position.now.board mover.origin) mover.piece
     mover.taken in
-    let less : left_by c.jumped-next.result ≡ prey_left b c.args.mover.now.piece
-    (set.insert c.args.mover.now.taken item.0) = ap left_by c.jumped-next.ensures in
+    let less : left_by c.after_jump-next.result ≡ prey_left b c.args.mover.now.piece
+    (set.insert c.args.mover.now.taken item.0) = ap left_by c.after_jump-next.ensures in
     let at_most : prey_left b c.args.mover.now.piece c.args.mover.now.taken ≡ t = c.decreases in
-    let smaller : left_by c.jumped-next.result < t = omega (arith, falls, less, at_most) in
+    let smaller : left_by c.after_jump-next.result < t = omega (arith, falls, less, at_most) in
     (smaller, tt)
 
 pub returns-then-goes_to : goal.returns-then-goes_to
@@ -58,11 +58,11 @@ returns-then-goes_to t c =
     let item = c.loop-over-item.result in
     let jump = item-jump c.items-over-items.result.now _ c.loop-over.over-index item c.loop-over-item.is
     c.loop-over-test.true c.loop-over.invariant.items_are in
-    let there : Goes c.args.position.now c.jumped-next.result c.past.result.now c.args.to =
+    let there : Goes c.args.position.now c.after_jump-next.result c.unmatched_after.result.now c.args.to =
     c.goes_to.ensures.0 c.if-goes_to.true in
-    let next = subst (λ (mover : Mover). Goes c.args.position.now mover (past c.args.middle.now item.1) c.args.to)
-    c.jumped-next.ensures
-    (subst (λ xs. Goes c.args.position.now c.jumped-next.result xs c.args.to) c.past.ensures there) in (
+    let next = subst (λ (mover : Mover). Goes c.args.position.now mover (unmatched_after c.args.middle.now item.1) c.args.to)
+    c.after_jump-next.ensures
+    (subst (λ xs. Goes c.args.position.now c.after_jump-next.result xs c.args.to) c.unmatched_after.ensures there) in (
       λ _. GoesTo-by b c.args.mover.now.piece c.args.mover.now.taken c.args.mover.now.at c.args.middle.now c.args.to
           item
           jump (inr next),
@@ -88,14 +88,14 @@ loop-over-preserved t c =
                 elim here [
                   | inl ends ↦ let found = c.ends_here.ensures.1 ends in let not_found = c.if-ends_here.false in cc
                   | inr goes ↦
-                      let next : Goes c.args.position.now c.jumped-next.result (past c.args.middle.now item.1)
+                      let next : Goes c.args.position.now c.after_jump-next.result (unmatched_after c.args.middle.now item.1)
                       c.args.to =
                       subst
-                      (λ (mover : Mover). Goes c.args.position.now mover (past c.args.middle.now item.1) c.args.to)
-                      (sym c.jumped-next.ensures) goes in
+                      (λ (mover : Mover). Goes c.args.position.now mover (unmatched_after c.args.middle.now item.1) c.args.to)
+                      (sym c.after_jump-next.ensures) goes in
                       let found =
                       c.goes_to.ensures.1
-                      (subst (λ xs. Goes c.args.position.now c.jumped-next.result xs c.args.to) (sym c.past.ensures)
+                      (subst (λ xs. Goes c.args.position.now c.after_jump-next.result xs c.args.to) (sym c.unmatched_after.ensures)
                       next) in
                       let not_found = c.if-goes_to.false in
                       cc

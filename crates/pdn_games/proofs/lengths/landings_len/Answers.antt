@@ -8,7 +8,7 @@ loop-init c = record { within = omega arith; ahead = begins c.args.text.now }
 
 pub returns-then-more-eq0-clause-value : goal.returns-then-more-eq0-clause-value
 returns-then-more-eq0-clause-value c = ends-there c.args.text.now _ _ _
-    (ap landing_len (sym c.after.ensures) ∙ sym c.landing_len-more.ensures.value ∙ c.if-more-eq0.true)
+    (ap landing_len (sym c.skip_bytes.ensures) ∙ sym c.landing_len-more.ensures.value ∙ c.if-more-eq0.true)
     c.loop.invariant.ahead
 
 pub loop-preserved : goal.loop-preserved
@@ -18,13 +18,13 @@ loop-preserved c =
     let more : ℕ = c.landing_len-more.result in
     let there : 0 < more = omega (arith, some) in
     let within = c.loop.invariant.within in
-    let rest : length c.after.result.now ≡ length text - c.loop.passed = ap length c.after.ensures
+    let rest : length c.skip_bytes.result.now ≡ length text - c.loop.passed = ap length c.skip_bytes.ensures
     ∙ length-drop c.loop.passed text in
     let fits = c.landing_len-more.ensures.within in
     record {
       within = omega (arith, within, fits, rest);
       ahead = passes-one text (length text) c.loop.counter c.loop.passed more _ c.loop-test.true
-          (ap landing_len (sym c.after.ensures) ∙ sym c.landing_len-more.ensures.value) there c.loop.invariant.ahead;
+          (ap landing_len (sym c.skip_bytes.ensures) ∙ sym c.landing_len-more.ensures.value) there c.loop.invariant.ahead;
     }
 
 pub returns-clause-value : goal.returns-clause-value

@@ -1,5 +1,5 @@
 use Rattle.std.proofs.Common.{List, length, true, sym, subst}
-use Rattle.pdn_games.specs.declared.tokens.Placed.{Placed}
+use Rattle.pdn_games.specs.declared.tokens.PlacedToken.{PlacedToken}
 use Rattle.pdn_games.specs.TokenValues.{all_placed}
 use Rattle.pdn_games.specs.Replaying.{HaveForms}
 use Rattle.pdn_games.proofs.LexLemmas.{have-forms}
@@ -7,5 +7,5 @@ use Rattle.pdn_games.proofs.reading.read_game.Goals as goal
 
 pub read_tokens-requires : goal.read_tokens-requires
 read_tokens-requires c =
-    subst (λ (l : List Placed). HaveForms (all_placed l)) (sym c.as_slice-placed.ensures.value)
+    subst (λ (l : List PlacedToken). HaveForms (all_placed l)) (sym c.as_slice-placed.ensures.value)
     (have-forms (length c.args.text.now) true true c.args.text.now _ _ c.in_ok-lexed.ensures)

@@ -1,6 +1,6 @@
 use Rattle.std.proofs.Common.{ℕ, List, take, sym, subst, rules}
 use Rattle.squares.specs.DraughtsOpening.{opening}
-use Rattle.pdn_games.specs.declared.tokens.Placed.{Placed}
+use Rattle.pdn_games.specs.declared.tokens.PlacedToken.{PlacedToken}
 use Rattle.pdn_games.specs.Contents.{move_texts}
 use Rattle.pdn_games.specs.Moves.{MeanAll, RefusesMoves}
 use Rattle.pdn_games.specs.TokenValues.{all_placed}
@@ -12,7 +12,7 @@ push_token-requires-clause-form c = form-there c.args.placed.now c.loop-i.i _ c.
 
 pub returns-in_err-push_token-clause-fault : goal.returns-in_err-push_token-clause-fault
 returns-in_err-push_token-clause-fault c =
-    let placed : List Placed = c.args.placed.now in
+    let placed : List PlacedToken = c.args.placed.now in
     let held : RefusesMoves (move_texts (all_placed placed)) c.in_err-push_token.field-0.0 =
     refuses-there placed c.loop-i.i _ c.loop-i.replay.moves.items c.in_err-push_token.field-0.0 c.loop-i-test.true
     (record { mean = c.loop-i.invariant.mean; played = c.loop-i.invariant.stands.follows.played })
@@ -21,7 +21,7 @@ returns-in_err-push_token-clause-fault c =
 
 pub loop-i-preserved : goal.loop-i-preserved
 loop-i-preserved c =
-    let placed : List Placed = c.args.placed.now in
+    let placed : List PlacedToken = c.args.placed.now in
     let k : ℕ = c.loop-i.i in
     record {
       stands = c.in_ok-push_token.ensures.stands;

@@ -1,7 +1,7 @@
 use Rattle.std.proofs.Common.{◌≡◌, ℕ, ◌-◌, ◌++◌, ◌∷◌, [], List, Option, Some, None, Bool, true, false, length}
 use Rattle.std.proofs.Common.{append-nil, append_assoc, sym, ap, subst, ◌∙◌, arith}
 use Rattle.std.proofs.lemmas.List.{map-append}
-use Rattle.pdn_games.specs.Tokens.{Placed, Lexes, TextTokens, at_end, stops, skips, takes}
+use Rattle.pdn_games.specs.Tokens.{PlacedToken, Lexes, TextTokens, at_end, stops, skips, takes}
 use Rattle.pdn_games.specs.TokenValues.{token_of, placed_of, all_placed}
 use Rattle.pdn_games.proofs.tokens.tokens_of.Goals as goal
 
@@ -39,14 +39,14 @@ loop-tokens-preserved c =
     let more = c.in-Found.more.now in
     let within = k.invariant.within in
     let shorter = c.in-Found.ensures.shorter in
-    let one : Placed = record { at = length c.args.text.now - length k.rest.now; token = token_of c.in-Found.token } in
+    let one : PlacedToken = record { at = length c.args.text.now - length k.rest.now; token = token_of c.in-Found.token } in
     let grown : all_placed c.push.new.self.items ≡ all_placed k.tokens.items ++ one ∷ [] =
     ap all_placed c.in_ok-push-in-Found.ensures.items ∙ map-append placed_of k.tokens.items _ in
     record {
       within = omega (arith, within, shorter);
       onward = λ ts stop h.
-          subst (λ (l : List Placed). TextTokens c.args.text.now l stop)
-          (sym (ap (λ (l : List Placed). l ++ ts) grown ∙ append_assoc (all_placed k.tokens.items) (one ∷ []) ts))
+          subst (λ (l : List PlacedToken). TextTokens c.args.text.now l stop)
+          (sym (ap (λ (l : List PlacedToken). l ++ ts) grown ∙ append_assoc (all_placed k.tokens.items) (one ∷ []) ts))
           (k.invariant.onward (one ∷ ts) stop
           (takes k.begins_line k.free k.rest.now more (token_of c.in-Found.token) ts stop
           (sym c.in-Found.ensures.value)

@@ -1,5 +1,5 @@
 use Rattle.std.proofs.Common.{ℕ, ◌≤◌, ◌++◌, List, Option, length}
-use Rattle.pdn_games.specs.Tokens.{Placed, Lexes, TextTokens}
+use Rattle.pdn_games.specs.Tokens.{PlacedToken, Lexes, TextTokens}
 use Rattle.pdn_games.specs.TokenValues.{all_placed}
 use Rattle.pdn_games.proofs.tokens.tokens_of.Given as goal
 
@@ -7,7 +7,7 @@ abbrev pub invariant-loop-tokens : goal.invariant-loop-tokens
 invariant-loop-tokens l =
     record {
       within : length l.rest ≤ length l.text;
-      onward : (ts : List Placed) (stop : Option ℕ) → Lexes (length l.text) l.begins_line l.free l.rest ts stop
+      onward : (ts : List PlacedToken) (stop : Option ℕ) → Lexes (length l.text) l.begins_line l.free l.rest ts stop
           → TextTokens l.text (all_placed l.tokens.items ++ ts) stop;
     }
 

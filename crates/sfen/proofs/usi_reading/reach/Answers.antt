@@ -1,6 +1,6 @@
 use Rattle.std.proofs.Common.{◌≡◌, ℕ, ◌+◌, ◌-◌, ◌<◌, List, [], ◌∷◌, length, drop, refl, sym, ap, ◌∙◌, arith}
 use Rattle.std.proofs.lemmas.List.{drop_all}
-use Rattle.sfen.specs.declared.usi_reading.Place.{Place}
+use Rattle.sfen.specs.declared.usi_reading.UsiField.{UsiField}
 use Rattle.sfen.specs.UsiReading.{reach}
 use Rattle.sfen.proofs.UsiOffsetLemmas.{reach-stops, reach-empty}
 use Rattle.sfen.proofs.usi_reading.reach.Goals as goal
@@ -11,14 +11,14 @@ nothing : (xs : List ℕ) → length xs < 1 → xs ≡ []
 nothing [] h = refl
 nothing (x ∷ xs) h = absurd (omega (arith, h))
 
-at-end : (places : List Place) (text rest : List ℕ) (k : ℕ)
+at-end : (places : List UsiField) (text rest : List ℕ) (k : ℕ)
     → reach places text + length rest ≡ length text + reach (drop k places) rest → reach (drop k places) rest ≡ 0
     → length text - length rest ≡ reach places text
 at-end places text rest k h e = omega (arith, h, e)
 
 pub returns-clause-value : goal.returns-clause-value
 returns-clause-value c =
-    let places : List Place = c.args.places.now in
+    let places : List UsiField = c.args.places.now in
     let text : List ℕ = c.args.text.now in
     let rest : List ℕ = c.loop-place.rest.now in
     let k : ℕ = c.loop-place.place-index in

@@ -7,21 +7,21 @@ pub returns-in-None : goal.returns-in-None
 unfolding faced_along
 returns-in-None c = sym (look-edge _ _ _ _ _ _ (sym c.step.ensures ∙ c.in-None.is)) ∙ c.loop-distance.invariant
 
-pub returns-in-Some-at : goal.returns-in-Some-at
+pub returns-in-Some-piece_at : goal.returns-in-Some-piece_at
 unfolding faced_along
-returns-in-Some-at c =
+returns-in-Some-piece_at c =
     c.comes_here.ensures
     ∙ sym
     (look-found _ _ _ _ _ _ _ (sym c.step.ensures ∙ c.in-Some.is)
     (omega (arith, c.loop-distance-test.true, c.farthest-distance-end.ensures)) _
-    (sym c.at.ensures ∙ c.in-Some-at.is))
+    (sym c.piece_at.ensures ∙ c.in-Some-piece_at.is))
     ∙ c.loop-distance.invariant
 
 pub loop-distance-preserved : goal.loop-distance-preserved
 loop-distance-preserved c =
     sym
     (look-on _ _ _ _ _ _ _ (sym c.step.ensures ∙ c.in-Some.is) _
-    (omega (arith, c.loop-distance-test.true, c.farthest-distance-end.ensures)) (sym c.at.ensures ∙ c.in-None-at.is))
+    (omega (arith, c.loop-distance-test.true, c.farthest-distance-end.ensures)) (sym c.piece_at.ensures ∙ c.in-None-piece_at.is))
     ∙ c.loop-distance.invariant
 
 pub returns : goal.returns

@@ -10,11 +10,11 @@ returns-clause-legal c =
     let p = c.args.position.now in
     let m = c.args.played.now in
     subst (λ (a : Answer). IsOk a ↔ Legal p m)
-    (sym (c.check_layout.ensures ∙ ap (λ q. check_of q m) c.of.ensures.value)) (check_of-legal p m)
+    (sym (c.check_layout.ensures ∙ ap (λ q. check_of q m) c.from_position.ensures.value)) (check_of-legal p m)
 
 pub returns-clause-refused : goal.returns-clause-refused
 returns-clause-refused c rule =
     let p = c.args.position.now in
     let m = c.args.played.now in
     subst (λ (a : Answer). (a ≡ Err rule) ↔ FirstBroken p m rule)
-    (sym (c.check_layout.ensures ∙ ap (λ q. check_of q m) c.of.ensures.value)) (check_of-refused p m rule)
+    (sym (c.check_layout.ensures ∙ ap (λ q. check_of q m) c.from_position.ensures.value)) (check_of-refused p m rule)

@@ -5,4 +5,4 @@ use Rattle.shogi_moves.proofs.TruthLemmas.{holds-as}
 use Rattle.shogi_moves.proofs.checking.has_move.Goals as goal
 
 pub returns : goal.returns
-returns c = holds-as _ _ (c.has_move_on.ensures ∙ ap has_move c.of.ensures.value) (has_move-is _)
+returns c = holds-as _ _ (c.has_move_on.ensures ∙ ap has_move c.from_position.ensures.value) (has_move-is _)

@@ -9,10 +9,10 @@ use Rattle.shogi_moves.specs.Listing.{move_cmp, all_moves}
 use Rattle.shogi_moves.proofs.MateLemmas.{moves-sorted, moves-members}
 use Rattle.shogi_moves.proofs.listing.legal.Goals as goal
 
-listed : (c : goal.In_ok-seek) → c.listed.inside.moves.items ≡ all_moves (is_legal c.args.position.now)
+listed : (c : goal.In_ok-visit_moves) → c.listed.inside.moves.items ≡ all_moves (is_legal c.args.position.now)
 listed c =
-    c.listed.view_is ∙ c.in_ok-seek.ensures
-    ∙ (λ i. c.new.ensures.items i ++ all_moves (is_legal (c.of.ensures.value i)))
+    c.listed.view_is ∙ c.in_ok-visit_moves.ensures
+    ∙ (λ i. c.new.ensures.items i ++ all_moves (is_legal (c.from_position.ensures.value i)))
 
 pub returns-clause-in_order : goal.returns-clause-in_order
 returns-clause-in_order c = subst (λ ms. IsStrictlySortedBy move_cmp ms) (sym (listed c))

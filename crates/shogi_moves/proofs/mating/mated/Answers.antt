@@ -5,4 +5,4 @@ use Rattle.shogi_moves.proofs.TruthLemmas.{holds-as}
 use Rattle.shogi_moves.proofs.mating.mated.Goals as goal
 
 pub returns : goal.returns
-returns c = holds-as _ _ (c.is_mate.ensures ∙ ap is_mate c.of.ensures.value) (is_mate-is _)
+returns c = holds-as _ _ (c.is_mate.ensures ∙ ap is_mate c.from_position.ensures.value) (is_mate-is _)

@@ -18,7 +18,7 @@ returns-then-is_some c =
     sym
     (walk-stopped _ _ _ _ _ _ _ (sym c.step.ensures ∙ c.in-Some.is) (omega (arith, c.loop-test.true))
     (sym c.eq.ensures ∙ c.if-eq.false)
-    (ap (λ o. not (is_some o)) (sym c.at.ensures) ∙ ap not (sym c.is_some.ensures ∙ c.if-is_some.true)))
+    (ap (λ o. not (is_some o)) (sym c.piece_at.ensures) ∙ ap not (sym c.is_some.ensures ∙ c.if-is_some.true)))
     ∙ c.loop.invariant
 
 pub loop-preserved : goal.loop-preserved
@@ -26,7 +26,7 @@ loop-preserved c =
     sym
     (walk-on _ _ _ _ _ _ _ (sym c.step.ensures ∙ c.in-Some.is) _ (omega (arith, c.loop-test.true))
     (sym c.eq.ensures ∙ c.if-eq.false)
-    (ap (λ o. not (is_some o)) (sym c.at.ensures) ∙ ap not (sym c.is_some.ensures ∙ c.if-is_some.false)))
+    (ap (λ o. not (is_some o)) (sym c.piece_at.ensures) ∙ ap not (sym c.is_some.ensures ∙ c.if-is_some.false)))
     ∙ c.loop.invariant
 
 pub returns : goal.returns

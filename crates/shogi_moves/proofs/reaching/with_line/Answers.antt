@@ -11,14 +11,14 @@ pub returns-then-is_some : goal.returns-then-is_some
 returns-then-is_some c to =
     gather-stopped _ to _ _ _ _ _ _ (sym c.step.ensures ∙ c.in-Some.is) _
     (c.with-found.ensures ∙ ap (set.insert c.loop.found) c.number.ensures.value) (omega (arith, c.loop-test.true))
-    (ap (λ o. not (is_some o)) (sym c.at.ensures) ∙ ap not (sym c.is_some.ensures ∙ c.if-is_some.true))
+    (ap (λ o. not (is_some o)) (sym c.piece_at.ensures) ∙ ap not (sym c.is_some.ensures ∙ c.if-is_some.true))
     ∙ c.loop.invariant to
 
 pub loop-preserved : goal.loop-preserved
 loop-preserved c to =
     gather-on _ to _ _ _ _ _ _ (sym c.step.ensures ∙ c.in-Some.is) _
     (c.with-found.ensures ∙ ap (set.insert c.loop.found) c.number.ensures.value) _ (omega (arith, c.loop-test.true))
-    (ap (λ o. not (is_some o)) (sym c.at.ensures) ∙ ap not (sym c.is_some.ensures ∙ c.if-is_some.false))
+    (ap (λ o. not (is_some o)) (sym c.piece_at.ensures) ∙ ap not (sym c.is_some.ensures ∙ c.if-is_some.false))
     ∙ c.loop.invariant to
 
 pub returns : goal.returns

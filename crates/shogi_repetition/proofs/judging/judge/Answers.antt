@@ -1,6 +1,6 @@
 use Rattle.std.proofs.Common.{subst, length, rules}
 use Rattle.std.proofs.lemmas.List.{take_all}
-use Rattle.game_lines.proofs.Proved.{fault-of-beginning, grown}
+use Rattle.game_history.proofs.Proved.{fault-of-beginning, grown}
 use Rattle.shogi_repetition.specs.Faults.{shogi_lines, IsPlayed, HasFault}
 use Rattle.shogi_repetition.specs.Counting.{Follows}
 use Rattle.shogi_repetition.proofs.judging.judge.Goals as goal

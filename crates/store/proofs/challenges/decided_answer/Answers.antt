@@ -9,7 +9,7 @@ use Rattle.store.proofs.challenges.decided_answer.Goals as goal
 
 pub returns-clause-decided : goal.returns-clause-decided
 returns-clause-decided g c clean s is_club ms k =
-    let looked = clean_before c.games_in.ensures.reads clean in
+    let looked = clean_before c.count_games.ensures.reads clean in
     let number = c.args.command.now.number in
     let found = c.find_member-challenger.ensures ∙ (λ i. find_id (has_member_name (c.as_str.ensures.value i)) (ms i)) in
     let under = c.in_ok-under.ensures.found looked s is_club k ∙ ap (λ o. challenge_by s.challenges o number) found in

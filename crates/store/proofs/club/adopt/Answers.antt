@@ -2,7 +2,7 @@ use Rattle.std.proofs.Common.{inl, inr}
 use Rattle.sqlite.specs.Held.{state}
 use Rattle.store_tables.specs.declared.names.Version.TheVariants.{First, Current}
 use Rattle.club_rows.specs.FirstSchema.{first_tables}
-use Rattle.club_opening.proofs.Proved.{good_at}
+use Rattle.club_check.proofs.Proved.{good_at}
 use Rattle.store.proofs.HistoryLemmas.{holds_first}
 use Rattle.store.proofs.OpeningLemmas.{current_by_shape, first_answers}
 use Rattle.store.proofs.club.adopt.Goals as goal
@@ -17,7 +17,7 @@ returns-in-Err-clause-first g c = λ clean them s club exactly shape.
     let old = state g.S.Store c.args.conn in
     let holds = holds_first them (first_tables s) old exactly in
     elim (good_at Current First s club old.now holds shape c.in-Err.fault
-    (c.in-Err.ensures.blames clean (inl holds.schema))) [
+    (c.in-Err.ensures.reason_is_right clean (inl holds.schema))) [
       | inl store ↦ inr (inl store)
       | inr (inl memory) ↦ inr (inr memory)
       | inr (inr (named, other)) ↦ inl named

@@ -2,7 +2,7 @@ use Rattle.std.proofs.Common.{inl, inr, subst}
 use Rattle.sqlite.specs.Held.{state}
 use Rattle.store_tables.proofs.Proved.{beside_alone}
 use Rattle.store_tables.specs.Club.{IsExactly, Leaves}
-use Rattle.store_tables.specs.Over.{alone, IsBesideThem, LeavesBeside}
+use Rattle.store_tables.specs.Over.{alone, HoldsClubAmong, LeavesBeside}
 use Rattle.store.proofs.OpeningLemmas.{opening-is}
 use Rattle.store.proofs.HistoryLemmas.{made_led, made_stands, opening_led}
 use Rattle.store.proofs.club.create.Goals as goal
@@ -16,8 +16,8 @@ pub returns-in-Ok-clause-begins : goal.returns-in-Ok-clause-begins
 returns-in-Ok-clause-begins g c clean k =
     made_stands alone _ (beside_alone _ _ (returns-in-Ok-clause-stored g c clean k))
 
-pub returns-in-Err-clause-cut_off : goal.returns-in-Err-clause-cut_off
-returns-in-Err-clause-cut_off g c clean k db left =
+pub returns-in-Err-clause-after_crash : goal.returns-in-Err-clause-after_crash
+returns-in-Err-clause-after_crash g c clean k db left =
     elim ((rw c.in-Err.is at c.create_tables.ensures.fault clean) k db left) [
       | inl empty ↦ inl empty
       | inr made ↦ inr (opening_led db (subst (λ rows. Leaves rows db) opening-is made))
@@ -34,7 +34,7 @@ returns-in-Err-clause-refused g c clean is = elim (rw c.in-Err.is at c.create_ta
 pub returns-in-Ok-clause-behind : goal.returns-in-Ok-clause-behind
 returns-in-Ok-clause-behind g c clean them k =
     made_stands them _
-    (subst (λ rows. IsBesideThem them rows (state g.S.Store c.create_tables.new.conn)) opening-is
+    (subst (λ rows. HoldsClubAmong them rows (state g.S.Store c.create_tables.new.conn)) opening-is
     ((rw c.in-Ok.is at c.create_tables.ensures.behind clean) them k))
 
 pub returns-in-Err-clause-behind_fault : goal.returns-in-Err-clause-behind_fault

@@ -9,7 +9,7 @@ use Rattle.store.proofs.command.decide_request.Goals as goal
 pub returns-in-Some-clause-step : goal.returns-in-Some-clause-step
 returns-in-Some-clause-step g c clean =
     let after_caller = clean_before c.decide.ensures.reads clean in
-    let after_last = clean_before c.caller_by.ensures.reads after_caller in
+    let after_last = clean_before c.identify_caller.ensures.reads after_caller in
     IfOk-weaker c.decide.result _ _ (λ d step s is_club k.
     let kept = rows_after c.in_ok-last.ensures.reads after_last (tables s) k in
     let last = c.in_ok-last.ensures.last after_last s k in
@@ -22,11 +22,11 @@ returns-in-Some-clause-step g c clean =
 
 pub returns-in-None-clause-step : goal.returns-in-None-clause-step
 returns-in-None-clause-step g c clean s is_club k =
-    let after_last = clean_before c.caller_by.ensures.reads clean in
+    let after_last = clean_before c.identify_caller.ensures.reads clean in
     let kept = rows_after c.in_ok-last.ensures.reads after_last (tables s) k in
     let caller = sym c.in-None.is ∙ c.in_ok-caller.ensures.found clean s is_club kept in
-    nobody_decided s c.args.moment c.args.who.now c.args.command.now c.unchanged.result caller
-    c.unchanged.ensures.outcome c.unchanged.ensures.none
+    nobody_decided s c.args.moment c.args.who.now c.args.command.now c.without_changes.result caller
+    c.without_changes.ensures.outcome c.without_changes.ensures.none
 
 pub returns-in-Some-clause-reads : goal.returns-in-Some-clause-reads
 returns-in-Some-clause-reads g c =

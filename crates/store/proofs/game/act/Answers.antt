@@ -14,8 +14,8 @@ use Rattle.store.proofs.game.act.Goals as goal
 
 pub returns-clause-step : goal.returns-clause-step
 returns-clause-step g c clean =
-    let looked = clean_before c.on_view.ensures.reads clean in
-    IfOk-weaker c.on_view.result _ _ (λ d step content old k tells plays of since.
+    let looked = clean_before c.decide_in_game.ensures.reads clean in
+    IfOk-weaker c.decide_in_game.result _ _ (λ d step content old k tells plays of since.
     let laws = g.R.Rules.rules in
     let terms = terms_given c.args.stored.now.terms in
     let command = game_command_of c.args.command.now in
@@ -30,7 +30,7 @@ returns-clause-step g c clean =
     (step content old kept tells (subst (λ t. IsTrue (is_budget t.budget)) (sym is) of.budget)
     (subst (λ t. IsTrue (is_increment t.increment)) (sym is) of.increment)
     (subst (λ t. IsLegalGame laws t old) (sym is) of.legal) shows asked_for
-    (subst (λ t. (clocks_of old t).since ≤ c.args.moment) (sym is) since))) (c.on_view.ensures.step clean)
+    (subst (λ t. (clocks_of old t).since ≤ c.args.moment) (sym is) since))) (c.decide_in_game.ensures.step clean)
 
 pub returns-clause-reads : goal.returns-clause-reads
-returns-clause-reads g c = reads_on c.in_ok-view.ensures.reads c.on_view.ensures.reads
+returns-clause-reads g c = reads_on c.in_ok-view.ensures.reads c.decide_in_game.ensures.reads

@@ -9,11 +9,11 @@ pub returns-clause-concluded : goal.returns-clause-concluded
 returns-clause-concluded g c clean content terms old moment who command k tells legal plies decided =
     let laws = g.R.Rules.rules in
     let o = game_step laws terms old moment who command in
-    let looked = clean_before c.scores_by.ensures.reads clean in
-    let times = c.stood_by-stood.result.times in
-    let first = c.stood_by-stood.result.first_ply in
+    let looked = clean_before c.score_rows_of_decision.ensures.reads clean in
+    let times = c.occurrences_of-stood.result.times in
+    let first = c.occurrences_of-stood.result.first_ply in
     let seen = c.in_ok-seen.ensures.seen looked content terms old moment who command k tells legal plies decided.0 in
-    let stood = seen_stood laws terms old moment c.args.game times first c.in_ok-seen.seen c.stood_by-stood.ensures o
+    let stood = seen_stood laws terms old moment c.args.game times first c.in_ok-seen.seen c.occurrences_of-stood.ensures o
     (step_legal laws terms old moment legal.line.legal who command) c.args.decision seen in
     let concluded_as = c.conclude-decision.ensures ∙ ap (concluded laws c.args.decision) c.settle-settled.ensures in (
       rw concluded_as (decided.1 times first stood),

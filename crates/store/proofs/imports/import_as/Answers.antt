@@ -30,7 +30,7 @@ returns-in-Repeated-clause-step g c clean content old k of =
     let shows = c.in_ok-played.ensures.played clean content old k of in
     let known = by_known g.R.Rules.rules g.R.Records.records c.args.known.now c.args.caller
     (import_of c.args.command.now) old _ _ c.as_slice-members.ensures.value c.as_slice-events.ensures.value in
-    repeated_in _ _ _ _ _ _ c.unchanged.result _ _ c.unchanged.ensures.outcome c.unchanged.ensures.none
+    repeated_in _ _ _ _ _ _ c.without_changes.result _ _ c.without_changes.ensures.outcome c.without_changes.ensures.none
     (ap importing_of (sym c.in-Repeated.is) ∙ (c.in_ok-new.ensures.value old shows ∙ known))
 
 pub returns-clause-step : goal.returns-clause-step
@@ -38,8 +38,8 @@ returns-clause-step g c clean content old k of =
     let shows = c.in_ok-played.ensures.played clean content old k of in
     let known = by_known g.R.Rules.rules g.R.Records.records c.args.known.now c.args.caller
     (import_of c.args.command.now) old _ _ c.as_slice-members.ensures.value c.as_slice-events.ensures.value in
-    refused_in _ _ _ _ _ _ c.unchanged-in-Refused.result _ _ c.unchanged-in-Refused.ensures.outcome
-    c.unchanged-in-Refused.ensures.none
+    refused_in _ _ _ _ _ _ c.without_changes-in-Refused.result _ _ c.without_changes-in-Refused.ensures.outcome
+    c.without_changes-in-Refused.ensures.none
     (ap importing_of (sym c.in-Refused.is) ∙ (c.in_ok-new.ensures.value old shows ∙ known))
 
 pub returns-in-Adds-clause-reads : goal.returns-in-Adds-clause-reads

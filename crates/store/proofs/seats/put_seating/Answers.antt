@@ -16,10 +16,10 @@ returns-in_ok-changes-in-Starts-clause-step c s who event first second is_club e
 
 pub returns-in-Repeated-clause-step : goal.returns-in-Repeated-clause-step
 returns-in-Repeated-clause-step c s who event first second is_club es is =
-    officer_none s (with_new_game s c.args.moment c.args.key.now) who _ _ _ c.unchanged.ensures.outcome
-    c.unchanged.ensures.none (ap answered (sym (ap seating_of c.in-Repeated.is) ∙ is)) refl
+    officer_none s (with_new_game s c.args.moment c.args.key.now) who _ _ _ c.without_changes.ensures.outcome
+    c.without_changes.ensures.none (ap answered (sym (ap seating_of c.in-Repeated.is) ∙ is)) refl
 
 pub returns-in-Refused-clause-step : goal.returns-in-Refused-clause-step
 returns-in-Refused-clause-step c s who event first second is_club es is =
-    officer_none s (with_new_game s c.args.moment c.args.key.now) who _ _ _ c.unchanged-in-Refused.ensures.outcome
-    c.unchanged-in-Refused.ensures.none (ap answered (sym (ap seating_of c.in-Refused.is) ∙ is)) refl
+    officer_none s (with_new_game s c.args.moment c.args.key.now) who _ _ _ c.without_changes-in-Refused.ensures.outcome
+    c.without_changes-in-Refused.ensures.none (ap answered (sym (ap seating_of c.in-Refused.is) ∙ is)) refl

@@ -8,7 +8,7 @@ use Rattle.store_tables.proofs.Proved.{alone_exactly, beside_same, first_alone, 
 use Rattle.store_tables.proofs.Proved.{still_first}
 use Rattle.club_rows.specs.Club.{tables}
 use Rattle.club_rows.specs.FirstSchema.{first_tables}
-use Rattle.club_opening.specs.Versions.{IsExactlyClub}
+use Rattle.club_check.specs.Versions.{IsExactlyClub}
 use Rattle.store.proofs.HistoryLemmas.{holds_beside, holds_first, left_at, opens_led, opens_taken}
 use Rattle.store.proofs.UpgradeLemmas.{first_history, found_widened, not_newer, upgraded_cut, upgraded_stands}
 use Rattle.store.proofs.upgrades.upgrade.Goals as goal
@@ -27,10 +27,10 @@ pub returns-in-Current-clause-found : goal.returns-in-Current-clause-found
 returns-in-Current-clause-found g c clean version opened =
     let (is, (s, club, register, exactly)) = c.in-Ok.ensures.found clean version opened in
     let current = sym is ∙ c.in-Current.is in
-    (s, club, subst (λ v. IsExactlyClub v s (state g.S.Store c.examine_from.new.conn)) current exactly)
+    (s, club, subst (λ v. IsExactlyClub v s (state g.S.Store c.check_schemas.new.conn)) current exactly)
 
-pub returns-in-Current-clause-led : goal.returns-in-Current-clause-led
-returns-in-Current-clause-led g c clean opens live them chapters led =
+pub returns-in-Current-clause-history : goal.returns-in-Current-clause-history
+returns-in-Current-clause-history g c clean opens live them chapters led =
     let s0 = state g.S.Store c.args.conn in
     let last = opens_taken s0 opens live (g.met.S.Store.settled c.args.conn.store) led
     (λ known. subst (λ v. HasTablesOf v s0.now.schema) c.in-Current.is (c.in-Ok.ensures.stays clean known).0)
@@ -39,24 +39,24 @@ returns-in-Current-clause-led g c clean opens live them chapters led =
 
 -- ---- schema 1
 
-pub returns-in-Ok-widen-clause-done : goal.returns-in-Ok-widen-clause-done
-returns-in-Ok-widen-clause-done g c clean them s first exactly =
-    let clean1 : HasCleanDisk (state g.S.Store c.examine_from.new.conn) = omega (arith, c.widen.ensures.clean, clean) in
+pub returns-in-Ok-migrate-clause-done : goal.returns-in-Ok-migrate-clause-done
+returns-in-Ok-migrate-clause-done g c clean them s first exactly =
+    let clean1 : HasCleanDisk (state g.S.Store c.check_schemas.new.conn) = omega (arith, c.migrate.ensures.clean, clean) in
     let here = still_first _ _ (c.in-Ok.ensures.reads.kept refl clean1) them (first_tables s) exactly in
     let same = found_widened s c.in-Ok.found.rows _ _
     (c.in-Ok.ensures.rows clean1 First s first (holds_first them _ _ exactly))
     c.deref.ensures.value c.of_current-meta.ensures in
-    (refl, beside_same _ _ same them _ (c.in-Ok-widen.ensures.stored clean them (first_tables s) refl here))
+    (refl, beside_same _ _ same them _ (c.in-Ok-migrate.ensures.stored clean them (first_tables s) refl here))
 
-pub returns-in-Ok-widen-clause-already : goal.returns-in-Ok-widen-clause-already
-returns-in-Ok-widen-clause-already g c clean them s club exactly =
-    let clean1 : HasCleanDisk (state g.S.Store c.examine_from.new.conn) = omega (arith, c.widen.ensures.clean, clean) in
+pub returns-in-Ok-migrate-clause-already : goal.returns-in-Ok-migrate-clause-already
+returns-in-Ok-migrate-clause-already g c clean them s club exactly =
+    let clean1 : HasCleanDisk (state g.S.Store c.check_schemas.new.conn) = omega (arith, c.migrate.ensures.clean, clean) in
     absurd (not_newer c.in-First.is (c.in-Ok.ensures.newer clean1 (holds_beside them _ _ exactly).schema))
 
-pub returns-in-Ok-widen-clause-found : goal.returns-in-Ok-widen-clause-found
-returns-in-Ok-widen-clause-found g c clean version opened =
-    let s1 = state g.S.Store c.examine_from.new.conn in
-    let clean1 : HasCleanDisk s1 = omega (arith, c.widen.ensures.clean, clean) in
+pub returns-in-Ok-migrate-clause-found : goal.returns-in-Ok-migrate-clause-found
+returns-in-Ok-migrate-clause-found g c clean version opened =
+    let s1 = state g.S.Store c.check_schemas.new.conn in
+    let clean1 : HasCleanDisk s1 = omega (arith, c.migrate.ensures.clean, clean) in
     let (is, (s, club, register, exactly)) = c.in-Ok.ensures.found clean1 version opened in
     let here = first_alone (first_tables s) s1
     (subst (λ v. IsExactlyClub v s s1) (sym is ∙ c.in-First.is) exactly) in
@@ -64,16 +64,16 @@ returns-in-Ok-widen-clause-found g c clean version opened =
       s,
       club,
       alone_exactly (tables s) _
-          (beside_same _ _ same alone _ (c.in-Ok-widen.ensures.stored clean alone (first_tables s) refl here)),
+          (beside_same _ _ same alone _ (c.in-Ok-migrate.ensures.stored clean alone (first_tables s) refl here)),
     )
 
-pub returns-in-Ok-widen-clause-led : goal.returns-in-Ok-widen-clause-led
-returns-in-Ok-widen-clause-led g c clean opens live them chapters led =
-    let clean1 : HasCleanDisk (state g.S.Store c.examine_from.new.conn) = omega (arith, c.widen.ensures.clean, clean) in
+pub returns-in-Ok-migrate-clause-history : goal.returns-in-Ok-migrate-clause-history
+returns-in-Ok-migrate-clause-history g c clean opens live them chapters led =
+    let clean1 : HasCleanDisk (state g.S.Store c.check_schemas.new.conn) = omega (arith, c.migrate.ensures.clean, clean) in
     let first = first_history c.in-First.is (c.in-Ok.ensures.newer clean1)
     (opens_led _ opens live (g.met.S.Store.settled c.args.conn.store) them chapters led) in
     upgraded_stands first
-    (returns-in-Ok-widen-clause-done g c clean them first.after first.legal first.exactly).1
+    (returns-in-Ok-migrate-clause-done g c clean them first.after first.legal first.exactly).1
 
 -- ---- faults
 
@@ -81,33 +81,33 @@ pub returns-in-Err-clause-fault : goal.returns-in-Err-clause-fault
 returns-in-Err-clause-fault g c clean them s first exactly db may =
     inl (leaves_first them _ _ exactly db (c.in-Err.ensures.reads.may clean db may))
 
-pub returns-in-Err-clause-good : goal.returns-in-Err-clause-good
-returns-in-Err-clause-good g c clean version s club holds shape =
-    c.in-Err.ensures.good clean version s club holds shape (λ is. absurd (not_newer refl is))
+pub returns-in-Err-clause-accepts_sound : goal.returns-in-Err-clause-accepts_sound
+returns-in-Err-clause-accepts_sound g c clean version s club holds shape =
+    c.in-Err.ensures.accepts_sound clean version s club holds shape (λ is. absurd (not_newer refl is))
 
-pub returns-in-Err-clause-cut_off : goal.returns-in-Err-clause-cut_off
-returns-in-Err-clause-cut_off g c clean opens live them chapters led db may =
+pub returns-in-Err-clause-after_crash : goal.returns-in-Err-clause-after_crash
+returns-in-Err-clause-after_crash g c clean opens live them chapters led db may =
     let (version, at) = opens_led _ opens live (g.met.S.Store.settled c.args.conn.store) them chapters led in
     upgraded_cut at (inl (left_at version them at.after _ at.exactly db (c.in-Err.ensures.reads.may clean db may)))
 
 pub returns-clause-fault : goal.returns-clause-fault
 returns-clause-fault g c clean them s first exactly db may =
-    let clean1 : HasCleanDisk (state g.S.Store c.examine_from.new.conn) = omega (arith, c.widen.ensures.clean, clean) in
+    let clean1 : HasCleanDisk (state g.S.Store c.check_schemas.new.conn) = omega (arith, c.migrate.ensures.clean, clean) in
     let here = still_first _ _ (c.in-Ok.ensures.reads.kept refl clean1) them (first_tables s) exactly in
     let same = found_widened s c.in-Ok.found.rows _ _
     (c.in-Ok.ensures.rows clean1 First s first (holds_first them _ _ exactly))
     c.deref.ensures.value c.of_current-meta.ensures in
-    elim (c.in-Err-widen.ensures.fault clean them (first_tables s) refl here db may)
+    elim (c.in-Err-migrate.ensures.fault clean them (first_tables s) refl here db may)
     [ inl before ↦ inl before | inr after ↦ inr (left_same _ _ same them db after) ]
 
 pub returns-clause-stays : goal.returns-clause-stays
 returns-clause-stays g c clean beside =
-    let clean1 : HasCleanDisk (state g.S.Store c.examine_from.new.conn) = omega (arith, c.widen.ensures.clean, clean) in
+    let clean1 : HasCleanDisk (state g.S.Store c.check_schemas.new.conn) = omega (arith, c.migrate.ensures.clean, clean) in
     absurd (not_newer c.in-First.is (c.in-Ok.ensures.newer clean1 beside))
 
-pub returns-clause-cut_off : goal.returns-clause-cut_off
-returns-clause-cut_off g c clean opens live them chapters led db may =
-    let clean1 : HasCleanDisk (state g.S.Store c.examine_from.new.conn) = omega (arith, c.widen.ensures.clean, clean) in
+pub returns-clause-after_crash : goal.returns-clause-after_crash
+returns-clause-after_crash g c clean opens live them chapters led db may =
+    let clean1 : HasCleanDisk (state g.S.Store c.check_schemas.new.conn) = omega (arith, c.migrate.ensures.clean, clean) in
     let first = first_history c.in-First.is (c.in-Ok.ensures.newer clean1)
     (opens_led _ opens live (g.met.S.Store.settled c.args.conn.store) them chapters led) in
     upgraded_cut first (returns-clause-fault g c clean them first.after first.legal first.exactly db may)

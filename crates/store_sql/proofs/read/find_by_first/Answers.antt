@@ -14,7 +14,7 @@ returns-in-Ok-clause-reads g c = read_then _ _ _ _ c.in-Ok.ensures.reads (read_n
 
 pub returns-in-Ok-clause-rows : goal.returns-in-Ok-clause-rows
 returns-in-Ok-clause-rows g c clean =
-    carried c.parsed.result (λ found. map g.T.TableRow.cells found.items) c.in-Ok.shown.items
+    carried c.parse_shown_rows.result (λ found. map g.T.TableRow.cells found.items) c.in-Ok.shown.items
     (λ l. (content : Content) → HasRows content (state g.S.Store c.args.conn.now)
     → AreThose (0 ∷ []) (Int c.args.first.now ∷ []) (content g.T.Select.table.tree) l
     × IsSorted (by_others g.T.Select.width) l) (search rules) (c.in-Ok.ensures.rows clean)

@@ -13,7 +13,7 @@ returns-in-Ok-clause-reads g c = read_then _ _ _ _ c.in-Ok.ensures.reads (read_n
 
 pub returns-in-Ok-clause-rows : goal.returns-in-Ok-clause-rows
 returns-in-Ok-clause-rows g c clean =
-    carried c.parsed.result (λ found. map g.T.TableRow.cells found.items) c.in-Ok.shown.items
+    carried c.parse_shown_rows.result (λ found. map g.T.TableRow.cells found.items) c.in-Ok.shown.items
     (λ l. IsTrue g.T.Select.has_id → (content : Content) → HasRows content (state g.S.Store c.args.conn.now)
     → BeginWithPlaces (content g.T.Select.table.tree) → l ≡ content g.T.Select.table.tree) (search rules)
     (λ id content k places.
@@ -22,7 +22,7 @@ returns-in-Ok-clause-rows g c clean =
 
 pub returns-in-Ok-clause-same : goal.returns-in-Ok-clause-same
 returns-in-Ok-clause-same g c clean =
-    carried c.parsed.result (λ found. map g.T.TableRow.cells found.items) c.in-Ok.shown.items
+    carried c.parse_shown_rows.result (λ found. map g.T.TableRow.cells found.items) c.in-Ok.shown.items
     (λ l. (content : Content) → HasRows content (state g.S.Store c.args.conn.now)
     → HaveSame l (content g.T.Select.table.tree)) (search rules) (λ content k.
     same_rows g.met.T.Select.is_table g.met.T.Select.read _ _ content k _ (c.in-Ok.ensures.rows clean))

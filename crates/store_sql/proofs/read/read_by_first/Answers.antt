@@ -6,14 +6,14 @@ use Rattle.store_sql.proofs.SelectLemmas.{failed_read}
 use Rattle.store_sql.proofs.read.read_by_first.Goals as goal
 
 pub returns-in-Err-clause-reads : goal.returns-in-Err-clause-reads
-returns-in-Err-clause-reads g c = failed_read c.failed.result _ _ c.failed.ensures.typed c.in-Err.ensures.reads
+returns-in-Err-clause-reads g c = failed_read c.failed.result _ _ c.failed.ensures.parse_rows c.in-Err.ensures.reads
 
 pub returns-clause-reads : goal.returns-clause-reads
 returns-clause-reads g c = read_then _ _ _ _ c.in-Ok.ensures.reads (read_nothing _ _)
 
-pub returns-clause-blames : goal.returns-clause-blames
-returns-clause-blames g c clean =
-    IfErr-weaker c.typed.result _ _ (λ e faults has.
+pub returns-clause-reason_is_right : goal.returns-clause-reason_is_right
+returns-clause-reason_is_right g c clean =
+    IfErr-weaker c.parse_rows.result _ _ (λ e faults has.
     blame g.T.Select.table g.T.TableRow.IsTyped (state g.S.Store c.args.conn.now) _ _ e c.deref.ensures.value
     (shown_typed g.T.Select.table g.T.Select.width c.args.first.now g.T.TableRow.IsTyped _ _ _
-    (c.in-Ok.ensures.told clean has)) faults) c.typed.ensures.blames
+    (c.in-Ok.ensures.told clean has)) faults) c.parse_rows.ensures.reason_is_right

@@ -9,7 +9,7 @@ returns-clause-reads g c =
     let alone = standing_alone g.T.Select.which in
     select_reads (g.met.T.Select.read _ alone).all_is _
     (c.all.ensures
-    ∙ ap all_text (moved_to g.T.Select.which (c.kept_in.ensures ∙ g.met.T.Select.is_table) alone.tree)) _ _ _
+    ∙ ap all_text (moved_to g.T.Select.which (c.table.ensures ∙ g.met.T.Select.is_table) alone.tree)) _ _ _
     (λ rows. rows.items) _ c.query_all.ensures.mode c.query_all.ensures.survives c.query_all.ensures.ok
     c.query_all.ensures.err
 
@@ -17,11 +17,11 @@ pub returns-clause-rows : goal.returns-clause-rows
 returns-clause-rows g c clean =
     IfOk-weaker c.query_all.result _ _ (λ rows shown stands.
     all_told g.met.T.Select.is_table g.met.T.Select.read _ _ stands
-    (c.all.ensures ∙ ap all_text c.kept_in.ensures) rows.items shown) (c.query_all.ensures.ok clean)
+    (c.all.ensures ∙ ap all_text c.table.ensures) rows.items shown) (c.query_all.ensures.ok clean)
 
 pub returns-clause-known : goal.returns-clause-known
 returns-clause-known g c clean =
     IfErr-weaker c.query_all.result _ _ (λ e failed stands.
     known _ _ (c.all.ensures
-    ∙ ap all_text (moved_to g.T.Select.which (c.kept_in.ensures ∙ g.met.T.Select.is_table) stands.tree))
+    ∙ ap all_text (moved_to g.T.Select.which (c.table.ensures ∙ g.met.T.Select.is_table) stands.tree))
     (g.met.T.Select.read _ stands).rows.plain _ e failed) (c.query_all.ensures.err clean)

@@ -21,12 +21,12 @@ rows-preserved g c =
           let longer = take_more rows i c.row-item.result within
           ∙ ap (λ r. take i rows ++ r ∷ []) (sym c.row-item.is) in
           rw (ap (map cells) longer ∙ map-append cells (take i rows) (c.row-item.result ∷ []))
-          (one_more g.T.Put.tree g.T.Put.key (map cells (take i rows)) (cells c.row-item.result) _ _ _ so_far
+          (one_more g.T.Upsert.tree g.T.Upsert.key (map cells (take i rows)) (cells c.row-item.result) _ _ _ so_far
           (c.in_ok-put.ensures.put clean so_far.inside)),
     )
 
 pub returns-clause-put : goal.returns-clause-put
 returns-clause-put g c clean inside =
-    subst (λ l. StepsBeside (put_each g.T.Put.tree g.T.Put.key (map g.T.TableRow.cells l))
+    subst (λ l. StepsBeside (put_each g.T.Upsert.tree g.T.Upsert.key (map g.T.TableRow.cells l))
     (state g.S.Store c.args.tx.now.conn.now) (state g.S.Store c.rows.tx.conn.now))
     (take_all c.rows.row-index c.args.rows.now (omega arith)) (c.rows.invariant.2 clean inside)

@@ -11,4 +11,4 @@ invariant-rows g l =
     let now = state g.S.Store l.tx.conn.now in
     (l.tx.conn.ghost_name ≡ l.fn.tx.conn.ghost_name) × Survives old now (λ _. ⊥)
     × (HasCleanDisk now → IsTrue old.in_transaction
-    → StepsBeside (put_each g.T.Put.tree g.T.Put.key (map g.T.TableRow.cells (take l.row-index l.rows))) old now)
+    → StepsBeside (put_each g.T.Upsert.tree g.T.Upsert.key (map g.T.TableRow.cells (take l.row-index l.rows))) old now)

@@ -22,13 +22,13 @@ ply_row-requires-clause-left g c =
     let now = c.loop-i.invariant in
     let most : ℕ = 31536000 + 601 * 2592000 in
     let few = spent_few c.args.terms.increment c.turn-turn.result c.loop-i.i c.loop-i.left.first c.loop-i.left.second
-    c.with-left.result.first c.with-left.result.second c.requires.increment now.first now.second
-    (c.with-left.ensures 0) in
+    c.with_increment-left.result.first c.with_increment-left.result.second c.requires.increment now.first now.second
+    (c.with_increment-left.ensures 0) in
     let plies = c.requires.few in
     let within = c.loop-i-test.true in
-    let left = side_most c.turn-turn.result c.with-left.result.first c.with-left.result.second 0 most
+    let left = side_most c.turn-turn.result c.with_increment-left.result.first c.with_increment-left.result.second 0 most
     (omega (arith, few.0, within, plies)) (omega (arith, few.1, within, plies)) in
-    let is = c.of.ensures 0 in
+    let is = c.seconds_of.ensures 0 in
     omega (arith, left, is)
 
 pub loop-i-preserved : goal.loop-i-preserved
@@ -48,16 +48,16 @@ loop-i-preserved g c =
     let turn = c.turn-turn.result in
     let a : ℕ = c.loop-i.left.first in
     let b : ℕ = c.loop-i.left.second in
-    let x : ℕ = c.with-left.result.first in
-    let y : ℕ = c.with-left.result.second in
+    let x : ℕ = c.with_increment-left.result.first in
+    let y : ℕ = c.with_increment-left.result.second in
     let next = ply-next laws ms i m within is are c.requires.line (terms_given c.args.terms) c.args.game moment p q turn
-    a b x y c.of.result now.position c.play-after.ensures c.turn-turn.ensures now.clocks (c.with-left.ensures moment)
-    (c.of.ensures moment) (map move_cells c.loop-i.rows.items) (map move_cells c.push.new.self.items)
+    a b x y c.seconds_of.result now.position c.play-after.ensures c.turn-turn.ensures now.clocks (c.with_increment-left.ensures moment)
+    (c.seconds_of.ensures moment) (map move_cells c.loop-i.rows.items) (map move_cells c.push.new.self.items)
     (move_cells c.in_ok-ply_row.field-0) now.rows
     (ap (map move_cells) c.in_ok-push.ensures.items
     ∙ map-append move_cells c.loop-i.rows.items (c.in_ok-ply_row.field-0 ∷ [])) c.in_ok-ply_row.ensures in
     let few = spent_few c.args.terms.increment turn i a b x y c.requires.increment now.first now.second
-    (c.with-left.ensures 0) in
+    (c.with_increment-left.ensures 0) in
     record {
       rows = next.0;
       position = position-next laws ms i m within is p q now.position c.play-after.ensures;

@@ -1,7 +1,7 @@
 use Rattle.std.proofs.Common.{◌≡◌, Err, refl, ap, sym, ◌∙◌, arith}
 use Rattle.std.proofs.lemmas.Option.{slice_get_read}
 use Rattle.club_rows.specs.Columns.{columns_in}
-use Rattle.club_changes.specs.declared.swept.fault.SweepFault.TheVariants.{Unfit}
+use Rattle.club_changes.specs.declared.swept.fault.SweepFault.TheVariants.{InconsistentRows}
 use Rattle.club_changes.proofs.SweptLemmas.{read_here, stays_next, ends_next, sums_few, ended_few, swept_all}
 use Rattle.club_changes.proofs.swept.rows.swept_rows.Goals as goal
 
@@ -33,7 +33,7 @@ returns-clause-rows c = λ s is_club rows_are same.
 
 pub returns-in_err-put_scores-clause-unfit : goal.returns-in_err-put_scores-clause-unfit
 returns-in_err-put_scores-clause-unfit c = λ unfit s is_club rows_are same.
-    let fault : c.in_err-put_scores.field-0.0 ≡ Unfit = sym (rw unfit at c.from_residual-in_err-put_scores.ensures.1) in
+    let fault : c.in_err-put_scores.field-0.0 ≡ InconsistentRows = sym (rw unfit at c.from_residual-in_err-put_scores.ensures.1) in
     sums_few s c.args.moment is_club _ _ _ _ (c.loop-game.invariant s is_club rows_are same)
     (c.in_err-put_scores.ensures.unfit (ap Err fault))
 

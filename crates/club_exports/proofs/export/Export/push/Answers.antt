@@ -4,26 +4,26 @@ use Rattle.club_exports.proofs.export.Export.push.Goals as goal
 
 pub returns-then-self-ge-MOST_PLIES-clause-begun : goal.returns-then-self-ge-MOST_PLIES-clause-begun
 returns-then-self-ge-MOST_PLIES-clause-begun g c title entries more before made is next =
-    entries-begin is g.R.Exports.IsText c.begins_games.ensures _
+    entries-begin is g.R.WriteRecord.IsText c.begins_games.ensures _
 
 pub returns-in_err-made-clause-begun : goal.returns-in_err-made-clause-begun
 returns-in_err-made-clause-begun g c title entries more before made is next =
-    entries-begin is g.R.Exports.IsText c.begins_games.ensures _
+    entries-begin is g.R.WriteRecord.IsText c.begins_games.ensures _
 
 pub push_move-requires : goal.push_move-requires
 push_move-requires g c =
     let few : c.args.self.now.plies < 2 ^ 32 = omega (arith, c.if-self-ge-MOST_PLIES.false) in
     let legal = rw c.in-Some.is at c.in_ok-made.ensures.legal in
-    follows c.requires.is g.R.Exports.MayFollow g.met.R.Exports.may_follow few legal
+    follows c.requires.is g.R.WriteRecord.MayFollow g.met.R.WriteRecord.may_follow few legal
 
 pub returns-in_err-push_move-clause-begun : goal.returns-in_err-push_move-clause-begun
 returns-in_err-push_move-clause-begun g c title entries more before made is next =
     let same = made-is is next c.in_ok-made.ensures.read c.in-Some.is in
     let lasted = rw (c.seconds.ensures.value, c.seconds-2.ensures.value) at c.saturating_sub-seconds.ensures in
-    push-begins is g.R.Exports.IsText c.args.moment more same lasted c.push_move.ensures.begun
+    push-begins is g.R.WriteRecord.IsText c.args.moment more same lasted c.push_move.ensures.begun
 
-pub returns-clause-goes_on : goal.returns-clause-goes_on
-returns-clause-goes_on g c =
+pub returns-clause-stays_open : goal.returns-clause-stays_open
+returns-clause-stays_open g c =
     let lasted = rw (c.seconds.ensures.value, c.seconds-2.ensures.value) at c.saturating_sub-seconds.ensures in
     record {
       title = c.requires.title;
@@ -42,4 +42,4 @@ pub returns-clause-begun : goal.returns-clause-begun
 returns-clause-begun g c title entries more before made is next =
     let same = made-is is next c.in_ok-made.ensures.read c.in-Some.is in
     let lasted = rw (c.seconds.ensures.value, c.seconds-2.ensures.value) at c.saturating_sub-seconds.ensures in
-    push-begins is g.R.Exports.IsText c.args.moment more same lasted c.push_move.ensures.begun
+    push-begins is g.R.WriteRecord.IsText c.args.moment more same lasted c.push_move.ensures.begun

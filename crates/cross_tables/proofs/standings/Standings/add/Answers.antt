@@ -4,14 +4,14 @@ use Rattle.std.proofs.lemmas.List.Quantifiers.{position-Some}
 use Rattle.std.proofs.lemmas.Result.{IfErr-at_err, on_ok_weaker}
 use Rattle.cross_tables.specs.Totals.{AreTotals}
 use Rattle.cross_tables.specs.declared.standings.Standing.{Standing}
-use Rattle.cross_tables.specs.declared.sums.Scored.{Scored}
+use Rattle.cross_tables.specs.declared.sums.OpponentScore.{OpponentScore}
 use Rattle.cross_tables.proofs.Adding.{AreTotals-raised, Fit-raised, position-none, AreTotals-entered}
 use Rattle.cross_tables.proofs.standings.Standings.add.Goals as goal
 
 pub returns-in-Some : goal.returns-in-Some
 returns-in-Some c =
     let xs : List Standing = c.args.self.now in
-    let row : Scored = c.args.scored.now in
+    let row : OpponentScore = c.args.scored.now in
     let own : Standing = record { member = row.member; sums = row.sums } in
     let (low, is, _) = position-Some (λ s. s.member == row.member) xs c.in-Some.place own
     (sym c.place_of.ensures ∙ c.in-Some.is) in
@@ -32,7 +32,7 @@ returns-in-Some c =
 pub returns-in-None : goal.returns-in-None
 returns-in-None c =
     let xs : List Standing = c.args.self.now in
-    let row : Scored = c.args.scored.now in
+    let row : OpponentScore = c.args.scored.now in
     record {
       adds =
           on_ok_weaker c.enter.result

@@ -1,6 +1,6 @@
 use Rattle.std.proofs.Common.{◌≡◌, ◌+◌, ◌<◌, Err, ap, ℕ, List, length, take, sym, subst, arith}
 use Rattle.std.proofs.lemmas.List.{take_all, take_more}
-use Rattle.cross_tables.specs.declared.sums.Scored.{Scored}
+use Rattle.cross_tables.specs.declared.sums.OpponentScore.{OpponentScore}
 use Rattle.cross_tables.specs.Totals.{AreTotals, Fit, totals}
 use Rattle.cross_tables.specs.declared.standings.StandingsFault.TheVariants.{TooMany}
 use Rattle.std.proofs.lemmas.Result.{err_from_is_err_and}
@@ -10,7 +10,7 @@ use Rattle.cross_tables.proofs.standings.Standings.of_rows.Goals as goal
 
 pub returns-in_err-add-clause-too_many : goal.returns-in_err-add-clause-too_many
 returns-in_err-add-clause-too_many c = λ is.
-    let rows : List Scored = c.args.rows.now in
+    let rows : List OpponentScore = c.args.rows.now in
     let i : ℕ = c.loop-row.row-index in
     let within : i < length rows = omega arith in
     let (fault, was, same) = err_from_is_err_and c.from_residual.result c.from_residual.ensures.1 in
@@ -20,14 +20,14 @@ returns-in_err-add-clause-too_many c = λ is.
 
 pub loop-row-preserved : goal.loop-row-preserved
 loop-row-preserved c =
-    let rows : List Scored = c.args.rows.now in
+    let rows : List OpponentScore = c.args.rows.now in
     let within : c.loop-row.row-index < length rows = omega arith in
     subst (λ rs. AreTotals c.add.new.self rs) (sym (take_more rows c.loop-row.row-index _ within))
     (c.in_ok-add.ensures.adds (take c.loop-row.row-index rows) c.loop-row.invariant)
 
 pub returns-clause-totals : goal.returns-clause-totals
 returns-clause-totals c =
-    let rows : List Scored = c.args.rows.now in
+    let rows : List OpponentScore = c.args.rows.now in
     let all = take_all c.loop-row.row-index rows (omega (arith, c.loop-row-test.false)) in
     c.rank.ensures.totals rows (subst (AreTotals c.loop-row.standings) all c.loop-row.invariant)
 

@@ -30,4 +30,4 @@ returns-clause-follows c = λ start moves follows.
     next-follows start moves c.args.played.now c.args.self.now follows c.play-next.result c.play-next.ensures _
     c.args.self.now.within (sym c.end_by_tail.ensures ∙ c.in-None.is)
     (c.check.ensures.legal.0 (ap is_ok c.in-Ok.is)) refl refl c.next-self.ensures c.stood_again-stood.ensures (λ q.
-    rw c.copied.ensures at (c.in_ok-insert.ensures.updates.0 q))
+    rw c.copy.ensures at (c.in_ok-insert.ensures.updates.0 q))

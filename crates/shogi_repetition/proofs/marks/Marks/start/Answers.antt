@@ -4,5 +4,5 @@ use Rattle.shogi_repetition.proofs.marks.Marks.start.Goals as goal
 
 pub returns-clause-follows : goal.returns-clause-follows
 returns-clause-follows c =
-    start-follows c.args.position.now _ c.copied-2.ensures refl refl c.start.ensures (λ q.
-    rw (c.copied.ensures, c.new-seen.ensures.empty) at (c.in_ok-insert.ensures.updates.0 q))
+    start-follows c.args.position.now _ c.copy-2.ensures refl refl c.start.ensures (λ q.
+    rw (c.copy.ensures, c.new-seen.ensures.empty) at (c.in_ok-insert.ensures.updates.0 q))

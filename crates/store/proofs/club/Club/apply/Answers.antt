@@ -1,7 +1,7 @@
 use Rattle.std.proofs.Common.{refl, subst, sym, rules, arith, inl, inr}
 use Rattle.sqlite.specs.Held.{state}
 use Rattle.sqlite.specs.State.{HasCleanDisk}
-use Rattle.store_tables.specs.Over.{HasRows, IsBesideThem}
+use Rattle.store_tables.specs.Over.{HasRows, HoldsClubAmong}
 use Rattle.club_rows.specs.Club.{tables}
 use Rattle.store_tables.proofs.Proved.{beside_same, leaves_beside, left_same, rows_beside, still_beside}
 use Rattle.store.specs.Clubs.{Kept}
@@ -11,7 +11,7 @@ use Rattle.store.proofs.club.Club.apply.Goals as goal
 
 pub returns-in-Err-clause-fault : goal.returns-in-Err-clause-fault
 returns-in-Err-clause-fault g c clean usable them s is_club k db left =
-    let inside : IsBesideThem them (tables s) (state g.S.Store c.self.inside.connection) = search rules in
+    let inside : HoldsClubAmong them (tables s) (state g.S.Store c.self.inside.connection) = search rules in
     inl (leaves_beside them _ _ inside db (c.decide_request.ensures.reads.may clean db left))
 
 pub returns-in-Ok-apply_changes-clause-answer : goal.returns-in-Ok-apply_changes-clause-answer
@@ -26,7 +26,7 @@ returns-in-None-clause-answer g c clean s is_club k =
 
 pub returns-in-Ok-apply_changes-clause-step : goal.returns-in-Ok-apply_changes-clause-step
 returns-in-Ok-apply_changes-clause-step g c clean them s is_club k =
-    let inside : IsBesideThem them (tables s) (state g.S.Store c.self.inside.connection) = search rules in
+    let inside : HoldsClubAmong them (tables s) (state g.S.Store c.self.inside.connection) = search rules in
     let decided : HasCleanDisk (state g.S.Store c.decide_request.new.conn) =
     omega (arith, c.apply_changes.ensures.clean) in
     let step = c.in-Ok.ensures.step decided s is_club (rows_beside them _ _ inside) in
@@ -36,7 +36,7 @@ returns-in-Ok-apply_changes-clause-step g c clean them s is_club k =
 
 pub returns-in-Err-apply_changes-clause-fault : goal.returns-in-Err-apply_changes-clause-fault
 returns-in-Err-apply_changes-clause-fault g c clean usable them s is_club k db left =
-    let inside : IsBesideThem them (tables s) (state g.S.Store c.self.inside.connection) = search rules in
+    let inside : HoldsClubAmong them (tables s) (state g.S.Store c.self.inside.connection) = search rules in
     let decided : HasCleanDisk (state g.S.Store c.decide_request.new.conn) =
     omega (arith, c.apply_changes.ensures.clean) in
     let step = c.in-Ok.ensures.step decided s is_club (rows_beside them _ _ inside) in
@@ -46,7 +46,7 @@ returns-in-Err-apply_changes-clause-fault g c clean usable them s is_club k db l
 
 pub returns-in-None-clause-step : goal.returns-in-None-clause-step
 returns-in-None-clause-step g c clean them s is_club k =
-    let inside : IsBesideThem them (tables s) (state g.S.Store c.self.inside.connection) = search rules in
+    let inside : HoldsClubAmong them (tables s) (state g.S.Store c.self.inside.connection) = search rules in
     let step = c.in-Ok.ensures.step clean s is_club (rows_beside them _ _ inside) in
     beside_same _ _ (rw c.in-None.is at step.rows) them _
     (still_beside _ _ (c.in-Ok.ensures.reads.kept refl clean) them (tables s) inside)
@@ -55,8 +55,8 @@ pub returns-in-None-clause-unchanged : goal.returns-in-None-clause-unchanged
 returns-in-None-clause-unchanged g c clean refused schema content k =
     c.in-Ok.ensures.reads.kept refl clean schema content (search rules)
 
-pub returns-in-Err-clause-cut_off : goal.returns-in-Err-clause-cut_off
-returns-in-Err-clause-cut_off g c clean usable them sessions at db left =
+pub returns-in-Err-clause-after_crash : goal.returns-in-Err-clause-after_crash
+returns-in-Err-clause-after_crash g c clean usable them sessions at db left =
     one_cut at.from them at.after sessions _ db at.leads at.legal
     (club_stays at.after _ (omega (arith, c.seconds-within.ensures.value, c.seconds-within.ensures.range)) at.legal)
     (returns-in-Err-clause-fault g c clean usable them at.after at.legal at.exactly db left)
@@ -68,8 +68,8 @@ returns-in-Ok-apply_changes-clause-stands g c clean them sessions at =
     (club_stays at.after _ (omega (arith, c.seconds-within.ensures.value, c.seconds-within.ensures.range)) at.legal)
     (returns-in-Ok-apply_changes-clause-step g c clean them at.after at.legal at.exactly)
 
-pub returns-in-Err-apply_changes-clause-cut_off : goal.returns-in-Err-apply_changes-clause-cut_off
-returns-in-Err-apply_changes-clause-cut_off g c clean usable them sessions at db left =
+pub returns-in-Err-apply_changes-clause-after_crash : goal.returns-in-Err-apply_changes-clause-after_crash
+returns-in-Err-apply_changes-clause-after_crash g c clean usable them sessions at db left =
     one_cut at.from them at.after sessions _ db at.leads at.legal
     (club_stays at.after _ (omega (arith, c.seconds-within.ensures.value, c.seconds-within.ensures.range)) at.legal)
     (returns-in-Err-apply_changes-clause-fault g c clean usable them at.after at.legal at.exactly db left)

@@ -2,7 +2,7 @@ use Rattle.std.proofs.Common.{rules, arith, length, map, ap, inl, inr, ◌+◌, 
 use Rattle.std.proofs.lemmas.List.{length_push}
 use Rattle.sqlite.specs.State.{HasCleanDisk}
 use Rattle.sqlite.specs.Held.{state}
-use Rattle.store_tables.specs.Over.{IsBesideThem}
+use Rattle.store_tables.specs.Over.{HoldsClubAmong}
 use Rattle.club_core.specs.Answer.{outcome_of, request_of}
 use Rattle.club_rows.specs.Club.{tables}
 use Rattle.club_changes.specs.Steps.{club_next}
@@ -46,7 +46,7 @@ returns-in-Err-serve-clause-fault g c clean failed usable them s is_club k db le
 
 pub loop-request-preserved : goal.loop-request-preserved
 loop-request-preserved g c = (
-  c.in-Ok-serve.ensures.goes_on,
+  c.in-Ok-serve.ensures.stays_open,
   omega (arith, c.serve.ensures.clean, c.loop-request.invariant.1),
   ap length c.in-Ok-push.ensures.items ∙ (length_push _ _ ∙ ap (λ n. n + 1) c.loop-request.invariant.2),
   λ clean them s is_club k.
@@ -91,9 +91,9 @@ returns-in-Err-push-clause-left g c clean usable them s is_club k db left =
     let served = c.loop-request.invariant.3 (omega (arith, c.serve.ensures.clean, after)) them s is_club k in
     let now = club_fold s (first_of c.args.requests.now c.loop-request.request-index) in
     let next = tables (club_next now (request_of c.request-item.result)) in
-    let stored : IsBesideThem them next (state g.S.Store c.serve.new.self.connection) =
+    let stored : HoldsClubAmong them next (state g.S.Store c.serve.new.self.connection) =
     c.in-Ok-serve.ensures.step after them now served.is_club served.exactly in
-    let inside : IsBesideThem them next (state g.S.Store c.self-in-loop-request.inside.connection) = search rules in
+    let inside : HoldsClubAmong them next (state g.S.Store c.self-in-loop-request.inside.connection) = search rules in
     inr (
       search rules,
       after-by (state-next s c.args.requests.now (ap length c.in-Err-push.ensures.items ∙ c.loop-request.invariant.2)

@@ -30,11 +30,11 @@ returns-clause-outcomes g c clean opens live s is_club left =
     (still_beside _ _ (c.in-Ok.ensures.kept.kept refl before) left.them (tables s)
     (opens_beside _ opens live (g.met.S.Store.settled c.args.conn.store) left.them _ left.leaves))
 
-pub returns-in-Err-clause-good : goal.returns-in-Err-clause-good
-returns-in-Err-clause-good g c clean opens live s is_club left =
+pub returns-in-Err-clause-accepts_sound : goal.returns-in-Err-clause-accepts_sound
+returns-in-Err-clause-accepts_sound g c clean opens live s is_club left =
     let found =
     opens_beside _ opens live (g.met.S.Store.settled c.args.conn.store) left.them (tables s) left.leaves in
-    c.in-Err.ensures.good clean s is_club (holds_beside left.them _ _ found)
+    c.in-Err.ensures.accepts_sound clean s is_club (holds_beside left.them _ _ found)
     (rw found.exactly.now.schema left.shape)
 
 pub returns-in-Err-clause-kept : goal.returns-in-Err-clause-kept
@@ -42,5 +42,5 @@ returns-in-Err-clause-kept g c clean opens live them sessions led db left =
     let (version, at) = opens_led _ opens live (g.met.S.Store.settled c.args.conn.store) them sessions led in
     stops_led version them sessions _ at db (c.in-Err.ensures.reads.may clean db left)
 
-pub returns-clause-named : goal.returns-clause-named
-returns-clause-named g c = c.session-run.ensures.named c.in-Ok.ensures.ready
+pub returns-clause-possible_faults : goal.returns-clause-possible_faults
+returns-clause-possible_faults g c = c.session-run.ensures.possible_faults c.in-Ok.ensures.ready

@@ -1,0 +1,549 @@
+//! Parsing of the program's command line.
+
+ghost use Rattle.std.specs.Prelude.{◌≡◌, IfErr, IfNone, IfOk, IfSome, Some, codes, map, option_map, string_bytes};
+ghost use Rattle.clap.specs.Words.{first_value, found_of, kind_of};
+ghost use Rattle.cli.specs.Asked.{Asks, AsksCommand, AsksImport, AsksQuestion, AsksService, AsksTask};
+ghost use Rattle.cli.specs.Asked.{AreListed, AreShownOf, IsFlagIn, IsMomentIn, IsNumberIn, game_word};
+ghost use Rattle.cli.specs.Asked.{AsksForBoth, HasNoCommand, HasNoGame, HasNoOrder, HasNoPort, HasNoTask};
+ghost use Rattle.cli.specs.Asked.{AsksOrder, IsTold, IsParserErrorFor, record_word, text_in, which_of};
+ghost use Rattle.cli.specs.Imports.{with_text, task_with};
+ghost use Rattle.cli.specs.Said.{AreRefused, StatesInvocation, FindsNone, IsFound, IsParserErrorOf};
+
+use crate::batches::{Batch, BatchOptions, RoundRobin, batch_of, round_robin_of};
+use crate::parser::club_words;
+use clap::ArgMatches;
+use clap::error::ErrorKind;
+use clocks::Moment;
+use club_requests::{
+    AddEvent, AddMember, Command, GameCommand, GameFilter, Import, Listing, OnGame, Question, Seat,
+};
+use club_rules::{GameKind, RecordFormat};
+use std::alloc::{AllocError, Global};
+
+/// The operation that a command line requests.
+#[derive(Debug, Drop)]
+pub enum Task {
+    /// Create the tables of a club in the file.
+    Init,
+    /// Execute a command of the officer.
+    Request(Command),
+    /// Answer a query; the club does not change.
+    Ask(Question),
+    /// Check that the rows of the file are those of a club.
+    Verify,
+    /// Migrate the file from schema 1 to schema 2.
+    Upgrade,
+    /// Copy the club into a new file at this path, which must not exist.
+    Backup(String),
+    /// Execute commands of the officer one after another.
+    Batch(Batch),
+}
+
+/// A file, the timestamp given by `--now`, and the operation to run.
+#[derive(Debug, Drop)]
+pub struct Order {
+    pub file: String,
+    pub now: Option<Moment>,
+    pub task: Task,
+    /// The source of an import's text: a path, or `-` for standard input. The text in `task` is still empty.
+    pub record: Option<String>,
+    /// Explain a refusal or fault on a second line (`--explain`).
+    pub explains: bool,
+}
+
+/// Sets the text of the record that was read for a command. Does nothing if the command is no import.
+pub fn give_text(command: &mut Command, text: Vec<u8>)
+    ensures { command.new ≡ with_text text command.old }
+{
+    if let Command::Import(given) = command {
+        given.text = text;
+    }
+}
+
+impl Order {
+    /// Sets the text of the record that was read for an order. Does nothing if the order is no import.
+    pub fn set_record(&mut self, text: Vec<u8>)
+        ensures task { self.new.task ≡ task_with text self.old.task }
+        ensures file { self.new.file ≡ self.old.file }
+        ensures now { self.new.now ≡ self.old.now }
+        ensures explains { self.new.explains ≡ self.old.explains }
+    {
+        if let Task::Request(command) = &mut self.task {
+            give_text(command, text);
+        }
+    }
+}
+
+/// The options of the server, which serves members over HTTP.
+#[derive(Debug, Drop)]
+pub struct ServeOptions {
+    pub file: String,
+    /// The timestamp to use for each connection, given by `--now`.
+    pub now: Option<Moment>,
+    /// The port on 127.0.0.1.
+    pub port: u16,
+    /// The number of connections to serve before the program exits.
+    pub count: u64,
+    /// Whether to log each connection.
+    pub log: bool,
+    /// Explain a fault on a second line (`--explain`).
+    pub explains: bool,
+}
+
+/// The parsed command line.
+#[derive(Debug, Drop)]
+pub enum Invocation {
+    Order(Order),
+    Serve(ServeOptions),
+    Batch(BatchOptions),
+    RoundRobin(RoundRobin),
+}
+
+/// The reason why a command line or a batch line gives nothing to execute.
+#[derive(Debug, Drop)]
+pub enum BadWords {
+    /// The parser's error message or help.
+    Text(String),
+    /// The output of `--version`.
+    Version(String),
+    /// Out of memory.
+    Memory,
+}
+
+impl From<AllocError> for BadWords {
+    ghost use Rattle.std.specs.Prelude.{◌≡◌};
+    ghost use Rattle.cli.specs.declared.words.BadWords.TheVariants as bad;
+
+    ghost from_gives = { λ _ told. told ≡ bad.Memory };
+
+    fn from(_refused: AllocError) -> BadWords {
+        BadWords::Memory
+    }
+}
+
+// A copy of a required argument.
+pub(crate) fn text(
+    alloc: Global,
+    matches: &ArgMatches<'_>,
+    name: &str,
+) -> Result<String, AllocError>
+    ensures { IfOk result (λ text. string_bytes text ≡ text_in (found_of matches.now) name.now) }
+{
+    String::from_str(alloc, matches.get_str(name).unwrap_or(""))
+}
+
+// A copy of an optional argument.
+fn text_given(
+    alloc: Global,
+    matches: &ArgMatches<'_>,
+    name: &str,
+) -> Result<Option<String>, AllocError>
+    ensures { IfOk result (λ text. option_map string_bytes text ≡ first_value (found_of matches.now) name.now) }
+{
+    match matches.get_str(name) {
+        Some(text) => Ok(Some(String::from_str(alloc, text)?)),
+        None => Ok(None),
+    }
+}
+
+// An integer argument, or `other` if it is absent.
+fn number_or(matches: &ArgMatches<'_>, name: &str, other: u64) -> u64
+    ensures { IsNumberIn (found_of matches.now) name.now other result }
+{
+    match matches.get_one::<u64>(name) {
+        Some(number) => number,
+        None => other,
+    }
+}
+
+// A required integer argument.
+fn number_of(matches: &ArgMatches<'_>, name: &str) -> u64
+    ensures { IsNumberIn (found_of matches.now) name.now 0 result }
+{
+    number_or(matches, name, 0)
+}
+
+// The GAME argument of an event. The parser accepts only the names of games.
+fn game_of(matches: &ArgMatches<'_>) -> Option<GameKind>
+    ensures some { IfSome result (λ game.
+        first_value (found_of matches.now) (codes "GAME") ≡ Some (game_word game)) }
+    ensures none { IfNone result (HasNoGame (found_of matches.now)) }
+{
+    match matches.get_str("GAME") {
+        Some("draughts") => Some(GameKind::Draughts),
+        Some("shogi") => Some(GameKind::Shogi),
+        _ => None,
+    }
+}
+
+// The error for arguments that the parser accepts although they state no order. The grammar prevents this case.
+pub(crate) fn unknown(alloc: Global, name: &str) -> BadWords
+    ensures { IsTold result }
+{
+    match format!(in alloc; "error: unknown word '{name}'\n") {
+        Ok(text) => BadWords::Text(text),
+        Err(_) => BadWords::Memory,
+    }
+}
+
+fn member_of(alloc: Global, words: &ArgMatches<'_>) -> Result<Command, AllocError>
+    ensures { IfOk result (AsksCommand (codes "member") (found_of words.now)) }
+{
+    Ok(Command::AddMember(AddMember {
+        name: text(alloc, words, "NAME")?,
+        key: text(alloc, words, "KEY")?,
+    }))
+}
+
+fn event_of(alloc: Global, words: &ArgMatches<'_>) -> Result<Command, BadWords>
+    ensures ok { IfOk result (AsksCommand (codes "event") (found_of words.now)) }
+    ensures err { IfErr result (IsParserErrorFor (HasNoGame (found_of words.now))) }
+{
+    let Some(game) = game_of(words) else {
+        return Err(unknown(alloc, "GAME"));
+    };
+    Ok(Command::AddEvent(AddEvent {
+        name: text(alloc, words, "NAME")?,
+        game,
+        budget: number_of(words, "BUDGET"),
+        increment: number_of(words, "INCREMENT"),
+    }))
+}
+
+fn seat_of(alloc: Global, words: &ArgMatches<'_>) -> Result<Command, AllocError>
+    ensures { IfOk result (AsksCommand (codes "seat") (found_of words.now)) }
+{
+    Ok(Command::Seat(Seat {
+        key: text(alloc, words, "KEY")?,
+        event: text(alloc, words, "EVENT")?,
+        first: text(alloc, words, "FIRST")?,
+        second: text(alloc, words, "SECOND")?,
+    }))
+}
+
+fn move_of(alloc: Global, words: &ArgMatches<'_>) -> Result<Command, AllocError>
+    ensures { IfOk result (AsksCommand (codes "move") (found_of words.now)) }
+{
+    Ok(Command::OnGame(OnGame {
+        game: number_of(words, "GAME"),
+        command: GameCommand::Move {
+            ply: number_of(words, "PLY"),
+            text: text(alloc, words, "TEXT")?,
+        },
+    }))
+}
+
+// The import that the arguments state, without its text.
+fn import_of(
+    alloc: Global,
+    words: &ArgMatches<'_>,
+    format: RecordFormat,
+    part: u64,
+) -> Result<Import, AllocError>
+    ensures given { IfOk result (AsksImport (found_of words.now)) }
+    ensures format { IfOk result (λ import. import.format ≡ format) }
+    ensures part { IfOk result (λ import. import.part ≡ part) }
+{
+    Ok(Import {
+        key: text(alloc, words, "KEY")?,
+        event: text(alloc, words, "EVENT")?,
+        first: text(alloc, words, "FIRST")?,
+        second: text(alloc, words, "SECOND")?,
+        part,
+        format,
+        text: Vec::new(alloc),
+    })
+}
+
+fn import_pdn_of(alloc: Global, words: &ArgMatches<'_>) -> Result<Command, AllocError>
+    ensures { IfOk result (AsksCommand (codes "import-pdn") (found_of words.now)) }
+{
+    Ok(Command::Import(import_of(alloc, words, RecordFormat::Pdn, 1)?))
+}
+
+fn import_csa_of(alloc: Global, words: &ArgMatches<'_>) -> Result<Command, AllocError>
+    ensures { IfOk result (AsksCommand (codes "import-csa") (found_of words.now)) }
+{
+    let part = number_or(words, "N", 1);
+    Ok(Command::Import(import_of(alloc, words, RecordFormat::Csa, part)?))
+}
+
+// The path of an import's record.
+pub(crate) fn record_of(
+    alloc: Global,
+    name: &str,
+    words: &ArgMatches<'_>,
+) -> Result<Option<String>, AllocError>
+    ensures { IfOk result (λ path. option_map string_bytes path ≡ record_word name.now (found_of words.now)) }
+{
+    match name {
+        "import-pdn" => Ok(Some(text(alloc, words, "RECORD")?)),
+        "import-csa" => Ok(Some(text(alloc, words, "RECORD")?)),
+        _ => Ok(None),
+    }
+}
+
+// The command of the subcommand `name`.
+pub(crate) fn command_of(
+    alloc: Global,
+    name: &str,
+    words: &ArgMatches<'_>,
+) -> Result<Command, BadWords>
+    ensures ok { IfOk result (AsksCommand name.now (found_of words.now)) }
+    ensures err { IfErr result (IsParserErrorFor (HasNoCommand name.now (found_of words.now))) }
+{
+    match name {
+        "member" => Ok(member_of(alloc, words)?),
+        "event" => event_of(alloc, words),
+        "seat" => Ok(seat_of(alloc, words)?),
+        "sweep" => Ok(Command::Sweep),
+        "import-pdn" => Ok(import_pdn_of(alloc, words)?),
+        "import-csa" => Ok(import_csa_of(alloc, words)?),
+        "move" => Ok(move_of(alloc, words)?),
+        _ => Err(unknown(alloc, name)),
+    }
+}
+
+// The filter for the flags `--running` and `--overdue`, which exclude each other.
+fn which_of(is_running: bool, is_overdue: bool) -> Option<GameFilter>
+    ensures { result ≡ which_of is_running is_overdue }
+{
+    match (is_running, is_overdue) {
+        (true, true) => None,
+        (true, false) => Some(GameFilter::Running),
+        (false, true) => Some(GameFilter::Overdue),
+        (false, false) => Some(GameFilter::All),
+    }
+}
+
+// The filter that the arguments state.
+fn which_in(words: &ArgMatches<'_>) -> Option<GameFilter>
+    ensures some { IfSome result (AreShownOf (found_of words.now)) }
+    ensures none { IfNone result (AsksForBoth (found_of words.now)) }
+{
+    let is_running = words.get_flag("RUNNING");
+    let is_overdue = words.get_flag("OVERDUE");
+    which_of(is_running, is_overdue)
+}
+
+// The error for two flags that exclude each other.
+fn both_flags(alloc: Global) -> BadWords
+    ensures { IsTold result }
+{
+    let said = "error: the argument '--running' cannot be used with '--overdue'\n";
+    match String::from_str(alloc, said) {
+        Ok(text) => BadWords::Text(text),
+        Err(_) => BadWords::Memory,
+    }
+}
+
+fn listing_of(alloc: Global, words: &ArgMatches<'_>) -> Result<Listing, BadWords>
+    ensures ok { IfOk result (AreListed (found_of words.now)) }
+    ensures err { IfErr result (IsParserErrorFor (AsksForBoth (found_of words.now))) }
+{
+    let Some(which) = which_in(words) else {
+        return Err(both_flags(alloc));
+    };
+    Ok(Listing {
+        event: text_given(alloc, words, "EVENT")?,
+        member: text_given(alloc, words, "MEMBER")?,
+        which,
+    })
+}
+
+fn board_of(words: &ArgMatches<'_>) -> Question
+    ensures { AsksQuestion (codes "show") (found_of words.now) result }
+{
+    Question::Board {
+        game: number_of(words, "GAME"),
+        letters: words.get_flag("LETTERS"),
+    }
+}
+
+// The operation of a subcommand that is a command to the club.
+fn request_of(alloc: Global, name: &str, words: &ArgMatches<'_>) -> Result<Task, BadWords>
+    ensures ok { IfOk result (AsksTask name.now (found_of words.now)) }
+    ensures err { IfErr result (IsParserErrorFor (HasNoCommand name.now (found_of words.now))) }
+{
+    match command_of(alloc, name, words) {
+        Ok(command) => Ok(Task::Request(command)),
+        Err(told) => Err(told),
+    }
+}
+
+fn games_of(alloc: Global, words: &ArgMatches<'_>) -> Result<Task, BadWords>
+    ensures ok { IfOk result (AsksTask (codes "games") (found_of words.now)) }
+    ensures err { IfErr result (IsParserErrorFor (AsksForBoth (found_of words.now))) }
+{
+    match listing_of(alloc, words) {
+        Ok(listing) => Ok(Task::Ask(Question::Games(listing))),
+        Err(told) => Err(told),
+    }
+}
+
+// The operation of the subcommand `name`.
+fn task_of(alloc: Global, name: &str, words: &ArgMatches<'_>) -> Result<Task, BadWords>
+    ensures ok { IfOk result (AsksTask name.now (found_of words.now)) }
+    ensures err { IfErr result (IsParserErrorFor (HasNoTask name.now (found_of words.now))) }
+{
+    match name {
+        "init" => Ok(Task::Init),
+        "legal" => Ok(Task::Ask(Question::LegalMoves(number_of(words, "GAME")))),
+        "export" => Ok(Task::Ask(Question::Record(number_of(words, "GAME")))),
+        "show" => Ok(Task::Ask(board_of(words))),
+        "export-event" => Ok(Task::Ask(Question::EventRecords(text(alloc, words, "EVENT")?))),
+        "table" => Ok(Task::Ask(Question::CrossTable(text(alloc, words, "EVENT")?))),
+        "members" => Ok(Task::Ask(Question::Members)),
+        "events" => Ok(Task::Ask(Question::Events)),
+        "games" => games_of(alloc, words),
+        "verify" => Ok(Task::Verify),
+        "upgrade" => Ok(Task::Upgrade),
+        "backup" => Ok(Task::Backup(text(alloc, words, "FILE2")?)),
+        _ => request_of(alloc, name, words),
+    }
+}
+
+// The error or output of the parser.
+pub(crate) fn usage_error(alloc: Global, error: &clap::Error) -> BadWords
+    ensures { IsParserErrorOf (kind_of error.now) result }
+{
+    if error.kind() == ErrorKind::OutOfMemory {
+        return BadWords::Memory;
+    }
+    match error.to_string(alloc) {
+        Ok(text) if error.kind() == ErrorKind::DisplayVersion => BadWords::Version(text),
+        Ok(text) => BadWords::Text(text),
+        Err(_) => BadWords::Memory,
+    }
+}
+
+// The options of `serve`. The parser has checked the port.
+fn service_of(
+    alloc: Global,
+    all: &ArgMatches<'_>,
+    words: &ArgMatches<'_>,
+) -> Result<ServeOptions, BadWords>
+    ensures ok { IfOk result (AsksService (found_of all.now) (found_of words.now)) }
+    ensures err { IfErr result (IsParserErrorFor (HasNoPort (found_of words.now))) }
+{
+    let Ok(port) = u16::try_from(number_of(words, "PORT")) else {
+        return Err(unknown(alloc, "PORT"));
+    };
+    Ok(ServeOptions {
+        file: text(alloc, all, "FILE")?,
+        now: moment_of(all),
+        port,
+        count: number_or(words, "COUNT", u64::MAX),
+        log: words.get_flag("LOG"),
+        explains: is_explained(all),
+    })
+}
+
+// The timestamp given by `--now`.
+pub(crate) fn moment_of(all: &ArgMatches<'_>) -> Option<Moment>
+    ensures { IsMomentIn (found_of all.now) result }
+{
+    match all.get_one::<u64>("SECONDS") {
+        Some(seconds) => Moment::new(seconds),
+        None => None,
+    }
+}
+
+// Whether `--explain` is given.
+pub(crate) fn is_explained(all: &ArgMatches<'_>) -> bool
+    ensures { IsFlagIn (found_of all.now) (codes "EXPLAIN") result }
+{
+    all.get_flag("EXPLAIN")
+}
+
+fn serve_of(
+    alloc: Global,
+    all: &ArgMatches<'_>,
+    words: &ArgMatches<'_>,
+) -> Result<Invocation, BadWords>
+    ensures ok { IfOk result (Asks (found_of all.now) (codes "serve") (found_of words.now)) }
+    ensures err { IfErr result (IsParserErrorFor (HasNoPort (found_of words.now))) }
+{
+    match service_of(alloc, all, words) {
+        Ok(service) => Ok(Invocation::Serve(service)),
+        Err(told) => Err(told),
+    }
+}
+
+// The order of the subcommand `name`.
+fn order_of(
+    alloc: Global,
+    all: &ArgMatches<'_>,
+    name: &str,
+    words: &ArgMatches<'_>,
+) -> Result<Order, BadWords>
+    ensures ok { IfOk result (AsksOrder (found_of all.now) name.now (found_of words.now)) }
+    ensures err { IfErr result (IsParserErrorFor (HasNoTask name.now (found_of words.now))) }
+{
+    let task = match task_of(alloc, name, words) {
+        Ok(task) => task,
+        Err(told) => return Err(told),
+    };
+    let record = record_of(alloc, name, words)?;
+    Ok(Order {
+        file: text(alloc, all, "FILE")?,
+        now: moment_of(all),
+        task,
+        record,
+        explains: is_explained(all),
+    })
+}
+
+// The parsed command line, from its subcommand.
+fn words_of(
+    alloc: Global,
+    all: &ArgMatches<'_>,
+    name: &str,
+    words: &ArgMatches<'_>,
+) -> Result<Invocation, BadWords>
+    ensures ok { IfOk result (Asks (found_of all.now) name.now (found_of words.now)) }
+    ensures err { IfErr result (IsParserErrorFor (HasNoOrder name.now (found_of words.now))) }
+{
+    match name {
+        "serve" => serve_of(alloc, all, words),
+        "batch" => Ok(Invocation::Batch(batch_of(alloc, all, words)?)),
+        "round-robin" => Ok(Invocation::RoundRobin(round_robin_of(alloc, all, words)?)),
+        _ => match order_of(alloc, all, name, words) {
+            Ok(order) => Ok(Invocation::Order(order)),
+            Err(told) => Err(told),
+        },
+    }
+}
+
+// The parsed command line, from the parser's matches.
+fn parsed(alloc: Global, matches: &ArgMatches<'_>) -> Result<Invocation, BadWords>
+    ensures ok { IfOk result (IsFound Asks matches.now) }
+    ensures err { IfErr result (IsParserErrorFor (FindsNone HasNoOrder matches.now)) }
+{
+    match matches.subcommand() {
+        Some(entered) => words_of(alloc, matches, entered.0, entered.1),
+        None => Err(unknown(alloc, "")),
+    }
+}
+
+/// Parses the program's command line. `words` starts with the program's name.
+///
+/// # Errors
+///
+/// - `BadWords::Text` with the parser's message or its help.
+/// - `BadWords::Version` for `--version`.
+/// - `BadWords::Memory` if out of memory.
+///
+/// # Guarantees
+///
+/// `ok`: the result is what the arguments state. `err`: the message has a cause in the arguments.
+pub fn read_words(alloc: Global, words: &[&str]) -> Result<Invocation, BadWords>
+    ensures ok { IfOk result (StatesInvocation (map (λ word. word.now) words.entry.now)) }
+    ensures err { IfErr result (AreRefused (map (λ word. word.now) words.entry.now)) }
+{
+    let club = club_words(alloc)?;
+    match club.try_get_matches_from(words) {
+        Ok(matches) => parsed(alloc, &matches),
+        Err(error) => Err(usage_error(alloc, &error)),
+    }
+}

@@ -1,0 +1,128 @@
+-- What a database has of a club, in whatever version of its tables.
+use Rattle.std.proofs.Common.{◌≡◌, false, List, [], ◌∷◌, refl, sym, subst, inl, inr}
+use Rattle.std.specs.List.{AllByRecursion}
+use Rattle.sqlite.specs.Effect.{Database}
+use Rattle.sqlite.specs.Order.{Row}
+use Rattle.sqlite.specs.Schema.{Schema}
+use Rattle.sqlite.specs.Table.{Table as Definition}
+use Rattle.sqlite.specs.Tree.{Trees}
+use Rattle.sqlite_rules.specs.Lists.{Has}
+use Rattle.sqlite_schema.specs.Names.{same_name}
+use Rattle.sqlite_schema.specs.Rules.{clashes}
+use Rattle.sqlite_value.specs.Keys.{plain}
+use Rattle.store_tables.specs.Placed.{HasClubTables, HasTables, HasTablesOf, HasTableAt, by_club, club_trees, tree_in}
+use Rattle.store_tables.specs.Content.{AreApart}
+use Rattle.store_tables.specs.Contents.{AreStored, Content, Stores}
+use Rattle.store_tables.proofs.Proved.{first_of_current, keeps_moved, tables_alone, unique_here, versions_apart}
+use Rattle.store_tables.specs.Tables.{IsClubSchema, schema_of}
+use Rattle.store_tables.specs.declared.names.Table.{Table}
+use Rattle.store_tables.specs.declared.names.Table.TheVariants.{Members, Events, EventRules, Challenges, Moves, Games}
+use Rattle.store_tables.specs.declared.names.Table.TheVariants.{Seen, Scores, Meta}
+use Rattle.store_tables.specs.declared.names.Version.{Version}
+use Rattle.store_tables.specs.declared.names.Version.TheVariants.{First, Current}
+use Rattle.club_rows.specs.Club.{ClubState, IsClub}
+use Rattle.club_rows.specs.FirstSchema.{IsClubOf}
+use Rattle.club_check.specs.RightTables.{HasTable}
+use Rattle.club_check.specs.Versions.{HoldsRows}
+
+-- ---- the versions
+
+-- a schema has the tables of one version
+pub one_of : (v w : Version) (schema : Schema) → HasTablesOf v schema → HasTablesOf w schema → v ≡ w
+one_of First First schema a b = refl
+one_of Current Current schema a b = refl
+one_of First Current schema a b = absurd (versions_apart schema a b)
+one_of Current First schema a b = absurd (versions_apart schema b a)
+
+-- those of a club alone are those of a version
+pub alone_of : (version : Version) (schema : Schema) → schema ≡ schema_of version → HasTablesOf version schema
+alone_of version schema is = subst (HasTablesOf version) (sym is) (tables_alone version)
+
+pub of_version : (version : Version) (schema : Schema) → HasTablesOf version schema → HasClubTables schema
+of_version First schema has = inl has
+of_version Current schema has = inr has
+
+pub tables_of_club : (schema : Schema) → IsClubSchema schema → HasClubTables schema
+tables_of_club schema (inl first) = inl (alone_of First schema first)
+tables_of_club schema (inr current) = inr (alone_of Current schema current)
+
+pub exactly_of : (version : Version) (schema : Schema) → IsClubSchema schema → HasTablesOf version schema
+    → schema ≡ schema_of version
+exactly_of First schema (inl first) has = first
+exactly_of First schema (inr current) has = absurd (versions_apart schema has (alone_of Current schema current))
+exactly_of Current schema (inl first) has = absurd (versions_apart schema (alone_of First schema first) has)
+exactly_of Current schema (inr current) has = current
+
+-- the first tables of each version stand
+pub first_stand : (schema : Schema) → HasClubTables schema → HasTables First schema
+first_stand schema (inl first) = first.0
+first_stand schema (inr current) = first_of_current schema current
+
+-- each of them
+pub stands : (t : Table) → HasTable t First → {schema : Schema} → HasClubTables schema → HasTableAt schema t
+stands Meta there {schema} has = (first_stand schema has).0
+stands Members there {schema} has = (first_stand schema has).1.0
+stands Events there {schema} has = (first_stand schema has).1.1.0
+stands Challenges there {schema} has = (first_stand schema has).1.1.1.0
+stands Moves there {schema} has = (first_stand schema has).1.1.1.1.0
+stands Games there {schema} has = (first_stand schema has).1.1.1.1.1.0
+stands Seen there {schema} has = (first_stand schema has).1.1.1.1.1.1.0
+stands Scores there {schema} has = (first_stand schema has).1.1.1.1.1.1.1.0
+stands EventRules there has = absurd there
+
+-- that of the rules of events
+pub rules_stand : (schema : Schema) → HasTablesOf Current schema → HasTableAt schema EventRules
+rules_stand schema has = has.1.1.1.1.1.1.1.1.0
+
+-- Where it stands alone its tables have the trees that it gives them.
+trees_alone : (version : Version) (trees : Trees)
+    → AllByRecursion (λ t. by_club (schema_of version) trees t.tree ≡ trees t.tree) (schema_of version).tables
+unfolding by_club tree_in same_name
+trees_alone First trees = (refl, (refl, (refl, (refl, (refl, (refl, (refl, (refl, tt))))))))
+trees_alone Current trees = (refl, (refl, (refl, (refl, (refl, (refl, (refl, (refl, (refl, tt)))))))))
+
+-- what some trees store others store that have the same rows
+stored_by : (here there : Trees) (content : Content) (tables : List Definition)
+    → AllByRecursion (λ t. here t.tree ≡ there t.tree) tables → AllByRecursion (λ t. Stores t here content) tables
+    → AllByRecursion (λ t. Stores t there content) tables
+stored_by here there content [] same all = tt
+stored_by here there content (t ∷ tables) same all = (
+  record {
+    rows = keeps_moved t t here there (content t.tree) (content t.tree) (λ r. refl) same.0 refl all.0.rows;
+    apart = subst AreApart same.0 all.0.apart;
+  },
+  stored_by here there content tables same.1 all.1,
+)
+
+-- what a club has that stands alone, the trees have
+pub held_alone : (version : Version) (db : Database) (content : Content) → db.schema ≡ schema_of version
+    → AreStored (schema_of version) (club_trees db) content → AreStored (schema_of version) db.trees content
+held_alone version db content is stored =
+    stored_by (by_club (schema_of version) db.trees) db.trees content (schema_of version).tables
+    (trees_alone version db.trees)
+    (subst (λ s. AreStored (schema_of version) (by_club s db.trees) content) is stored)
+
+pub club_of_version : (version : Version) (s : ClubState) → IsClubOf version s → IsClub s
+club_of_version First s is = is.club
+club_of_version Current s is = is
+
+-- ---- no two rows have one key
+
+-- No row has the key of another, in the tables whose key has several columns.
+pub record AreUnique (trees : Trees) : Type 0 where
+  pub challenges : (r : Row) → Has (trees 6) r → clashes plain (1 ∷ 2 ∷ []) (trees 6) r ≡ false
+  pub moves : (r : Row) → Has (trees 8) r → clashes plain (1 ∷ 2 ∷ []) (trees 8) r ≡ false
+  pub seen : (r : Row) → Has (trees 12) r → clashes plain (1 ∷ 2 ∷ []) (trees 12) r ≡ false
+  pub scores : (r : Row) → Has (trees 14) r → clashes plain (1 ∷ 2 ∷ 3 ∷ []) (trees 14) r ≡ false
+
+pub unique_of : (version : Version) (db : Database) (content : Content) → HoldsRows version content db
+    → AreUnique (club_trees db)
+unique_of version db content holds =
+    let has = of_version version db.schema holds.schema in
+    let sound = holds.sound in
+    record {
+      challenges = unique_here db.schema db.trees sound Challenges (stands Challenges tt has) (1 ∷ 2 ∷ []) refl refl;
+      moves = unique_here db.schema db.trees sound Moves (stands Moves tt has) (1 ∷ 2 ∷ []) refl refl;
+      seen = unique_here db.schema db.trees sound Seen (stands Seen tt has) (1 ∷ 2 ∷ []) refl refl;
+      scores = unique_here db.schema db.trees sound Scores (stands Scores tt has) (1 ∷ 2 ∷ 3 ∷ []) refl refl;
+    }

@@ -1,0 +1,624 @@
+//! Reads the tables of a club and checks members, events and event rules.
+
+ghost use Rattle.std.specs.Prelude.{◌≡◌, ◌≢◌, ◌⊎◌, ℕ, pos, true, None, Some, IfSome, IfOk, IfErr, OnOk, IsTrue, List};
+ghost use Rattle.std.specs.Prelude.{[], ◌∷◌, is_ok, length, map};
+ghost use Rattle.sqlite.specs.State.{HasCleanDisk, IsUnchanged};
+ghost use Rattle.sqlite.specs.Held.{state};
+ghost use Rattle.club_audit.specs.Audit.{AreEvents, AreMembers, AreRules};
+ghost use Rattle.club_core.specs.Events.{Event};
+ghost use Rattle.club_core.specs.Members.{Member};
+ghost use Rattle.store_tables.specs.Placed.{HasClubTables, HasTables, HasTablesOf, HasTableAt};
+ghost use Rattle.store_tables.specs.Cells.{meta_cells, member_cells, event_cells, event_rule_cells};
+ghost use Rattle.store_tables.specs.Reading.{IsNoInput, Reads};
+ghost use Rattle.store_tables.specs.Tables.{schema_number, meta, members, events};
+ghost use Rattle.store_tables.specs.declared.names.Version.TheVariants.{First, Current};
+ghost use Rattle.store_tables.specs.Tables.{standing};
+ghost use Rattle.store_tables.specs.declared.names.Table.TheVariants.{Meta, Members, Events};
+ghost use Rattle.club_check.specs.ReasonIsRight.{IsMetaRead, IsOneMeta, HasTypes, HoldsNone, ReasonIsRight, IsRightFault, NamesTable};
+ghost use Rattle.club_check.specs.ReasonIsRight.{AreRead, AreRulesRead, IsNumberFrom, NamesSchema, undeclared_row};
+ghost use Rattle.club_check.specs.ReasonIsRight.{ArePeopleRead};
+ghost use Rattle.club_check.specs.Places.{NamesRows};
+ghost use Rattle.club_check.specs.RightTables.{NamesFirstDamaged, NamesWrong, TellsEvents};
+ghost use Rattle.club_check.specs.Versions.{HasEvents};
+ghost use Rattle.club_check.specs.Faults.{told};
+ghost use Rattle.store_sql.specs.Read.{IsReadAs};
+ghost use Rattle.schema_match.specs.Shapes.{is_of_club};
+
+use crate::fault::OpenFault;
+use crate::known::{GameRows, read_games};
+use crate::opening::name_untyped;
+use club_audit::{are_events, are_members, are_rules};
+use schema_match::versions_of;
+use sqlite::{Alter, Connection, Error, Row};
+use std::alloc::Global;
+use store_sql::{
+    ReadFault, Select, check_columns, has_event_rules, is_refused, read_all, show_all,
+};
+use store_tables::{
+    ChallengeRow, EventRow, EventRuleRow, GameTableRow, MemberRow, MetaRow, MoveRow, RowError,
+    Rows, ScoreRow, SeenRow, Table, TableRow, Version,
+};
+
+/// The error for a failed statement: `Foreign` if the statement was rejected (a table or column is missing, or the
+/// table to create exists), else `Store`.
+pub fn fault_of(error: Error) -> OpenFault
+    ensures store { IsNoInput error → result ≡ OpenFault.Store }
+    ensures foreign { result ≡ OpenFault.Foreign → ¬ IsNoInput error }
+    ensures possible_faults { (result ≡ OpenFault.Foreign) ⊎ (result ≡ OpenFault.Store) }
+{
+    if is_refused(&error) {
+        OpenFault::Foreign
+    } else {
+        OpenFault::Store
+    }
+}
+
+/// The error for a table whose rows could not be read.
+pub(crate) fn fault_in(table: Table, fault: ReadFault) -> OpenFault
+    ensures { result ≡ told table fault }
+{
+    match fault {
+        ReadFault::Missing => OpenFault::Foreign,
+        ReadFault::WrongType => OpenFault::Damaged(table),
+        ReadFault::Store => OpenFault::Store,
+        ReadFault::Memory => OpenFault::Memory,
+    }
+}
+
+/// Reads all rows of a table. An error names `table`.
+pub(crate) fn read<T: Select, S: Alter>(
+    alloc: Global,
+    conn: &mut Connection<S>,
+    table: Table,
+) -> Result<Vec<T>, OpenFault>
+    ensures reads { Reads (is_ok result) (state S.Store conn.old) (state S.Store conn.new) }
+    ensures rows { HasCleanDisk (state S.Store conn.new) → IfOk result (λ found.
+        HasTableAt (state S.Store conn.old).now.schema T.which → IsReadAs T.table T.width (map T.cells found.items)
+        (state S.Store conn.old) (state S.Store conn.new)) }
+    ensures reason_is_right { HasCleanDisk (state S.Store conn.new) → IfErr result (λ e.
+        HasTableAt (state S.Store conn.old).now.schema T.which → ReasonIsRight table T.table T.IsTyped
+        (state S.Store conn.old) e) }
+{
+    match read_all(alloc, conn) {
+        Ok(found) => Ok(found),
+        Err(fault) => Err(fault_in(table, fault)),
+    }
+}
+
+/// The row of `meta`; `None` unless there is exactly one row, with id 1.
+fn one_meta(shown: &[Row]) -> Result<Option<MetaRow>, OpenFault>
+    ensures some { IfOk result (λ o. IfSome o (λ found. (shown.now ≡ meta_cells found ∷ []) × (found.id ≡ pos 1))) }
+    ensures none { IfOk result (λ o. o ≡ None → ¬ IsOneMeta shown.now) }
+    ensures memory { IfErr result (λ e. e ≡ OpenFault.Memory) }
+{
+    if shown.len() != 1 {
+        return Ok(None);
+    }
+    match MetaRow::parse(&shown[0]) {
+        Ok(found) => {
+            if found.id == 1 {
+                Ok(Some(found))
+            } else {
+                Ok(None)
+            }
+        }
+        Err(RowError::WrongType) => Ok(None),
+        Err(RowError::Memory) => Err(OpenFault::Memory),
+    }
+}
+
+/// Reads the row of `meta`; `None` unless there is exactly one row, with id 1.
+fn read_meta<S: Alter>(conn: &mut Connection<S>) -> Result<Option<MetaRow>, OpenFault>
+    ensures reads { Reads (is_ok result) (state S.Store conn.old) (state S.Store conn.new) }
+    ensures some { HasCleanDisk (state S.Store conn.new) → IfOk result (λ o. IfSome o (λ found.
+        HasClubTables (state S.Store conn.old).now.schema → IsReadAs (standing Meta) 1 (meta_cells found ∷ [])
+        (state S.Store conn.old) (state S.Store conn.new) × (found.id ≡ pos 1))) }
+    ensures none { HasCleanDisk (state S.Store conn.new) → IfOk result (λ o. o ≡ None →
+        HoldsNone (state S.Store conn.old).now (λ _ content. HasTypes Table.Meta content)) }
+    ensures same { HasCleanDisk (state S.Store conn.new) →
+        OnOk result (HasClubTables (state S.Store conn.old).now.schema → IsUnchanged (state S.Store conn.old)
+        (state S.Store conn.new)) }
+    ensures reason_is_right { HasCleanDisk (state S.Store conn.new) → IfErr result (λ e.
+        HasClubTables (state S.Store conn.old).now.schema → (e ≡ OpenFault.Store) ⊎ (e ≡ OpenFault.Memory)) }
+{
+    let shown = match show_all::<MetaRow, S>(conn) {
+        Ok(shown) => shown,
+        Err(error) => return Err(fault_of(error)),
+    };
+    one_meta(&shown)
+}
+
+/// Reads the members and checks that they are those of a legal club.
+fn read_members<S: Alter>(
+    alloc: Global,
+    conn: &mut Connection<S>,
+) -> Result<Vec<MemberRow>, OpenFault>
+    ensures reads { Reads (is_ok result) (state S.Store conn.old) (state S.Store conn.new) }
+    ensures rows { HasCleanDisk (state S.Store conn.new) → IfOk result (λ found.
+        HasClubTables (state S.Store conn.old).now.schema → IsReadAs (standing Members) 1 (map member_cells found.items)
+        (state S.Store conn.old) (state S.Store conn.new)) }
+    ensures are { IfOk result (λ found. (ms : List Member) × AreMembers ms found.items) }
+    ensures reason_is_right { HasCleanDisk (state S.Store conn.new) → IfErr result (λ e.
+        HasClubTables (state S.Store conn.old).now.schema → NamesTable (state S.Store conn.old).now e ⊎ NamesRows
+        (state S.Store conn.old).now e) }
+    ensures wrong { HasCleanDisk (state S.Store conn.new) → IfErr result (λ e.
+        HasClubTables (state S.Store conn.old).now.schema → NamesWrong Table.Members (state S.Store conn.old).now e) }
+{
+    let members = match read::<MemberRow, S>(alloc, conn, Table::Members) {
+        Ok(members) => members,
+        Err(fault) => return Err(fault),
+    };
+    if !are_members(&members) {
+        return Err(OpenFault::Damaged(Table::Members));
+    }
+    Ok(members)
+}
+
+/// Reads the events and checks that they are those of a legal club.
+fn read_events<S: Alter>(
+    alloc: Global,
+    conn: &mut Connection<S>,
+) -> Result<Vec<EventRow>, OpenFault>
+    ensures reads { Reads (is_ok result) (state S.Store conn.old) (state S.Store conn.new) }
+    ensures rows { HasCleanDisk (state S.Store conn.new) → IfOk result (λ found.
+        HasClubTables (state S.Store conn.old).now.schema → IsReadAs (standing Events) 1 (map event_cells found.items)
+        (state S.Store conn.old) (state S.Store conn.new)) }
+    ensures are { IfOk result (λ found. (es : List Event) × AreEvents es found.items) }
+    ensures reason_is_right { HasCleanDisk (state S.Store conn.new) → IfErr result (λ e.
+        HasClubTables (state S.Store conn.old).now.schema → NamesTable (state S.Store conn.old).now e ⊎ NamesRows
+        (state S.Store conn.old).now e) }
+    ensures wrong { HasCleanDisk (state S.Store conn.new) → IfErr result (λ e.
+        HasClubTables (state S.Store conn.old).now.schema → NamesWrong Table.Events (state S.Store conn.old).now e) }
+{
+    let events = match read::<EventRow, S>(alloc, conn, Table::Events) {
+        Ok(events) => events,
+        Err(fault) => return Err(fault),
+    };
+    if !are_events(&events) {
+        return Err(OpenFault::Damaged(Table::Events));
+    }
+    Ok(events)
+}
+
+fn other_schema(found: &MetaRow) -> OpenFault
+    ensures { result ≡ OpenFault.Schema found.now.schema }
+{
+    OpenFault::Schema(found.schema)
+}
+
+/// The schema version and the row of `meta`, or the substitute of `no_meta`.
+#[derive(Drop)]
+pub(crate) struct FileHead {
+    version: Version,
+    meta: MetaRow,
+}
+
+/// Reads the schema version and the last timestamp from `meta`.
+fn read_version<S: Alter>(conn: &mut Connection<S>) -> Result<FileHead, OpenFault>
+    ensures reads { Reads (is_ok result) (state S.Store conn.old) (state S.Store conn.new) }
+    ensures found { HasCleanDisk (state S.Store conn.new) → IfOk result (λ told.
+        HasClubTables (state S.Store conn.old).now.schema →
+        IsMetaRead told.version told.meta (state S.Store conn.old) (state S.Store conn.new)) }
+    ensures same { HasCleanDisk (state S.Store conn.new) → OnOk result (
+        HasClubTables (state S.Store conn.old).now.schema →
+        IsUnchanged (state S.Store conn.old) (state S.Store conn.new)) }
+    ensures reason_is_right { HasCleanDisk (state S.Store conn.new) → IfErr result (λ e.
+        HasClubTables (state S.Store conn.old).now.schema →
+        (e ≡ OpenFault.Store) ⊎ ((e ≡ OpenFault.Memory) ⊎ NamesSchema First (state S.Store conn.old).now e)) }
+{
+    let found = match read_meta(conn) {
+        Ok(Some(found)) => found,
+        Ok(None) => {
+            return Ok(FileHead {
+                version: Version::Current,
+                meta: no_meta(),
+            });
+        }
+        Err(fault) => return Err(fault),
+    };
+    match version_of(found.schema) {
+        Some(version) => Ok(FileHead {
+            version,
+            meta: found,
+        }),
+        None => Err(other_schema(&found)),
+    }
+}
+
+fn version_of(number: i64) -> Option<Version>
+    ensures some { IfSome result (λ version. number ≡ pos (schema_number version)) }
+    ensures none { result ≡ None → ¬ IsNumberFrom First number }
+{
+    match number {
+        1 => Some(Version::First),
+        2 => Some(Version::Current),
+        _ => None,
+    }
+}
+
+/// The error for tables of this version, unless it is `oldest` or later.
+fn refused(oldest: Version, version: Version) -> Option<OpenFault>
+    ensures none { result ≡ None → (oldest ≡ Current) → version ≡ Current }
+    ensures some { IfSome result (λ e.
+        (e ≡ OpenFault.Schema (pos 1)) × (oldest ≡ Current) × (version ≡ First)) }
+{
+    match (oldest, version) {
+        (Version::Current, Version::First) => Some(OpenFault::Schema(1)),
+        _ => None,
+    }
+}
+
+/// Checks that a table and its columns exist, before any of its rows is read.
+fn check_table<T: Select, S: Alter>(conn: &mut Connection<S>, table: Table) -> Result<(), OpenFault>
+    ensures reads { Reads (is_ok result) (state S.Store conn.old) (state S.Store conn.new) }
+    ensures same { HasCleanDisk (state S.Store conn.new) →
+        OnOk result (HasTableAt (state S.Store conn.old).now.schema T.which → IsUnchanged (state S.Store conn.old)
+        (state S.Store conn.new)) }
+    ensures reason_is_right { HasCleanDisk (state S.Store conn.new) → IfErr result (λ e.
+        HasTableAt (state S.Store conn.old).now.schema T.which → e ≡ OpenFault.Store) }
+{
+    match check_columns::<T, S>(conn) {
+        Ok(()) => Ok(()),
+        Err(fault) => Err(fault_in(table, fault)),
+    }
+}
+
+/// Checks that the tables that are common to all versions exist, except `meta`.
+fn check_tables<S: Alter>(conn: &mut Connection<S>) -> Result<(), OpenFault>
+    ensures reads { Reads (is_ok result) (state S.Store conn.old) (state S.Store conn.new) }
+    ensures same { HasCleanDisk (state S.Store conn.new) →
+        OnOk result (HasTables First (state S.Store conn.old).now.schema → IsUnchanged (state S.Store conn.old)
+        (state S.Store conn.new)) }
+    ensures reason_is_right { HasCleanDisk (state S.Store conn.new) → IfErr result (λ e.
+        HasTables First (state S.Store conn.old).now.schema → e ≡ OpenFault.Store) }
+{
+    match check_people::<S>(conn) {
+        Ok(()) => {}
+        Err(fault) => return Err(fault),
+    }
+    match check_play::<S>(conn) {
+        Ok(()) => Ok(()),
+        Err(fault) => Err(fault),
+    }
+}
+
+/// Checks that the table of event rules exists exactly if the version has it.
+fn check_rules<S: Alter>(conn: &mut Connection<S>, version: Version) -> Result<(), OpenFault>
+    ensures reads { Reads (is_ok result) (state S.Store conn.old) (state S.Store conn.new) }
+    ensures same { HasCleanDisk (state S.Store conn.new) → OnOk result (
+        HasClubTables (state S.Store conn.old).now.schema →
+        IsUnchanged (state S.Store conn.old) (state S.Store conn.new)) }
+    ensures version { HasCleanDisk (state S.Store conn.new) → OnOk result (
+        HasClubTables (state S.Store conn.old).now.schema →
+        HasTablesOf version (state S.Store conn.old).now.schema) }
+    ensures reason_is_right { HasCleanDisk (state S.Store conn.new) → IfErr result (λ e. (e ≡ OpenFault.Store)
+        ⊎ ((e ≡ OpenFault.Foreign) × (¬ HasTablesOf version (state S.Store conn.old).now.schema))) }
+{
+    let there = match has_event_rules(conn) {
+        Ok(there) => there,
+        Err(_) => return Err(OpenFault::Store),
+    };
+    let fits = match version {
+        Version::First => !there,
+        Version::Current => there,
+    };
+    if !fits {
+        return Err(OpenFault::Foreign);
+    }
+    Ok(())
+}
+
+/// Checks that the tables of members, events, challenges and games exist.
+fn check_people<S: Alter>(conn: &mut Connection<S>) -> Result<(), OpenFault>
+    ensures reads { Reads (is_ok result) (state S.Store conn.old) (state S.Store conn.new) }
+    ensures same { HasCleanDisk (state S.Store conn.new) →
+        OnOk result (HasTables First (state S.Store conn.old).now.schema → IsUnchanged (state S.Store conn.old)
+        (state S.Store conn.new)) }
+    ensures reason_is_right { HasCleanDisk (state S.Store conn.new) → IfErr result (λ e.
+        HasTables First (state S.Store conn.old).now.schema → e ≡ OpenFault.Store) }
+{
+    match check_table::<MemberRow, S>(conn, Table::Members) {
+        Ok(()) => {}
+        Err(fault) => return Err(fault),
+    }
+    match check_table::<EventRow, S>(conn, Table::Events) {
+        Ok(()) => {}
+        Err(fault) => return Err(fault),
+    }
+    match check_table::<ChallengeRow, S>(conn, Table::Challenges) {
+        Ok(()) => {}
+        Err(fault) => return Err(fault),
+    }
+    match check_table::<GameTableRow, S>(conn, Table::Games) {
+        Ok(()) => Ok(()),
+        Err(fault) => Err(fault),
+    }
+}
+
+/// Checks that the tables of moves, positions and scores exist.
+fn check_play<S: Alter>(conn: &mut Connection<S>) -> Result<(), OpenFault>
+    ensures reads { Reads (is_ok result) (state S.Store conn.old) (state S.Store conn.new) }
+    ensures same { HasCleanDisk (state S.Store conn.new) →
+        OnOk result (HasTables First (state S.Store conn.old).now.schema → IsUnchanged (state S.Store conn.old)
+        (state S.Store conn.new)) }
+    ensures reason_is_right { HasCleanDisk (state S.Store conn.new) → IfErr result (λ e.
+        HasTables First (state S.Store conn.old).now.schema → e ≡ OpenFault.Store) }
+{
+    match check_table::<MoveRow, S>(conn, Table::Moves) {
+        Ok(()) => {}
+        Err(fault) => return Err(fault),
+    }
+    match check_table::<SeenRow, S>(conn, Table::Seen) {
+        Ok(()) => {}
+        Err(fault) => return Err(fault),
+    }
+    match check_table::<ScoreRow, S>(conn, Table::Scores) {
+        Ok(()) => Ok(()),
+        Err(fault) => Err(fault),
+    }
+}
+
+/// The substitute for a missing or wrong row of `meta`: its timestamp is invalid, so `meta` is reported if no earlier
+/// table is wrong.
+fn no_meta() -> MetaRow
+    ensures { (n : ℕ) → result.last ≢ pos n }
+{
+    MetaRow {
+        id: 1,
+        schema: 2,
+        last: -1,
+    }
+}
+
+/// The event rules of a club of schema 1, which has no table for them: no event allows declarations.
+fn undeclared(alloc: Global, events: &[EventRow]) -> Result<Vec<EventRuleRow>, OpenFault>
+    ensures rules { IfOk result (λ rules. map event_rule_cells rules.items ≡ map undeclared_row events.now) }
+    ensures memory { IfErr result (λ e. e ≡ OpenFault.Memory) }
+{
+    let mut rules = Vec::new(alloc);
+    'events: for event in events {
+        let rule = EventRuleRow {
+            event: event.id,
+            declares: 0,
+        };
+        if rules.push(rule).is_err() {
+            return Err(OpenFault::Memory);
+        }
+    }
+    Ok(rules)
+}
+
+/// Reads the event rules and checks them against the events; schema 1 has none to read.
+fn read_rules<S: Alter>(
+    alloc: Global,
+    conn: &mut Connection<S>,
+    version: Version,
+    events: &[EventRow],
+) -> Result<Vec<EventRuleRow>, OpenFault>
+    ensures reads { Reads (is_ok result) (state S.Store conn.old) (state S.Store conn.new) }
+    ensures rules { HasCleanDisk (state S.Store conn.new) → IfOk result (λ rules.
+        HasTablesOf version (state S.Store conn.old).now.schema → IsTrue (state S.Store conn.old).is_open →
+        AreRulesRead version events.now rules.items (state S.Store conn.old) (state S.Store conn.new)) }
+    ensures are { IfOk result (λ rules. (es : List Event) → AreEvents es events.now →
+        AreRules rules.items (length events.now)) }
+    ensures reason_is_right { HasCleanDisk (state S.Store conn.new) → IfErr result (λ e.
+        HasTablesOf version (state S.Store conn.old).now.schema →
+        (es : List Event) → AreEvents es events.now → HasEvents events.now (state S.Store conn.old).now →
+        NamesTable (state S.Store conn.old).now e ⊎ NamesRows (state S.Store conn.old).now e) }
+    ensures wrong { HasCleanDisk (state S.Store conn.new) → IfErr result (λ e.
+        HasTablesOf version (state S.Store conn.old).now.schema →
+        TellsEvents events.now (state S.Store conn.old).now →
+        NamesWrong Table.EventRules (state S.Store conn.old).now e) }
+{
+    let rules = match version {
+        Version::First => return undeclared(alloc, events),
+        Version::Current => match read::<EventRuleRow, S>(alloc, conn, Table::EventRules) {
+            Ok(rules) => rules,
+            Err(fault) => return Err(fault),
+        },
+    };
+    if !are_rules(&rules, events.len()) {
+        return Err(OpenFault::Damaged(Table::EventRules));
+    }
+    Ok(rules)
+}
+
+/// The rows of a club that are read whole, and the schema version.
+#[derive(Drop)]
+pub struct Register {
+    /// The version of the schema.
+    pub version: Version,
+    /// All rows except those of moves, positions and scores. For schema 1, `event_rules` are those that an upgrade
+    /// writes.
+    pub rows: Rows,
+}
+
+/// Reads `meta` and checks that the version is `oldest` or later and that all its tables exist.
+fn read_head<S: Alter>(conn: &mut Connection<S>, oldest: Version) -> Result<FileHead, OpenFault>
+    ensures reads { Reads (is_ok result) (state S.Store conn.old) (state S.Store conn.new) }
+    ensures found { HasCleanDisk (state S.Store conn.new) → IfOk result (λ told.
+        HasClubTables (state S.Store conn.old).now.schema →
+        (HasTablesOf told.version (state S.Store conn.old).now.schema) ×
+        IsMetaRead told.version told.meta (state S.Store conn.old) (state S.Store conn.new)) }
+    ensures same { HasCleanDisk (state S.Store conn.new) → OnOk result (
+        HasClubTables (state S.Store conn.old).now.schema →
+        IsUnchanged (state S.Store conn.old) (state S.Store conn.new)) }
+    ensures taken { IfOk result (λ told. oldest ≡ Current → told.version ≡ Current) }
+    ensures reason_is_right { HasCleanDisk (state S.Store conn.new) → IfErr result (λ e.
+        HasClubTables (state S.Store conn.old).now.schema → IsRightFault oldest (state S.Store conn.old).now e) }
+    ensures undamaged { HasCleanDisk (state S.Store conn.new) → IfErr result (λ e.
+        HasClubTables (state S.Store conn.old).now.schema → (t : Table) → e ≢ OpenFault.Damaged t) }
+{
+    let told = match read_version(conn) {
+        Ok(told) => told,
+        Err(fault) => return Err(fault),
+    };
+    match check_rules(conn, told.version) {
+        Ok(()) => {}
+        Err(fault) => return Err(fault),
+    }
+    match refused(oldest, told.version) {
+        Some(fault) => return Err(fault),
+        None => {}
+    }
+    match check_tables(conn) {
+        Ok(()) => Ok(told),
+        Err(fault) => Err(fault),
+    }
+}
+
+/// As `read_head`; also checks that the schema is equivalent to that of the version, whatever `CREATE` statements made
+/// it.
+/// An unaccepted schema number is reported before a schema that differs.
+fn read_shaped<S: Alter>(
+    alloc: Global,
+    conn: &mut Connection<S>,
+    oldest: Version,
+) -> Result<FileHead, OpenFault>
+    ensures reads { Reads (is_ok result) (state S.Store conn.old) (state S.Store conn.new) }
+    ensures shape { IfOk result (λ told. is_of_club told.version (state S.Store conn.old).now.schema ≡ true) }
+    ensures found { HasCleanDisk (state S.Store conn.new) → IfOk result (λ told.
+        HasClubTables (state S.Store conn.old).now.schema →
+        (HasTablesOf told.version (state S.Store conn.old).now.schema) ×
+        IsMetaRead told.version told.meta (state S.Store conn.old) (state S.Store conn.new)) }
+    ensures same { HasCleanDisk (state S.Store conn.new) → OnOk result (
+        HasClubTables (state S.Store conn.old).now.schema →
+        IsUnchanged (state S.Store conn.old) (state S.Store conn.new)) }
+    ensures taken { IfOk result (λ told. oldest ≡ Current → told.version ≡ Current) }
+    ensures reason_is_right { HasCleanDisk (state S.Store conn.new) → IfErr result (λ e.
+        HasClubTables (state S.Store conn.old).now.schema → IsRightFault oldest (state S.Store conn.old).now e) }
+    ensures undamaged { HasCleanDisk (state S.Store conn.new) → IfErr result (λ e.
+        HasClubTables (state S.Store conn.old).now.schema → (t : Table) → e ≢ OpenFault.Damaged t) }
+{
+    let shapes = match versions_of(alloc, conn) {
+        Ok(shapes) => shapes,
+        Err(_) => return Err(OpenFault::Memory),
+    };
+    let told = match read_head(conn, oldest) {
+        Ok(told) => told,
+        Err(fault) => return Err(fault),
+    };
+    let fits = shapes.has(told.version);
+    if fits {
+        Ok(told)
+    } else {
+        Err(OpenFault::Foreign)
+    }
+}
+
+/// The version, `meta`, members, events and event rules of a club.
+#[derive(Drop)]
+pub(crate) struct MembersAndEvents {
+    pub version: Version,
+    pub meta: MetaRow,
+    pub members: Vec<MemberRow>,
+    pub events: Vec<EventRow>,
+    pub event_rules: Vec<EventRuleRow>,
+}
+
+/// Reads the version, `meta`, members, events and event rules.
+/// The schema is checked before any row is read. Each table is checked before the next is read, so that the first wrong
+/// table is reported.
+fn read_people<S: Alter>(
+    alloc: Global,
+    conn: &mut Connection<S>,
+    oldest: Version,
+) -> Result<MembersAndEvents, OpenFault>
+    ensures reads { Reads (is_ok result) (state S.Store conn.old) (state S.Store conn.new) }
+    ensures rows { HasCleanDisk (state S.Store conn.new) → IfOk result (λ people.
+        HasClubTables (state S.Store conn.old).now.schema →
+        ArePeopleRead people (state S.Store conn.old) (state S.Store conn.new)) }
+    ensures shape { IfOk result (λ people. is_of_club people.version (state S.Store conn.old).now.schema ≡ true) }
+    ensures taken { IfOk result (λ people. oldest ≡ Current → people.version ≡ Current) }
+    ensures members { IfOk result (λ people. (ms : List Member) × AreMembers ms people.members.items) }
+    ensures events { IfOk result (λ people. (es : List Event) × AreEvents es people.events.items) }
+    ensures rules { IfOk result (λ people. AreRules people.event_rules.items (length people.events.items)) }
+    ensures reason_is_right { HasCleanDisk (state S.Store conn.new) → IfErr result (λ e.
+        HasClubTables (state S.Store conn.old).now.schema → IsRightFault oldest (state S.Store conn.old).now e) }
+    ensures first { HasCleanDisk (state S.Store conn.new) → IfErr result (λ e.
+        HasClubTables (state S.Store conn.old).now.schema → NamesFirstDamaged (state S.Store conn.old).now e) }
+{
+    let FileHead { version, meta } = match read_shaped(alloc, conn, oldest) {
+        Ok(told) => told,
+        Err(fault) => return Err(fault),
+    };
+    let members = match read_members(alloc, conn) {
+        Ok(members) => members,
+        Err(fault) => return Err(fault),
+    };
+    let events = match read_events(alloc, conn) {
+        Ok(events) => events,
+        Err(fault) => return Err(fault),
+    };
+    match read_rules(alloc, conn, version, &events) {
+        Ok(event_rules) => Ok(MembersAndEvents {
+            version,
+            meta,
+            members,
+            events,
+            event_rules,
+        }),
+        Err(fault) => Err(fault),
+    }
+}
+
+/// Reads all rows except those of moves, positions and scores.
+/// The first wrong table is reported; if a row of games has a value of the wrong type, challenges and moves are checked
+/// before games are reported.
+pub(crate) fn read_rows<S: Alter>(
+    alloc: Global,
+    conn: &mut Connection<S>,
+    oldest: Version,
+) -> Result<Register, OpenFault>
+    ensures reads { Reads (is_ok result) (state S.Store conn.old) (state S.Store conn.new) }
+    ensures rows { HasCleanDisk (state S.Store conn.new) → IfOk result (λ found.
+        HasClubTables (state S.Store conn.old).now.schema →
+        (HasTablesOf found.version (state S.Store conn.old).now.schema) ×
+        AreRead found.version found.rows (state S.Store conn.old) (state S.Store conn.new)) }
+    ensures shape { IfOk result (λ found. is_of_club found.version (state S.Store conn.old).now.schema ≡ true) }
+    ensures taken { IfOk result (λ found. oldest ≡ Current → found.version ≡ Current) }
+    ensures members { IfOk result (λ found. (ms : List Member) × AreMembers ms found.rows.members.items) }
+    ensures events { IfOk result (λ found. (es : List Event) × AreEvents es found.rows.events.items) }
+    ensures rules { IfOk result (λ found. AreRules found.rows.event_rules.items
+        (length found.rows.events.items)) }
+    ensures reason_is_right { HasCleanDisk (state S.Store conn.new) → IfErr result (λ e.
+        HasClubTables (state S.Store conn.old).now.schema → IsRightFault oldest (state S.Store conn.old).now e) }
+    ensures first { HasCleanDisk (state S.Store conn.new) → IfErr result (λ e.
+        HasClubTables (state S.Store conn.old).now.schema → NamesFirstDamaged (state S.Store conn.old).now e) }
+{
+    let MembersAndEvents {
+        version,
+        meta,
+        members,
+        events,
+        event_rules,
+    } = match read_people(alloc, conn, oldest) {
+        Ok(people) => people,
+        Err(fault) => return Err(fault),
+    };
+    let challenges = match read::<ChallengeRow, S>(alloc, conn, Table::Challenges) {
+        Ok(challenges) => challenges,
+        Err(fault) => return Err(fault),
+    };
+    let GameRows {
+        games,
+        judged,
+        are_typed,
+    } = match read_games(alloc, conn) {
+        Ok(found) => found,
+        Err(fault) => return Err(fault),
+    };
+    let rows = Rows {
+        meta,
+        members,
+        events,
+        event_rules,
+        challenges,
+        games,
+    };
+    if are_typed {
+        Ok(Register { version, rows })
+    } else {
+        Err(name_untyped(alloc, conn, rows, judged))
+    }
+}

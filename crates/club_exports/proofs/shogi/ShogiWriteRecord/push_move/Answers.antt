@@ -1,0 +1,11 @@
+use Rattle.std.proofs.lemmas.Result.{on_ok_weaker}
+use Rattle.club_exports.proofs.CsaLemmas.{csa-adds, csa-move}
+use Rattle.club_exports.proofs.shogi.ShogiWriteRecord.push_move.Goals as goal
+
+pub returns-clause-written : goal.returns-clause-written
+returns-clause-written g c =
+    on_ok_weaker c.push.result (λ adds title plies before h. csa-adds h adds) c.push.ensures.written
+
+pub returns-clause-begun : goal.returns-clause-begun
+returns-clause-begun g c title plies more before h =
+    csa-move h (c.args.made.now, c.args.seconds) c.written_moves_begin_games.ensures.moves more c.push.ensures.begun

@@ -1,0 +1,13 @@
+use Rattle.std.proofs.Common.{sym, ◌∙◌, rules, tests}
+use Rattle.std.proofs.lemmas.Iterator.{YieldsList-from_slice}
+use Rattle.std.proofs.lemmas.Iterator.Search.{any_from_yields_List}
+use Rattle.club_core.specs.Answer.{event_of}
+use Rattle.club_core.specs.Events.{has_event_name}
+use Rattle.club_lists.proofs.Lists.{any_told}
+use Rattle.club_lists.proofs.listing.has_event.Goals as goal
+
+pub returns : goal.returns
+returns c =
+    any_from_yields_List (λ e. has_event_name c.args.name.now (event_of e)) _ _ _ c.any.ensures.ran
+    (YieldsList-from_slice c.args.events.now cc) (λ x b q k. search (rules, tests))
+    ∙ sym (any_told (has_event_name c.args.name.now) _ c.args.events.now)

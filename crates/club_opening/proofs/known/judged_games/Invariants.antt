@@ -1,6 +1,0 @@
-use Rattle.std.proofs.Common.{take}
-use Rattle.club_opening.specs.KnownGames.{AreJudged}
-use Rattle.club_opening.proofs.known.judged_games.Given as goal
-
-abbrev pub invariant-rows : goal.invariant-rows
-invariant-rows l = AreJudged (take l.row-index l.shown) l.games.items

@@ -1,8 +1,0 @@
-use Rattle.store_tables.proofs.Proved.{reads_on}
-use Rattle.club_opening.proofs.read.check_people.Goals as goal
-
-pub returns-in-Ok-check_table-3-clause-reads : goal.returns-in-Ok-check_table-3-clause-reads
-returns-in-Ok-check_table-3-clause-reads g c =
-    reads_on c.in-Ok.ensures.reads
-    (reads_on c.in-Ok-check_table.ensures.reads
-    (reads_on c.in-Ok-check_table-2.ensures.reads c.in-Ok-check_table-3.ensures.reads))

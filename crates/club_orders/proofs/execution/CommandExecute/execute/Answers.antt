@@ -1,0 +1,15 @@
+use Rattle.store_tables.proofs.Proved.{rows_beside}
+use Rattle.club_rows.specs.Club.{tables}
+use Rattle.club_orders.proofs.SessionLemmas.{left_led}
+use Rattle.club_orders.proofs.execution.CommandExecute.execute.Goals as goal
+
+pub returns-in-Ok-clause-answer : goal.returns-in-Ok-clause-answer
+returns-in-Ok-clause-answer g c clean them s is_club here =
+    c.in-Ok.ensures.answer clean s is_club (rows_beside them (tables s) _ here)
+
+pub returns-in-Ok-clause-history : goal.returns-in-Ok-clause-history
+returns-in-Ok-clause-history g c clean them sessions at =
+    left_led them _ _ (c.in-Ok.ensures.stands clean them sessions at)
+
+pub returns-in-Err-clause-history : goal.returns-in-Err-clause-history
+returns-in-Err-clause-history g c clean = c.in-Err.ensures.after_crash clean c.requires

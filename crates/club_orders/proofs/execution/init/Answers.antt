@@ -1,0 +1,58 @@
+use Rattle.std.proofs.Common.{◌≡◌, [], sym, subst}
+use Rattle.sqlite.specs.State.{HasCleanDisk}
+use Rattle.store.specs.Histories.{IsHistory}
+use Rattle.sqlite.specs.Held.{state}
+use Rattle.club_check.specs.declared.fault.OpenFault.TheVariants.{Foreign}
+use Rattle.store_tables.specs.declared.names.Version.TheVariants.{Current}
+use Rattle.store_tables.specs.Over.{alone}
+use Rattle.club_orders.proofs.SessionLemmas.{stand_first}
+use Rattle.club_orders.proofs.TakenLemmas.{without_club}
+use Rattle.club_orders.proofs.execution.init.Goals as goal
+
+pub returns-in-Ok-clause-begun : goal.returns-in-Ok-clause-begun
+returns-in-Ok-clause-begun g c clean opens live empty db left =
+    let same = c.into_connection-conn.ensures.same in
+    let made = c.in-Ok.ensures.begins (subst (λ h. HasCleanDisk (state g.S.Store h)) same clean)
+    (c.opened_empty_holds.ensures opens live empty) in
+    c.crash_keeps_history-in-Ok.ensures Current alone [] (subst (λ h. IsHistory alone [] (state g.S.Store h))
+    (sym same) made) db left
+
+pub returns-in-Ok-clause-history : goal.returns-in-Ok-clause-history
+returns-in-Ok-clause-history g c clean opens live them sessions led db left =
+    let same = c.into_connection-conn.ensures.same in
+    let (version, at) = c.opened_history_holds.ensures opens live them sessions led in
+    absurd (c.in-Ok.ensures.fresh (subst (λ h. HasCleanDisk (state g.S.Store h)) same clean)
+    (stand_first version them sessions _ at))
+
+pub returns-in-Ok-clause-behind : goal.returns-in-Ok-clause-behind
+returns-in-Ok-clause-behind g c clean opens live them left =
+    let same = c.into_connection-conn.ensures.same in
+    let made = c.in-Ok.ensures.behind (subst (λ h. HasCleanDisk (state g.S.Store h)) same clean) them
+    (without_club them _ (c.holds_exactly.ensures opens live) left) in (
+      tt,
+      c.crash_keeps_history-in-Ok.ensures Current them [] (subst (λ h. IsHistory them [] (state g.S.Store h))
+          (sym same) made),
+    )
+
+pub returns-in-Err-clause-behind : goal.returns-in-Err-clause-behind
+returns-in-Err-clause-behind g c clean opens live them left =
+    c.in-Err.ensures.behind_fault clean them (without_club them _ (c.holds_exactly.ensures opens live) left)
+
+pub returns-in-Err-clause-begun : goal.returns-in-Err-clause-begun
+returns-in-Err-clause-begun g c clean opens live empty db left =
+    c.in-Err.ensures.after_crash clean (c.opened_empty_holds.ensures opens live empty) db left
+
+pub returns-in-Err-clause-history : goal.returns-in-Err-clause-history
+returns-in-Err-clause-history g c clean opens live them sessions led db left =
+    let (version, at) = c.opened_history_holds.ensures opens live them sessions led in
+    c.crash_keeps_history.ensures version them sessions at db
+    (c.in-Err.ensures.stays clean (stand_first version them sessions _ at) db left)
+
+pub returns-in-Err-clause-spares : goal.returns-in-Err-clause-spares
+returns-in-Err-clause-spares g c clean opens is db left =
+    let foreign : c.in-Err.unopened.fault ≡ Foreign = cc in
+    g.met.S.Store.settled c.args.conn.store db opens.is_open (c.in-Err.ensures.refused clean foreign db left)
+
+pub returns-in-Err-clause-empty : goal.returns-in-Err-clause-empty
+returns-in-Err-clause-empty g c clean opens live empty =
+    c.in-Err.ensures.empty clean (c.opened_empty_holds.ensures opens live empty)

@@ -1,0 +1,298 @@
+//! Execution of one order over a connection.
+
+ghost use Rattle.std.specs.Prelude.{◌≡◌, ◌≢◌, ◌≤◌, ◌++◌, ◌∷◌, [], false, true, refl, ⊤};
+ghost use Rattle.sqlite.specs.State.{HasCleanDisk, Opens, IsLive};
+ghost use Rattle.sqlite.specs.Held.{state};
+ghost use Rattle.sqlite_trees.specs.View.{doubt};
+ghost use Rattle.store_tables.specs.Placed.{HasClubTables};
+ghost use Rattle.store_tables.specs.Contents.{IsEmpty};
+ghost use Rattle.store_tables.specs.Room.{LeavesNoClub};
+ghost use Rattle.store_tables.specs.Club.{IsExactly, IsOpened};
+ghost use Rattle.store_tables.specs.Reading.{KeepsContent};
+ghost use Rattle.store_tables.specs.declared.names.Version.TheVariants.{Current};
+ghost use Rattle.schema_match.specs.Shapes.{is_of_club};
+ghost use Rattle.club_core.specs.Answer.{answered, outcome_of};
+ghost use Rattle.club_rows.specs.Club.{ClubState, IsClub, tables};
+ghost use Rattle.club_changes.specs.Steps.{club_step};
+ghost use Rattle.store.specs.Histories.{HasState, IsReachable, upgraded};
+ghost use Rattle.cli.specs.declared.words.Task.TheVariants.{Init};
+ghost use Rattle.club_orders.specs.Batches.{AnswersBatch};
+ghost use Rattle.club_orders.specs.Report.{given, Answers, ask_report, IfRequest, IfAsk, IfBatch, IfVerify, IfUnopened};
+ghost use Rattle.club_orders.specs.Report.{IfTaken, IsUpgradeResult, IsRepeated, OnlyUnopened, upgrade_of};
+ghost use Rattle.club_orders.specs.Report.{Shows, IsPassed, IsBegun, IsBegunBehind, request_sessions, task_sessions};
+ghost use Rattle.club_orders.specs.Report.{writes};
+ghost use Rattle.club_check.specs.Refused.{HoldClub, IsKept, IsRefusal};
+ghost use Rattle.club_orders.specs.Refused.{HasFirst, IfOpensClub, IfUpgrade, IsOlder, IsUpgradeRefusal};
+
+use crate::open_club::{Execute, execute_in_club, open_checked};
+use crate::report::Report;
+use cli::Task;
+use clocks::Moment;
+use club_requests::{Command, Outcome, Question, Refusal, Who};
+use sqlite::{Alter, Connection};
+use std::alloc::Global;
+use std::io::{Write, sink};
+use store::{
+    AskFault, Club, OpenFault, Upgrade, crash_keeps_history, create, holds_exactly,
+    opened_empty_holds, opened_history_holds, upgrade,
+};
+
+// Creates a club.
+fn init<S: Alter>(alloc: Global, conn: Connection<S>) -> (Report, Connection<S>)
+    requires { conn.in_transaction ≡ false }
+    ensures idle { result.1.in_transaction ≡ false }
+    ensures clean { doubt (state S.Store conn).is_clean ≤ doubt (state S.Store result.1).is_clean }
+    ensures begun { HasCleanDisk (state S.Store result.1) → Opens (state S.Store conn) → IsLive (state S.Store conn) →
+        IsEmpty (state S.Store conn).committed.trees →
+        (db : _) → (state S.Store result.1).may_leave db → IsBegun result.0 db }
+    ensures empty { HasCleanDisk (state S.Store result.1) → Opens (state S.Store conn) → IsLive (state S.Store conn) →
+        IsEmpty (state S.Store conn).committed.trees → IfUnopened result.0 (λ fault. fault ≡ OpenFault.Store) }
+    // Beside foreign tables, which keep their rows.
+    ensures behind { HasCleanDisk (state S.Store result.1) → Opens (state S.Store conn) → IsLive (state S.Store conn) →
+        (them : _) → LeavesNoClub them (state S.Store conn).committed.trees →
+        IfUnopened result.0 (λ fault. fault ≡ OpenFault.Store)
+        × ((db : _) → (state S.Store result.1).may_leave db → IsBegunBehind them result.0 db) }
+    ensures spares { HasCleanDisk (state S.Store result.1) → Opens (state S.Store conn) →
+        result.0 ≡ Report.Unopened OpenFault.Foreign → IsKept (state S.Store conn) (state S.Store result.1) }
+    ensures history { HasCleanDisk (state S.Store result.1) → Opens (state S.Store conn) → IsLive (state S.Store conn) →
+        (them : _) (sessions : _) → IsReachable them sessions (state S.Store conn).committed.trees →
+        (db : _) → (state S.Store result.1).may_leave db → IsReachable them sessions db }
+{
+    opened_empty_holds(&conn);
+    holds_exactly(&conn);
+    opened_history_holds(&conn);
+    crash_keeps_history(&conn);
+    match create(alloc, conn) {
+        Ok(club) => {
+            let conn = club.into_connection();
+            crash_keeps_history(&conn);
+            (Report::Ready, conn)
+        }
+        Err(unopened) => (Report::Unopened(unopened.fault), unopened.conn),
+    }
+}
+
+impl Execute for Command {
+    ghost IsAnswer = { λ c s moment before now report. Answers report (λ outcome.
+        outcome_of outcome ≡ answered (club_step s (given c moment))) };
+
+    ghost chapters = { λ c moment report. request_sessions (given c moment) report };
+
+    ghost untaken = { λ c s moment bytes fault is. is };
+
+    ghost no_chapter = { λ c moment fault. refl };
+
+    // The command is executed as the officer's.
+    fn execute<S: Alter, W: Write>(
+        &self,
+        alloc: Global,
+        club: &mut Club<S>,
+        moment: Moment,
+        _out: &mut W,
+    ) -> Report {
+        match club.apply(alloc, &Who::Officer, self, moment) {
+            Ok(outcome) => Report::Answered(outcome),
+            Err(fault) => Report::StoreFailed(fault),
+        }
+    }
+}
+
+// The report of a query.
+fn report_of_question(answer: Result<Option<Refusal>, AskFault>) -> Report
+    ensures taken { IfUnopened result (λ fault. ⊥) }
+    ensures report { result ≡ ask_report answer }
+{
+    match answer {
+        Ok(None) => Report::Shown,
+        Ok(Some(refusal)) => Report::Answered(Outcome::Refused(refusal)),
+        Err(AskFault::Output) => Report::OutputFailed,
+        Err(AskFault::Club(fault)) => Report::StoreFailed(fault),
+    }
+}
+
+impl Execute for Question {
+    ghost IsAnswer = { λ question s moment before now report. Shows s moment question before now report };
+
+    ghost chapters = { λ question moment report. [] };
+
+    ghost untaken = { λ question s moment bytes fault is. (is, refl) };
+
+    ghost no_chapter = { λ question moment fault. refl };
+
+    fn execute<S: Alter, W: Write>(
+        &self,
+        alloc: Global,
+        club: &mut Club<S>,
+        moment: Moment,
+        out: &mut W,
+    ) -> Report {
+        report_of_question(club.ask(alloc, self, moment, out))
+    }
+}
+
+// Migrates a club of schema 1 to schema 2.
+fn run_upgrade<S: Alter>(alloc: Global, conn: Connection<S>) -> (Report, Connection<S>)
+    requires { conn.in_transaction ≡ false }
+    ensures idle { result.1.in_transaction ≡ false }
+    ensures clean { doubt (state S.Store conn).is_clean ≤ doubt (state S.Store result.1).is_clean }
+    ensures carries { HasCleanDisk (state S.Store result.1) → Opens (state S.Store conn) → IsLive (state S.Store conn) →
+        (them : _) (s : ClubState) → HasFirst them s (state S.Store conn).committed.trees →
+        IsUpgradeResult them s result.0 (state S.Store result.1) }
+    ensures repeats { HasCleanDisk (state S.Store result.1) → Opens (state S.Store conn) → IsLive (state S.Store conn) →
+        (s : ClubState) → IsClub s → HasState s (state S.Store conn).committed.trees →
+        IsRepeated result.0 × IsKept (state S.Store conn) (state S.Store result.1) }
+    ensures refuses { HasCleanDisk (state S.Store result.1) →
+        IfUnopened result.0 (IsUpgradeRefusal (state S.Store conn) (state S.Store result.1)) }
+    ensures history { HasCleanDisk (state S.Store result.1) → Opens (state S.Store conn) → IsLive (state S.Store conn) →
+        (them : _) (chapters : _) → IsReachable them chapters (state S.Store conn).committed.trees →
+        (db : _) → (state S.Store result.1).may_leave db → IsReachable them (chapters ++ upgrade_of result.0 ∷ []) db }
+{
+    holds_exactly(&conn);
+    crash_keeps_history(&conn);
+    match upgrade(alloc, conn) {
+        Ok((conn, done)) => {
+            crash_keeps_history(&conn);
+            (report_of_upgrade(done), conn)
+        }
+        Err(unopened) => (Report::Unopened(unopened.fault), unopened.conn),
+    }
+}
+
+// The report of an upgrade.
+fn report_of_upgrade(done: Upgrade) -> Report
+    ensures done { done ≡ Upgrade.Done → result ≡ Report.Upgraded }
+    ensures already { done ≡ Upgrade.Already → result ≡ Report.AlreadyUpgraded }
+    ensures either { upgrade_of result ≡ upgraded true }
+    ensures taken { IfUnopened result (λ fault. ⊥) }
+{
+    match done {
+        Upgrade::Done => Report::Upgraded,
+        Upgrade::Already => Report::AlreadyUpgraded,
+    }
+}
+
+/// Checks every row of a club, and changes nothing. Reports `Report::Sound`, or `Report::Unopened` with the reason, and
+/// returns the connection.
+///
+/// # Guarantees
+///
+/// `legal`: a file reported as sound holds a legal club. `passes`: a legal club is sound, unless a call fails or memory
+/// runs out. `keeps`: the file is unchanged.
+pub fn verify<S: Alter>(alloc: Global, conn: Connection<S>) -> (Report, Connection<S>)
+    requires { conn.in_transaction ≡ false }
+    ensures idle { result.1.in_transaction ≡ false }
+    ensures clean { doubt (state S.Store conn).is_clean ≤ doubt (state S.Store result.1).is_clean }
+    ensures passes { HasCleanDisk (state S.Store result.1) → Opens (state S.Store conn) → IsLive (state S.Store conn) →
+        (s : ClubState) → IsClub s → HasState s (state S.Store conn).committed.trees → IsPassed result.0 }
+    ensures sound { HasCleanDisk (state S.Store result.1) → IsOpened (state S.Store conn) → result.0 ≡ Report.Sound →
+        (s : ClubState) × IsClub s × IsExactly (tables s) (state S.Store result.1) }
+    ensures legal { HasCleanDisk (state S.Store result.1) → Opens (state S.Store conn) → IsLive (state S.Store conn) →
+        HasClubTables (state S.Store conn).now.schema → result.0 ≡ Report.Sound →
+        HoldClub (state S.Store conn).committed.trees }
+    ensures keeps { HasCleanDisk (state S.Store result.1) → Opens (state S.Store conn) →
+        IsKept (state S.Store conn) (state S.Store result.1) }
+    ensures possible_faults { result.0 ≢ Report.Sound → OnlyUnopened result.0 (λ fault. ⊤) }
+    ensures same { HasCleanDisk (state S.Store result.1) → result.0 ≡ Report.Sound →
+        KeepsContent (state S.Store conn) (state S.Store result.1) }
+    // The schema of an accepted file is equivalent to a club's, whatever `CREATE` statements made it.
+    ensures shape { IfTaken result.0 (is_of_club Current (state S.Store conn).now.schema ≡ true) }
+    ensures refuses { HasCleanDisk (state S.Store result.1) →
+        IfUnopened result.0 (IsRefusal (state S.Store conn) (state S.Store result.1)) }
+    ensures older { HasCleanDisk (state S.Store result.1) → Opens (state S.Store conn) → IsLive (state S.Store conn) →
+        (them : _) (s : ClubState) → HasFirst them s (state S.Store conn).committed.trees →
+        OnlyUnopened result.0 IsOlder }
+    ensures history { HasCleanDisk (state S.Store result.1) → Opens (state S.Store conn) → IsLive (state S.Store conn) →
+        (them : _) (sessions : _) → IsReachable them sessions (state S.Store conn).committed.trees →
+        (db : _) → (state S.Store result.1).may_leave db → IsReachable them sessions db }
+{
+    match open_checked(alloc, conn) {
+        Ok(club) => (Report::Sound, club.into_connection()),
+        Err(found) => (Report::Unopened(found.fault), found.conn),
+    }
+}
+
+/// Executes a task at this timestamp over a newly opened connection, and returns the report and the connection.
+/// A backup only verifies here. Every task except the upgrade rejects schema 1. Only a query writes to `out`.
+///
+/// # Guarantees
+///
+/// - `answer`, `given`, `asked`: the reported outcomes and the text written are those of the club's specification.
+/// - `history`: whatever a crash leaves is reached by the earlier history and this task, beside the same foreign tables.
+/// - `begun`, `behind`: after the creation of a club, or a crash in it, there is an empty club or no club.
+/// - `refuses`, `withheld`: the reason why a file was rejected is true, and the file is unchanged. Only an upgrade in
+///   which a database call failed may have changed it.
+pub fn act<S: Alter, W: Write>(
+    alloc: Global,
+    conn: Connection<S>,
+    task: &Task,
+    moment: Moment,
+    out: &mut W,
+) -> (Report, Connection<S>)
+    requires { conn.in_transaction ≡ false }
+    ensures idle { result.1.in_transaction ≡ false }
+    ensures clean { doubt (state S.Store conn).is_clean ≤ doubt (state S.Store result.1).is_clean }
+    ensures begun { HasCleanDisk (state S.Store result.1) → Opens (state S.Store conn) → IsLive (state S.Store conn) →
+        task.now ≡ Init → IsEmpty (state S.Store conn).committed.trees →
+        (db : _) → (state S.Store result.1).may_leave db → IsBegun result.0 db }
+    // In a database without tables the creation fails only if a call fails.
+    ensures empty { HasCleanDisk (state S.Store result.1) → Opens (state S.Store conn) → IsLive (state S.Store conn) →
+        task.now ≡ Init → IsEmpty (state S.Store conn).committed.trees →
+        IfUnopened result.0 (λ fault. fault ≡ OpenFault.Store) }
+    // Beside foreign tables, too, which keep their rows.
+    ensures behind { HasCleanDisk (state S.Store result.1) → Opens (state S.Store conn) → IsLive (state S.Store conn) →
+        task.now ≡ Init → (them : _) → LeavesNoClub them (state S.Store conn).committed.trees →
+        IfUnopened result.0 (λ fault. fault ≡ OpenFault.Store)
+        × ((db : _) → (state S.Store result.1).may_leave db → IsBegunBehind them result.0 db) }
+    ensures answer { HasCleanDisk (state S.Store result.1) → Opens (state S.Store conn) → IsLive (state S.Store conn) →
+        (s : ClubState) → IsClub s → HasState s (state S.Store conn).committed.trees →
+        IfRequest task.now (λ command. Answers result.0 (λ outcome.
+        outcome_of outcome ≡ answered (club_step s (given command moment)))) }
+    ensures given { HasCleanDisk (state S.Store result.1) → Opens (state S.Store conn) → IsLive (state S.Store conn) →
+        (s : ClubState) → IsClub s → HasState s (state S.Store conn).committed.trees →
+        IfBatch task.now (λ batch. AnswersBatch s moment batch result.0) }
+    ensures asked { HasCleanDisk (state S.Store result.1) → Opens (state S.Store conn) → IsLive (state S.Store conn) →
+        (s : ClubState) → IsClub s → HasState s (state S.Store conn).committed.trees →
+        IfAsk task.now (λ question. Shows s moment question (W.contents out.old) (W.contents out.new) result.0) }
+    ensures passes { HasCleanDisk (state S.Store result.1) → Opens (state S.Store conn) → IsLive (state S.Store conn) →
+        (s : ClubState) → IsClub s → HasState s (state S.Store conn).committed.trees →
+        IfVerify task.now (IsPassed result.0) }
+    ensures sound { HasCleanDisk (state S.Store result.1) → IsOpened (state S.Store conn) →
+        IfVerify task.now (result.0 ≡ Report.Sound →
+        (s : ClubState) × IsClub s × IsExactly (tables s) (state S.Store result.1)) }
+    ensures legal { HasCleanDisk (state S.Store result.1) → Opens (state S.Store conn) → IsLive (state S.Store conn) →
+        HasClubTables (state S.Store conn).now.schema → IfVerify task.now (result.0 ≡ Report.Sound →
+        HoldClub (state S.Store conn).committed.trees) }
+    // The schema of an accepted file is equivalent to a club's, whatever `CREATE` statements made it.
+    ensures shape { IfOpensClub task.now (IfTaken result.0 (
+        is_of_club Current (state S.Store conn).now.schema ≡ true)) }
+    ensures refuses { HasCleanDisk (state S.Store result.1) → IfOpensClub task.now (IfUnopened result.0
+        (IsRefusal (state S.Store conn) (state S.Store result.1))) }
+    ensures older { HasCleanDisk (state S.Store result.1) → Opens (state S.Store conn) → IsLive (state S.Store conn) →
+        (them : _) (s : ClubState) → HasFirst them s (state S.Store conn).committed.trees →
+        IfOpensClub task.now (OnlyUnopened result.0 IsOlder) }
+    ensures carries { HasCleanDisk (state S.Store result.1) → Opens (state S.Store conn) → IsLive (state S.Store conn) →
+        (them : _) (s : ClubState) → HasFirst them s (state S.Store conn).committed.trees →
+        IfUpgrade task.now (IsUpgradeResult them s result.0 (state S.Store result.1)) }
+    ensures repeats { HasCleanDisk (state S.Store result.1) → Opens (state S.Store conn) → IsLive (state S.Store conn) →
+        (s : ClubState) → IsClub s → HasState s (state S.Store conn).committed.trees →
+        IfUpgrade task.now (IsRepeated result.0 × IsKept (state S.Store conn) (state S.Store result.1)) }
+    ensures withheld { HasCleanDisk (state S.Store result.1) → IfUpgrade task.now (IfUnopened result.0
+        (IsUpgradeRefusal (state S.Store conn) (state S.Store result.1))) }
+    ensures spares { HasCleanDisk (state S.Store result.1) → Opens (state S.Store conn) → task.now ≡ Init →
+        result.0 ≡ Report.Unopened OpenFault.Foreign → IsKept (state S.Store conn) (state S.Store result.1) }
+    ensures silent { writes task.now ≡ false → out.new ≡ out.old }
+    ensures history { HasCleanDisk (state S.Store result.1) → Opens (state S.Store conn) → IsLive (state S.Store conn) →
+        (them : _) (sessions : _) → IsReachable them sessions (state S.Store conn).committed.trees →
+        (db : _) → (state S.Store result.1).may_leave db →
+        IsReachable them (sessions ++ task_sessions task.now moment result.0) db }
+{
+    match task {
+        Task::Init => init(alloc, conn),
+        Task::Request(command) => execute_in_club(alloc, conn, command, moment, &mut sink()),
+        Task::Ask(question) => execute_in_club(alloc, conn, question, moment, out),
+        Task::Verify => verify(alloc, conn),
+        Task::Upgrade => run_upgrade(alloc, conn),
+        Task::Backup(_) => verify(alloc, conn),
+        Task::Batch(batch) => execute_in_club(alloc, conn, batch, moment, &mut sink()),
+    }
+}

@@ -1,0 +1,9 @@
+pub mod AskLemmas
+pub mod CopyLemmas
+pub mod FoundLemmas
+pub mod NextLemmas
+pub mod RepeatLemmas
+pub mod ServeLemmas
+pub mod TaskLemmas
+pub mod ToldLemmas
+pub mod TurnLemmas

@@ -1,0 +1,66 @@
+-- What is said of one task, of one report or of what is told of a stretch goes on.
+use Rattle.std.proofs.Common.{◌≢◌, Option, Some, None, refl}
+use Rattle.cli.specs.declared.words.Task.{Task}
+use Rattle.cli.specs.declared.words.Task.TheVariants as task
+use Rattle.club_check.specs.declared.fault.OpenFault.{OpenFault}
+use Rattle.club_orders.specs.declared.report.Report.{Report}
+use Rattle.club_orders.specs.declared.report.Report.TheVariants.{Sound, Unopened}
+use Rattle.club_orders.specs.Report as of_report
+use Rattle.club_orders.specs.Report.{IfUnopened, IfVerify, IsOfCopy, IsPassed}
+use Rattle.club_orders.specs.Refused.{IfOpensClub, IfUpgrade}
+use Rattle.http_desk.specs.declared.faults.ClubFault.{ClubFault}
+use Rattle.http_desk.specs.declared.faults.ClubFault.TheVariants.{Reopen}
+use Rattle.club_session.specs.ToldFault.{IfOpened}
+use Rattle.club_session.specs.Found.{IsBackedUp}
+
+pub if_verify : {P Q : Type 0} (t : Task) → (P → Q) → IfVerify t P → IfVerify t Q
+if_verify task.Verify goes is = goes is
+if_verify _ goes is = tt
+
+pub verify_under : (P Q : Type 0) (t : Task) → (P → IfVerify t Q) → IfVerify t (P → Q)
+verify_under P Q task.Verify is = is
+verify_under P Q _ is = tt
+
+pub if_takes_over : {P Q : Type 0} (t : Task) → (P → Q) → IfOpensClub t P → IfOpensClub t Q
+if_takes_over task.Init goes is = tt
+if_takes_over task.Upgrade goes is = tt
+if_takes_over _ goes is = goes is
+
+pub if_upgrade : {P Q : Type 0} (t : Task) → (P → Q) → IfUpgrade t P → IfUpgrade t Q
+if_upgrade task.Upgrade goes is = goes is
+if_upgrade _ goes is = tt
+
+pub if_unopened : (P Q : OpenFault → Type 0) (report : Report) → ((fault : OpenFault) → P fault → Q fault)
+    → IfUnopened report P → IfUnopened report Q
+if_unopened P Q (Unopened fault) goes is = goes fault is
+if_unopened P Q _ goes is = tt
+
+pub if_taken_over : {P Q : Type 0} (report : Report) → (P → Q) → of_report.IfTaken report P
+    → of_report.IfTaken report Q
+if_taken_over (Unopened fault) goes is = tt
+if_taken_over _ goes is = goes is
+
+-- what is reported of a copy is not that the club was not opened
+pub of_copy_opened : (P : OpenFault → Type 0) (report : Report) → IsOfCopy report → IfUnopened report P
+of_copy_opened P (Unopened fault) is = absurd is
+of_copy_opened P _ is = tt
+
+pub of_copy : (report : Report) → IsOfCopy report → IsBackedUp report
+of_copy (Unopened fault) is = absurd is
+of_copy _ is = is
+
+-- a test that found no club, though there is one
+pub passed : (report : Report) → report ≢ Sound → IsPassed report → IsBackedUp report
+passed Sound other is = absurd (other refl)
+passed (Unopened fault) other is = is
+passed _ other is = absurd is
+
+pub if_taken : {P Q : Type 0} (told : Option ClubFault) → (P → Q) → IfOpened told P → IfOpened told Q
+if_taken None goes is = goes is
+if_taken (Some Reopen) goes is = goes is
+if_taken (Some _) goes is = tt
+
+pub taken_under : (P Q : Type 0) (told : Option ClubFault) → (P → IfOpened told Q) → IfOpened told (P → Q)
+taken_under P Q None is = is
+taken_under P Q (Some Reopen) is = is
+taken_under P Q (Some _) is = tt

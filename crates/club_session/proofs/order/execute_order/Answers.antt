@@ -1,0 +1,167 @@
+use Rattle.std.proofs.Math.Logic.{∥∥₁_elim, ∥∥₁_map}
+use Rattle.sqlite_wal.specs.Files.{image_at}
+use Rattle.sqlite_store.specs.FileStore.{state as store_state}
+use Rattle.sqlite.specs.Files.{file_state}
+use Rattle.store_files.proofs.Proved.{was_clean}
+use Rattle.club_session.proofs.FoundLemmas.{carried_files, kept_files, not_upgraded, refused_files, shaped_files}
+use Rattle.club_session.proofs.FoundLemmas.{sound_files}
+use Rattle.club_session.proofs.TaskLemmas.{if_taken_over, if_takes_over, if_unopened, if_upgrade, if_verify, verify_under}
+use Rattle.club_session.proofs.order.execute_order.Goals as goal
+
+pub returns-clause-begun : goal.returns-clause-begun
+returns-clause-begun g c clean is void left may found finds =
+    let after = was_clean _ _ c.close.ensures.clean clean in
+    let before = was_clean _ _ c.act-report.ensures.clean after in
+    let opened = c.in-Ok.ensures.opened before in
+    let here = c.in-Ok.ensures.found before in
+    ∥∥₁_map (c.close.ensures.member clean left may found finds.holds)
+    (λ now. c.act-report.ensures.begun after opened.0 opened.1 is
+    (void _ (record { holds = here.holds; reads = here.reads })) found now)
+
+pub returns-clause-behind : goal.returns-clause-behind
+returns-clause-behind g c clean is them without left may found finds =
+    let after = was_clean _ _ c.close.ensures.clean clean in
+    let before = was_clean _ _ c.act-report.ensures.clean after in
+    let opened = c.in-Ok.ensures.opened before in
+    let here = c.in-Ok.ensures.found before in
+    let told = c.act-report.ensures.behind after opened.0 opened.1 is them
+    (without _ (record { holds = here.holds; reads = here.reads })) in
+    ∥∥₁_map (c.close.ensures.member clean left may found finds.holds) (λ now. told.1 found now)
+
+pub returns-clause-answer : goal.returns-clause-answer
+returns-clause-answer g c clean s are =
+    let after = was_clean _ _ c.close.ensures.clean clean in
+    let before = was_clean _ _ c.act-report.ensures.clean after in
+    let opened = c.in-Ok.ensures.opened before in
+    let here = c.in-Ok.ensures.found before in
+    c.act-report.ensures.answer after opened.0 opened.1 s are.legal
+    (are.finds _ (record { holds = here.holds; reads = here.reads }))
+
+pub returns-clause-given : goal.returns-clause-given
+returns-clause-given g c clean s are =
+    let after = was_clean _ _ c.close.ensures.clean clean in
+    let before = was_clean _ _ c.act-report.ensures.clean after in
+    let opened = c.in-Ok.ensures.opened before in
+    let here = c.in-Ok.ensures.found before in
+    c.act-report.ensures.given after opened.0 opened.1 s are.legal
+    (are.finds _ (record { holds = here.holds; reads = here.reads }))
+
+pub returns-clause-history : goal.returns-clause-history
+returns-clause-history g c clean them sessions led left may found finds =
+    let after = was_clean _ _ c.close.ensures.clean clean in
+    let before = was_clean _ _ c.act-report.ensures.clean after in
+    let opened = c.in-Ok.ensures.opened before in
+    let here = c.in-Ok.ensures.found before in
+    ∥∥₁_elim (led _ (record { holds = here.holds; reads = here.reads })) squash₁ (λ was.
+    ∥∥₁_map (c.close.ensures.member clean left may found finds.holds)
+    (λ now. c.act-report.ensures.history after opened.0 opened.1 them sessions was found now))
+
+pub returns-clause-passes : goal.returns-clause-passes
+returns-clause-passes g c clean s are =
+    let after = was_clean _ _ c.close.ensures.clean clean in
+    let before = was_clean _ _ c.act-report.ensures.clean after in
+    let opened = c.in-Ok.ensures.opened before in
+    let here = c.in-Ok.ensures.found before in
+    c.act-report.ensures.passes after opened.0 opened.1 s are.legal
+    (are.finds _ (record { holds = here.holds; reads = here.reads }))
+
+pub returns-clause-asked : goal.returns-clause-asked
+returns-clause-asked g c clean s are =
+    let after = was_clean _ _ c.close.ensures.clean clean in
+    let before = was_clean _ _ c.act-report.ensures.clean after in
+    let opened = c.in-Ok.ensures.opened before in
+    let here = c.in-Ok.ensures.found before in
+    c.act-report.ensures.asked after opened.0 opened.1 s are.legal
+    (are.finds _ (record { holds = here.holds; reads = here.reads }))
+
+pub returns-clause-sound : goal.returns-clause-sound
+returns-clause-sound g c clean =
+    let after = was_clean _ _ c.close.ensures.clean clean in
+    let before = was_clean _ _ c.act-report.ensures.clean after in
+    let opened = c.in-Ok.ensures.opened before in
+    if_verify c.args.order.now.task (λ legal is.
+    sound_files (image_at g.S.Start) (file_state c.in-Ok.conn) (c.in-Ok.ensures.found before)
+    opened.0 opened.1 (λ schema. legal schema is))
+    (verify_under _ _ c.args.order.now.task (λ schema. c.act-report.ensures.legal after opened.0 opened.1 schema))
+
+pub returns-clause-shape : goal.returns-clause-shape
+returns-clause-shape g c clean =
+    let after = was_clean _ _ c.close.ensures.clean clean in
+    let before = was_clean _ _ c.act-report.ensures.clean after in
+    let opened = c.in-Ok.ensures.opened before in
+    if_takes_over c.args.order.now.task (λ taken.
+    if_taken_over c.act-report.result.0 (λ shape.
+    shaped_files (image_at g.S.Start) (file_state c.in-Ok.conn) (c.in-Ok.ensures.found before) opened.0 opened.1 shape)
+    taken)
+    c.act-report.ensures.shape
+
+pub returns-clause-refuses : goal.returns-clause-refuses
+returns-clause-refuses g c clean =
+    let after = was_clean _ _ c.close.ensures.clean clean in
+    let before = was_clean _ _ c.act-report.ensures.clean after in
+    let opened = c.in-Ok.ensures.opened before in
+    if_takes_over c.args.order.now.task (λ refused.
+    if_unopened _ _ c.act-report.result.0 (λ fault refusal.
+    refused_files (image_at g.S.Start) (file_state c.in-Ok.conn) (c.in-Ok.ensures.found before)
+    (file_state c.act-report.result.1) (store_state c.close.result).may_leave (c.close.ensures.member clean) opened.0
+    opened.1 fault refusal)
+    refused)
+    (c.act-report.ensures.refuses after)
+
+pub returns-clause-spares : goal.returns-clause-spares
+returns-clause-spares g c clean is foreign =
+    let after = was_clean _ _ c.close.ensures.clean clean in
+    let before = was_clean _ _ c.act-report.ensures.clean after in
+    let opened = c.in-Ok.ensures.opened before in
+    kept_files (image_at g.S.Start) (file_state c.in-Ok.conn) (c.in-Ok.ensures.found before)
+    (file_state c.act-report.result.1) (store_state c.close.result).may_leave (c.close.ensures.member clean)
+    (c.act-report.ensures.spares after opened.0 is foreign)
+
+pub returns-clause-older : goal.returns-clause-older
+returns-clause-older g c clean them s are =
+    let after = was_clean _ _ c.close.ensures.clean clean in
+    let before = was_clean _ _ c.act-report.ensures.clean after in
+    let opened = c.in-Ok.ensures.opened before in
+    let here = c.in-Ok.ensures.found before in
+    c.act-report.ensures.older after opened.0 opened.1 them s
+    (are.finds _ (record { holds = here.holds; reads = here.reads }))
+
+pub returns-clause-carries : goal.returns-clause-carries
+returns-clause-carries g c clean them s are =
+    let after = was_clean _ _ c.close.ensures.clean clean in
+    let before = was_clean _ _ c.act-report.ensures.clean after in
+    let opened = c.in-Ok.ensures.opened before in
+    let here = c.in-Ok.ensures.found before in
+    if_upgrade c.args.order.now.task (λ carried.
+    carried_files (image_at g.S.Start) (file_state c.in-Ok.conn) here (file_state c.act-report.result.1)
+    (store_state c.close.result).may_leave (c.close.ensures.member clean) them s c.act-report.result.0
+    carried)
+    (c.act-report.ensures.carries after opened.0 opened.1 them s
+    (are.finds _ (record { holds = here.holds; reads = here.reads })))
+
+pub returns-clause-repeats : goal.returns-clause-repeats
+returns-clause-repeats g c clean s are =
+    let after = was_clean _ _ c.close.ensures.clean clean in
+    let before = was_clean _ _ c.act-report.ensures.clean after in
+    let opened = c.in-Ok.ensures.opened before in
+    let here = c.in-Ok.ensures.found before in
+    if_upgrade c.args.order.now.task (λ (told, kept). (
+      told,
+      kept_files (image_at g.S.Start) (file_state c.in-Ok.conn) here (file_state c.act-report.result.1)
+          (store_state c.close.result).may_leave (c.close.ensures.member clean) kept,
+    ))
+    (c.act-report.ensures.repeats after opened.0 opened.1 s are.legal
+    (are.finds _ (record { holds = here.holds; reads = here.reads })))
+
+pub returns-clause-withheld : goal.returns-clause-withheld
+returns-clause-withheld g c clean =
+    let after = was_clean _ _ c.close.ensures.clean clean in
+    let before = was_clean _ _ c.act-report.ensures.clean after in
+    let opened = c.in-Ok.ensures.opened before in
+    let here = c.in-Ok.ensures.found before in
+    if_upgrade c.args.order.now.task (λ refused.
+    if_unopened _ _ c.act-report.result.0 (λ fault refusal.
+    not_upgraded (image_at g.S.Start) (file_state c.in-Ok.conn) here (file_state c.act-report.result.1)
+    (store_state c.close.result).may_leave (c.close.ensures.member clean) opened.0
+    opened.1 fault refusal) refused)
+    (c.act-report.ensures.withheld after)

@@ -1,0 +1,106 @@
+use Rattle.std.proofs.Common.{◌≡◌, true, refl, sym, subst, inr}
+use Rattle.sqlite.specs.State.{HasCleanDisk}
+use Rattle.sqlite.specs.Held.{state}
+use Rattle.schema_match.specs.Shapes.{is_of_club}
+use Rattle.store_tables.specs.Over.{HoldsClubAmong}
+use Rattle.store_tables.specs.declared.names.Version.TheVariants.{Current}
+use Rattle.club_rows.specs.Club.{tables}
+use Rattle.store.proofs.Proved.{current_taken, holds_beside, still_stands}
+use Rattle.club_session.specs.Turns.{IsHistoryOn, IsReachableOn}
+use Rattle.club_session.proofs.ToldLemmas.{untaken, good_told, served_told, served_taken, served_good, none_failed, stood}
+use Rattle.club_session.proofs.TurnLemmas.{reads_led}
+use Rattle.club_session.proofs.serving.serve_club.Goals as goal
+
+pub returns-in-Err-clause-history : goal.returns-in-Err-clause-history
+returns-in-Err-clause-history g c clean opens live them sessions led =
+    reads_led them sessions (state g.S.Store c.args.conn) (state g.S.Store c.in-Err.unopened.conn)
+    c.in-Err.ensures.reads clean
+    (let (version, at) = c.opened_history_holds.ensures opens live them sessions led in
+    c.crash_keeps_history.ensures version them sessions at)
+
+pub returns-clause-history : goal.returns-clause-history
+returns-clause-history g c clean opens live them sessions led =
+    let same = c.into_connection.ensures.same in
+    let after : HasCleanDisk (state g.S.Store c.serve_open-has_failed.new.club.club.connection) =
+    subst (λ k. HasCleanDisk (state g.S.Store k)) same clean in
+    let before = c.serve_open-has_failed.ensures.clean after in
+    let stood = current_taken them sessions (state g.S.Store c.args.conn)
+    (λ known. (c.in-Ok.ensures.unchanged before known).0)
+    (c.opened_history_holds.ensures opens live them sessions led) in
+    let stands = still_stands them sessions (state g.S.Store c.args.conn) (state g.S.Store c.in-Ok.club.connection)
+    (c.in-Ok.ensures.kept.kept refl before) stood in
+    subst (λ k. IsReachableOn them sessions (state g.S.Store k)) (sym same)
+    (c.serve_open-has_failed.ensures.history after them sessions stands)
+
+pub returns-clause-stands : goal.returns-clause-stands
+returns-clause-stands g c clean opens live none them sessions led =
+    let same = c.into_connection.ensures.same in
+    let after : HasCleanDisk (state g.S.Store c.serve_open-has_failed.new.club.club.connection) =
+    subst (λ k. HasCleanDisk (state g.S.Store k)) same clean in
+    let before = c.serve_open-has_failed.ensures.clean after in
+    let stood = current_taken them sessions (state g.S.Store c.args.conn)
+    (λ known. (c.in-Ok.ensures.unchanged before known).0)
+    (c.opened_history_holds.ensures opens live them sessions led) in
+    let stands = still_stands them sessions (state g.S.Store c.args.conn) (state g.S.Store c.in-Ok.club.connection)
+    (c.in-Ok.ensures.kept.kept refl before) stood in
+    let open_still = none_failed c.serve_open-has_failed.result c.fault_after.result c.fault_after.ensures none in
+    subst (λ k. IsHistoryOn them sessions (state g.S.Store k)) (sym same)
+    (c.serve_open-has_failed.ensures.stands open_still after them sessions stands)
+
+pub returns-in-Err-clause-told : goal.returns-in-Err-clause-told
+returns-in-Err-clause-told g c clean = inr (
+  c.in-Err.unopened.fault,
+  c.fault_of_opening.ensures,
+  record {
+    blames = λ is. c.in-Err.ensures.reason_is_right clean is;
+    first = λ is. c.in-Err.ensures.possible_faults clean is;
+    kept = λ opens db left.
+        g.met.S.Store.settled c.args.conn.store db opens.is_open (c.in-Err.ensures.reads.may clean db left);
+  },
+)
+
+pub returns-clause-told : goal.returns-clause-told
+returns-clause-told g c clean =
+    served_told _ _ c.serve_open-has_failed.result c.fault_after.result c.fault_after.ensures
+
+pub returns-in-Err-clause-taken : goal.returns-in-Err-clause-taken
+returns-in-Err-clause-taken g c clean opens live schema =
+    untaken _ c.in-Err.unopened.fault c.fault_of_opening.result c.fault_of_opening.ensures
+
+pub returns-clause-taken : goal.returns-clause-taken
+returns-clause-taken g c clean opens live has =
+    let same = c.into_connection.ensures.same in
+    let after : HasCleanDisk (state g.S.Store c.serve_open-has_failed.new.club.club.connection) =
+    subst (λ k. HasCleanDisk (state g.S.Store k)) same clean in
+    let before = c.serve_open-has_failed.ensures.clean after in
+    let (beside, unchanged, may) = c.in-Ok.ensures.unchanged before has in
+    let (s, is_club, held) = c.in-Ok.ensures.held before has (live opens.is_open).0 in
+    let shown = unchanged.0 in
+    served_taken _ c.serve_open-has_failed.result c.fault_after.result c.fault_after.ensures (record {
+      state = s;
+      legal = is_club;
+      leaves =
+          stood s (state g.S.Store c.args.conn) (state g.S.Store c.in-Ok.club.connection) held shown.now_is opens.clean;
+    })
+
+pub returns-in-Err-clause-shape : goal.returns-in-Err-clause-shape
+returns-in-Err-clause-shape g c = untaken _ c.in-Err.unopened.fault c.fault_of_opening.result c.fault_of_opening.ensures
+
+pub returns-clause-shape : goal.returns-clause-shape
+returns-clause-shape g c =
+    served_taken _ c.serve_open-has_failed.result c.fault_after.result c.fault_after.ensures c.in-Ok.ensures.shape
+
+pub returns-in-Err-clause-accepts_sound : goal.returns-in-Err-clause-accepts_sound
+returns-in-Err-clause-accepts_sound g c clean opens live s is_club has =
+    let was = state g.S.Store c.args.conn in
+    let found : HoldsClubAmong has.them (tables s) was = record {
+      clear = has.leaves.clear;
+      exactly = c.holds_exactly.ensures opens live _ _ has.leaves.leaves;
+    } in
+    good_told c.in-Err.unopened.fault c.fault_of_opening.result c.fault_of_opening.ensures
+    (c.in-Err.ensures.accepts_sound clean s is_club (holds_beside has.them (tables s) was found)
+    (subst (λ schema. is_of_club Current schema ≡ true) (sym found.exactly.now.schema) has.shape))
+
+pub returns-clause-accepts_sound : goal.returns-clause-accepts_sound
+returns-clause-accepts_sound g c clean opens live s is_club left =
+    served_good c.serve_open-has_failed.result c.fault_after.result c.fault_after.ensures

@@ -1,0 +1,94 @@
+-- What an opening finds in files, and what later openings find in them.
+use Rattle.std.specs.Prelude.{◌≡◌, ◌≢◌, ◌⊎◌, true, ⊤, Option, Some, None}
+use Rattle.sqlite_wal.specs.Recovery.{Image}
+use Rattle.sqlite.specs.Tree.{Trees}
+use Rattle.sqlite.specs.Effect.{Database}
+use Rattle.store_tables.specs.Placed.{HasClubTables}
+use Rattle.store_tables.specs.Over.{Neighbours}
+use Rattle.store_tables.specs.declared.names.Version.TheVariants.{First, Current}
+use Rattle.club_rows.specs.Club.{ClubState, IsClub}
+use Rattle.club_check.specs.ReasonIsRight.{IsRightFault}
+use Rattle.club_check.specs.RightTables.{NamesFirstDamaged}
+use Rattle.club_check.specs.declared.fault.OpenFault.{OpenFault}
+use Rattle.club_check.specs.declared.fault.OpenFault.TheVariants as opening
+use Rattle.store_files.specs.Finds.{IsFoundIn}
+use Rattle.sqlite_catalog.specs.Listing.{IsSound}
+use Rattle.sqlite.specs.Schema.{Schema}
+use Rattle.store.specs.Histories.{HasState}
+use Rattle.schema_match.specs.Shapes.{is_of_club}
+use Rattle.club_check.specs.Refused.{HoldClub}
+use Rattle.club_orders.specs.Refused.{HasFirst}
+use Rattle.club_orders.specs.Report.{AreCarried, IsOfCopy, IsUpgraded}
+use Rattle.club_orders.specs.declared.report.Report.{Report}
+use Rattle.club_orders.specs.declared.report.Report.TheVariants as report
+use Rattle.http_desk.specs.declared.faults.ClubFault.{ClubFault}
+use Rattle.http_desk.specs.declared.faults.ClubFault.TheVariants.{Reopen}
+use Rattle.club_session.specs.Faults.{fault_of_opening}
+
+-- The files hold this legal state: whatever an opening finds has its tables, alone or beside foreign tables, in a
+-- schema equivalent to a club's.
+pub record AreFilesOf (s : ClubState) (files : Image) : Type 0 where
+  pub legal : IsClub s
+  pub finds : (found : Trees) → IsFoundIn files found → HasState s found
+
+-- The files hold this legal state in schema 1, alone or beside foreign tables.
+pub record AreFirstFilesOf (them : Neighbours) (s : ClubState) (files : Image) : Type 0 where
+  pub finds : (found : Trees) → IsFoundIn files found → HasFirst them s found
+
+-- the database has a schema with a club's tables, whatever their rows
+abbrev pub ListClub : Schema → Trees → Type 0
+ListClub schema trees = HasClubTables schema × IsSound schema trees
+
+abbrev pub database_of : Schema → Trees → Database
+database_of schema trees = record { schema = schema; trees = trees }
+
+-- If an opening found a club's tables, they are those of a legal state in schema 2.
+pub record AreSound (files : Image) : Type 0 where
+  pub found : Trees
+  pub is_found : IsFoundIn files found
+  pub legal : (schema : Schema) → ListClub schema found → HoldClub found
+
+-- The schema that an opening found is equivalent to a club's, whatever `CREATE` statements made it.
+pub record AnswerAsClub (files : Image) : Type 0 where
+  pub found : Trees
+  pub is_found : IsFoundIn files found
+  pub shape : (schema : Schema) → IsSound schema found → is_of_club Current schema ≡ true
+
+-- Later openings find what this one found, whatever a crash leaves.
+pub record AreKept (files : Image) (MayLeave : Image → Type 0) : Type 0 where
+  pub found : Trees
+  pub is_found : IsFoundIn files found
+  pub stays : (left : Image) → MayLeave left → (later : Trees) → IsFoundIn left later → ∥ later ≡ found ∥₁
+
+-- The database was rejected: if it has a club's tables, the reason is true of them; later openings find the same.
+pub record AreRefused (files : Image) (MayLeave : Image → Type 0) (fault : OpenFault) : Type 0 where
+  pub kept : AreKept files MayLeave
+  pub blames : (schema : Schema) → ListClub schema kept.found → IsRightFault Current (database_of schema kept.found) fault
+  pub first : (schema : Schema) → ListClub schema kept.found → NamesFirstDamaged (database_of schema kept.found) fault
+
+-- The same for an upgrade: if a call of the database failed, later openings may find more.
+pub record AreNotUpgraded (files : Image) (MayLeave : Image → Type 0) (fault : OpenFault) : Type 0 where
+  pub found : Trees
+  pub is_found : IsFoundIn files found
+  pub blames : (schema : Schema) → ListClub schema found → IsRightFault First (database_of schema found) fault
+  pub first : (schema : Schema) → ListClub schema found → NamesFirstDamaged (database_of schema found) fault
+  pub kept : fault ≢ opening.Store → AreKept files MayLeave
+
+-- A club's files were copied; or a call of the copy's or of the club's database failed, or memory ran out.
+abbrev pub IsBackedUp : Report → Type 0
+IsBackedUp (report.Unopened fault) = (fault ≡ opening.Store) ⊎ (fault ≡ opening.Memory)
+IsBackedUp other = IsOfCopy other
+
+-- The result of the upgrade of a club of schema 1: later openings find the tables of its state in schema 2, or, if the
+-- upgrade failed, perhaps in schema 1, beside the same foreign tables.
+pub record AreCarriedOver (them : Neighbours) (s : ClubState) (report : Report) (MayLeave : Image → Type 0) : Type 0
+  where
+    pub answer : IsUpgraded report
+    pub leaves : (left : Image) → MayLeave left → (later : Trees) → IsFoundIn left later
+        → ∥ AreCarried them s report later ∥₁
+
+-- the fault of a serving session: none, a failed call, or why the club was not opened
+abbrev pub IsSessionFault : Image → (Image → Type 0) → Option ClubFault → Type 0
+IsSessionFault files MayLeave None = ⊤
+IsSessionFault files MayLeave (Some fault) = (fault ≡ Reopen)
+    ⊎ ((why : OpenFault) × (fault ≡ fault_of_opening why) × AreRefused files MayLeave why)

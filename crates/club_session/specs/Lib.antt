@@ -1,0 +1,9 @@
+pub mod Copied
+pub mod Faults
+pub mod Found
+pub mod ReachableOn
+pub mod Repeats
+pub mod Served
+pub mod ServedStates
+pub mod ToldFault
+pub mod Turns

@@ -1,0 +1,36 @@
+-- A club of the store as the HTTP application sees it.
+use Rattle.std.specs.Prelude.{ℕ, List, Option, Some, None, Result, Ok, Err}
+use Rattle.store_tables.specs.Over.{Neighbours}
+use Rattle.club_core.specs.Answer.{answered}
+use Rattle.club_core.specs.State.{Request}
+use Rattle.club_rows.specs.Club.{ClubState}
+use Rattle.club_requests.specs.declared.refusals.Refusal.{Refusal}
+use Rattle.club_answers.specs.AnswerTexts.{IsShown}
+use Rattle.club_reads.specs.Keys.{member_by_key}
+use Rattle.club_changes.specs.Steps.{club_step, club_next}
+use Rattle.http_desk.specs.Served.{Club}
+
+-- the bytes of the answer, or the refusal
+abbrev pub written : Option Refusal → List ℕ → Result (List ℕ) Refusal
+written None bytes = Ok bytes
+written (Some refusal) bytes = Err refusal
+
+-- a state of the club, and the foreign tables in its file
+pub record DeskState : Type 0 where
+  pub them : Neighbours
+  pub state : ClubState
+
+abbrev pub beside_them : Neighbours → ClubState → DeskState
+beside_them them s = record { them = them; state = s }
+
+-- a request leaves foreign tables as they are
+abbrev pub next_of : DeskState → Request → DeskState
+next_of s request = beside_them s.them (club_next s.state request)
+
+abbrev pub served : Club DeskState
+served =
+    record {
+      member_by_key = λ s. member_by_key s.state;
+      IsShown = λ s. IsShown s.state;
+      step = λ s request. (next_of s request, answered (club_step s.state request));
+    }

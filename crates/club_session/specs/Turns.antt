@@ -1,0 +1,69 @@
+-- Commands sent by members over HTTP and by the officer over the control socket, each a session of its own in the
+-- history.
+use Rattle.std.specs.Prelude.{◌≡◌, ◌≤◌, ◌⊎◌, ℕ, true, List, [], ◌∷◌, ◌++◌, ⊤}
+use Rattle.sqlite.specs.Tree.{Trees}
+use Rattle.sqlite.specs.State.{State}
+use Rattle.store_tables.specs.Over.{Neighbours}
+use Rattle.club_requests.specs.Limits.{last_moment}
+use Rattle.club_core.specs.State.{Command, add_member, add_event, seat, import_record, on_game, sweep}
+use Rattle.club_core.specs.State.{open_challenge, withdraw_challenge, answer_challenge, Request, key_holder, officer}
+use Rattle.store.specs.Histories as history
+use Rattle.store.specs.Histories.{HistoryStep, IsReachable, IsHistory}
+
+-- a command that members can send: on a game, or about a challenge
+abbrev pub IsMembers : Command → Type 0
+IsMembers (on_game game command) = ⊤
+IsMembers (open_challenge number event other first) = ⊤
+IsMembers (withdraw_challenge number) = ⊤
+IsMembers (answer_challenge challenger number accept) = ⊤
+IsMembers (add_member name key) = ⊥
+IsMembers (add_event event) = ⊥
+IsMembers (seat key event first second) = ⊥
+IsMembers (import_record given) = ⊥
+IsMembers sweep = ⊥
+
+-- such a command by the holder of a key
+pub record IsTurn (request : Request) : Type 0 where
+  pub key : List ℕ
+  pub command : Command
+  pub members : IsMembers command
+  pub is : request ≡ record { who = key_holder key; command = command; moment = request.moment }
+  pub within : request.moment ≤ last_moment
+
+-- any command of the officer
+pub record IsOrder (request : Request) : Type 0 where
+  pub command : Command
+  pub is : request ≡ record { who = officer; command = command; moment = request.moment }
+  pub within : request.moment ≤ last_moment
+
+-- a session with one such command of a member or of the officer
+abbrev pub IsTurnOf : HistoryStep → Type 0
+IsTurnOf (history.served session) =
+    (request : Request) × (IsTurn request ⊎ IsOrder request) × (session.requests ≡ request ∷ [])
+IsTurnOf (history.upgraded answered) = ⊥
+
+abbrev pub AreTurns : List HistoryStep → Type 0
+AreTurns [] = ⊤
+AreTurns (chapter ∷ chapters) = IsTurnOf chapter × AreTurns chapters
+
+-- a session that no crash cut off
+abbrev pub IsWhole : HistoryStep → Type 0
+IsWhole (history.served session) = session.is_whole ≡ true
+IsWhole (history.upgraded answered) = ⊥
+
+abbrev pub AreWhole : List HistoryStep → Type 0
+AreWhole [] = ⊤
+AreWhole (chapter ∷ chapters) = IsWhole chapter × AreWhole chapters
+
+-- the history, with uncut commands added, leads to the present state
+pub record IsHistoryOn (them : Neighbours) (sessions : List HistoryStep) (now : State) : Type 0 where
+  pub turns : List HistoryStep
+  pub are_turns : AreTurns turns
+  pub whole : AreWhole turns
+  pub stands : IsHistory them (sessions ++ turns) now
+
+-- the history, with commands added, leads to any state that a crash can leave
+pub record IsReachableOn (them : Neighbours) (sessions : List HistoryStep) (now : State) : Type 0 where
+  pub turns : List HistoryStep
+  pub are_turns : AreTurns turns
+  pub led : (db : Trees) → now.may_leave db → IsReachable them (sessions ++ turns) db

@@ -1,0 +1,178 @@
+//! Opens a club's files, waiting for their lock.
+
+ghost use Rattle.std.specs.Prelude.{◌≡◌, ◌≢◌, ◌⊎◌, IfOk, IfErr};
+ghost use Rattle.sqlite_wal.specs.Files.{image_at};
+ghost use Rattle.sqlite.specs.State.{HasCleanDisk};
+ghost use Rattle.sqlite.specs.Held.{IsNew};
+ghost use Rattle.sqlite.specs.Start.{FindsIn};
+ghost use Rattle.sqlite.specs.Files.{file_state, IsOpened};
+ghost use Rattle.club_check.specs.declared.fault.OpenFault.TheVariants.{Foreign};
+ghost use Rattle.club_orders.specs.declared.report.Report.TheVariants.{InUse, NotOpened, BackupFailed, Unopened};
+ghost use Rattle.club_session.specs.declared.preflight.OpenMode.TheVariants.{Making};
+
+use crate::preflight::{OpenMode, make_new, prepare};
+use club_orders::Report;
+use sqlite::{Connection, FileFrom, FileStore, Options};
+use sqlite_disk::{Start, Wary};
+use sqlite_std_file::{OpenError, open};
+use std::hash::{BuildHasher, RandomState};
+use std::thread::sleep;
+use std::time::Duration;
+
+// How often an order retries while the files are locked, with a pause before each retry: 5 s in all.
+const TURNS_OF_AN_ORDER: u8 = 50;
+
+// A serving session does not retry, so that clients do not wait.
+const TURNS_OF_A_STRETCH: u8 = 0;
+
+const PAUSE_MILLISECONDS: u64 = 100;
+
+// The checkpoint threshold of an order, in frames of the log: every commit checkpoints.
+const FRAMES_OF_AN_ORDER: usize = 1;
+
+// The checkpoint threshold of a serving session, in frames of the log: not every commit checkpoints.
+const FRAMES_OF_A_STRETCH: usize = 1000;
+
+/// The assumption on what the files hold at first, for several attempts to open them.
+pub trait RepeatableStart: Start + Sized {
+    /// The same assumption again.
+    fn again(&self) -> Self;
+}
+
+impl RepeatableStart for Wary {
+    fn again(&self) -> Wary {
+        Wary
+    }
+}
+
+// The checkpoint threshold, in frames of the log.
+fn frames_for(purpose: OpenMode) -> usize {
+    match purpose {
+        OpenMode::Making => FRAMES_OF_AN_ORDER,
+        OpenMode::Ordering => FRAMES_OF_AN_ORDER,
+        OpenMode::Serving => FRAMES_OF_A_STRETCH,
+    }
+}
+
+// How often a locked file is retried.
+fn turns_for(purpose: OpenMode) -> u8 {
+    match purpose {
+        OpenMode::Making => TURNS_OF_AN_ORDER,
+        OpenMode::Ordering => TURNS_OF_AN_ORDER,
+        OpenMode::Serving => TURNS_OF_A_STRETCH,
+    }
+}
+
+// The options of the connection.
+fn options(rt: &HostRuntime, purpose: OpenMode) -> Result<Options, Report>
+    ensures { IfErr result (λ report. (report ≡ InUse) ⊎ (report ≡ NotOpened)) }
+{
+    match RandomState::new(rt) {
+        Ok(state) => {
+            let mut options = Options::new(state.hash_one(&0u8));
+            options.checkpoint_frames = frames_for(purpose);
+            Ok(options)
+        }
+        Err(_) => Err(Report::NotOpened),
+    }
+}
+
+// Opens the files, unless another program has locked them.
+fn open_once<S: Start>(
+    rt: &HostRuntime,
+    file: &str,
+    purpose: OpenMode,
+    start: S,
+) -> Result<Connection<FileStore<FileFrom<S>>>, Report>
+    ensures opened { IfOk result (λ c. HasCleanDisk (file_state c) → IsOpened c) }
+    ensures found { IfOk result (λ c. HasCleanDisk (file_state c) → FindsIn (image_at S.Start) (file_state c)) }
+    ensures fresh { IfOk result IsNew }
+    ensures unopened { IfErr result (λ report. (report ≡ InUse) ⊎ (report ≡ NotOpened)) }
+{
+    let files = match open(rt, file, start) {
+        Ok(files) => files,
+        Err(OpenError::Busy) => return Err(Report::InUse),
+        Err(_) => return Err(Report::NotOpened),
+    };
+    let options = match options(rt, purpose) {
+        Ok(options) => options,
+        Err(report) => return Err(report),
+    };
+    match Connection::open_files_with(rt.alloc(), files, options, false) {
+        Ok(mut conn) => {
+            conn.set_clock(rt);
+            Ok(conn)
+        }
+        Err(_) => Err(Report::NotOpened),
+    }
+}
+
+// Whether SQLite treats the path as no file (`:memory:` or a URI), as `Connection::open_from` does.
+fn names_no_file(file: &str) -> bool {
+    file == ":memory:" || file.starts_with("file:")
+}
+
+/// Opens the files at a path. An order waits up to 5 s for the lock; a serving session does not wait.
+/// Only the creation of a club creates a missing file, with mode 0600. `S` is the assumption on their contents.
+///
+/// # Errors
+///
+/// - `Report::InUse`: another program has locked the file.
+/// - `Report::Unopened(OpenFault::Foreign)`: there is no club; never if one is to be created. Nothing was touched.
+/// - `Report::NotOpened`: the path names no database file, or opening failed.
+pub(crate) fn open_with_retries<S: RepeatableStart>(
+    rt: &HostRuntime,
+    file: &str,
+    purpose: OpenMode,
+    start: S,
+) -> Result<Connection<FileStore<FileFrom<S>>>, Report>
+    ensures opened { IfOk result (λ c. HasCleanDisk (file_state c) → IsOpened c) }
+    ensures found { IfOk result (λ c. HasCleanDisk (file_state c) → FindsIn (image_at S.Start) (file_state c)) }
+    ensures fresh { IfOk result IsNew }
+    ensures unopened { IfErr result (λ report. ((report ≡ InUse) ⊎ (report ≡ NotOpened)) ⊎
+        ((report ≡ Unopened Foreign) × (purpose ≢ Making))) }
+{
+    if names_no_file(file) {
+        return Err(Report::NotOpened);
+    }
+    prepare(rt, file, purpose)?;
+    for _ in 0..turns_for(purpose) {
+        match open_once(rt, file, purpose, start.again()) {
+            Ok(conn) => return Ok(conn),
+            Err(Report::InUse) => sleep(rt, Duration::from_millis(PAUSE_MILLISECONDS)),
+            Err(report) => return Err(report),
+        }
+    }
+    match open_once(rt, file, purpose, start) {
+        Ok(conn) => Ok(conn),
+        Err(report) => Err(report),
+    }
+}
+
+/// Creates a file at a path, with mode 0600, and opens it. `S` is the assumption on its contents.
+///
+/// # Errors
+///
+/// `Report::BackupFailed` if anything exists at the path, or the file cannot be created or opened. An existing file is not
+/// touched.
+pub(crate) fn open_new<S: Start>(
+    rt: &HostRuntime,
+    file: &str,
+    start: S,
+) -> Result<Connection<FileStore<FileFrom<S>>>, Report>
+    ensures opened { IfOk result (λ c. HasCleanDisk (file_state c) → IsOpened c) }
+    ensures found { IfOk result (λ c. HasCleanDisk (file_state c) → FindsIn (image_at S.Start) (file_state c)) }
+    ensures fresh { IfOk result IsNew }
+    ensures unopened { IfErr result (λ report. report ≡ BackupFailed) }
+{
+    if names_no_file(file) {
+        return Err(Report::BackupFailed);
+    }
+    if !make_new(rt, file) {
+        return Err(Report::BackupFailed);
+    }
+    match open_once(rt, file, OpenMode::Making, start) {
+        Ok(conn) => Ok(conn),
+        Err(_) => Err(Report::BackupFailed),
+    }
+}

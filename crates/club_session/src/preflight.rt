@@ -1,0 +1,216 @@
+//! Checks on a path before a file is opened there.
+//! Only the creation of a club or of a backup creates a file; nothing else touches what is not a club's file.
+
+ghost use Rattle.std.specs.Prelude.{◌≡◌, ◌≢◌, ◌⊎◌, IfErr};
+ghost use Rattle.club_check.specs.declared.fault.OpenFault.TheVariants.{Foreign};
+ghost use Rattle.club_orders.specs.declared.report.Report.TheVariants.{NotOpened, Unopened};
+ghost use Rattle.club_session.specs.declared.preflight.OpenMode.TheVariants.{Making};
+
+use club_orders::Report;
+use std::fs::{File, OpenOptions, metadata, remove_file, symlink_metadata};
+use std::io::{ErrorKind, Read};
+use std::os::unix::fs::OpenOptionsExt;
+use store::OpenFault;
+
+/// The mode in which files are opened.
+#[derive(Clone, Copy, PartialEq)]
+pub(crate) enum OpenMode {
+    /// To create a club.
+    Making,
+    /// For one order.
+    Ordering,
+    /// For a serving session.
+    Serving,
+}
+
+/// The kind of a path.
+enum PathKind {
+    /// There is no file, or an empty one without a log; its directory exists.
+    Nothing,
+    /// A file that may be a club's.
+    Database,
+    /// A SQLite database without a log, in which no table of a club is listed.
+    Foreign,
+    /// Not a database file, or not accessible.
+    Other,
+}
+
+// The magic header of a SQLite database (file format, section 1.3.1).
+const BEGINNING: [u8; 16] = *b"SQLite format 3\0";
+
+// The minimum and maximum page size in bytes (file format, section 1.3.2).
+const LEAST_PAGE: usize = 512;
+
+const LARGEST_PAGE: u64 = 65_536;
+
+// The type byte of a table leaf page (file format, section 1.6). If page 1 is one, it is the whole schema table; its
+// header follows the database header of 100 bytes.
+const WHOLE_TREE: u8 = 13;
+
+const HEADER_BYTES: usize = 100;
+
+// The name of one of a club's tables.
+const OF_A_CLUB: [u8; 10] = *b"challenges";
+
+// The suffixes of SQLite's log files.
+const LOGS: [&str; 2] = ["-wal", "-journal"];
+
+// The mode of a new file: only its owner can read and write it, since it will hold members' keys.
+const OWNER_ALONE: u32 = 0o600;
+
+// Creates a file with mode 0600; false if one exists or creation fails.
+fn make_private(rt: &HostRuntime, file: &str) -> bool {
+    OpenOptions::new()
+        .write(true)
+        .create_new(true)
+        .mode(OWNER_ALONE)
+        .open(rt, file)
+        .is_ok()
+}
+
+// Whether the directory of the file exists.
+fn has_folder(rt: &HostRuntime, file: &str) -> bool {
+    match file.rsplit_once('/') {
+        Some((folder, _)) if !folder.is_empty() => {
+            metadata(rt, folder).is_ok_and(|found| found.is_dir())
+        }
+        _ => true,
+    }
+}
+
+// Whether the file with this suffix exists; true if out of memory.
+fn sidecar_exists(rt: &HostRuntime, file: &str, end: &str) -> bool {
+    match format!(in rt.alloc(); "{file}{end}") {
+        Ok(beside) => metadata(rt, beside.as_str()).is_ok(),
+        Err(_) => true,
+    }
+}
+
+// Whether the file has no log, so that it alone is the database.
+fn is_at_rest(rt: &HostRuntime, file: &str) -> bool {
+    !sidecar_exists(rt, file, "-wal") && !sidecar_exists(rt, file, "-journal")
+}
+
+// The first bytes of a file, which include its first page; empty if it cannot be read.
+fn beginning_of(rt: &HostRuntime, file: &str) -> Vec<u8> {
+    let mut bytes = Vec::new(rt.alloc());
+    match File::open(rt, file) {
+        Ok(opened) => {
+            let _read = opened.take(LARGEST_PAGE).read_to_end(&mut bytes);
+            bytes
+        }
+        Err(_) => bytes,
+    }
+}
+
+// The first page, if all of it is there. Its size is a big-endian number at offset 16, where 1 means 65536 (file
+// format, section 1.3.2).
+fn first_page(bytes: &[u8]) -> Option<&[u8]> {
+    let size = match bytes.get(16..18) {
+        Some([0, 1]) => LARGEST_PAGE as usize,
+        Some([high, low]) => usize::from(*high) * 256 + usize::from(*low),
+        _ => return None,
+    };
+    if size < LEAST_PAGE {
+        return None;
+    }
+    bytes.get(..size)
+}
+
+// Whether page 1 is the whole schema table and does not name a club's table.
+fn lists_no_club(page: &[u8]) -> bool {
+    page.get(HEADER_BYTES) == Some(&WHOLE_TREE)
+        && !page
+            .windows(OF_A_CLUB.len())
+            .any(|name| name.eq_ignore_ascii_case(&OF_A_CLUB))
+}
+
+// The kind of a file that is not empty. If it has a write-ahead log, the log decides what the database holds: a torn
+// write may have left anything in the file.
+fn kind_of(rt: &HostRuntime, file: &str) -> PathKind {
+    let bytes = beginning_of(rt, file);
+    if !bytes.starts_with(&BEGINNING) {
+        return if sidecar_exists(rt, file, "-wal") {
+            PathKind::Database
+        } else {
+            PathKind::Other
+        };
+    }
+    match first_page(bytes.as_slice()) {
+        Some(page) if lists_no_club(page) && is_at_rest(rt, file) => PathKind::Foreign,
+        _ => PathKind::Database,
+    }
+}
+
+fn look(rt: &HostRuntime, file: &str) -> PathKind {
+    match metadata(rt, file) {
+        Ok(found) if !found.is_file() => PathKind::Other,
+        Ok(found) if found.len() == 0 && sidecar_exists(rt, file, "-wal") => PathKind::Database,
+        Ok(found) if found.len() == 0 => PathKind::Nothing,
+        Ok(_) => kind_of(rt, file),
+        Err(error) if error.kind() == ErrorKind::NotFound && has_folder(rt, file) =>
+            PathKind::Nothing,
+        Err(_) => PathKind::Other,
+    }
+}
+
+/// Creates the file, with mode 0600, if a club is to be created and there is none; foreign tables are no obstacle.
+///
+/// # Errors
+///
+/// - `Report::Unopened(OpenFault::Foreign)`: there is no club, and none is to be created.
+/// - `Report::NotOpened`: not a database file, or not accessible.
+///
+/// Nothing was touched in either case.
+pub(crate) fn prepare(rt: &HostRuntime, file: &str, purpose: OpenMode) -> Result<(), Report>
+    ensures { IfErr result (λ report.
+        (report ≡ NotOpened) ⊎ ((report ≡ Unopened Foreign) × (purpose ≢ Making))) }
+{
+    match look(rt, file) {
+        PathKind::Database => Ok(()),
+        PathKind::Other => Err(Report::NotOpened),
+        PathKind::Nothing if purpose == OpenMode::Making => {
+            // If this fails, the opening reports why.
+            let _made = make_private(rt, file);
+            Ok(())
+        }
+        PathKind::Foreign if purpose == OpenMode::Making => Ok(()),
+        PathKind::Nothing | PathKind::Foreign => Err(Report::Unopened(OpenFault::Foreign)),
+    }
+}
+
+// Whether anything exists at a path, even a dangling symbolic link; true if that is unknown.
+fn is_taken(rt: &HostRuntime, path: &str) -> bool {
+    match symlink_metadata(rt, path) {
+        Ok(_) => true,
+        Err(error) => error.kind() != ErrorKind::NotFound,
+    }
+}
+
+// As `is_taken`, of the file with this suffix.
+fn is_sidecar_locked(rt: &HostRuntime, file: &str, end: &str) -> bool {
+    match format!(in rt.alloc(); "{file}{end}") {
+        Ok(beside) => is_taken(rt, beside.as_str()),
+        Err(_) => true,
+    }
+}
+
+/// Creates a file with mode 0600, if nothing exists at its path or at those of its logs. Returns whether it was
+/// created; what exists is not touched.
+/// A path with the suffix of a log is rejected: SQLite would take the file for the log of another.
+pub(crate) fn make_new(rt: &HostRuntime, file: &str) -> bool {
+    for end in LOGS {
+        if file.ends_with(end) || is_sidecar_locked(rt, file, end) {
+            return false;
+        }
+    }
+    make_private(rt, file)
+}
+
+/// Removes the write-ahead log of a file; returns whether it was removed.
+pub(crate) fn remove_wal(rt: &HostRuntime, file: &str) -> bool {
+    match format!(in rt.alloc(); "{file}-wal") {
+        Ok(log) => remove_file(rt, log.as_str()).is_ok(),
+        Err(_) => false,
+    }
+}

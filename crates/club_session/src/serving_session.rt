@@ -1,0 +1,72 @@
+//! One serving session over a club's files, from opening to closing.
+
+ghost use Rattle.std.specs.Prelude.{◌≡◌, ◌⊎◌, Option, None, Ok, Err, IfSome, IfOk};
+ghost use Rattle.sqlite_wal.specs.Files.{image_at};
+ghost use Rattle.sqlite_wal.specs.Recovery.{Image};
+ghost use Rattle.sqlite_store.specs.FileStore.{state as store_state, view as store_view};
+ghost use Rattle.sqlite_trees.specs.View.{IsClean};
+ghost use Rattle.store_files.specs.Finds.{AreReachable};
+ghost use Rattle.club_check.specs.declared.fault.OpenFault.TheVariants.{Foreign};
+ghost use Rattle.club_orders.specs.declared.report.Report.TheVariants.{InUse, NotOpened, Unopened};
+ghost use Rattle.club_rows.specs.Club.{ClubState};
+ghost use Rattle.http_desk.specs.declared.faults.ClubFault as desk_fault;
+ghost use Rattle.club_session.specs.ToldFault.{IfOpened, IsOfClub};
+ghost use Rattle.club_session.specs.Found.{AnswerAsClub, AreFilesOf, AreSound, IsSessionFault};
+ghost use Rattle.club_session.specs.ReachableOn.{AreReachableOn, AreReachableWhole};
+
+use crate::opening::{RepeatableStart, open_with_retries};
+use crate::preflight::OpenMode;
+use crate::serve_club;
+use club_orders::Report;
+use http_desk::ClubFault;
+use server::Connections;
+use sqlite::{FileFrom, FileStore};
+use store_files::close;
+
+/// Runs one serving session over the club's files: locks, opens and checks them, serves clients until the server must
+/// release the file, and closes.
+/// It does not wait for the lock. `S` is the assumption on their initial contents. Returns the fault that later
+/// requests get, if any, or why the files were not opened; and the store if they were.
+///
+/// # Guarantees
+///
+/// - `history`: whatever a crash leaves, the next opening finds a state that the earlier history and commands of members
+///   and of the officer lead to.
+/// - `whole`: without a fault none of these commands was cut off.
+/// - `told`, `taken`: a rejected file is unchanged and the reason is true; an accepted file holds a legal club.
+/// - `accepts_sound`: over a legal club, only a failed call or lack of memory is a fault.
+pub fn serve_files<S: RepeatableStart, V: Connections>(
+    rt: &HostRuntime,
+    file: &str,
+    start: S,
+    visits: &mut V,
+) -> (
+    Result<Option<ClubFault>, Report>,
+    Option<FileStore<FileFrom<S>>>,
+)
+    ensures unopened { result.1 ≡ None →
+        ((result.0 ≡ Err InUse) ⊎ (result.0 ≡ Err NotOpened)) ⊎ (result.0 ≡ Err (Unopened Foreign)) }
+    ensures history { IfSome result.1 (λ store. IsClean (store_view store) →
+        (them : _) (sessions : _) → AreReachable them sessions (image_at S.Start) →
+        (left : Image) → (store_state store).may_leave left → AreReachableOn them sessions left) }
+    ensures whole { IfSome result.1 (λ store. IsClean (store_view store) → result.0 ≡ Ok None →
+        (them : _) (sessions : _) → AreReachable them sessions (image_at S.Start) →
+        (left : Image) → (store_state store).may_leave left → AreReachableWhole them sessions left) }
+    ensures told { IfSome result.1 (λ store. IsClean (store_view store) →
+        (told : Option desk_fault.ClubFault) × (result.0 ≡ Ok told) ×
+        IsSessionFault (image_at S.Start) (store_state store).may_leave told) }
+    ensures taken { IfSome result.1 (λ store. IsClean (store_view store) →
+        IfOk result.0 (λ told. IfOpened told (AreSound (image_at S.Start)))) }
+    // The schema of an accepted file is equivalent to a club's, whatever `CREATE` statements made it.
+    ensures shape { IfSome result.1 (λ store. IsClean (store_view store) →
+        IfOk result.0 (λ told. IfOpened told (AnswerAsClub (image_at S.Start)))) }
+    ensures accepts_sound { IfSome result.1 (λ store. IsClean (store_view store) →
+        (s : ClubState) → AreFilesOf s (image_at S.Start) → IfOk result.0 (λ told. IfSome told IsOfClub)) }
+{
+    let conn = match open_with_retries(rt, file, OpenMode::Serving, start) {
+        Ok(conn) => conn,
+        Err(report) => return (Err(report), None),
+    };
+    let (fault, conn) = serve_club(rt.alloc(), conn, visits);
+    (Ok(fault), Some(close(conn)))
+}

@@ -1,3 +1,0 @@
-pub mod CrossTableLemmas
-pub mod Proved
-pub mod ViewedLemmas

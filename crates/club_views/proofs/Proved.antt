@@ -1,2 +1,0 @@
--- What is proved of what a reader is shown, for the proofs of crates above.
-pub use Rattle.club_views.proofs.CrossTableLemmas.{table_one}

@@ -1,3 +1,0 @@
-pub mod CrossTable
-pub mod Exported
-pub mod Viewed

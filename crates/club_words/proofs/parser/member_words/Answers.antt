@@ -1,6 +1,0 @@
-use Rattle.club_words.proofs.parser.member_words.Goals as goal
-
-pub returns : goal.returns
-returns c =
-    c.with_word-2.ensures _ _
-    (c.in_ok-words.ensures _ _ c.subcommand-words.ensures c.word.ensures) c.word-2.ensures

@@ -1,4 +1,0 @@
-use Rattle.club_words.proofs.parser.of_game_words.Goals as goal
-
-pub returns : goal.returns
-returns c = c.with_word.ensures _ _ c.subcommand-words.ensures c.number.ensures

@@ -1,8 +1,0 @@
-use Rattle.std.proofs.Common.{inl, inr, ◌∙◌}
-use Rattle.squares.specs.DraughtsGeometry.{step}
-use Rattle.draughts_moves.proofs.Basics.{option_cases}
-use Rattle.draughts_moves.proofs.beside.beside_along.Goals as goal
-
-pub returns : goal.returns
-returns c = λ n. c.beside.ensures n ∙ elim (option_cases (step c.args.toward n))
-    [ inl e ↦ rw e | inr w ↦ rw w.1 (c.exposed-near.ensures w.0) ]

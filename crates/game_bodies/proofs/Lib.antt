@@ -1,2 +1,0 @@
-pub mod BodyLemmas
-pub mod Proved

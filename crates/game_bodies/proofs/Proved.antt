@@ -1,2 +1,0 @@
--- What proofs of the crates above may cite.
-pub use Rattle.game_bodies.proofs.BodyLemmas.{null_float}

@@ -1,8 +1,0 @@
-use Rattle.http_head.specs.Intake.{HasTaken, IsIntake}
-use Rattle.http_head.proofs.stream.take_in.Given as goal
-
-abbrev pub invariant-loop : goal.invariant-loop
-invariant-loop g l = record {
-  taken : HasTaken l.fn.heard.items l.bytes.items (g.R.Read.remaining l.fn.reader) (g.R.Read.remaining l.reader);
-  looked : IsIntake l.intake l.bytes.items;
-}

@@ -1,8 +1,0 @@
-use Rattle.std.proofs.Common.{refl}
-use Rattle.officer_door.proofs.asking.wish_for.Goals as goal
-
-pub returns-in-Some : goal.returns-in-Some
-returns-in-Some c = (refl, rw c.in-Some.is at c.in_ok-errand.ensures)
-
-pub returns-in-None : goal.returns-in-None
-returns-in-None c = rw c.in-None.is at c.in_ok-errand.ensures

@@ -1,0 +1,160 @@
+//! A client: its socket, and the part of its request that was received.
+
+ghost use Rattle.std.specs.Prelude.{◌≤◌, length, IfOk};
+
+use crate::deadline::{Countdown, Deadline};
+use crate::request_buffer::{ReadProgress, RequestBuffer};
+use std::io;
+use std::io::{ErrorKind, Write};
+use std::net::TcpStream;
+use std::time::{Duration, Instant};
+
+// The time left for the calls of a socket; it runs from the first call.
+#[derive(Drop)]
+pub(crate) struct Timer<'a> {
+    rt: &'a HostRuntime,
+    stream: &'a TcpStream,
+    begin: Option<Instant>,
+    limit: Duration,
+}
+
+impl Timer<'_> {
+    // The time of the first call: now, if there was none.
+    fn begin(&mut self) -> io::Result<Instant> {
+        if let Some(begin) = self.begin {
+            return Ok(begin);
+        }
+        let now = Instant::now(self.rt)?;
+        self.begin = Some(now);
+        Ok(now)
+    }
+}
+
+impl Countdown for Timer<'_> {
+    fn allow(&mut self) -> io::Result<()> {
+        let spent = self.begin()?.elapsed(self.rt)?;
+        let left = match self.limit.checked_sub(spent) {
+            Some(left) => left,
+            None => return Err(io::Error::from(ErrorKind::TimedOut)),
+        };
+        if left.is_zero() {
+            return Err(io::Error::from(ErrorKind::TimedOut));
+        }
+        self.stream.set_read_timeout(Some(left))?;
+        self.stream.set_write_timeout(Some(left))
+    }
+}
+
+// A socket with one deadline over all its calls, in place of a timeout for each.
+pub(crate) fn with_deadline<'c>(
+    rt: &'c HostRuntime,
+    stream: &'c TcpStream,
+    limit: Duration,
+) -> Deadline<&'c TcpStream, Timer<'c>> {
+    let timer = Timer {
+        rt,
+        stream,
+        begin: None,
+        limit,
+    };
+    Deadline::new(stream, timer)
+}
+
+/// Writes a reply to a non-blocking socket; if the socket is full, waits until a deadline.
+#[derive(Drop)]
+pub(crate) struct ReplyWriter<'c> {
+    stream: &'c TcpStream,
+    waiting: Deadline<&'c TcpStream, Timer<'c>>,
+}
+
+impl<'c> ReplyWriter<'c> {
+    /// A writer that waits for at most `limit` in all.
+    pub(crate) fn new(
+        rt: &'c HostRuntime,
+        stream: &'c TcpStream,
+        limit: Duration,
+    ) -> ReplyWriter<'c> {
+        ReplyWriter {
+            stream,
+            waiting: with_deadline(rt, stream, limit),
+        }
+    }
+
+    // Writes in blocking mode, within the deadline.
+    fn wait(&mut self, buf: &[u8]) -> io::Result<usize>
+        ensures { IfOk result (λ n. n ≤ length buf.now) }
+    {
+        self.stream.set_nonblocking(false)?;
+        let written = self.waiting.write(buf);
+        self.stream.set_nonblocking(true)?;
+        written
+    }
+}
+
+impl Write for ReplyWriter<'_> {
+    fn write(&mut self, buf: &[u8]) -> io::Result<usize> {
+        match self.stream.write(buf) {
+            Err(error) if error.kind() == ErrorKind::WouldBlock => self.wait(buf),
+            written => written,
+        }
+    }
+
+    fn flush(&mut self) -> io::Result<()> {
+        Ok(())
+    }
+}
+
+/// A client, and the bytes that were received from it.
+#[derive(Drop)]
+pub(crate) struct Client {
+    pub(crate) stream: TcpStream,
+    pub(crate) heard: RequestBuffer,
+    /// Its token in the poll registry.
+    pub(crate) token: usize,
+    /// The value of `Server::heard_for` at which its time is over.
+    pub(crate) until: Duration,
+    /// Whether the poll reported it readable since the last read.
+    pub(crate) is_readable: bool,
+    /// Whether the request was rejected before the client may have sent all of it.
+    pub(crate) has_unread_input: bool,
+}
+
+impl Client {
+    /// Reads the available bytes.
+    pub(crate) fn receive(&mut self) -> ReadProgress {
+        self.is_readable = false;
+        let come = self.heard.take(&mut &self.stream);
+        self.has_unread_input = come == ReadProgress::Rejected;
+        come
+    }
+}
+
+/// Removes and returns the client at an index, if there is one.
+pub(crate) fn take_out(callers: &mut Vec<Client>, at: usize) -> Option<Client> {
+    if at < callers.len() {
+        Some(callers.remove(at))
+    } else {
+        None
+    }
+}
+
+/// Reads from the client at an index, if it is readable.
+pub(crate) fn receive_at(callers: &mut Vec<Client>, at: usize) -> ReadProgress {
+    match callers.get_mut(at) {
+        Some(caller) => {
+            if caller.is_readable {
+                caller.receive()
+            } else {
+                ReadProgress::Partial
+            }
+        }
+        None => ReadProgress::Partial,
+    }
+}
+
+/// The index of the oldest client that has sent nothing and whose time is over at `moment`.
+pub(crate) fn longest_idle(callers: &[Client], moment: Duration) -> Option<usize> {
+    callers
+        .iter()
+        .position(|caller| caller.heard.is_empty() && caller.until <= moment)
+}

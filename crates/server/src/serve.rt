@@ -1,0 +1,92 @@
+//! One connection: read a request, execute it, write the reply.
+ghost use Rattle.std.specs.Prelude.{◌≡◌, ◌++◌, ℕ, List, None, Some, IfOk};
+ghost use Rattle.std.specs.Prelude.{option_map, string_bytes};
+ghost use Rattle.std.specs.Io.KnownBytes.{Appends};
+ghost use Rattle.http_desk.specs.declared.faults.ClubFault.{ClubFault};
+ghost use Rattle.http_desk.specs.Desk.{NamesCallerOf};
+ghost use Rattle.server.specs.Serving.{Serving, ShutServing};
+ghost use Rattle.server.specs.Visits.{HasActedOn, IsAnswered};
+
+use clocks::Moment;
+use control_socket::write_reply;
+use http_desk::{AttributedReply, ClubService, DeskFault, Routes, answer};
+use http_head::{RequestReadFault, read_request_bytes};
+use std::alloc::Global;
+use std::io::{Read, Write};
+
+/// The request bytes of a connection, the reply to them, and the member who sent them.
+#[derive(Drop)]
+pub struct Exchange {
+    /// The bytes of the request, as received.
+    pub bytes: Vec<u8>,
+    /// The bytes of the reply, as written.
+    pub reply: Vec<u8>,
+    /// The name of the member who sent the request, if the route needs a key and the key is a member's.
+    pub caller: Option<String>,
+}
+
+/// Serves one connection at a timestamp: reads until the request is complete, rejected or at its end, executes it,
+/// and writes the reply.
+///
+/// `heard` holds the bytes that were received before; `reader` gives the rest.
+///
+/// # Errors
+///
+/// - `Memory` if out of memory: nothing is written; the command may or may not have taken effect.
+/// - `Read` if the reader fails: nothing is written, and the club is unchanged.
+/// - `Write` if the writer fails: a prefix of the reply may be written; the command may have taken effect.
+///
+/// # Guarantees
+///
+/// - `acts`: whatever is received, the request is executed once or not at all.
+/// - `serves`, `answers`: the reply is the one that the club's state and the request determine, or reports a fault of
+///   the club.
+/// - `caller`, `nobody`: no member is named but the holder of the key.
+/// - `shut`: a failed club answers with its fault.
+pub fn serve_one<R: Read, W: Write, C: ClubService>(
+    alloc: Global,
+    routes: &Routes,
+    heard: Vec<u8>,
+    reader: &mut R,
+    writer: &mut W,
+    club: &mut C,
+    moment: Moment,
+) -> Result<Exchange, DeskFault>
+    ensures clean { C.IsClean club.new → C.IsClean club.old }
+    ensures acts { C.IsClean club.new → (s : C.State) → C.Stands club.old s →
+        HasActedOn C.club (C.Stands club.new) (C.Leaves club.new) s moment heard.items }
+    ensures answers { C.IsClean club.new → (s : C.State) → C.Stands club.old s →
+        IsAnswered C.club (C.Stands club.new) (C.Leaves club.new) s moment result }
+    ensures caller { C.IsClean club.new → (s : C.State) → C.Stands club.old s → IfOk result (λ done.
+        NamesCallerOf C.club s done.bytes.items done.reply.items (option_map string_bytes done.caller)) }
+    ensures nobody { (fault : ClubFault) → C.IsShut club.old fault → IfOk result (λ done. done.caller ≡ None) }
+    ensures begins { IfOk result (λ done. (further : List ℕ) × (done.bytes.items ≡ heard.items ++ further)) }
+    ensures written { IfOk result (λ done.
+        Appends (W.contents writer.old) (W.contents writer.new) done.reply.items) }
+    ensures serves { C.IsClean club.new → (s : C.State) (input before : List ℕ) → C.Stands club.old s →
+        R.remaining reader.old ≡ Some input → W.contents writer.old ≡ Some before →
+        Serving C.club (C.Stands club.new) (C.Leaves club.new) s moment (heard.items ++ input) before
+        (R.remaining reader.new) (W.contents writer.new) result }
+    ensures shut { (fault : ClubFault) → C.IsShut club.old fault → C.IsShut club.new fault ×
+        ((input before : List ℕ) → R.remaining reader.old ≡ Some input →
+        W.contents writer.old ≡ Some before →
+        ShutServing fault (heard.items ++ input) before (W.contents writer.new) result) }
+{
+    let bytes = match read_request_bytes(heard, reader) {
+        Ok(bytes) => bytes,
+        Err(RequestReadFault::Memory) => return Err(DeskFault::Memory),
+        Err(RequestReadFault::Read) => return Err(DeskFault::Read),
+    };
+    let AttributedReply { reply, caller } = match answer(alloc, routes, club, &bytes, moment) {
+        Ok(replied) => replied,
+        Err(fault) => return Err(fault),
+    };
+    match write_reply(writer, &reply) {
+        Ok(()) => Ok(Exchange {
+            bytes,
+            reply,
+            caller,
+        }),
+        Err(fault) => Err(fault),
+    }
+}

@@ -1,2 +1,0 @@
--- What is proved of sessions and histories, for the proofs of crates above.
-pub use Rattle.sessions.proofs.FoundLemmas.{was_clean}

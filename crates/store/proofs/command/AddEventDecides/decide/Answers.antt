@@ -1,8 +1,0 @@
-use Rattle.std.proofs.Common.{ap, ◌∙◌}
-use Rattle.club_core.specs.Answer.{events_of}
-use Rattle.store.proofs.command.AddEventDecides.decide.Goals as goal
-
-pub returns-clause-step : goal.returns-clause-step
-returns-clause-step g c clean s is_club later k =
-    c.in_ok-on_event.ensures.step s is_club
-    (ap events_of c.deref.ensures.value ∙ c.in_ok-events.ensures.values clean s is_club k)

@@ -1,5 +1,0 @@
-use Rattle.store.proofs.HistoryLemmas.{stops_led}
-use Rattle.store.proofs.reopen.leaves_what_sessions_left.Goals as goal
-
-pub returns : goal.returns
-returns g c version them chapters = stops_led version them chapters _

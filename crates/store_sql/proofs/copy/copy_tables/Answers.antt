@@ -1,0 +1,26 @@
+use Rattle.std.proofs.Common.{inl, inr, refl}
+use Rattle.sqlite.specs.Held.{state}
+use Rattle.store_tables.specs.Changed.{changed}
+use Rattle.store_tables.specs.Contents.{opening}
+use Rattle.store_tables.proofs.Proved.{exactly_same, leaves_same}
+use Rattle.store_sql.proofs.CopyLemmas.{copied}
+use Rattle.store_sql.proofs.copy.copy_tables.Goals as goal
+
+pub returns-in-Ok-create_with_rows-clause-stored : goal.returns-in-Ok-create_with_rows-clause-stored
+returns-in-Ok-create_with_rows-clause-stored g c read clean content k empty =
+    let same = copied c.in-Ok.rows content (state g.S.Store c.args.club.now) k (c.in-Ok.ensures.rows read content k)
+    in
+    exactly_same (changed c.in-Ok.rows opening) content (state g.T.Store c.create_with_rows.new.conn) same
+    ((rw c.in-Ok-create_with_rows.is at c.create_with_rows.ensures.stored clean) empty)
+
+pub returns-clause-fault : goal.returns-clause-fault
+returns-clause-fault g c read clean content k empty db left =
+    let same = copied c.in-Ok.rows content (state g.S.Store c.args.club.now) k (c.in-Ok.ensures.rows read content k)
+    in
+    elim ((rw c.in-Err-create_with_rows.is at c.create_with_rows.ensures.fault clean) empty db left) [
+      | inl none ↦ inl none
+      | inr whole ↦ inr (leaves_same (changed c.in-Ok.rows opening) content db same whole)
+    ]
+
+pub returns-clause-stays_open : goal.returns-clause-stays_open
+returns-clause-stays_open g c read is = c.in-Ok.ensures.reads.kept refl read

@@ -1,8 +1,0 @@
-use Rattle.std.proofs.Common.{rules}
-use Rattle.store_tables.proofs.Proved.{put_row, move_placed}
-use Rattle.store_sql.proofs.upsert.MoveRowPut.put.Goals as goal
-
-pub returns-clause-put : goal.returns-clause-put
-returns-clause-put g c clean inside =
-    put_row _ _ (move_placed c.args.self.now) _ _ _ _ _ c.put.ensures (search rules)
-    (c.in_ok-execute.ensures.runs clean inside)

@@ -1,0 +1,98 @@
+//! Migration from schema 1 to schema 2.
+
+ghost use Rattle.std.specs.Prelude.{◌≡◌, ◌≤◌, ◌⊎◌, true, false, [], IsTrue, IfOk, IfErr, OnOk, OnErr, is_ok};
+ghost use Rattle.sqlite.specs.State.{HasCleanDisk, IsUnchanged, Survives};
+ghost use Rattle.sqlite.specs.Held.{state};
+ghost use Rattle.sqlite_catalog.specs.Change.{is_used};
+ghost use Rattle.sqlite_trees.specs.View.{doubt};
+ghost use Rattle.store_tables.specs.Changed.{widened};
+ghost use Rattle.store_tables.specs.Names.{table_name, tree_of};
+ghost use Rattle.store_tables.specs.Over.{HoldsFirst, HoldsClubAmong, IsFirstBeside, LeavesBeside, LeavesFirst};
+ghost use Rattle.store_tables.specs.Placed.{HasTableAt};
+ghost use Rattle.store_tables.specs.Reading.{Reads};
+ghost use Rattle.store_tables.specs.declared.names.Table.TheVariants.{EventRules};
+ghost use Rattle.store_sql.specs.Widened.{WidensTo};
+
+use crate::fault::{ReadFault, is_refused};
+use crate::make::make;
+use crate::upsert::{Upsert, put_all};
+use sqlite::{Alter, Connection, Error, Transaction, params};
+use store_tables::{EventRuleRow, MetaRow, Table};
+
+/// Creates the table of event rules and upserts the rows, in an open transaction.
+fn migrate_inside<S: Alter>(
+    tx: &mut Transaction<'_, S>,
+    rules: &[EventRuleRow],
+    meta: &MetaRow,
+) -> Result<(), Error>
+    ensures same_reference { tx.new.conn.ghost_name ≡ tx.old.conn.ghost_name }
+    ensures widened { HasCleanDisk (state S.Store tx.new.conn.now) → IsTrue
+        (state S.Store tx.old.conn.now).in_transaction → OnOk result (WidensTo rules.now meta.now
+        (state S.Store tx.old.conn.now) (state S.Store tx.new.conn.now)) }
+    ensures survives { Survives (state S.Store tx.old.conn.now) (state S.Store tx.new.conn.now) (λ _. ⊥) }
+{
+    make(tx, Table::EventRules.create())?;
+    put_all(tx, rules)?;
+    meta.put(tx)?;
+    Ok(())
+}
+
+/// Migrates the tables from schema 1 to schema 2 in one transaction, with these event rules and this row of `meta`.
+///
+/// # Errors
+///
+/// `sqlite::Error` if a call of the database fails.
+///
+/// # Guarantees
+///
+/// - `stored`: on success the tables hold schema 2; foreign tables are unchanged.
+/// - `fault`, `survives`: after an error or a crash the file holds schema 1 or schema 2 (atomic).
+pub fn migrate<S: Alter>(
+    conn: &mut Connection<S>,
+    rules: &[EventRuleRow],
+    meta: &MetaRow,
+) -> Result<(), Error>
+    requires { conn.old.in_transaction ≡ false }
+    ensures idle { conn.new.in_transaction ≡ false }
+    ensures clean { doubt (state S.Store conn.old).is_clean ≤ doubt (state S.Store conn.new).is_clean }
+    ensures stored { HasCleanDisk (state S.Store conn.new) → OnOk result ((them : _) (content : _) →
+        content (tree_of EventRules) ≡ [] → IsFirstBeside them content (state S.Store conn.old) →
+        HoldsClubAmong them (widened rules.now meta.now content) (state S.Store conn.new)) }
+    ensures fault { HasCleanDisk (state S.Store conn.new) → OnErr result ((them : _) (content : _) →
+        content (tree_of EventRules) ≡ [] → IsFirstBeside them content (state S.Store conn.old) → (db : _) →
+        (state S.Store conn.new).may_leave db →
+        LeavesFirst them content db ⊎ LeavesBeside them (widened rules.now meta.now content) db) }
+    ensures survives { Survives (state S.Store conn.old) (state S.Store conn.new) (λ db. (them : _)
+        (content : _) → content (tree_of EventRules) ≡ [] → HoldsFirst them content (state S.Store conn.old).now →
+        LeavesBeside them (widened rules.now meta.now content) db) }
+{
+    let mut tx = conn.transaction();
+    migrate_inside(&mut tx, rules, meta)?;
+    tx.commit()?;
+    Ok(())
+}
+
+/// Whether the table of event rules exists with all of its columns, in a database that is not yet checked.
+///
+/// # Errors
+///
+/// `Store` if a call of the database fails for any other reason than a missing table or column.
+pub fn has_event_rules<S: Alter>(conn: &mut Connection<S>) -> Result<bool, ReadFault>
+    ensures reads { Reads (is_ok result) (state S.Store conn.old) (state S.Store conn.new) }
+    ensures same { HasCleanDisk (state S.Store conn.new) → OnOk result (IsUnchanged (state S.Store conn.old)
+        (state S.Store conn.new)) }
+    ensures stands { HasCleanDisk (state S.Store conn.new) → IfOk result (λ there.
+        HasTableAt (state S.Store conn.old).now.schema EventRules → there ≡ true) }
+    ensures missing { HasCleanDisk (state S.Store conn.new) → IfOk result (λ there.
+        is_used (state S.Store conn.old).now.schema (table_name EventRules) ≡ false → there ≡ false) }
+    ensures store { IfErr result (λ e. e ≡ ReadFault.Store) }
+{
+    let error = match conn.query_all(Table::EventRules.by_first(), params![0_i64]) {
+        Ok(_) => return Ok(true),
+        Err(error) => error,
+    };
+    if is_refused(&error) {
+        return Ok(false);
+    }
+    Err(ReadFault::Store)
+}
