@@ -21,16 +21,18 @@ from lib.report import exit_status, result
 TOP = pathlib.Path(__file__).resolve().parents[2]
 
 # Functions and types whose name is fixed by an interface that is not ours to change, and the reason.
-FIXED = "the papers fix this name"
+FIXED = "the published interface of the crate has this name"
+AS_SHAKMATY = "shakmaty's Bitboard has this name"
 FUNCTION_EXCEPTIONS = {
-    "asked": FIXED,
-    "made": FIXED,
+    "attacked": FIXED,
+    "mated": FIXED,
+    "with": AS_SHAKMATY,
+    "without": AS_SHAKMATY,
 }
 TYPE_EXCEPTIONS = {
-    "Caller": FIXED,
-    "Moment": FIXED,
-    "Settled": FIXED,
-    "Who": FIXED,
+    "GameWriter": FIXED,  # pdn_games and csa: one interface for two formats
+    "Illegal": FIXED,  # draughts_moves and shogi_moves: one interface for two games
+    "Tail": FIXED,  # draughts_draws and shogi_repetition: likewise
 }
 ALIAS_EXCEPTIONS = {}  # "crate/src/file.rt: alias" -> reason
 
