@@ -1,0 +1,457 @@
+#!/usr/bin/env python3
+"""Writes docs/openapi.json, the OpenAPI 3.1 description of the server's HTTP interface.
+
+    python3 tools/openapi.py            writes the description
+    python3 tools/openapi.py --check    exits with status 1 if the file differs from what this script writes
+
+docs/http.md describes the same interface in prose. tests/server/openapi.py checks the description against a server.
+"""
+import json
+import pathlib
+import sys
+
+FILE = pathlib.Path(__file__).resolve().parents[1] / "docs/openapi.json"
+JSON, PLAIN, HTML = "application/json", "text/plain", "text/html; charset=utf-8"
+LAST_MOMENT = 253402300799  # the last second of the year 9999
+LARGEST_LEFT = 809136000  # the largest budget, and the largest increment for each of 300 moves
+
+INFO = """\
+A member of a draughts and shogi club reads and plays its games over this interface. The server listens on 127.0.0.1.
+
+**Requests.** HTTP/1.1 or 1.0. HTTP/1.1 needs `Host` exactly once. A head has at most 16,384 bytes and 64 fields.
+A body has at most 65,536 bytes. Every POST needs `Content-Length`, also without a body (`Content-Length: 0`).
+`Transfer-Encoding` is refused. The server does not read `Content-Type` and does not decode percent-encoding.
+It ignores a query after `?`.
+
+**Replies.** Every reply has `Content-Type`, `Content-Length` and `Connection: close`. The server closes the connection
+after it. A request that begins with `HEAD ` gets the reply without its body; `Content-Length` is that of the body.
+JSON has no whitespace, and the members of an object are in the order of their bytes. All numbers are integers.
+
+**Idempotence.** A repeated command has the same status and the same bytes. After a lost reply or a 503 a client sends
+the request again.
+
+**Refusals and faults.** The body is `{"error":NUMBER,"name":NAME}`. A refusal changes nothing. Faults 70 to 75 have
+status 503; the command may have been done or not. Faults 76 Input and 77 Output are faults of the command line; no
+route returns them. If the server is out of memory for the reply itself, it closes the connection without one."""
+
+# The number, the name, the HTTP status and the general meaning of each refusal that a route can return.
+REFUSALS = {
+    10: ("NoSuchMove", 422, "The move is not legal (draughts)."),
+    11: ("MustCapture", 422, "A capture exists, and the move takes nothing (draughts)."),
+    12: ("NotLongest", 422, "Another capture takes more pieces (draughts)."),
+    13: ("NoSuchMove", 422, "The piece cannot make this move (shogi)."),
+    14: ("NotInHand", 422, "The side to move has no such piece in hand (shogi)."),
+    15: ("MustPromote", 422, "The piece must promote on this square (shogi)."),
+    16: ("DeadDrop", 422, "The dropped piece could never move (shogi)."),
+    17: ("TwoPawns", 422, "The file has an unpromoted pawn of the same side (shogi)."),
+    18: ("KingAttacked", 422, "The move leaves the own king attacked (shogi)."),
+    19: ("DropMate", 422, "A dropped pawn must not mate (shogi)."),
+    20: ("BadText", 422, "The text is not a move of draughts."),
+    21: ("Ambiguous", 422, "The text fits several captures (draughts)."),
+    30: ("BadText", 422, "The text is not a move of shogi."),
+    50: ("UnknownKey", 401, "No member has the key, or `Member-Key` is missing or repeated."),
+    52: ("UnknownEvent", 404, "No event has this name."),
+    53: ("UnknownGame", 404, "No game has this id."),
+    54: ("UnknownChallenge", 404, "The member has no challenge with this number."),
+    55: ("NotAPlayer", 403, "The member does not play in this game."),
+    56: ("GameOver", 409, "The game has ended."),
+    57: ("WrongPly", 409, "PLY is not the number of plies played plus 1."),
+    58: ("Conflict", 409, "Another command was accepted before."),
+    59: ("NotYourTurn", 409, "The other player is to move."),
+    60: ("OutOfTime", 409, "The move took more seconds than the mover had left."),
+    61: ("TimeLeft", 409, "The side to move still has time."),
+    62: ("NoOffer", 409, "The opponent made no offer at this ply."),
+    63: ("NotInThisGame", 422, "Shogi has no draw by agreement."),
+    65: ("BadValue", 422, "A value is outside its limits."),
+    66: ("Full", 409, "The club has 5,000 games."),
+    67: ("NotDeclarable", 409, "The game, the event or the position does not allow a declaration."),
+    80: ("BadHead", 400, "The head is malformed, or `Content-Length` is repeated or has not 1 to 9 digits."),
+    81: ("BadBody", 400, "The body is not a JSON object with the required members of the required types."),
+    82: ("NoRoute", 404, "A number in the path has not 1 to 9 digits, or a name in it is empty."),
+    83: ("WrongMethod", 405, "The path has another method, which `Allow` names."),
+    84: ("NoLength", 411, "A POST has no `Content-Length`."),
+    85: ("TooLong", 413, "`Content-Length` is above 65,536."),
+    86: ("HeadTooLong", 431, "The head has more than 16,384 bytes or 64 fields."),
+    87: ("NotImplemented", 501, "The request has a `Transfer-Encoding`."),
+    88: ("BadHost", 400, "HTTP/1.1 without `Host`, or `Host` twice."),
+}
+FAULTS = {
+    70: ("Foreign", 503, "The file is missing or has not the tables of a club."),
+    71: ("Schema", 503, "The file has another schema version."),
+    72: ("Damaged", 503, "A table has rows that no club has."),
+    73: ("Store", 503, "A database call failed, or another program holds the file."),
+    74: ("Reopen", 503, "An earlier database call failed, and the file must be reopened."),
+    75: ("Memory", 503, "The server is out of memory."),
+}
+ERRORS = REFUSALS | FAULTS
+PHRASES = {400: "Bad Request", 401: "Unauthorized", 403: "Forbidden", 404: "Not Found", 405: "Method Not Allowed",
+           409: "Conflict", 411: "Length Required", 413: "Payload Too Large", 422: "Unprocessable Entity",
+           431: "Request Header Fields Too Large", 501: "Not Implemented", 503: "Service Unavailable"}
+
+
+def ref(kind, name):
+    return {"$ref": f"#/components/{kind}/{name}"}
+
+
+def schema(name):
+    return ref("schemas", name)
+
+
+def integer(least, most, description):
+    return {"type": "integer", "minimum": least, "maximum": most, "description": description}
+
+
+def text(description, **rest):
+    return {"type": "string", "description": description} | rest
+
+
+def constant(value, description):
+    return {"const": value, "description": description}
+
+
+def or_null(of, description):
+    return {"oneOf": [of, {"type": "null"}], "description": description}
+
+
+def array(items, most, description, least=0):
+    return {"type": "array", "items": items, "minItems": least, "maxItems": most, "description": description}
+
+
+def with_note(name, description):
+    return schema(name) | {"description": description}
+
+
+def reply_object(description, **members):
+    """An object that has exactly these members."""
+    return {"type": "object", "description": description, "properties": members, "required": sorted(members),
+            "additionalProperties": False}
+
+
+def body_object(description, **members):
+    """An object that has at least these members; the server ignores others."""
+    return {"type": "object", "description": f"{description} The server ignores other members; of a repeated one the "
+            "last counts.", "properties": members, "required": sorted(members)}
+
+
+SQUARE = "([1-9]|[1-4][0-9]|50)"
+PIECES = f"(K?{SQUARE}(,K?{SQUARE})*)?"
+RANK = r"([1-9]|\+?[RBSNLPrbsnlp]|[KGkg]){1,9}"
+DRAUGHTS_ENDS = "NoMove Repetition KingMoves ThreeToOne TwoToOne PlyLimit".split()
+SHOGI_ENDS = "NoMove PerpetualCheck Fourfold PlyLimit".split()
+RULE_ENDS = [*DRAUGHTS_ENDS, *(it for it in SHOGI_ENDS if it not in DRAUGHTS_ENDS)]
+OUTSIDE_ENDS = "Agreed Resigned Time Declared Recorded".split()
+
+LEFT = array(integer(0, LARGEST_LEFT, "Seconds."), 2, "The seconds that First and Second had left at the last entry.", 2)
+CHALLENGE_NUMBER = integer(1, 9999, "The challenger's number of the challenge.")
+GAME_ID = schema("GameId")
+NAME = schema("Name")
+
+
+def listed_challenge(state, game):
+    return reply_object(
+        f"A challenge in the state `{state}`.",
+        event=with_note("Name", "The event's name."),
+        first=with_note("Name", "The member who plays First."),
+        **{"from": with_note("Name", "The member who challenged.")},
+        game=game,
+        number=CHALLENGE_NUMBER,
+        second=with_note("Name", "The member who plays Second."),
+        state=constant(state, "The state of the challenge."),
+        to=with_note("Name", "The member who was challenged."))
+
+
+def ended_game(end, results, description):
+    return reply_object(description, end=constant(end, "How the game ended."), game=GAME_ID,
+                        result=text("First's score, then Second's.", enum=results))
+
+
+DECISIVE = ["2-0", "0-2"]
+TABLE_LINE = r" {0,2}[0-9]{1,3} [0-9A-Za-z._-]{1,24} *( +([0-9]+|-|\.)){6,}\n"
+SCHEMAS = {
+    "Name": text("The name of a member or of an event.", pattern="^[0-9A-Za-z._-]{1,24}$"),
+    "GameId": integer(1, 5000, "The game's id."),
+    "Ply": integer(1, 600, "A ply, counted from 1."),
+    "PliesPlayed": integer(0, 600, "How many plies were played. First is to move if it is even."),
+    "Moment": integer(0, LAST_MOMENT, "Unix seconds."),
+    "Result": text("First's score, then Second's.", enum=["2-0", "1-1", "0-2"]),
+    "RuleEnd": text("An end by the rules.", enum=RULE_ENDS),
+    "End": text("An end by the rules, by the players, by time or by an imported record.", enum=RULE_ENDS + OUTSIDE_ENDS),
+    "MoveText": {"description": "A move as the server writes it: draughts by squares, shogi in USI.", "anyOf": [
+        text("Draughts.", pattern=f"^{SQUARE}(-{SQUARE}|(x{SQUARE})+)$"),
+        text("Shogi.", pattern=r"^([1-9][a-i][1-9][a-i]\+?|[RBGSNLP]\*[1-9][a-i])$")]},
+    "Position": {"description": "A position: FEN in draughts, the first three fields of SFEN in shogi.", "anyOf": [
+        text("FEN.", pattern=f"^[WB]:W{PIECES}:B{PIECES}$"),
+        text("SFEN.", pattern=rf"^({RANK}/){{8}}{RANK} [bw] (-|([1-9][0-9]?)?[RBGSNLPrbgsnlp]"
+                              r"(([1-9][0-9]?)?[RBGSNLPrbgsnlp])*)$")]},
+    "Game": reply_object(
+        "A game. `end` and `result` are null while the game is running.",
+        end=or_null(schema("End"), "How the game ended."),
+        event=with_note("Name", "The event's name."),
+        first=with_note("Name", "The member who plays First: White in draughts, Black in shogi."),
+        game=GAME_ID,
+        left=LEFT,
+        moves=array(schema("MoveText"), 600, "The moves in order."),
+        offer=or_null(NAME, "The member whose offer of a draw exists. An offer exists until the next move."),
+        ply=schema("PliesPlayed"),
+        position=schema("Position"),
+        result=or_null(schema("Result"), "The result."),
+        second=with_note("Name", "The member who plays Second.")),
+    "LegalMoves": reply_object("The legal moves.", moves=array(
+        schema("MoveText"), 600, "The legal moves in a fixed order. The list is empty if the game has ended.")),
+    "Clock": reply_object(
+        "The clock of a game.",
+        deadline=or_null(schema("Moment"), "The last second in which a move is in time; null if the game has ended or "
+                         f"the second is beyond {LAST_MOMENT}."),
+        game=GAME_ID,
+        left=LEFT,
+        moment=with_note("Moment", "The timestamp at which this request counts."),
+        now=array(integer(0, LARGEST_LEFT, "Seconds."), 2, "The seconds that First and Second have left at `moment`.", 2),
+        since=with_note("Moment", "The timestamp of the last move, or of the game's start."),
+        turn=or_null(NAME, "The member who is to move; null if the game has ended.")),
+    "EventGame": reply_object(
+        "A game in the list of an event.",
+        end=or_null(schema("End"), "How the game ended."), first=with_note("Name", "The member who plays First."),
+        game=GAME_ID, ply=schema("PliesPlayed"), result=or_null(schema("Result"), "The result."),
+        second=with_note("Name", "The member who plays Second.")),
+    "EventGames": reply_object("The games of an event.", games=array(schema("EventGame"), 5000, "The games by id.")),
+    "OpenChallenge": listed_challenge("open", {"type": "null", "description": "An open challenge has no game."}),
+    "AcceptedChallenge": listed_challenge("accepted", with_note("GameId", "The game that the challenge started.")),
+    "OwnGame": reply_object(
+        "A running game of the member.",
+        deadline=or_null(schema("Moment"), "The last second in which a move is in time; null if it is beyond "
+                         f"{LAST_MOMENT}."),
+        event=with_note("Name", "The event's name."), first=with_note("Name", "The member who plays First."),
+        game=GAME_ID, offer=or_null(NAME, "The member whose offer of a draw exists."), ply=schema("PliesPlayed"),
+        second=with_note("Name", "The member who plays Second."), turn=with_note("Name", "The member who is to move.")),
+    "Me": reply_object(
+        "The member's running games and challenges.",
+        challenges={"type": "array", "description": "The open challenges from and to the member, and the member's own "
+                    "accepted ones, by the challenger's id and the number.",
+                    "items": {"oneOf": [schema("OpenChallenge"), schema("AcceptedChallenge")]}},
+        games=array(schema("OwnGame"), 5000, "The running games by id."),
+        member=with_note("Name", "The member's name."),
+        moment=with_note("Moment", "The timestamp at which this request counts.")),
+    "Event": reply_object(
+        "An event.",
+        budget=integer(1, 31536000, "The seconds with which each player starts."),
+        event=with_note("Name", "The event's name."),
+        game=text("The game of the event.", enum=["draughts", "shogi"]),
+        increment=integer(0, 2592000, "The seconds that each move in time adds.")),
+    "Events": reply_object(
+        "The events, and the members to challenge.",
+        events=array(schema("Event"), 50, "All events by id."),
+        members=array(NAME, 199, "All other members by id.")),
+    "MoveBody": body_object("A move.", move=text(
+        "The move in any text that docs/formats.md allows, at most 200 bytes.", maxLength=200)),
+    "Moved": reply_object(
+        "An accepted move.",
+        end=or_null(schema("RuleEnd"), "The end by the rules at this ply."),
+        game=GAME_ID,
+        left=integer(0, LARGEST_LEFT, "The seconds that the mover had left after this move, with the increment."),
+        move=schema("MoveText"), ply=schema("Ply"), position=schema("Position")),
+    "Offered": reply_object("An offer of a draw.", draw=constant("offered", "The state."), game=GAME_ID, ply=schema("Ply")),
+    "Agreed": ended_game("Agreed", ["1-1"], "A game that ended by agreement."),
+    "Resigned": ended_game("Resigned", DECISIVE, "A game that ended by resignation."),
+    "TimeClaimed": ended_game("Time", DECISIVE, "A game that ended by time."),
+    "Declared": ended_game("Declared", DECISIVE, "A game that ended by a declaration."),
+    "ChallengeBody": body_object(
+        "A challenge.", event=with_note("Name", "The event's name."),
+        first={"type": "boolean", "description": "Whether the challenger plays First."},
+        other=with_note("Name", "The member who is challenged.")),
+    "ChallengeOpened": reply_object(
+        "A challenge. The same challenge has this reply again, whatever its state is now.",
+        challenge=CHALLENGE_NUMBER, state=constant("open", "The state.")),
+    "ChallengeWithdrawn": reply_object("A withdrawn challenge.", challenge=CHALLENGE_NUMBER,
+                                       state=constant("withdrawn", "The state.")),
+    "AnswerBody": body_object("An answer to a challenge.", accept={
+        "type": "boolean", "description": "Whether the challenge is accepted."}),
+    "ChallengeAccepted": reply_object("An accepted challenge.", challenge=CHALLENGE_NUMBER, game=GAME_ID,
+                                      state=constant("accepted", "The state.")),
+    "ChallengeRefused": reply_object("A refused challenge.", challenge=CHALLENGE_NUMBER,
+                                     state=constant("refused", "The state.")),
+    "ChallengeAnswer": {"description": "The answer to a challenge.",
+                        "oneOf": [schema("ChallengeAccepted"), schema("ChallengeRefused")]},
+    "Table": text("The cross table, as the command `table` prints it.",
+                  pattern=rf"^Event [0-9A-Za-z._-]{{1,24}}\n({TABLE_LINE})*$"),
+    "Record": {"description": "The game as a record, as the command `export` prints it.", "anyOf": [
+        text("PDN (draughts).", pattern=r'^\[Event "[^\n]*\n(\[[A-Z][A-Za-z]+ "[^\n]*"\]\n){5}\n([^\n]+\n)*'
+                                        r"(2-0|1-1|0-2|\*)\n$"),
+        text("CSA (shogi).", pattern=r"^V2\.2\nN\+[^\n]+\nN-[^\n]+\n\$EVENT:[^\n]+\n\$START_TIME:[^\n]+\nPI\n\+\n"
+                                     r"([+-][0-9]{4}[A-Z]{2}\nT[0-9]+\n)*%[A-Z_+-]+\n$")]},
+    "Page": text("The members' page.", pattern="^<!doctype html>"),
+}
+
+PARAMETERS = {
+    "id": ("The game's id in 1 to 9 digits. Any other id than 1 to 5,000 is 53 UnknownGame.", GAME_ID),
+    "ply": ("A ply in 1 to 9 digits: the number of plies played plus 1, or at a move an earlier ply.", schema("Ply")),
+    "number": ("The challenger's number of the challenge in 1 to 9 digits.", integer(1, 9999, "1 to 9,999.")),
+    "name": ("The event's name.", NAME),
+    "member": ("The name of the member who challenged.", NAME),
+}
+
+HEADERS = {
+    "Content-Length": ("The bytes of the body.", {"type": "integer", "minimum": 0}),
+    "Connection": ("The server closes the connection after the reply.", {"const": "close"}),
+    "AllowGet": ("The method of the path.", {"const": "GET"}),
+    "AllowPost": ("The method of the path.", {"const": "POST"}),
+    "WWW-Authenticate": ("The name of the field that has the key.", {"const": "Member-Key"}),
+    "Content-Security-Policy": ("The policy of the members' page.", {"type": "string", "pattern": "^default-src 'none';"}),
+}
+
+MOVE_REFUSALS = [55, 56, 57, 58, 59, 60, 65, 10, 11, 12, 13, 14, 15, 16, 17, 18, 19, 20, 21, 30]
+NEXT_PLY = "PLY is not the number of plies played plus 1."
+
+# Each route: method, path, operation id, summary, tag, schema of the reply, its content type, schema of the body, the
+# refusals of the club and their meaning where it differs from the general one.
+ROUTES = [
+    ("get", "/play", "getPage", "Returns the members' page, without a key and also if the club is unavailable.", "page",
+     "Page", HTML, None, {}),
+    ("get", "/games/{id}", "getGame", "Returns a game.", "games", "Game", JSON, None, {53: None}),
+    ("get", "/games/{id}/legal", "listLegalMoves", "Returns the legal moves of a game.", "games", "LegalMoves", JSON, None,
+     {53: None}),
+    ("get", "/games/{id}/clock", "getClock", "Returns the clock of a game.", "games", "Clock", JSON, None, {53: None}),
+    ("get", "/games/{id}/record", "getRecord", "Returns the record of a game, which may be running.", "games", "Record",
+     PLAIN, None, {53: None}),
+    ("post", "/games/{id}/moves/{ply}", "makeMove", "Makes a move.", "games", "Moved", JSON, "MoveBody",
+     {53: None} | dict.fromkeys(MOVE_REFUSALS) |
+     {57: "PLY is 0 or above the plies played plus 1.", 58: "The game has another move at PLY, or the opponent's.",
+      65: "The text has more than 200 bytes."}),
+    ("post", "/games/{id}/draw/{ply}/offer", "offerDraw", "Offers a draw in a game of draughts until the next move.",
+     "games", "Offered", JSON, None,
+     {53: None, 55: None, 63: None, 56: None, 57: NEXT_PLY, 58: "The opponent's offer exists."}),
+    ("post", "/games/{id}/draw/{ply}/accept", "acceptDraw", "Accepts the opponent's offer of a draw.", "games", "Agreed",
+     JSON, None, {53: None, 55: None, 63: None, 56: None, 57: NEXT_PLY, 62: None}),
+    ("post", "/games/{id}/resign", "resign", "Resigns the game. Only the player to move can resign.", "games", "Resigned",
+     JSON, None, {53: None, 55: None, 56: None, 59: None}),
+    ("post", "/games/{id}/claim-time", "claimTime", "Claims a win because the player to move is out of time.", "games",
+     "TimeClaimed", JSON, None, {53: None, 55: None, 56: None, 59: "The member is to move.", 61: None}),
+    ("post", "/games/{id}/declare/{ply}", "declare", "Declares that the king has entered (shogi).", "games", "Declared",
+     JSON, None, {53: None, 55: None, 56: None, 57: NEXT_PLY, 59: None, 67: None}),
+    ("get", "/events/{name}/table", "getTable", "Returns the cross table of an event.", "events", "Table", PLAIN, None,
+     {52: None}),
+    ("get", "/events/{name}/games", "listEventGames", "Returns the games of an event.", "events", "EventGames", JSON, None,
+     {52: None}),
+    ("post", "/challenges/{number}", "openChallenge", "Challenges a member to a game of an event.", "challenges",
+     "ChallengeOpened", JSON, "ChallengeBody",
+     {52: None, 58: "The member has another challenge under this number.",
+      65: "The number is outside 1 to 9,999, or `other` is no other member."}),
+    ("post", "/challenges/{number}/withdraw", "withdrawChallenge", "Withdraws an open challenge of the member.",
+     "challenges", "ChallengeWithdrawn", JSON, None, {54: None, 58: "The challenge was answered."}),
+    ("post", "/answers/{member}/{number}", "answerChallenge", "Accepts a challenge, which starts a game, or refuses it.",
+     "challenges", "ChallengeAnswer", JSON, "AnswerBody",
+     {54: "MEMBER is unknown, has no challenge with this number, or the challenge is to another member.",
+      58: "The challenge was withdrawn or has the other answer.", 66: None}),
+    ("get", "/me", "getMe", "Returns the member's running games and challenges.", "me", "Me", JSON, None, {}),
+    ("get", "/me/events", "listEvents", "Returns the events and the members to challenge.", "me", "Events", JSON, None, {}),
+]
+
+
+def headers(**more):
+    found = {it: it for it in ("Content-Length", "Connection")} | {it.replace("_", "-"): of for it, of in more.items()}
+    return {it: ref("headers", of) for it, of in found.items()}
+
+
+def headers_of_error(method, status):
+    if status == 405:
+        return headers(Allow=f"Allow{method.title()}")
+    return headers(WWW_Authenticate="WWW-Authenticate") if status == 401 else headers()
+
+
+def error_reply(method, status, meanings, shared):
+    """The reply of a status that stands for these errors, each with its meaning.
+
+    It is in `shared`, and referred to, if the meanings are the general ones.
+    """
+    numbers = sorted(meanings)
+    lines = [f"{number} {ERRORS[number][0]}: {meanings[number] or ERRORS[number][2]}" for number in numbers]
+    options = [schema(f"Error{number}") for number in numbers]
+    found = {"description": "\n".join([f"{PHRASES[status]}.", *lines]), "headers": headers_of_error(method, status),
+             "content": {JSON: {"schema": options[0] if len(options) == 1 else {"oneOf": options}}}}
+    if any(meanings.values()):
+        return found
+    name = "_".join(["Error", *map(str, numbers), *([method] if status == 405 else [])])
+    shared[name] = found
+    return ref("responses", name)
+
+
+def refusals_of(method, path, body, of_club):
+    """The errors that an operation can return, each with its meaning if it is not the general one."""
+    found = dict.fromkeys([80, 83, 85, 86, 87, 88])
+    if method == "post":
+        found[84] = None
+    if body:
+        found[81] = None
+    if "{" in path:
+        found[82] = None
+    if path != "/play":
+        found |= dict.fromkeys([50, *FAULTS])
+    return found | of_club
+
+
+def operation_of(shared, method, path, name, summary, tag, reply, kind, body, of_club):
+    more = {"Content_Security_Policy": "Content-Security-Policy"} if kind == HTML else {}
+    meaning = SCHEMAS[reply]["description"] + (" A repeated command has the same reply." if method == "post" else "")
+    replies = {"200": {"description": meaning,
+                       "headers": headers(**more), "content": {kind: {"schema": schema(reply)}}}}
+    by_status = {}
+    for number, meaning in refusals_of(method, path, body, of_club).items():
+        by_status.setdefault(ERRORS[number][1], {})[number] = meaning
+    replies |= {str(status): error_reply(method, status, by_status[status], shared) for status in sorted(by_status)}
+    found = {"operationId": name, "summary": summary, "tags": [tag]}
+    if method == "post":
+        found["description"] = "The request needs `Content-Length`." if body else \
+            "The request has no body, and needs `Content-Length: 0`. The server ignores a body."
+    if path == "/play":
+        found["security"] = []
+    parameters = [part[1:-1] for part in path.split("/") if part.startswith("{")]
+    if parameters:
+        found["parameters"] = [ref("parameters", it) for it in parameters]
+    if body:
+        found["requestBody"] = {"required": True, "content": {JSON: {"schema": schema(body)}}}
+    return found | {"responses": replies}
+
+
+def document():
+    paths, shared = {}, {}
+    for method, path, *rest in ROUTES:
+        paths.setdefault(path, {})[method] = operation_of(shared, method, path, *rest)
+    errors = {f"Error{number}": reply_object(
+        meaning, error=constant(number, "The error number."), name=constant(name, "The error name."))
+        for number, (name, _, meaning) in sorted(ERRORS.items())}
+    return {
+        "openapi": "3.1.0",
+        "info": {"title": "Gathlwyro", "summary": "Correspondence games of a draughts and shogi club.",
+                 "description": INFO, "version": "1.0.0"},
+        "servers": [{"url": "http://127.0.0.1:{port}", "description": "The server of a club.",
+                     "variables": {"port": {"default": "8080", "description": "The PORT of `serve`."}}}],
+        "security": [{"MemberKey": []}],
+        "tags": [{"name": "games", "description": "Games and commands on them."},
+                 {"name": "events", "description": "Events."},
+                 {"name": "challenges", "description": "Challenges between members."},
+                 {"name": "me", "description": "What concerns the member who has the key."},
+                 {"name": "page", "description": "The page for a browser."}],
+        "paths": paths,
+        "components": {
+            "securitySchemes": {"MemberKey": {
+                "type": "apiKey", "in": "header", "name": "Member-Key",
+                "description": "The member's key: 8 to 64 letters and digits. The field occurs exactly once."}},
+            "parameters": {name: {"name": name, "in": "path", "required": True, "description": description,
+                                  "schema": of} for name, (description, of) in PARAMETERS.items()},
+            "headers": {name: {"description": description, "required": True, "schema": of}
+                        for name, (description, of) in HEADERS.items()},
+            "responses": {name: shared[name] for name in sorted(shared)},
+            "schemas": SCHEMAS | errors,
+        },
+    }
+
+
+def main():
+    made = json.dumps(document(), indent=1, ensure_ascii=True) + "\n"
+    if sys.argv[1:] == ["--check"]:
+        return int(not FILE.is_file() or FILE.read_text() != made)
+    FILE.write_text(made)
+    return 0
+
+
+if __name__ == "__main__":
+    sys.exit(main())
