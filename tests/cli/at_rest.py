@@ -47,7 +47,8 @@ def file_alone_after_each_command():
     for ply in (1, 2):
         move("alone.db", ply)
         shutil.copyfile("alone.db", f"alone{ply}.db")
-        check(f"the database file without its log holds the club after ply {ply}", read_tables("alone.db"), read_tables(f"alone{ply}.db"))
+        check(f"the database file without its log holds the club after ply {ply}",
+              read_tables("alone.db"), read_tables(f"alone{ply}.db"))
         check(f"a copy of the file alone is sound after ply {ply}", (0, "sound"), club(f"alone{ply}.db", "verify"))
         expected = (0, f"accepted ply {ply + 1} {DRAUGHTS_MOVES[ply]}")
         check(f"the copy of ply {ply} accepts the next move", expected, move(f"alone{ply}.db", ply + 1))
@@ -81,7 +82,8 @@ def restore(method, state):
     check(f"{name} has the rows of the backup", before, read_tables(file))
     check(f"{name} accepts the next move", (0, "accepted ply 2 19-23"), move(file, 2))
     with contextlib.closing(sqlite3.connect(file)) as found:
-        check(f"{name} passes the integrity check of sqlite3", [("ok",)], found.execute("PRAGMA integrity_check").fetchall())
+        check(f"{name} passes the integrity check of sqlite3",
+              [("ok",)], found.execute("PRAGMA integrity_check").fetchall())
     for left in [*pathlib.Path(".").glob("club.db*"), *pathlib.Path(".").glob("back.db*")]:
         left.unlink()
 
@@ -104,7 +106,8 @@ def other_files_are_unchanged():
     before = folder_content()
     faults = {"notes.txt": "73 Store", "short": "73 Store", "folder": "73 Store", "link.db": "70 Foreign"}
     for file, fault in faults.items():
-        check(f"`verify` of {file}, which is no database, is fault {fault}", (3, f"store {fault}"), club(file, "verify"))
+        check(f"`verify` of {file}, which is no database, is fault {fault}",
+              (3, f"store {fault}"), club(file, "verify"))
     check("`verify` of an empty file is fault 70", (3, "store 70 Foreign"), club("empty.db", "verify"))
     check("`init` over a text file is fault 73", (3, "store 73 Store"), club("notes.txt", "init"))
     check("files that are no databases are unchanged", before, folder_content())
@@ -126,9 +129,11 @@ def other_databases_are_unchanged():
     before = folder_content()
     for file in made:
         for words in ("verify", "member anna keyanna1", "export 1", "serve 1"):
-            check(f"`{words}` over a foreign database ({file}) is fault 70", (3, "store 70 Foreign"), club(file, *words.split()))
+            check(f"`{words}` over a foreign database ({file}) is fault 70",
+                  (3, "store 70 Foreign"), club(file, *words.split()))
     check("foreign databases are unchanged", before, folder_content())
-    check("`init` beside a foreign table of a name that a club needs is fault 70", (3, "store 70 Foreign"), club("delete4096.db", "init"))
+    check("`init` beside a foreign table of a name that a club needs is fault 70",
+          (3, "store 70 Foreign"), club("delete4096.db", "init"))
     with contextlib.closing(sqlite3.connect("delete4096.db")) as found, found:
         found.execute("ALTER TABLE members RENAME TO songs")
     check("`init` beside foreign tables of other names creates a club", (0, "ready"), club("delete4096.db", "init"))

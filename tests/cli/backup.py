@@ -90,7 +90,8 @@ def other_paths():
     expected = rows("c.db")
     for path in ("inner/copy.db", "linked/other.db", os.path.abspath("inner/third.db"), "inner/a name", "inner/-odd"):
         check(f"`backup` writes to {os.path.basename(path)}", (0, "copied"), club("c.db", "backup", path))
-        check(f"the copy {os.path.basename(path)} has the rows and no log", (expected, False), (rows(path), os.path.lexists(f"{path}-wal")))
+        check(f"the copy {os.path.basename(path)} has the rows and no log",
+              (expected, False), (rows(path), os.path.lexists(f"{path}-wal")))
     check("`backup` takes a timestamp", (0, "copied"), club("c.db", "backup", "inner/later.db"))
     os.symlink("c.db", "link.db")
     check("`backup` copies a club behind a symbolic link", (0, "copied"), club("link.db", "backup", "inner/behind.db"))
@@ -128,7 +129,8 @@ def folders_without_permission():
     if os.access("closed", os.W_OK):
         check("`backup` to a folder that takes no files is fault 77", NO_COPY, club("c.db", "backup", "/proc/copy.db"))
     else:
-        check("`backup` to a folder without write permission is fault 77", NO_COPY, club("c.db", "backup", "closed/copy.db"))
+        check("`backup` to a folder without write permission is fault 77",
+              NO_COPY, club("c.db", "backup", "closed/copy.db"))
     check("a folder without write permission stays empty", [], os.listdir("closed"))
 
 
@@ -146,7 +148,8 @@ def no_club():
     check("`backup` of an empty file is fault 70", (3, "store 70 Foreign"), club("empty.db", "backup", "no.db"))
     check("`backup` of a text file is fault 73", (3, "store 73 Store"), club("text", "backup", "no.db"))
     check("a backup of no club creates no file", before, folder_content())
-    check("`backup` of a damaged club is the fault of `verify`", club("bad.db", "verify"), club("bad.db", "backup", "no.db"))
+    check("`backup` of a damaged club is the fault of `verify`",
+          club("bad.db", "verify"), club("bad.db", "backup", "no.db"))
     check("a wrong score is fault 72", (3, "store 72 Damaged scores"), club("bad.db", "backup", "no.db"))
     check("no copy of a damaged club is created", False, os.path.lexists("no.db"))
 
@@ -155,7 +158,8 @@ def club_in_use():
     """`backup` waits five seconds for a file that another program holds, and then fails."""
     with contextlib.closing(sqlite3.connect("c.db", isolation_level=None)) as other:
         other.execute("BEGIN IMMEDIATE")
-        check("`backup` of a club that another program holds is fault 73", (3, "store 73 Store"), club("c.db", "backup", "used.db"))
+        check("`backup` of a club that another program holds is fault 73",
+              (3, "store 73 Store"), club("c.db", "backup", "used.db"))
         other.execute("ROLLBACK")
     check("no copy of a club in use is created", False, os.path.lexists("used.db"))
     check("`backup` copies a club that is free again", (0, "copied"), club("c.db", "backup", "used.db"))
@@ -165,8 +169,10 @@ def explained():
     expected = f"store 77 Output\n{LINE}"
     check("`--explain` explains fault 77", (3, expected), club("--explain", "c.db", "backup", "full.db"))
     status, said = club("--explain", "gone.db", "backup", "no.db")
-    check("`--explain` explains fault 70", (3, "store 70 Foreign", 2), (status, said.splitlines()[0], len(said.splitlines())))
-    check("`--explain` adds nothing to a backup that succeeds", (0, "copied"), club("--explain", "c.db", "backup", "explained.db"))
+    check("`--explain` explains fault 70",
+          (3, "store 70 Foreign", 2), (status, said.splitlines()[0], len(said.splitlines())))
+    check("`--explain` adds nothing to a backup that succeeds",
+          (0, "copied"), club("--explain", "c.db", "backup", "explained.db"))
     for words in (["backup"], ["backup", "a.db", "b.db"], ["backup", "--now", "5", "a.db"]):
         check(f"`{' '.join(words)}` is a usage error", 2, club("c.db", *words)[0])
     with open("/dev/full", "wb") as full:
@@ -180,7 +186,8 @@ def beside_a_server():
     with serve("c.db") as server:
         check("the server shows a game before a backup", 200, server.show()[0])
         for it in range(3):
-            check(f"backup {it + 1} succeeds while the server has the file", (0, "copied"), club("c.db", "backup", f"served{it}.db"))
+            check(f"backup {it + 1} succeeds while the server has the file",
+                  (0, "copied"), club("c.db", "backup", f"served{it}.db"))
             check(f"the server shows a game after backup {it + 1}", 200, server.show()[0])
         check("the server executes a command", (0, "accepted member 3"), club("c.db", "member", "cara", "keycara3"))
         check("a backup succeeds after a command", (0, "copied"), club("c.db", "backup", "served3.db"))
@@ -200,11 +207,14 @@ def full_disks():
         done.add(said)
         found = club(f"full{size}.db", "verify")
         if said != (0, "copied"):
-            check(f"a backup with room for {size} bytes is no club or sound", (NO_COPY, True), (said, found in ((3, "store 70 Foreign"), (0, "sound"))))
+            check(f"a backup with room for {size} bytes is no club or sound",
+                  (NO_COPY, True), (said, found in ((3, "store 70 Foreign"), (0, "sound"))))
         else:
-            check(f"a backup with room for {size} bytes is complete", ((0, "sound"), rows("c.db")), (found, rows(f"full{size}.db")))
+            check(f"a backup with room for {size} bytes is complete",
+                  ((0, "sound"), rows("c.db")), (found, rows(f"full{size}.db")))
     check("some backups had enough room, and some had not", {NO_COPY, (0, "copied")}, done)
-    check("backups on a full disk leave the club unchanged", before, {name: held for name, held in folder_content().items() if name in before})
+    check("backups on a full disk leave the club unchanged",
+          before, {name: held for name, held in folder_content().items() if name in before})
 
 
 def killed_backups():

@@ -71,7 +71,8 @@ def members_and_events(folder):
     check("`init` creates a club", (0, "ready\n", ""), give(folder, ["init"]))
     expected = output([*((2 + i, f"accepted member {1 + i}") for i in range(6)),
                    (9, "accepted event 1"), (11, "accepted event 2")])
-    check("one batch adds six members and two events", (0, expected, ""), give(folder, ["batch", "-"], MEMBERS + EVENTS))
+    check("one batch adds six members and two events",
+          (0, expected, ""), give(folder, ["batch", "-"], MEMBERS + EVENTS))
     before = all_rows(folder)
     (pathlib.Path(folder) / "orders").write_text(MEMBERS + EVENTS)
     check("the same batch from a file is repeated", (0, expected.replace("accepted", "repeated"), ""),
@@ -88,12 +89,14 @@ def round_robins(folder):
         table = berger(prefix, NAMES)
         lines = "".join(f"seat {key} {event} {first} {second}\n" for key, (first, second) in table.items())
         check(f"a dry round robin of {event} prints the orders", (0, lines, ""), dry)
-        check(f"a round robin of {event} creates its games", (0, expected, ""), give(folder, ["round-robin", prefix, event, *NAMES]))
+        check(f"a round robin of {event} creates its games",
+              (0, expected, ""), give(folder, ["round-robin", prefix, event, *NAMES]))
         check(f"the games of {event} are those of FIDE's Berger table", table, pairs_of(folder, event))
         again = expected.replace("accepted", "repeated")
         check(f"a second round robin of {event} is repeated", (0, again, ""),
                 give(folder, ["round-robin", prefix, event, *NAMES], now=3000))
-        check(f"the orders of the dry round robin of {event} are repeated as a batch", (0, again, ""), give(folder, ["batch", "-"], dry[1]))
+        check(f"the orders of the dry round robin of {event} are repeated as a batch",
+              (0, again, ""), give(folder, ["batch", "-"], dry[1]))
     give(folder, ["event", "winter", "draughts", "60", "5"])
     for prefix, names, is_double in ("d", NAMES[:4], True), ("o", NAMES[:3], False), ("t", NAMES[:5], True):
         words = ["round-robin", "--double", prefix, "winter", *names]
@@ -127,7 +130,8 @@ def refusals(folder):
     check("a refused round robin changes no row", before, all_rows(folder))
     for words in ["round-robin", "x", "autumn", "anna"], ["round-robin", "x", "autumn", *(f"m{i}" for i in range(33))]:
         status, out, err = give(folder, words)
-        check(f"a round robin of {len(words) - 3} players is a usage error", (2, "", True), (status, out, err.startswith("error: ")))
+        check(f"a round robin of {len(words) - 3} players is a usage error",
+              (2, "", True), (status, out, err.startswith("error: ")))
 
 
 def bad_lines(folder):
@@ -143,9 +147,11 @@ def bad_lines(folder):
             ("bytes that are not UTF-8", member.encode() + b"member \xff keykeykey\n", 2),
             ("more than 10000 orders", "sweep\n" * 10001, 10001)):
         status, out, err = give(folder, ["batch", "-"], text)
-        check(f"{name} in line {number} of a batch is a usage error", (2, "", True), (status, out, err.startswith(f"error: line {number}: ")))
+        check(f"{name} in line {number} of a batch is a usage error",
+              (2, "", True), (status, out, err.startswith(f"error: line {number}: ")))
     status, out, err = give(folder, ["batch", "-"], "#" * 1048576 + "\n")
-    check("a batch of more than 1048576 bytes is a usage error", (2, "", True), (status, out, err.startswith("error: ")))
+    check("a batch of more than 1048576 bytes is a usage error",
+          (2, "", True), (status, out, err.startswith("error: ")))
     check("a batch with a bad line changes no row", before, all_rows(folder))
     with tempfile.TemporaryDirectory(dir=FAST) as empty:
         check("a bad line is a usage error even if there is no club", 2, give(empty, ["batch", "-"], "frob\n")[0])
@@ -156,7 +162,8 @@ def bad_lines(folder):
 def records(folder):
     before = all_rows(folder)
     text = "member ida keyida0001\nimport-pdn old1 autumn anna bert game.pdn\n"
-    check("a batch with a record that cannot be read is fault 76", (3, "", "store 76 Input\n"), give(folder, ["batch", "-"], text))
+    check("a batch with a record that cannot be read is fault 76",
+          (3, "", "store 76 Input\n"), give(folder, ["batch", "-"], text))
     check("a batch with an unreadable record changes no row", before, all_rows(folder))
     (pathlib.Path(folder) / "game.pdn").write_bytes(PDN)
     (pathlib.Path(folder) / "bad.pdn").write_bytes(b"1. 32-28 19-24 2. 28x19 0-2\n")

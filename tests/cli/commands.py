@@ -38,14 +38,16 @@ def versions():
     if lines_of("git", "-C", str(TOP), "rev-parse", "-q", "HEAD"):
         found = re.fullmatch(r"commit ([0-9a-f]{40})(, and changes since)?", "".join(printed[2:3]))
         differing = found and (found[2] or lines_of("git", "-C", str(TOP), "diff", "--name-only", found[1], "--", *SOURCES))
-        result(found and (found[2] or not differing), "the launcher prints the commit of the sources", printed, differing)
+        result(found and (found[2] or not differing), "the launcher prints the commit of the sources",
+               printed, differing)
 
 
 def permissions():
     create()
     modes = [f"{os.stat(it).st_mode & 0o777:o}" for it in ("c.db", "c.db-wal")]
     check("only the owner may read the files of a club", ["600", "600"], modes)
-    check("an argument that is not UTF-8 is a usage error", (2, "", "error: a word is not UTF-8\n"), run(["c.db", b"\xff"]))
+    check("an argument that is not UTF-8 is a usage error",
+          (2, "", "error: a word is not UTF-8\n"), run(["c.db", b"\xff"]))
     pathlib.Path("empty.db").write_bytes(b"")
     check("`verify` of an empty file is fault 70", (3, "store 70 Foreign"), club("empty.db", "verify"))
 
@@ -55,15 +57,18 @@ def refused_records():
     club("c.db", "event", "fuji", "shogi", 86400, 0)
 
     def check_refused(name, words, text, refusal):
-        check(f"a record {name} is refused", (1, f"refused {refusal}"), club("c.db", *words, "anna", "bert", "-", data=text))
+        check(f"a record {name} is refused",
+              (1, f"refused {refusal}"), club("c.db", *words, "anna", "bert", "-", data=text))
 
     csa, pdn = ("import-csa", "new", "fuji"), ("import-pdn", "new", "cup")
     entered, fourfold = ((RECORDS / it).read_text() for it in ("entered.csa", "fourfold.csa"))
     check_refused("that declares a king one ply too early", csa, entered.replace("-3334FU\n", ""), "46 ResultDiffers")
-    check_refused("that resigns after a fourfold repetition", csa, fourfold.replace("%SENNICHITE", "%TORYO"), "46 ResultDiffers")
+    check_refused("that resigns after a fourfold repetition",
+                  csa, fourfold.replace("%SENNICHITE", "%TORYO"), "46 ResultDiffers")
     check_refused("whose Result tag differs", pdn, PDN.replace('Result "2-0"', 'Result "0-2"'), "27 ResultDiffers")
     lost = PDN.replace("2-0", "0-2")
-    check_refused("whose Result tag was reversed", pdn, lost.replace('Result "0-2"', 'Result "2-0"'), "27 ResultDiffers")
+    check_refused("whose Result tag was reversed",
+                  pdn, lost.replace('Result "0-2"', 'Result "2-0"'), "27 ResultDiffers")
 
 
 def truncated_records():

@@ -185,7 +185,8 @@ def own_records_are_unchanged():
 
 def words_of_the_tool():
     ran = subprocess.run([TOOL, "pdn", "-"], input=SMALL, capture_output=True)
-    check("tools/records runs as a program", (0, READY, f"-: {SAID}"), (ran.returncode, ran.stdout, ran.stderr.decode()))
+    check("tools/records runs as a program",
+          (0, READY, f"-: {SAID}"), (ran.returncode, ran.stdout, ran.stderr.decode()))
     status, printed, messages = tool("--help")
     check("`tools/records --help` names each option", (0, True, ""),
             (status, all(it in printed for it in (b"--game", b"--all", b"--encoding", b"pdn", b"csa", b"kif")), messages))
@@ -194,7 +195,8 @@ def words_of_the_tool():
     printed = tool("pdn", "nothing.pdn")
     check("tools/records reports a missing file", (2, b"", "nothing.pdn: No such file or directory\n"), printed)
     check("tools/records refuses an empty file", (1, b"", "-: refused: it has no game\n"), tool("pdn", "-"))
-    check("tools/records refuses bytes of no known encoding", (1, b"", "-: refused: its letters are of no encoding that fits; name the right one with "
+    check("tools/records refuses bytes of no known encoding",
+          (1, b"", "-: refused: its letters are of no encoding that fits; name the right one with "
                            "--encoding\n"), tool("csa", "-", given=b"V2.2\nN+\x81\n"))
     named = tool("--encoding", "cp850", "pdn", "-", given=READY.replace(b"x", b"\x9e"))
     check("tools/records takes a named encoding", (0, READY), named[:2])

@@ -152,7 +152,8 @@ def out_of_time(event, line, plies, first):
     with requests(first) as asked:
         for ply, game in games.items():
             claim = asked(mover(ply), "POST", f"/games/{game}/claim-time")
-            check(f"a claim after {ply} plies of {event} ends the game", ended("Time", game, lost_by(mover(ply + 1))), claim)
+            check(f"a claim after {ply} plies of {event} ends the game",
+                  ended("Time", game, lost_by(mover(ply + 1))), claim)
 
 
 def main():

@@ -7,8 +7,8 @@ that this was written for, edits are tried as the kit does it, and a line says s
 and tries all again, whatever earlier runs kept.
 
 For the seconds it reads /proc every half second for the prover's processes in this folder, and for those that try
-edits: which crate they check, whether its proofs, its tests or its edits, and how long the processor has worked for
-them. The crate that cost most stands first.
+edits: which crate they check, whether its proofs, its tests or its edits, and their processor time. The crate that
+costs most is printed first.
 """
 import hashlib
 import inspect

@@ -135,7 +135,8 @@ class Season:
             game.lost_by(game.mover(), "Time")
         with rows_of(self.folder) as found:
             ended = {it for it, in found.found.execute("SELECT id FROM games WHERE \"end\" = 'Time'")} & running
-        check(f"the sweep ends the {len(late)} games that were listed as overdue", [f"game {it}" for it in sorted(ended)],
+        check(f"the sweep ends the {len(late)} games that were listed as overdue",
+              [f"game {it}" for it in sorted(ended)],
                 [" ".join(line.split(" ")[:2]) for line in before])
 
     # ---- commands of members'
@@ -155,7 +156,8 @@ class Season:
                 (status, {it: reply.get(it) for it in expected}))
 
     def command(self, port, now, member, path, expected, body=None, status=200):
-        check(f"POST {path} by {member} returns {expected}", (status, expected), self.answer(port, member, "POST", path, body))
+        check(f"POST {path} by {member} returns {expected}",
+              (status, expected), self.answer(port, member, "POST", path, body))
         if status == 200:
             self.club.accepted(now)
 
@@ -216,7 +218,8 @@ class Season:
 
     def look_at_lists(self, stage, now, lists, rows):
         expected = {" ".join(it): self.club.printed(it, now) for it in lists}
-        compare(f"{stage}, the lists are those of the model", expected, {" ".join(it): self.give(now, it) for it in lists})
+        compare(f"{stage}, the lists are those of the model",
+                expected, {" ".join(it): self.give(now, it) for it in lists})
         made = {" ".join(it): rows.printed(it, now) for it in lists}
         compare(f"{stage}, the lists are those of sqlite3", {it: printed[1] for it, printed in expected.items()}, made)
 
@@ -226,7 +229,8 @@ class Season:
         got = {it: self.ask(port, self.club.keys[it[0]], "GET", it[1]) for it in asked}
         for kind in ("me", "me/events", "games", "table", "clock", "record"):
             some = [it for it in asked if it[1].endswith(f"/{kind}")]
-            compare(f"{stage}, /{kind} is that of the model", {it: expected[it] for it in some}, {it: got[it] for it in some})
+            compare(f"{stage}, /{kind} is that of the model",
+                    {it: expected[it] for it in some}, {it: got[it] for it in some})
         json_asked = [it for it in asked if it[1].rpartition("/")[2] not in ("table", "record")]
         bodies = {it: expected[it].partition(b"\r\n\r\n")[2].decode() for it in json_asked}
         compare(f"{stage}, the paths are those of sqlite3", bodies, {it: rows.body(*it, now) for it in json_asked})
@@ -379,15 +383,18 @@ def swept(season):
     check("a sweep one second later ends the game", "Time", game.end)
     season.look("at the season's end", late + 2, [*season.filters()][::3])
     exported = {it.number: (0, model.record(it), "") for it in season.club.games}
-    compare("`export` prints the records of the model", exported, {it: season.give(late, ["export", str(it)]) for it in exported})
+    compare("`export` prints the records of the model",
+            exported, {it: season.give(late, ["export", str(it)]) for it in exported})
     for flags in [], ["--letters"]:
         shown = {it.number: (0, boards.shown(it, late + 2, bool(flags)), "") for it in season.club.games}
         compare(f"`{' '.join(['show', *flags])}` prints the boards of the model", shown,
                 {it: season.give(late + 2, ["show", *flags, str(it)]) for it in shown})
     events = {it: (0, season.club.event_records(it), "") for it in season.club.events}
-    compare("`export-event` prints the records of the model", events, {it: season.give(late, ["export-event", it]) for it in events})
+    compare("`export-event` prints the records of the model",
+            events, {it: season.give(late, ["export-event", it]) for it in events})
     tables = {it: (0, season.club.table(it), "") for it in season.club.events}
-    compare("`table` prints the cross tables of the model", tables, {it: season.give(late, ["table", it]) for it in tables})
+    compare("`table` prints the cross tables of the model",
+            tables, {it: season.give(late, ["table", it]) for it in tables})
     check("the club is sound after the season", (0, "sound\n", ""), season.give(late, ["verify"]))
 
 
@@ -421,7 +428,8 @@ def refused_at(season, port, path):
     """Each path by other methods, other keys and other texts of its own."""
     right = season.club.replied("anna", path, season.club.last)
     method = {it: refusal(83, it != "HEAD") for it in ("POST", "PUT", "HEAD", "DELETE", "get", "OPTIONS")}
-    compare(f"{path} with another method is refused", method, {it: season.ask(port, "nobody77", it, path) for it in method})
+    compare(f"{path} with another method is refused",
+            method, {it: season.ask(port, "nobody77", it, path) for it in method})
     fields = ("", "Member-Key:\r\n", "Member-Key: keyanna\r\n", "Member-Key: KEYANNA1\r\n", "Member-Key: keyanna11\r\n",
               "Member-Key: keyanna1\r\nmember-key: keyanna1\r\n", "Key: keyanna1\r\n")
     compare(f"{path} with another key is refused", {it: refusal(50) for it in fields},
@@ -470,7 +478,8 @@ def faulty(season):
         with other.server(now) as port:
             check("/me is shown before the damage", 200, other.answer(port, "keyanna1", "GET", "/me")[0])
             beside = ["games", "--running"]
-            check("a list is printed while the server has the file", season.club.printed(beside, now), other.give(now, beside))
+            check("a list is printed while the server has the file",
+                  season.club.printed(beside, now), other.give(now, beside))
             change(f"{room}/c.db", DAMAGES[0][0])
             compare("each path is fault 72 once the file is damaged", {it: refusal(72) for it in PATHS},
                     {it: other.ask(port, "keyanna1", "GET", it) for it in PATHS})

@@ -49,7 +49,8 @@ def early_replies():
         with server.connect() as connection:
             connection.sendall(head)
             time.sleep(0.3)
-            check("a client that sends a body that is too long receives 413", b"HTTP/1.1 413 ", send_long_body(connection))
+            check("a client that sends a body that is too long receives 413",
+                  b"HTTP/1.1 413 ", send_long_body(connection))
         if shutil.which("curl"):
             pathlib.Path("long").write_bytes(b"a" * 300000)
             words = ["curl", "-s", "-o", "reply", "-w", "%{http_code}", "-H", "Expect:", "--data-binary", "@long"]
@@ -106,7 +107,8 @@ def file_in_use():
         server.wait_until_released("c.db")
         with contextlib.closing(sqlite3.connect("c.db", timeout=30, isolation_level=None)) as other:
             other.execute("BEGIN EXCLUSIVE")
-            check("a request is fault 73 while another program holds the file", unavailable(73), reply(server, SHOW_GAME))
+            check("a request is fault 73 while another program holds the file",
+                  unavailable(73), reply(server, SHOW_GAME))
             began = time.monotonic()
             check("further requests are fault 73 too", {unavailable(73)}, {reply(server, SHOW_GAME) for _ in range(20)})
             check("requests fail at once while another program holds the file", True, is_within(5, began))

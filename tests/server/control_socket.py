@@ -87,8 +87,10 @@ def commands_and_queries():
             check(f"`{it}` prints the same beside a server", expected, club("c.db", *it.split(), now=late))
         check("the server executes a move", (0, "accepted ply 1 32-28"), club("c.db", "move", "1", "1", "32-28"))
         check("the server repeats a move", (0, "repeated ply 1 32-28"), club("c.db", "move", "1", "1", "32-28"))
-        check("the server refuses another move of that ply", (1, "refused 58 Conflict"), club("c.db", "move", "1", "1", "31-27"))
-        check("the server refuses a name that is taken", (1, "refused 64 NameTaken"), club("c.db", "member", "anna", "keyanother"))
+        check("the server refuses another move of that ply",
+              (1, "refused 58 Conflict"), club("c.db", "move", "1", "1", "31-27"))
+        check("the server refuses a name that is taken",
+              (1, "refused 64 NameTaken"), club("c.db", "member", "anna", "keyanother"))
         pathlib.Path("game.pdn").write_text('[Result "0-2"]\n1. 32-28 19-23\n0-2\n')
         imported = "import-pdn", "old1", "cup", "anna", "bert", "game.pdn"
         check("the server imports a record", (0, "accepted game 2"), club("c.db", *imported))

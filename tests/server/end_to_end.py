@@ -263,7 +263,8 @@ def challenges():
 def rows():
     """The rows of all games, as sqlite3 reads them."""
     check("the integrity check of sqlite3 passes", [("ok",)], query(FILE, "PRAGMA integrity_check"))
-    check("the ends of the games are stored", [(1, 3, "Agreed", "1-1"), (2, 12, "Fourfold", "1-1"), (3, 2, "Resigned", "0-2")],
+    check("the ends of the games are stored",
+          [(1, 3, "Agreed", "1-1"), (2, 12, "Fourfold", "1-1"), (3, 2, "Resigned", "0-2")],
           query(FILE, "SELECT id, plies, end, result FROM games WHERE id <= 3 ORDER BY id"))
     check("the moves are stored", [(1, 1, "32-28"), (1, 2, "19-23"), (1, 3, "28x19"), (3, 1, "33-28"), (3, 2, "19-23"),
                                    (6, 1, "32-28")],

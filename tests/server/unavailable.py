@@ -33,10 +33,12 @@ def timestamps():
     create("m.db", budget=60)
     with serve("m.db", now=1010) as server:
         check("a move is accepted at the timestamp of --now", 200, server.move(1)[0])
-    check("the move has the timestamp of --now", (1010, 1010, 50), query_one("m.db", "SELECT last, since, left1 FROM meta, games"))
+    check("the move has the timestamp of --now",
+          (1010, 1010, 50), query_one("m.db", "SELECT last, since, left1 FROM meta, games"))
     with serve("m.db", now=1005) as server:
         check("a move is accepted at an earlier timestamp", 200, server.move(2)[0])
-    check("an earlier timestamp counts as the last one", (1010, 1010, 60), query_one("m.db", "SELECT last, since, left2 FROM meta, games"))
+    check("an earlier timestamp counts as the last one",
+          (1010, 1010, 60), query_one("m.db", "SELECT last, since, left2 FROM meta, games"))
     claim = "POST", "/games/1/claim-time", None, "keybert2"
     with serve("m.db", now=1060) as server:
         check("a claim in the last second is refused", (409, '{"error":61,"name":"TimeLeft"}'), server.request(*claim))
@@ -45,7 +47,8 @@ def timestamps():
     with serve("m.db", now=1061) as server:
         check("a claim one second later is accepted", ended, server.request(*claim))
         check("a claim is repeated", ended, server.request(*claim))
-    check("a claim ends the game at its timestamp", (1061, "Time", "0-2"), query_one("m.db", "SELECT last, end, result FROM meta, games"))
+    check("a claim ends the game at its timestamp",
+          (1061, "Time", "0-2"), query_one("m.db", "SELECT last, end, result FROM meta, games"))
     with serve("m.db", now=9000) as server:
         check("a later server repeats the claim", ended, server.request(*claim))
     check("a repeated claim does not change the last timestamp", (1061,), query_one("m.db", "SELECT last FROM meta"))

@@ -93,7 +93,8 @@ def refused_before(name):
 
 def upgraded(name):
     with old(name) as room:
-        check(f"`upgrade` of {name} succeeds at any timestamp", (0, "upgraded"), club(room, "upgrade", now=5_000_000_000))
+        check(f"`upgrade` of {name} succeeds at any timestamp",
+              (0, "upgraded"), club(room, "upgrade", now=5_000_000_000))
         check(f"`upgrade` of {name} keeps every row", after(name), read(f"{room}/c.db", TABLES))
         check(f"`verify` of {name} prints `sound` after the upgrade", (0, "sound"), club(room, "verify"))
         before = file_in(room)
@@ -114,9 +115,11 @@ def beside_a_foreign_table(name):
         check(f"`verify` of {name} with a foreign table is fault 71", (3, "store 71 Schema 1"), club(room, "verify"))
         check(f"`upgrade` of {name} with a foreign table succeeds", (0, "upgraded"), club(room, "upgrade"))
         expected = after(name) | {"notes": notes}
-        check(f"`upgrade` of {name} with a foreign table keeps every row", expected, read(f"{room}/c.db", [*TABLES, "notes"]))
+        check(f"`upgrade` of {name} with a foreign table keeps every row",
+              expected, read(f"{room}/c.db", [*TABLES, "notes"]))
         for words, printed in (("verify", "sound"), ("upgrade", "repeated upgrade")):
-            check(f"`{words}` of {name} with a foreign table prints `{printed}` after the upgrade", (0, printed), club(room, words))
+            check(f"`{words}` of {name} with a foreign table prints `{printed}` after the upgrade",
+                  (0, printed), club(room, words))
         check(f"{name} with a foreign table accepts a member", 0, club(room, "member", "zoe", "keyzoe99")[0])
 
 
@@ -172,7 +175,8 @@ def declared():
                 read(f"{room}/c.db", ["event_rules"])["event_rules"])
         check("a record with a declaration is accepted in a new event", (0, "accepted game 8"),
                 club(room, "import-csa", "new1", "yama", "anna", "bert", record))
-        check("a game is created in a new event", (0, "accepted game 9"), club(room, "seat", "new2", "yama", "anna", "bert"))
+        check("a game is created in a new event",
+              (0, "accepted game 9"), club(room, "seat", "new2", "yama", "anna", "bert"))
         played = ask(room, 6000, [(KEYS[ply % 2], f"/games/9/moves/{ply + 1}", {"move": text})
                                   for ply, text in enumerate(line())])
         check("82 plies of that game are accepted", 82, sum(isinstance(it, dict) for it in played))
