@@ -174,6 +174,7 @@ SCHEMAS = {
     "PliesPlayed": integer(0, 600, "How many plies were played. First is to move if it is even."),
     "Moment": integer(0, LAST_MOMENT, "Unix seconds."),
     "Result": text("First's score, then Second's.", enum=["2-0", "1-1", "0-2"]),
+    "Kind": text("The game that is played.", enum=["draughts", "shogi"]),
     "RuleEnd": text("An end by the rules.", enum=RULE_ENDS),
     "End": text("An end by the rules, by the players, by time or by an imported record.", enum=RULE_ENDS + OUTSIDE_ENDS),
     "MoveText": {"description": "A move as the server writes it: draughts by squares, shogi in USI.", "anyOf": [
@@ -208,20 +209,30 @@ SCHEMAS = {
         now=array(integer(0, LARGEST_LEFT, "Seconds."), 2, "The seconds that First and Second have left at `moment`.", 2),
         since=with_note("Moment", "The timestamp of the last move, or of the game's start."),
         turn=or_null(NAME, "The member who is to move; null if the game has ended.")),
+    "GamePage": reply_object(
+        "A game with its clock and its legal moves.",
+        clock=schema("Clock"), game=schema("Game"), kind=schema("Kind"),
+        legal=array(schema("MoveText"), 600, "The legal moves. The list is empty if the game has ended.")),
     "EventGame": reply_object(
         "A game in the list of an event.",
+        deadline=or_null(schema("Moment"), "The last second in which a move is in time; null if the game has ended or "
+                         f"the second is beyond {LAST_MOMENT}."),
         end=or_null(schema("End"), "How the game ended."), first=with_note("Name", "The member who plays First."),
         game=GAME_ID, ply=schema("PliesPlayed"), result=or_null(schema("Result"), "The result."),
-        second=with_note("Name", "The member who plays Second.")),
+        second=with_note("Name", "The member who plays Second."),
+        turn=or_null(NAME, "The member who is to move; null if the game has ended.")),
     "EventGames": reply_object("The games of an event.", games=array(schema("EventGame"), 5000, "The games by id.")),
     "OpenChallenge": listed_challenge("open", {"type": "null", "description": "An open challenge has no game."}),
     "AcceptedChallenge": listed_challenge("accepted", with_note("GameId", "The game that the challenge started.")),
+    "RefusedChallenge": listed_challenge("refused", {"type": "null", "description": "A refused challenge has no game."}),
     "OwnGame": reply_object(
         "A running game of the member.",
         deadline=or_null(schema("Moment"), "The last second in which a move is in time; null if it is beyond "
                          f"{LAST_MOMENT}."),
         event=with_note("Name", "The event's name."), first=with_note("Name", "The member who plays First."),
-        game=GAME_ID, offer=or_null(NAME, "The member whose offer of a draw exists."), ply=schema("PliesPlayed"),
+        game=GAME_ID, kind=schema("Kind"), last=or_null(schema("MoveText"), "The last move; null before the first."),
+        offer=or_null(NAME, "The member whose offer of a draw exists."), ply=schema("PliesPlayed"),
+        position=schema("Position"),
         second=with_note("Name", "The member who plays Second."), turn=with_note("Name", "The member who is to move.")),
     "Me": reply_object(
         "The member's running games and challenges.",
@@ -230,7 +241,21 @@ SCHEMAS = {
                     "items": {"oneOf": [schema("OpenChallenge"), schema("AcceptedChallenge")]}},
         games=array(schema("OwnGame"), 5000, "The running games by id."),
         member=with_note("Name", "The member's name."),
-        moment=with_note("Moment", "The timestamp at which this request counts.")),
+        moment=with_note("Moment", "The timestamp at which this request counts."),
+        refused=array(schema("RefusedChallenge"), 20, "The member's own refused challenges, the greatest number first.")),
+    "OwnEndedGame": reply_object(
+        "An ended game of the member.",
+        end=schema("End"),
+        ended=or_null(schema("Moment"), "The timestamp of the last move if that move ended the game."),
+        event=with_note("Name", "The event's name."), first=with_note("Name", "The member who plays First."),
+        game=GAME_ID, kind=schema("Kind"), ply=schema("PliesPlayed"), result=schema("Result"),
+        second=with_note("Name", "The member who plays Second.")),
+    "Ended": reply_object(
+        "The member's ended games.",
+        games=array(schema("OwnEndedGame"), 200, "The games with the greatest ids, the greatest first."),
+        member=with_note("Name", "The member's name."),
+        moment=with_note("Moment", "The timestamp at which this request counts."),
+        more=integer(0, 5000, "How many ended games the member has beyond these.")),
     "Event": reply_object(
         "An event.",
         budget=integer(1, 31536000, "The seconds with which each player starts."),
@@ -312,6 +337,8 @@ ROUTES = [
     ("get", "/games/{id}/clock", "getClock", "Returns the clock of a game.", "games", "Clock", JSON, None, {53: None}),
     ("get", "/games/{id}/record", "getRecord", "Returns the record of a game, which may be running.", "games", "Record",
      PLAIN, None, {53: None}),
+    ("get", "/games/{id}/page", "getGamePage", "Returns a game, its clock and its legal moves.", "games", "GamePage", JSON,
+     None, {53: None}),
     ("post", "/games/{id}/moves/{ply}", "makeMove", "Makes a move.", "games", "Moved", JSON, "MoveBody",
      {53: None} | dict.fromkeys(MOVE_REFUSALS) |
      {57: "PLY is 0 or above the plies played plus 1.", 58: "The game has another move at PLY, or the opponent's.",
@@ -342,6 +369,7 @@ ROUTES = [
      {54: "MEMBER is unknown, has no challenge with this number, or the challenge is to another member.",
       58: "The challenge was withdrawn or has the other answer.", 66: None}),
     ("get", "/me", "getMe", "Returns the member's running games and challenges.", "me", "Me", JSON, None, {}),
+    ("get", "/me/ended", "listEndedGames", "Returns the member's ended games.", "me", "Ended", JSON, None, {}),
     ("get", "/me/events", "listEvents", "Returns the events and the members to challenge.", "me", "Events", JSON, None, {}),
 ]
 

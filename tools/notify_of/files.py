@@ -3,18 +3,14 @@ import json
 import os
 import re
 import stat
-import tempfile
 
-from notify_of.club import NAME
+from common.club import NAME
+from common.files import FileError, replace_file
 from notify_of.mail import ADDRESS
 from notify_of.notices import running_key
 from notify_of.texts import LANGUAGES
 
 VERSION = 1
-
-
-class FileError(Exception):
-    """Why a file is not taken."""
 
 
 def read_private(path):
@@ -80,13 +76,4 @@ class State:
     def write(self):
         """Replaces the file in one step, so that a crash leaves the old one or the new one."""
         document = {"version": VERSION, "challenges": self.has_challenges, "sent": sorted(self.sent)}
-        handle, name = tempfile.mkstemp(dir=os.path.dirname(self.path), prefix=".notify-")
-        try:
-            with os.fdopen(handle, "w", encoding="utf-8") as file:
-                json.dump(document, file, indent=0)
-                file.flush()
-                os.fsync(file.fileno())
-            os.replace(name, self.path)
-        except BaseException:
-            os.unlink(name)
-            raise
+        replace_file(self.path, json.dumps(document, indent=0).encode(), ".notify-")

@@ -31,6 +31,11 @@ def running_key(game):
     return f"running {game.id}"
 
 
+def accepted_key(game, member):
+    """The key of an accepted challenge where the program does not list challenges."""
+    return f"accepted {game} {member}"
+
+
 def turn_notices(game, kinds, state, now):
     """Whose turn it is, and later that two days are left. A game whose player is out of time has neither."""
     if game.deadline is not None and game.deadline < now:
@@ -53,7 +58,7 @@ def accepted_notices(game, kinds):
     """An accepted challenge, for both players, because the program does not list who challenged."""
     for member in game.players:
         values = values_of(game, member, kinds)
-        yield Notice(f"accepted {game.id} {member}", member, "started", values, is_past=True)
+        yield Notice(accepted_key(game.id, member), member, "started", values, is_past=True)
 
 
 def challenge_notices(challenge, kinds):
@@ -66,8 +71,10 @@ def challenge_notices(challenge, kinds):
         yield Notice(f"challenge {place}", challenge.opponent, "challenged",
                      {**values, "opponent": challenge.challenger})
     elif challenge.state in ("accepted", "refused"):
+        members = (challenge.challenger, challenge.opponent) if challenge.state == "accepted" else ()
         yield Notice(f"answer {place}", challenge.challenger, challenge.state,
-                     {**values, "opponent": challenge.opponent}, is_past=True)
+                     {**values, "opponent": challenge.opponent}, [accepted_key(challenge.game, it) for it in members],
+                     is_past=True)
 
 
 def notices(club, state, now):
@@ -86,6 +93,6 @@ def notices(club, state, now):
 def first_notices(found, state):
     """The keys of events that are not mailed because they are older than the state file, or, for answers to challenges,
     older than the first run that read challenges."""
-    if state.is_new:
-        return [it.key for it in found if it.is_past]
-    return [] if state.has_challenges else [it.key for it in found if it.key.startswith("answer ")]
+    past = [it for it in found if it.is_past and (state.is_new or it.key.startswith("answer "))]
+    is_first = state.is_new or not state.has_challenges
+    return [key for it in past for key in (it.key, *it.covers)] if is_first else []

@@ -1,4 +1,5 @@
 """A batch for the program: an order for each record of many files, and a report of the records that it leaves out."""
+import collections
 import csv
 import hashlib
 import io
@@ -91,7 +92,7 @@ class Batch:
     def __init__(self, kind, event, names, folder):
         self.word, self.event, self.names, self.folder = f"import-{kind}", event, names, folder
         self.facts_of = {"pdn": pdn_facts, "csa": csa_facts}[kind]
-        self.orders, self.left_out, self.places = [], [], {}
+        self.orders, self.left_out, self.places, self.unknown = [], [], {}, collections.Counter()
 
     def add(self, place, name, text):
         """Adds the record, to be written under a name, from a place `FILE: game N`; or says why it is left out."""
@@ -101,6 +102,7 @@ class Batch:
         if not facts.is_finished:
             return self.leave_out(place, "it has no result")
         if unknown:
+            self.unknown.update({" ".join(it.split()) for it in unknown if it.strip()})
             said = " and ".join(f'"{it}"' if it.strip() else "a player without a name" for it in unknown)
             return self.leave_out(place, f"no member is named for {said}")
         if players[0] == players[1]:
@@ -112,6 +114,11 @@ class Batch:
         words = [self.word, key, self.event, *players, str(pathlib.PurePath(self.folder) / name)]
         self.orders.append((facts.date or "9999", len(self.orders), " ".join(words), name, text))
         return None
+
+    def missing_rows(self):
+        """The names without a member, those of most games first."""
+        return [f'no row for "{name}" ({count} game{"s" * (count != 1)})' for name, count in
+                sorted(self.unknown.items(), key=lambda it: (-it[1], it[0]))]
 
     def leave_out(self, place, why):
         self.left_out.append(f"{place}: left out: {why}")
