@@ -10,7 +10,9 @@ const LENGTH = 0.35;
 // The member, and what the last look found; none before the first look.
 let announced = null;
 
-const canNotify = () => chosen('alerts') && window.Notification?.permission === 'granted';
+// Whether the browser does not let the page notify: the member has withdrawn the permission, or has never given it.
+export const isForbidden = () => window.Notification?.permission !== 'granted';
+const canNotify = () => chosen('alerts') && !isForbidden();
 
 // Whether the page asks the server while it is hidden.
 export const isWatching = () => canNotify() || chosen('sound');

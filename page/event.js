@@ -1,24 +1,37 @@
 // The view of an event: its cross table and its games.
 import { button, byId, fill, make } from './dom.js';
 import { reason } from './ends.js';
+import { LASTING, lookAtClub, minute, secondsLeft } from './home.js';
 import { ask, request } from './server.js';
-import { text } from './words.js';
+import { span, text } from './words.js';
 
 const POINTS = { '2-0': [2, 0], '1-1': [1, 1], '0-2': [0, 2] };
 const pair = (game) => `${game.first} \u2013 ${game.second}`;
-const outcome = (game) => (game.end ? reason(game) : text('turn', { name: [game.first, game.second][game.ply % 2] }));
 // A table of more entrants has no columns of single games.
 const WIDEST = 40;
 const STEP = 50;
 const FEW = 10;
-// The event on the screen, the function that paints its games again, and how many rows of each list are shown.
+// An event of more games is not asked for at each look.
+const MANY = 500;
+// The event on the screen and its replies, the function that paints its games again, and how many rows of each list are shown.
 let seenEvent = '';
+let seenReplies = '';
 let repaint = () => {};
+// The last replies for an event, and the time at which they were received.
+let held = { games: [] };
 let shownRows = {};
 
 // The rows of the server's table: place, name, points, games, wins, draws, losses. No column contains a blank.
 function ranked(words) {
   return words.trim().split('\n').slice(1).map((line) => line.trim().split(/\s+/).slice(0, 7));
+}
+
+// How a game ended; or whose turn it is, and the time left.
+function outcome(game) {
+  if (game.end) return [reason(game)];
+  const seconds = secondsLeft(game);
+  const left = seconds < 0 ? text('over') : seconds < Infinity ? text('left', { span: span(seconds) }) : '';
+  return [text('turn', { name: game.turn }), left];
 }
 
 // A key for a pair of players, in either order.
@@ -46,12 +59,12 @@ function crossTable(words, games, reader) {
     return at === to ? make('td', { className: 'self' }) : cell(byPairs[both(row[1], other[1])] ?? [], row[1]);
   });
   return make('table', { className: 'cross' },
-    make('thead', {}, make('tr', {}, head('', text('place')), head(text('name')),
+    make('thead', {}, make('tr', {}, head('', text('place')), head(text('name')), head(text('points')),
       ...columns.map((it, at) => head(String(at + 1), it[1])),
-      ...['points', 'played', 'wins', 'draws', 'losses'].map((it) => head(text(it))))),
+      ...['played', 'wins', 'draws', 'losses'].map((it) => head(text(it))))),
     make('tbody', {}, ...rows.map((row, at) => make('tr', { className: row[1] === reader ? 'mine' : '' },
-      make('td', {}, String(row[0])), make('th', { scope: 'row' }, row[1]), ...cells(row, at),
-      make('td', { className: 'points' }, String(row[2])),
+      make('td', {}, String(row[0])), make('th', { scope: 'row' }, row[1]),
+      make('td', { className: 'points' }, String(row[2])), ...cells(row, at),
       ...row.slice(3).map((it) => make('td', {}, String(it)))))));
 }
 
@@ -70,9 +83,10 @@ function list(name, all, reader, kind) {
     shownRows[name] = count + STEP;
     repaint();
   };
+  const words = (...some) => some.filter((it) => it).join(' \u00b7 ');
   const row = (it) => make('li', { className: isOwn(it) ? 'mine' : '' },
     make('span', {}, make('span', { className: 'number', ariaHidden: true }, `${it.game}`), make('a', { href: `#game/${it.game}` }, pair(it))),
-    make('span', { className: 'faint' }, `${moveCount(kind === 'draughts' ? Math.ceil(it.ply / 2) : it.ply)} \u00b7 ${outcome(it)}`),
+    make('span', { className: 'faint' }, words(moveCount(kind === 'draughts' ? Math.ceil(it.ply / 2) : it.ply), ...outcome(it))),
     make('b', {}, it.result ?? ''));
   return [make('h2', {}, `${text(name)} `, make('span', { className: 'count' }, String(games.length))),
     make('ul', { className: 'rows' }, ...games.slice(0, count).map(row)),
@@ -89,13 +103,23 @@ export function startEvent() {
   byId('search').oninput = () => repaint();
 }
 
-export async function lookAtEvent(name, reader) {
+async function requestEvent(name) {
   const words = await (await request(`events/${name}/table`)).text();
   const { games } = await ask(`events/${name}/games`);
-  const { events } = await ask('me/events');
-  return () => {
+  held = { words, games, at: Date.now() };
+}
+
+// `isShown` says whether the event is on the screen.
+export async function lookAtEvent(name, _, isShown) {
+  if (!isShown || held.games.length <= MANY || Date.now() - held.at > LASTING) await requestEvent(name);
+  const { words, games } = held;
+  const { events } = await lookAtClub([name]);
+  return (reader) => {
     const kind = events.find((it) => it.event === name)?.game;
     fill('title', name);
+    const now = JSON.stringify([name, words, games, kind, reader, minute(), text('code')]);
+    if (now === seenReplies) return;
+    seenReplies = now;
     fill('about', `${text(kind)} \u00b7 ${text('scoring')}`);
     fill('standings', ...(games[0] ? [crossTable(words, games, reader)] : [make('p', { className: 'empty' }, text('noGamesYet'))]));
     if (name !== seenEvent) {

@@ -4,6 +4,7 @@ import { ask, request } from './server.js';
 import { button, byId, fill, make } from './dom.js';
 import { draughts } from './draughts.js';
 import { ending } from './ends.js';
+import { nextGame } from './home.js';
 import { lookAgain, perform } from './notices.js';
 import { icon, picture } from './pieces.js';
 import { shogi } from './shogi.js';
@@ -28,6 +29,8 @@ let isFlipped = false;
 let touched = null;
 let waiting = null;
 let sent = null;
+// The replies that are painted, without the seconds.
+let paintedGame = '';
 // The game and the number of plies that the board shows, so that one step is animated.
 let seen = {};
 
@@ -148,7 +151,7 @@ function hint() {
 // A button whose action is confirmed in a dialog.
 function action(name, path, looks = '') {
   return button(text(name), async () => {
-    if (await choose(`${text(name)}?`, [text(name)], undefined, `main ${looks}`) === 0) perform(() => ask(path, {}));
+    if (await choose(text('sure', { what: text(name) }), [text(name)], undefined, `main ${looks}`) === 0) perform(() => ask(path, {}));
   }, path, looks);
 }
 
@@ -188,10 +191,7 @@ function paintSteps() {
     const at = by < 0 ? plies() > 0 : ply !== null;
     return Object.assign(step, { ariaLabel: text(name), title: text(name), ariaDisabled: !at });
   });
-  const flip = button(icon('flip'), () => {
-    isFlipped = !isFlipped;
-    lay();
-  }, 'flip');
+  const flip = button(icon('flip'), turnBoard, 'flip');
   fill('steps', ...made, Object.assign(flip, { ariaLabel: text('flip'), title: text('flip'), ariaPressed: isFlipped }));
 }
 
@@ -212,6 +212,9 @@ function paint() {
   const isUrgent = (it) => it.className === 'main';
   fill('urgent', ...found.filter(isUrgent));
   fill('actions', ...found.filter((it) => !isUrgent(it)));
+  const { next, count } = nextGame(game.game);
+  const isFree = next && !isMyTurn();
+  fill('next', ...(isFree ? [make('a', { href: `#game/${next.game}`, className: 'button' }, text('nextGame', { count }))] : []));
   paintSteps();
   paintMoves();
   const words = make('span', {}, icon('record'), ` ${text('record')}`);
@@ -223,6 +226,11 @@ function lay() {
   layBoard(rules, near(), own());
   seen = {};
   paint();
+}
+
+function turnBoard() {
+  isFlipped = !isFlipped;
+  lay();
 }
 
 function stepTo(count) {
@@ -301,12 +309,12 @@ async function download() {
 }
 
 // Stores a reply. Earlier positions are computed from the moves; the current one is the server's.
-function take(now) {
+function take(now, kind) {
   const isOther = game?.game !== now.game;
   if (isOther || now.ply !== game.ply || now.end) touched = waiting = sent = null;
   game = now;
   settle(now);
-  rules = now.position.includes('/') ? shogi : draughts;
+  rules = kind === 'shogi' ? shogi : draughts;
   positions = [rules.read(rules.opening)];
   now.moves.forEach((move, at) => positions.push(rules.play(positions[at], move, at % 2)));
   positions[now.ply] = rules.read(now.position);
@@ -318,17 +326,20 @@ function take(now) {
 }
 
 // Requests a game; returns the function that paints it.
-export async function lookAtGame(id, name) {
-  const now = await ask(`games/${id}`);
-  const time = await ask(`games/${id}/clock`);
-  const { moves } = await ask(`games/${id}/legal`);
-  return () => {
+export async function lookAtGame(id) {
+  const now = await ask(`games/${id}/page`);
+  return (name) => {
     reader = name;
-    clock = time;
+    clock = now.clock;
     told = Date.now();
-    legal = moves;
-    take(now);
+    legal = now.legal;
+    const { next, count } = nextGame(now.game.game);
+    const left = clock.deadline === null || isOverdue() || span(clock.deadline - clock.moment);
+    const replies = JSON.stringify([now.game, now.kind, legal, left, next?.game, count, name, text('code')]);
+    if (replies === paintedGame) return;
+    take(now.game, now.kind);
     paint();
+    paintedGame = replies;
   };
 }
 
@@ -336,14 +347,16 @@ export async function lookAtGame(id, name) {
 export const repaintGame = () => isOpen() && lay();
 export function leaveGame() {
   game = null;
+  paintedGame = '';
   byId('dialog').close();
 }
 
 export function startGame() {
   startBoard({ touched: touch, lifted: lift, dropped: go });
   setInterval(tick, 1000);
-  document.onkeydown = ({ key, target: on }) => {
-    if (!isOpen() || on.closest('select, input, dialog')) return;
+  document.onkeydown = ({ key, target: on, ctrlKey, altKey, metaKey }) => {
+    if (!isOpen() || ctrlKey || altKey || metaKey || on.closest('select, input, dialog')) return;
+    if (key === 'f') turnBoard();
     if (key === 'Escape') {
       if (waiting) takeBack();
       else lift(null);

@@ -9,26 +9,36 @@ import { shogi } from './shogi.js';
 import { DAY, moment, span, text } from './words.js';
 
 const CHALLENGES = 9999;
-const AT_ONCE = 3;
+const MINUTE = 60;
+// For how many milliseconds the page does not ask again for what changes slowly: members, events, a long list of games.
+export const LASTING = 300000;
 let me = null;
+// The members and events, and the time at which they were received.
 let club = null;
+let received = 0;
 let unanswered = 0;
-// Drawn positions by game, each with its ply; the games that still need one; and the number of open requests for them.
+// Drawn positions by game, each with its ply.
 const pictures = new Map();
-let wanted = [];
-let asked = 0;
+// The replies that are painted, without the seconds.
+let paintedHome = '';
 
 const link = (view, name, words = name) => make('a', { href: `#${view}/${name}` }, words);
 const isMine = (game) => game.turn === me.member;
 const opponent = (game) => (game.first === me.member ? game.second : game.first);
-const secondsLeft = (game) => (game.deadline === null ? Infinity : game.deadline - me.moment);
+export const secondsLeft = (game) => (game.deadline === null ? Infinity : game.deadline - me.moment);
+// The minute of the last reply.
+export const minute = () => Math.floor(me.moment / MINUTE);
 const isOver = (game) => secondsLeft(game) < 0;
 const kindOf = (event) => club.events.find((it) => it.event === event)?.game;
-const rulesOf = (event) => (kindOf(event) === 'shogi' ? shogi : draughts);
+const rulesOf = ({ kind }) => (kind === 'shogi' ? shogi : draughts);
 const toMe = (it) => it.state === 'open' && it.to === me.member;
 
-// Order of the cards: games to claim, then games to move, then the others; each by the time left.
-const rank = (game) => (isMine(game) ? 1 : isOver(game) ? 0 : 2);
+// Order of the cards: games to claim, draw offers, games to move, then the others; each by the time left.
+const GROUPS = ['toClaim', 'toAnswer', 'toMove', 'toWait'];
+const [CLAIM, ANSWER, MOVE, WAIT] = GROUPS.keys();
+const hasOffer = (game) => game.offer && game.offer !== me.member;
+const rank = (game) => (isMine(game) ? MOVE : isOver(game) ? CLAIM : hasOffer(game) ? ANSWER : WAIT);
+const waitingGames = () => me.games.filter((it) => rank(it) < WAIT);
 const byUrgency = (one, other) => rank(one) - rank(other) || secondsLeft(one) - secondsLeft(other) || one.game - other.game;
 
 function timeLeft(game) {
@@ -37,42 +47,24 @@ function timeLeft(game) {
   return text('left', { span: span(secondsLeft(game)) });
 }
 
-// The drawn position of a game, or an empty board until the position has been received.
+// The drawn position of a game, from the side of the member.
 function pictureOf(game) {
-  const shown = pictures.get(game.game);
-  if (shown?.ply !== game.ply) wanted.push(game);
-  if (shown) return shown.drawn.cloneNode(true);
-  const rules = rulesOf(game.event);
-  return miniature(rules, { board: {} }, 0, []);
-}
-
-async function drawNext() {
-  const game = wanted.shift();
-  if (!game) return;
-  asked += 1;
-  try {
-    const told = await ask(`games/${game.game}`);
-    const rules = told.position.includes('/') ? shogi : draughts;
-    const last = told.moves.length ? rules.squares(told.moves.at(-1)) : [];
-    const near = told.second === me.member ? 1 : 0;
-    const drawn = miniature(rules, rules.read(told.position), near, [last[0], last.at(-1)]);
-    pictures.set(game.game, { ply: game.ply, drawn });
-    const host = document.querySelector(`#games a[href="#game/${game.game}"] svg`);
-    host?.replaceWith(drawn.cloneNode(true));
-  } catch {
-    // The next look requests it again.
+  if (pictures.get(game.game)?.ply !== game.ply) {
+    const rules = rulesOf(game);
+    const last = game.last ? rules.squares(game.last) : [];
+    const near = game.second === me.member ? 1 : 0;
+    pictures.set(game.game, { ply: game.ply, drawn: miniature(rules, rules.read(game.position), near, [last[0], last.at(-1)]) });
   }
-  asked -= 1;
-  await drawNext();
+  return pictures.get(game.game).drawn.cloneNode(true);
 }
 
 function card(game) {
   const own = game.first === me.member ? 0 : 1;
-  const rules = rulesOf(game.event);
+  const rules = rulesOf(game);
   const isLate = secondsLeft(game) < DAY;
   const words = (name, ...its) => make('span', { className: name }, ...its);
   const turn = isMine(game) ? text('yourTurn') : text('turn', { name: game.turn });
-  return make('li', { className: `card${isMine(game) ? ' mine' : ''}` }, make('a', { href: `#game/${game.game}` },
+  return make('li', { className: `card${rank(game) < WAIT ? ' mine' : ''}` }, make('a', { href: `#game/${game.game}` },
     pictureOf(game),
     words('facts',
       words('who', opponent(game)),
@@ -89,14 +81,10 @@ function group(name, games) {
 }
 
 function paintGames() {
-  wanted = [];
   const sorted = me.games.toSorted(byUrgency);
-  const parts = [['toClaim', 0], ['toMove', 1], ['toWait', 2]].flatMap(([name, at]) => {
-    return group(name, sorted.filter((it) => rank(it) === at));
-  });
+  const parts = GROUPS.flatMap((name, at) => group(name, sorted.filter((it) => rank(it) === at)));
   const none = make('p', { className: 'panel empty' }, text('noGames'));
   fill('games', ...(parts[0] ? parts : [none]));
-  while (wanted[0] && asked < AT_ONCE) drawNext();
 }
 
 function answers({ from, number }) {
@@ -115,10 +103,16 @@ function paintChallenges() {
   const shown = me.challenges.filter((it) => it.state === 'open' || begun(it)).sort((it, other) => toMe(other) - toMe(it));
   const row = (it) => make('li', { className: toMe(it) ? 'mine' : '' },
     make('span', {}, text(toMe(it) ? 'challengesYou' : 'challenged', it),
-      make('span', { className: 'faint' }, ` ${it.event} (${text(kindOf(it.event))}), ${text('starts', it)}`)),
+      make('span', { className: 'faint' }, ` ${text('starts', { ...it, game: text(kindOf(it.event)) })}`)),
     make('span', { className: 'answers' }, ...(it.state === 'open' ? answers(it)
       : [make('span', { className: 'tag good' }, text('accepted')), link('game', it.game, text('toGame'))])));
-  fill('challenges', ...(shown[0] ? [make('h2', {}, text('challenges')), make('ul', { className: 'rows' }, ...shown.map(row))] : []));
+  const declined = me.refused.map((it) => make('li', {}, make('span', {}, text('challenged', it),
+    make('span', { className: 'faint' }, ` ${text('starts', { ...it, game: text(kindOf(it.event)) })}`))));
+  const folded = make('details', { id: 'declined', open: !!byId('declined')?.open },
+    make('summary', {}, `${text('declined')} `, make('span', { className: 'count' }, String(declined.length))),
+    make('ul', { className: 'rows' }, ...declined));
+  fill('challenges', ...(shown[0] ? [make('h2', {}, text('challenges')), make('ul', { className: 'rows' }, ...shown.map(row))] : []),
+    ...(declined[0] ? [folded] : []));
 }
 
 function paintClub() {
@@ -128,29 +122,31 @@ function paintClub() {
   fill('events', ...club.events.map((it) => make('li', {}, link('event', it.event), make('span', { className: 'faint' }, terms(it)))));
   const others = club.members.filter((it) => it !== me.member);
   fill('other', ...others.map((it) => make('option', {}, it)));
-  fill('cup', ...club.events.map((it) => make('option', { value: it.event }, `${it.event}: ${text(it.game)}`)));
+  fill('cup', ...club.events.map((it) => make('option', { value: it.event }, `${it.event} (${text(it.game)})`)));
   byId('challenge').hidden = !others[0] || !club.events[0];
 }
 
-// The member's finished games. The server lists them by event only, so they are requested when the reader opens them.
+// The member's finished games, the latest first. They are requested when the reader opens them.
 async function lookAtEnded() {
   if (!byId('ended').open) return;
-  const lists = [];
-  for (const { event, game: kind } of club.events) {
-    const { games } = await ask(`events/${event}/games`);
-    lists.push(...games.filter((it) => it.end && [it.first, it.second].includes(me.member)).map((it) => ({ ...it, event, kind })));
-  }
-  const rows = lists.sort((one, other) => other.game - one.game).map((it) => {
-    return make('li', {}, link('game', it.game, opponent(it)), make('span', { className: 'faint' }, `${it.event} \u00b7 ${ending(it, me.member)}`));
-  });
-  fill('ended-games', rows[0] ? make('ul', { className: 'rows' }, ...rows) : make('p', { className: 'faint' }, text('noEnded')));
+  const { games, more } = await ask('me/ended');
+  const faint = (...words) => make('span', { className: 'faint' }, words.filter((it) => it).join(' \u00b7 '));
+  const rows = games.map((it) => make('li', {}, link('game', it.game, opponent(it)),
+    faint(it.event, ending(it, me.member), moment(it.ended))));
+  fill('ended-games', rows[0] ? make('ul', { className: 'rows' }, ...rows) : make('p', { className: 'faint' }, text('noEnded')),
+    ...(more ? [make('p', { className: 'faint' }, text('older', { count: more }))] : []));
 }
 
 // Requests the member's games and challenges; returns the member's name and the number of things that wait.
 export async function lookAtMe() {
   me = await ask('me');
-  const moves = me.games.filter((it) => isMine(it) || isOver(it)).length;
-  return { member: me.member, waiting: moves + me.challenges.filter(toMe).length };
+  return { member: me.member, waiting: waitingGames().length + me.challenges.filter(toMe).length };
+}
+
+// The most urgent game, besides the one on the screen, that waits for the member; and how many there are.
+export function nextGame(shown) {
+  const others = waitingGames().filter((it) => it.game !== shown).sort(byUrgency);
+  return { next: others[0], count: others.length };
 }
 
 // The items of notices: what waits for the member, and each running game, whose end is announced.
@@ -162,20 +158,40 @@ export function newsOf() {
   return [
     ...me.games.filter(isMine).map((it) => item(it, 'noticeTurn', `ply ${it.ply}`)),
     ...me.games.filter((it) => !isMine(it) && isOver(it)).map((it) => item(it, 'noticeOver', 'over')),
+    ...me.games.filter(hasOffer).map((it) => item(it, 'noticeOffer', `offer ${it.ply}`)),
     ...me.games.map((it) => item(it, 'noticeEnded', 'game')),
+    ...me.refused.map((it) => {
+      return { tag: `declined ${it.number}`, words: text('noticeDeclined', { name: it.to, event: it.event }), place: '' };
+    }),
     ...me.challenges.filter(toMe).map((it) => {
       return { tag: `challenge ${it.from} ${it.number}`, words: `${text('challengesYou', it)} ${it.event}`, place: '' };
     }),
   ];
 }
 
-export async function lookAtHome() {
-  club = await ask('me/events');
+// Requests the members and events, if the last reply is old or lacks one of these events.
+export async function lookAtClub(names) {
+  if (!club || names.some((it) => !kindOf(it)) || Date.now() - received > LASTING) {
+    club = await ask('me/events');
+    received = Date.now();
+  }
+  return club;
+}
+
+// Paints nothing if the replies are the same, up to the seconds, and no deadline is near.
+export async function lookAtHome(_, mine) {
+  await mine;
+  await lookAtClub([...me.challenges, ...me.refused].map((it) => it.event));
   return () => {
     fill('title', text('home'));
+    const isNear = me.games.some((it) => Math.abs(secondsLeft(it)) < 2 * MINUTE);
+    const now = JSON.stringify([{ ...me, moment: isNear ? me.moment : minute() }, club, text('code')]);
+    if (now === paintedHome) return;
+    paintedHome = now;
     paintGames();
     paintChallenges();
     paintClub();
+    lookAtEnded().catch(() => {});
     byId('news').textContent = text('news', { moves: me.games.filter(isMine).length, challenges: me.challenges.filter(toMe).length });
   };
 }
@@ -198,6 +214,8 @@ async function challenge(terms, tries = 3) {
 export function paintWelcome() {
   const opening = (rules) => miniature(rules, rules.read(rules.opening), 0, []);
   fill('welcome', opening(draughts), opening(shogi));
+  club = null;
+  pictures.clear();
 }
 
 export function startHome() {

@@ -49,28 +49,29 @@ function place() {
   return { view, name };
 }
 
+// No view, if the server does not know the game or the event.
+function isUnknown(error) {
+  if (!UNKNOWN.includes(error.number)) throw error;
+}
+
 async function lookOnce() {
   const { hash } = location;
   const { view, name } = place();
-  const me = await lookAtMe();
+  const isHidden = document.hidden;
+  const mine = lookAtMe();
+  const [me, paint] = await Promise.all([mine, isHidden ? null : VIEWS[view](name, mine, shown === hash).catch(isUnknown)]);
   fill('member', me.member);
   fill('badge', me.waiting ? String(me.waiting) : '');
   const count = me.waiting ? `(${me.waiting}) ` : '';
   announce(me.member, me.waiting, newsOf());
-  if (document.hidden) {
+  if (isHidden) {
     document.title = count + (byId('title').textContent || text('home'));
     return;
-  }
-  let paint = null;
-  try {
-    paint = await VIEWS[view](name, me.member);
-  } catch (error) {
-    if (!UNKNOWN.includes(error.number)) throw error;
   }
   if (hash !== location.hash || !key) return;
   if (paint) {
     show(view);
-    paint();
+    paint(me.member);
     shown = hash;
   } else showWords('missing', text(view === 'game' ? 53 : 52));
   tellUnsent();

@@ -8,7 +8,7 @@ let looker = null;
 const line = (words, ...more) => (words ? [make('p', {}, words), ...more] : []);
 
 // Shows that the server does not answer; without words, hides it.
-export const sayAway = (words = '') => fill('away', ...line(words && `${words}. ${text('retrying')}`));
+export const sayAway = (words = '') => fill('away', ...line(words && text('retrying', { why: words })));
 
 // Shows a refusal until the next action or view, or until it is dismissed; without words, hides it.
 export function complain(words = '') {

@@ -1,5 +1,5 @@
 // The dialog of settings.
-import { mayNotify } from './alerts.js';
+import { isForbidden, mayNotify } from './alerts.js';
 import { byId } from './dom.js';
 import { icon } from './pieces.js';
 import { choices, chosen, keep } from './storage.js';
@@ -16,7 +16,10 @@ async function store(name, box) {
 export function startSettings(changed) {
   const dialog = byId('settings');
   byId('open-settings').prepend(icon('settings'));
-  byId('open-settings').onclick = () => dialog.showModal();
+  byId('open-settings').onclick = () => {
+    byId('alerts-refused').hidden = !chosen('alerts') || !isForbidden();
+    dialog.showModal();
+  };
   dialog.onclick = ({ target }) => { if (target === dialog) dialog.close(); };
   for (const name of choices) {
     const box = byId(`${name}-choice`);

@@ -3,8 +3,9 @@
 
     python3 tests/page/page_desk.py PROGRAM FILE PORT [--now SECONDS]
 
-serves the page at PORT to try it by hand. A `Desk` is `PROGRAM FILE serve`; what of GET /play, /me, /me/events,
-/events/NAME/games, /games/ID/clock and /games/ID/record it refuses as no route is what it `lacks`. A `StandIn` answers
+serves the page at PORT to try it by hand. A `Desk` is `PROGRAM FILE serve`; what of GET /play, /me, /me/ended, /me/events,
+/events/NAME/games, /games/ID/clock, /games/ID/page and /games/ID/record it refuses as no route is what it `lacks`. A desk
+without /me/ended has no positions in /me and no deadlines in /events/NAME/games, either: then it lacks these, too. A `StandIn` answers
 these alone, from a copy of the file that sqlite3 reads and by the word `export`, and hands all else on. Before it
 answers a path it asks the desk for a game with the same key, so that an unknown key and a shut club are told as the
 desk tells them.
@@ -29,6 +30,7 @@ import time
 PAGE = pathlib.Path(__file__).resolve().parents[2] / "page"
 STATES = "open", "withdrawn", "refused", "accepted"
 GAMES = "draughts", "shogi"
+MOST_ENDED = 200
 NAMES = {52: "UnknownEvent", 53: "UnknownGame", 73: "Store", 83: "WrongMethod"}
 STATUSES = {52: 404, 53: 404, 73: 503, 83: 405}
 
@@ -87,8 +89,25 @@ class Club:
         first, second = self.sides(row)
         offer = None if row["offer_side"] is None else self.sides(row)[row["offer_side"]]
         event, turn = self.events[row["event"]]["name"], self.turn(row)
-        told = {"deadline": self.deadline(row), "event": event, "first": first, "game": row["id"], "offer": offer}
-        return {**told, "ply": row["plies"], "second": second, "turn": turn}
+        last = self.found.execute("SELECT text FROM moves WHERE game = ? AND ply = ?", (row["id"], row["plies"])).fetchone()
+        told = {"deadline": self.deadline(row), "event": event, "first": first, "game": row["id"], "kind": self.kind(row)}
+        told |= {"last": last and last["text"], "offer": offer, "ply": row["plies"], "position": row["position"]}
+        return {**told, "second": second, "turn": turn}
+
+    def kind(self, row):
+        return GAMES[self.events[row["event"]]["game"]]
+
+    def ended(self):
+        """The member's ended games, the latest first; the file has a timestamp of the ends that a move made."""
+        rows = self.found.execute("""SELECT games.*, end NOT IN ('Resigned', 'Agreed', 'Time', 'Declared', 'Recorded') AS by_move
+            FROM games WHERE end IS NOT NULL AND ? IN (first, second) ORDER BY id DESC""", (self.me["id"],)).fetchall()
+        games = []
+        for row in rows[:MOST_ENDED]:
+            first, second = self.sides(row)
+            games.append({"end": row["end"], "ended": row["since"] if row["by_move"] else None, "event": self.events[row["event"]]["name"],
+                          "first": first, "game": row["id"], "kind": self.kind(row), "ply": row["plies"], "result": row["result"],
+                          "second": second})
+        return {"games": games, "member": self.me["name"], "moment": self.moment, "more": len(rows) - len(games)}
 
     def challenge(self, row):
         by, other = self.members[row["member"]], self.members[row["other"]]
@@ -100,12 +119,14 @@ class Club:
         games = "SELECT * FROM games WHERE end IS NULL AND ? IN (first, second) ORDER BY id"
         challenges = """SELECT * FROM challenges WHERE state = 0 AND ? IN (member, other) OR state = 3 AND member = ?
             ORDER BY member, number"""
+        refused = "SELECT * FROM challenges WHERE state = 2 AND member = ? ORDER BY number DESC LIMIT 20"
         number = self.me["id"]
         return {
             "challenges": [self.challenge(it) for it in self.found.execute(challenges, (number, number))],
             "games": [self.running(it) for it in self.found.execute(games, (number,))],
             "member": self.me["name"],
             "moment": self.moment,
+            "refused": [self.challenge(it) for it in self.found.execute(refused, (number,))],
         }
 
     def terms(self):
@@ -122,8 +143,9 @@ class Club:
 
     def listed(self, row):
         first, second = self.sides(row)
-        told = {"end": row["end"], "first": first, "game": row["id"], "ply": row["plies"]}
-        return {**told, "result": row["result"], "second": second}
+        deadline, turn = (self.deadline(row), self.turn(row)) if row["end"] is None else (None, None)
+        told = {"deadline": deadline, "end": row["end"], "first": first, "game": row["id"], "ply": row["plies"]}
+        return {**told, "result": row["result"], "second": second, "turn": turn}
 
     def clock(self, game):
         row = self.found.execute("SELECT * FROM games WHERE id = ?", (int(game),)).fetchone()
@@ -144,9 +166,11 @@ class Club:
 PATHS = {
     r"/play": None,
     r"/me": lambda club: club.own(),
+    r"/me/ended": lambda club: club.ended(),
     r"/me/events": lambda club: club.terms(),
     r"/events/([^/]+)/games": lambda club, event: club.games_of(event),
     r"/games/([0-9]{1,9})/clock": lambda club, game: club.clock(game),
+    r"/games/([0-9]{1,9})/page": None,
     r"/games/([0-9]{1,9})/record": None,
 }
 NOT_HANDED_ON = "connection", "content-length", "content-type"
@@ -185,6 +209,17 @@ class Answers(http.server.BaseHTTPRequestHandler):
             raise Refusal(53 if ran.returncode == 1 else 73)
         self.reply(200, "text/plain", ran.stdout)
 
+    def page(self, game):
+        """What three paths of the desk answer, as one."""
+        found = {}
+        for name, path in ("clock", "/clock"), ("game", ""), ("legal", "/legal"):
+            status, kind, body, _ = self.ask_desk("GET", f"/games/{game}{path}", None)
+            if status != 200:
+                return self.reply(status, kind, body)
+            found[name] = json.loads(body)
+        kind = GAMES["/" in found["game"]["position"]]
+        return self.reply_json(200, {**found, "kind": kind, "legal": found["legal"]["moves"]})
+
     def answer(self, pattern):
         if self.command != "GET":
             raise Refusal(83)
@@ -198,6 +233,8 @@ class Answers(http.server.BaseHTTPRequestHandler):
         named = re.fullmatch(pattern, self.path).groups()
         if pattern.endswith("record"):
             return self.record(*named)
+        if pattern.endswith("page"):
+            return self.page(*named)
         with copied(self.server.desk.file) as found:
             club = Club(found, self.headers["Member-Key"], self.server.desk.now())
             return self.reply_json(200, PATHS[pattern](club, *named))
@@ -232,6 +269,8 @@ class Desk:
         self.port = port or free_port()
         self.start()
         self.lacks = [it for it in PATHS if self.lacks_path(it)]
+        if "/me/ended" in self.lacks:
+            self.lacks += ["/me", r"/events/([^/]+)/games"]
         if os.environ.get("PAGE_OF_SOURCES"):
             self.lacks = ["/play", *(it for it in self.lacks if it != "/play")]
 

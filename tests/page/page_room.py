@@ -20,9 +20,9 @@ import page_browser as browser  # noqa: E402
 import page_desk  # noqa: E402
 
 TOP = pathlib.Path(__file__).resolve().parents[2]
-WORDS = [it for it in sys.argv[1:] if it not in ("--pictures", "--real")]
+WORDS = [it for it in sys.argv[1:] if it not in ("--firefox", "--pictures", "--real")]
 PROGRAM = str(pathlib.Path(WORDS[0] if WORDS else TOP / "build/club").resolve())
-KEYS = {"anna": "keyanna1", "bert": "keybert2", "cara": "keycara3", "king": "keyking4"}
+KEYS = {"anna": "keyanna1", "bert": "keybert2", "cara": "keycara3", "king": "keyking4", "dora": "keydora5", "ella": "keyella6"}
 PROMOTIONS = {"8h2b+": "horse", "4e6c": "bishop", "6c4a+": "horse"}
 DAY = 86400
 bad = []

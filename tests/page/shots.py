@@ -125,7 +125,7 @@ def shoot(opened, base, games, get):
     def page_of(name, width, height, scheme, language="en", phone=False, place=""):
         page = opened.page(width=width, height=height)
         page.size(width, height, phone=phone)
-        page.call("Emulation.setEmulatedMedia", features=[{"name": "prefers-color-scheme", "value": scheme}])
+        page.prefer({"prefers-color-scheme": scheme})
         page.open(base + "/play")
         page.value(f"localStorage.language = '{language}'; {'localStorage.memberKey = ' + repr(KEYS[name]) if name else '0'}")
         page.open("about:blank")
@@ -187,7 +187,7 @@ def extras(page_of, save, games):
             scheme = "dark" if name in ("touched", "settings") else "light"
             page = page_of("anna", width, height, scheme, phone=phone, place=f"#game/{games[game]}")
             click(page, *clicks)
-            page.mouse("mouseMoved", (1, 1))
+            page.move_pointer((1, 1))
             page.browser.wait(0.3)
             save(page, f"{name}_{size}")
             page.close()
@@ -202,6 +202,14 @@ def extras(page_of, save, games):
             page = page_of(who, width, height, "light", language, phone=phone, place=place)
             save(page, f"{name}_{size}")
             page.close()
+    for language in ("de", "nl", "ja", "fr"):
+        for name, place in ("home", ""), ("shogi", f"#game/{games['hands']}"), ("draughts", f"#game/{games['forced']}"):
+            for size, (width, height, phone) in {"1280": (1280, 800, False), "360": (360, 740, True)}.items():
+                if ONLY and not {"languages", language} & {*ONLY}:
+                    continue
+                page = page_of("anna", width, height, "light", language, phone=phone, place=place)
+                save(page, f"{name}_{language}_{size}", full=True)
+                page.close()
     for size, (width, height, phone) in {"1280": (1280, 800, False), "360": (360, 740, True)}.items():
         if ONLY and not {"unsent", "extras"} & {*ONLY}:
             continue
@@ -213,7 +221,7 @@ def extras(page_of, save, games):
         page.close()
         page = page_of("anna", width, height, "light", phone=phone, place=f"#game/{games['shogi']}")
         page.value("localStorage.letters = 'true'")
-        page.call("Page.reload")
+        page.reload()
         page.browser.wait(1.2)
         save(page, f"letters_{size}")
         page.close()
