@@ -20,6 +20,7 @@ required_as kind id = record (required id) { parser = Some kind }
 abbrev pub given_by : (id long : Text) → Rule
 given_by id long = record (new_rule id) { long = Some long; action = Some Set }
 
+-- option with this value parser
 abbrev pub given_as : ValueParser → (id long : Text) → Rule
 given_as kind id long = record (given_by id long) { parser = Some kind }
 
@@ -27,6 +28,7 @@ given_as kind id long = record (given_by id long) { parser = Some kind }
 abbrev pub named_by : (id long : Text) → Rule
 named_by id long = record (given_by id long) { value_names = 1 }
 
+-- option without a value
 abbrev pub flag : (id long : Text) → Rule
 flag id long = record (new_rule id) { long = Some long; action = Some SetTrue }
 
@@ -39,6 +41,7 @@ required_times least most id =
 abbrev pub a_number : ValueParser
 a_number = parser.Unsigned 0 18446744073709551615
 
+-- port from 1 to 65535
 abbrev pub a_port : ValueParser
 a_port = parser.Unsigned 1 65535
 
@@ -50,14 +53,17 @@ a_moment = parser.Unsigned 0 253402300799
 abbrev pub Names : Type 0
 Names = Bor (List (Bor Text))
 
+-- the list has the names of both games
 abbrev pub are_games : Names → Type 0
 are_games names = map (λ (name : Bor Text). name.now) names.now ≡ codes "draughts" ∷ codes "shogi" ∷ []
 
 -- ---- arguments of each subcommand
 
+-- arguments of `member`
 abbrev pub member_app : App
 member_app = with_rule (with_rule (new_app (codes "member")) (required (codes "NAME"))) (required (codes "KEY"))
 
+-- arguments of `event`
 abbrev pub event_app : Names → App
 event_app games =
     with_rule
@@ -79,12 +85,15 @@ game_app name =
     (required (codes "FIRST")))
     (required (codes "SECOND"))
 
+-- arguments of an import: those of a new game, and the record
 abbrev pub import_app : Text → App
 import_app name = with_rule (game_app name) (required (codes "RECORD"))
 
+-- arguments and options of `import-csa`
 abbrev pub import_csa_app : App
 import_csa_app = with_rule (import_app (codes "import-csa")) (given_as a_number (codes "N") (codes "part"))
 
+-- arguments of `move`
 abbrev pub move_app : App
 move_app =
     with_rule
@@ -101,12 +110,14 @@ of_game_app name = with_rule (new_app name) (required_as a_number (codes "GAME")
 abbrev pub of_event_app : Text → App
 of_event_app name = with_rule (new_app name) (required (codes "EVENT"))
 
+-- arguments and flags of `show`
 abbrev pub show_app : App
 show_app =
     with_rule
     (with_rule (new_app (codes "show")) (flag (codes "LETTERS") (codes "letters")))
     (required_as a_number (codes "GAME"))
 
+-- arguments of `batch`
 abbrev pub batch_app : App
 batch_app = with_rule (new_app (codes "batch")) (required (codes "ORDERS"))
 
@@ -117,6 +128,7 @@ with_round_robin_flags_app app =
     (with_rule app (flag (codes "DOUBLE") (codes "double")))
     (flag (codes "DRY") (codes "dry"))
 
+-- arguments and flags of `round-robin`, with 2 to 32 players
 abbrev pub round_robin_app : App
 round_robin_app =
     with_rule
@@ -125,9 +137,11 @@ round_robin_app =
     (required (codes "EVENT")))
     (required_times 2 32 (codes "NAME"))
 
+-- arguments of `backup`
 abbrev pub backup_app : App
 backup_app = with_rule (new_app (codes "backup")) (required (codes "FILE2"))
 
+-- options and flags of `games`
 abbrev pub games_app : App
 games_app =
     with_rule
@@ -138,6 +152,7 @@ games_app =
     (flag (codes "RUNNING") (codes "running")))
     (flag (codes "OVERDUE") (codes "overdue"))
 
+-- arguments, options and flags of `serve`
 abbrev pub serve_app : App
 serve_app =
     with_rule
@@ -154,6 +169,7 @@ named_app = record (new_app (codes "club")) {
   top = record (new_app (codes "club")).top { has_version = true; subcommand_required = true };
 }
 
+-- the program with the arguments and options before the subcommand
 abbrev pub program_app : App
 program_app =
     with_rule
@@ -162,6 +178,7 @@ program_app =
     (given_as a_moment (codes "SECONDS") (codes "now")))
     (required (codes "FILE"))
 
+-- adds a subcommand
 abbrev pub with_sub : App → App → App
 with_sub app sub = with_subcommand app sub.top
 
@@ -224,6 +241,7 @@ with_files_app app =
     backup_app)
     serve_app
 
+-- the grammar of the whole command line, with all subcommands
 abbrev pub club_app : Names → App
 club_app games = with_files_app (with_lists_app (with_games_app (with_orders_app (with_entries_app games program_app))))
 

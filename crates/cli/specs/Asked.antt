@@ -68,6 +68,7 @@ pub record IsFlagIn (found : Found) (name : List ℕ) (is_given : Bool) : Type 0
   pub absent : one_text found name ≡ None → is_given ≡ false
   pub other : one_text found name ≡ Some (codes "false") → is_given ≡ false
 
+-- name of a game on the command line
 abbrev pub game_word : GameKind → List ℕ
 game_word Draughts = codes "draughts"
 game_word Shogi = codes "shogi"
@@ -82,6 +83,7 @@ pub record AsksImport (found : Found) (given : Import) : Type 0 where
   pub second : string_bytes given.second ≡ text_in found (codes "SECOND")
   pub text : given.text.items ≡ []
 
+-- the subcommand with these arguments is this import; only `import-csa` can choose a part
 abbrev pub AsksGiven : List ℕ → Found → Import → Type 0
 AsksGiven name found given = AsksImport found given
     × (((name ≡ codes "import-pdn") × (given.format ≡ Pdn) × (given.part ≡ 1))
@@ -218,6 +220,7 @@ Asks all name found (words.RoundRobin games) = (name ≡ codes "round-robin") ×
 abbrev pub IsOther : List (List ℕ) → List ℕ → Type 0
 IsOther names name = list_any (bytes_eq name) names ≡ false
 
+-- names of the subcommands that are a single command to the club
 abbrev pub command_names : List (List ℕ)
 command_names =
     codes "member" ∷ codes "event" ∷ codes "seat" ∷ codes "sweep" ∷ codes "import-pdn" ∷ codes "import-csa"

@@ -19,7 +19,7 @@ use std::alloc::{AllocError, Global};
 
 static GAMES: [&str; 2] = ["draughts", "shogi"];
 
-const VERSION: &str = "0.9.0";
+const VERSION: &str = "0.10.0";
 
 const A_NAME: &str = "1 to 24 letters, digits, '.', '_' or '-'";
 

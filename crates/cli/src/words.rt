@@ -66,6 +66,7 @@ impl Order {
         ensures task { self.new.task ≡ task_with text self.old.task }
         ensures file { self.new.file ≡ self.old.file }
         ensures now { self.new.now ≡ self.old.now }
+        ensures source { self.new.«record» ≡ self.old.«record» }
         ensures explains { self.new.explains ≡ self.old.explains }
     {
         if let Task::Request(command) = &mut self.task {

@@ -1,5 +1,5 @@
 -- What is shown of a game's board.
-use Rattle.std.proofs.Common.{◌≡◌, ℕ, List, map, Option, Some, None}
+use Rattle.std.proofs.Common.{◌≡◌, ℕ, List, map, Option, Some, None, refl}
 use Rattle.std.specs.Prelude.{string_bytes}
 use Rattle.std.specs.Option.{option_map}
 use Rattle.club_core.specs.Events.{Event}
@@ -11,6 +11,7 @@ use Rattle.club_answers.specs.Viewed.{IsPlayedIn, IsViewed, IsViewOf}
 use Rattle.club_answers.specs.declared.viewed.GameProgress.{GameProgress}
 use Rattle.club_answers.specs.declared.viewed.ViewedGame.{ViewedGame}
 use Rattle.club_answers.specs.Boards.{moves_in}
+use Rattle.club_answers.specs.Games.{game_summary_of}
 
 pub event_is : (event : Option Event) (name : List ℕ) → Some name ≡ option_map (λ e. e.name) event
     → name ≡ event_name event
@@ -32,3 +33,8 @@ pub view_is : (s : ClubState) (id : ℕ) (game : ClubGame) (viewed : ViewedGame)
     → IsViewed s id (Some viewed) → IsViewOf s game viewed
 view_is s id game viewed at (other, there, is) =
     let one : game ≡ other = cc in rw one is
+
+-- the entry of a game has its number
+pub id_of_summary : (s : ClubState) (id : ℕ) (game : ClubGame) → (game_summary_of s id game).id ≡ id
+id_of_summary s id (draughts game) = refl
+id_of_summary s id (shogi game) = refl

@@ -1,11 +1,14 @@
 -- What calls tell together.
-use Rattle.std.proofs.Common.{Bool, true}
-use Rattle.std.specs.Prelude.{Result, Ok, Err, IfOk}
+use Rattle.std.proofs.Common.{◌≡◌, ℕ, Bool, true}
+use Rattle.std.specs.Prelude.{Option, Some, Result, Ok, Err, IfOk}
 use Rattle.sqlite.specs.State.{State, HasCleanDisk}
 use Rattle.store_tables.specs.Over.{HasRows}
 use Rattle.store_tables.specs.Reading.{Reads}
 use Rattle.store_tables.proofs.Proved.{clean_before, rows_after, reads_on}
-use Rattle.club_rows.specs.Club.{ClubState, tables}
+use Rattle.club_core.specs.State.{place}
+use Rattle.club_rows.specs.Club.{ClubGame, ClubState, IsClub, tables}
+use Rattle.club_changes.specs.Stored.{IsFoundGame, IsStoredGame}
+use Rattle.club_changes.specs.declared.stored.StoredGame.{StoredGame}
 
 -- between two calls that only read the disk was in no doubt, and it had the rows
 pub between : {answered : Bool} {a b c : State} (s : ClubState) → Reads true a b → Reads answered b c → HasCleanDisk c
@@ -20,6 +23,19 @@ between_three s one two three clean k =
     let (first, kept) = between s one (reads_on two three) clean k in
     let (second, more) = between s two three clean kept in
     (first, kept, second, more)
+
+-- a call finds the game with this number, and the next call tells P of each game that is stored so
+pub tells_found : {answered : Bool} {a b c : State} {found : Option StoredGame} {stored : StoredGame}
+    {P : ClubGame → Type 0} (s : ClubState) (id : ℕ) → Reads true a b → Reads answered b c
+    → (HasCleanDisk b → (s : ClubState) → IsClub s → HasRows (tables s) a → IsFoundGame s id found)
+    → found ≡ Some stored → HasCleanDisk c → IsClub s → HasRows (tables s) a
+    → ((game : ClubGame) → IsClub s → place s.games id ≡ Some game → IsStoredGame s id game stored
+    → HasRows (tables s) b → P game)
+    → (game : ClubGame) × (place s.games id ≡ Some game) × P game
+tells_found s id one two finds is clean is_club k tells =
+    let (looked, kept) = between s one two clean k in
+    let (game, at, stored) = rw is at (finds looked s is_club k) in
+    (game, at, tells game is_club at stored kept)
 
 -- what two facts of an answer tell
 pub both_ok : {T E : Type 0} {P Q R : T → Type 0} (r : Result T E) → IfOk r P → IfOk r Q → ((x : T) → P x → Q x → R x)

@@ -5,5 +5,6 @@ pub mod CrossTableLemmas
 mod OverdueLemmas
 pub mod Proved
 mod RecordLemmas
+mod RunningLemmas
 mod ToldRows
 pub mod ViewedLemmas

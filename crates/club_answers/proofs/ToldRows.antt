@@ -76,7 +76,7 @@ abbrev pub TellsOf : GameTableRow → GameEntry → Type 0
 TellsOf row told = (s : ClubState) (id : ℕ) (game : ClubGame) → IsLegalIn both_games s game
     → game_cells row ≡ game_in s id game → summary_of told ≡ game_summary_of s id game
 
-told_push : {A B : Type 0} (f : A → B) (xs : List A) (x : A) (y : B) (ys : List B) → f x ≡ y
+pub told_push : {A B : Type 0} (f : A → B) (xs : List A) (x : A) (y : B) (ys : List B) → f x ≡ y
     → map f (xs ++ x ∷ []) ++ ys ≡ map f xs ++ (y ∷ ys)
 told_push f xs x y ys is = rw (map-append f xs, is, append_assoc (map f xs)) refl
 

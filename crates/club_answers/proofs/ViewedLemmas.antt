@@ -12,7 +12,6 @@ use Rattle.club_rules.specs.GameRules.{GameRules}
 use Rattle.club_rules.proofs.Proved.{check-at}
 use Rattle.club_requests.specs.Limits.{most_plies}
 use Rattle.club_requests.specs.declared.outside_end.OutsideEnd.{OutsideEnd}
-use Rattle.club_requests.specs.declared.outside_end.OutsideEnd.TheVariants.{Declared}
 use Rattle.club_core.specs.Events.{Terms}
 use Rattle.club_core.specs.Game.{Entry, Game, moves_of, last_position, end_with, rule_end}
 use Rattle.club_core.specs.Legal.{IsLegalGame}
@@ -175,11 +174,12 @@ module _ {P M E T : Type 0} {rules : GameRules P M E T} (IsText : Title E → Li
   -- the end that it tells of a legal game fits its moves
   pub title-fits : {given : Terms} → IsLegalGame rules given game → FitsMoves rules title (moves_of game)
   title-fits legal declared =
-      (legal.declared (outside (rule_end rules game) game.outside (sym titled.end ∙ declared))).1
+      let may = rw (outside (rule_end rules game) game.outside _ (sym titled.end ∙ declared)) at legal.outside in may.1
     where
-      outside : (e : Option E) (o : Option OutsideEnd) → end_with e o ≡ Some (Outside Declared) → o ≡ Some Declared
-      outside None (Some end) told = cc
-      outside _ _ told = cc
+      outside : (e : Option E) (o : Option OutsideEnd) (end : OutsideEnd) → end_with e o ≡ Some (Outside end)
+          → o ≡ Some end
+      outside None (Some o) end told = cc
+      outside _ _ end told = cc
 
   -- the seconds of the game's record are counted from its start
   pub begins : (before now : Option (List ℕ)) → BeginsRecord IsText title (timed title.start game.entries) before now

@@ -13,11 +13,14 @@ use Rattle.club_requests.specs.declared.questions.Listing.{Listing}
 use Rattle.club_requests.specs.declared.questions.Question.{Question}
 use Rattle.club_requests.specs.declared.questions.Question.TheVariants.{LegalMoves, CrossTable, Record}
 use Rattle.club_requests.specs.declared.questions.Question.TheVariants.{Members, Events, Games}
-use Rattle.club_requests.specs.declared.questions.Question.TheVariants.{MyGames, ChallengeChoices, EventGames, GameClock}
-use Rattle.club_requests.specs.declared.questions.Question.TheVariants.{Board, EventRecords, GameJson, LegalMovesJson}
+use Rattle.club_requests.specs.declared.questions.Question.TheVariants.{MyGames, EndedGames, ChallengeChoices}
+use Rattle.club_requests.specs.declared.questions.Question.TheVariants.{EventGames, EventRecords, GameClock, GameJson}
+use Rattle.club_requests.specs.declared.questions.Question.TheVariants.{Board, GamePage, LegalMovesJson}
 use Rattle.club_lists.specs.Lines.{member_lines, event_lines, AreGameLines}
 use Rattle.club_lists.specs.Listing.{listing_refusal}
 use Rattle.club_lists.specs.Clock.{clock_text}
+use Rattle.club_lists.specs.GameSummary.{Running}
+use Rattle.club_lists.specs.Ended.{ended_games_json}
 use Rattle.club_lists.specs.Shows.{event_games_text, challenge_choices_json, my_games_json, member_name_by_key}
 use Rattle.club_core.specs.declared.challenges.Challenge.{Challenge}
 use Rattle.club_core.specs.Events.{event_kind, has_event_name}
@@ -27,7 +30,9 @@ use Rattle.club_answers.specs.GameBodies.{IsGameBody, IsMovesBody}
 use Rattle.club_answers.specs.Challenges.{AreChallengesOf}
 use Rattle.club_answers.specs.EventRecords.{AreEventRecords, BeginsRecords, ids_in}
 use Rattle.club_answers.specs.Games.{effective_moment, game_summaries, game_summary_of}
+use Rattle.club_answers.specs.Pages.{IsPageText}
 use Rattle.club_answers.specs.Records.{IsRecordAt}
+use Rattle.club_answers.specs.Running.{AreOwnGames}
 
 -- each line with its newline
 abbrev pub join_lines : List (List ℕ) → List ℕ
@@ -40,6 +45,7 @@ join_lines (line ∷ lines) = line ++ codes "\n" ++ join_lines lines
 abbrev pub AreLines : (Option (List (List ℕ)) → Type 0) → List ℕ → Type 0
 AreLines AreThere text = (lines : List (List ℕ)) × AreThere (Some lines) × (text ≡ join_lines lines)
 
+-- the text of the legal moves of the game with this number, if the game exists
 abbrev pub IsLegalText : ClubState → ℕ → List ℕ → Type 0
 IsLegalText s game text = AreLines (AreLegalRows s game) text
 
@@ -47,6 +53,7 @@ IsLegalText s game text = AreLines (AreLegalRows s game) text
 abbrev pub IsNoGame : ClubState → ℕ → Refusal → Type 0
 IsNoGame s game refusal = (place s.games game ≡ None) × (refusal ≡ UnknownGame)
 
+-- the text of the cross table of the event with this name, if the event exists
 abbrev pub IsTableText : ClubState → List ℕ → List ℕ → Type 0
 IsTableText s name text = AreLines (AreTableRows s name) text
 
@@ -56,9 +63,11 @@ IsNoEvent s name refusal = AreTableRows s name None × (refusal ≡ UnknownEvent
 
 -- ---- lists
 
+-- the text of the list of members
 abbrev pub IsMembersText : ClubState → List ℕ → Type 0
 IsMembersText s text = text ≡ member_lines s.members
 
+-- the text of the list of events
 abbrev pub IsEventsText : ClubState → List ℕ → Type 0
 IsEventsText s text = text ≡ event_lines (game_summaries s) s.events
 
@@ -68,26 +77,35 @@ IsGamesText s moment listing text =
     (listing_refusal s.members s.events listing ≡ None)
     × AreGameLines s.members s.events listing (effective_moment s moment) (game_summaries s) text
 
+-- the list of games is refused, because its event or its member does not exist
 abbrev pub IsNoList : ClubState → Listing → Refusal → Type 0
 IsNoList s listing refusal = listing_refusal s.members s.events listing ≡ Some refusal
 
 -- ---- the JSON of a member's games
 
--- the challenges and running games of the member with this key
+-- the challenges and running games of the member with this key, and the newest of his challenges that were refused
 abbrev pub IsMyGamesText : ClubState → ℕ → List ℕ → List ℕ → Type 0
 IsMyGamesText s moment key text =
     (name : List ℕ) × (Some name ≡ member_name_by_key key s.members) × (challenges : List Challenge)
-    × AreChallengesOf s challenges
-    × (text ≡ my_games_json s.members s.events name (effective_moment s moment) challenges (game_summaries s))
+    × AreChallengesOf s challenges × (games : List Running) × AreOwnGames s name games
+    × (text ≡ my_games_json s.members s.events name (effective_moment s moment) challenges games)
+
+-- the ended games of the member with this key
+abbrev pub IsEndedGamesText : ClubState → ℕ → List ℕ → List ℕ → Type 0
+IsEndedGamesText s moment key text =
+    (name : List ℕ) × (Some name ≡ member_name_by_key key s.members)
+    × (text ≡ ended_games_json s.members s.events name (effective_moment s moment) (game_summaries s))
 
 -- no member has this key
 abbrev pub IsNoKey : ClubState → List ℕ → Refusal → Type 0
 IsNoKey s key refusal = (member_name_by_key key s.members ≡ None) × (refusal ≡ UnknownKey)
 
+-- the events, and the members whom the member with this key may challenge, as JSON
 abbrev pub IsChallengeChoicesText : ClubState → List ℕ → List ℕ → Type 0
 IsChallengeChoicesText s key text =
     (name : List ℕ) × (Some name ≡ member_name_by_key key s.members) × (text ≡ challenge_choices_json key s.members s.events)
 
+-- the games of the event with this name as JSON, if the event exists
 abbrev pub IsEventGamesText : ClubState → List ℕ → List ℕ → Type 0
 IsEventGamesText s name text =
     (list_any (has_event_name name) s.events ≡ true)
@@ -126,10 +144,12 @@ IsText s moment Members text = IsMembersText s text
 IsText s moment Events text = IsEventsText s text
 IsText s moment (Games listing) text = IsGamesText s moment listing text
 IsText s moment (MyGames key) text = IsMyGamesText s moment (string_bytes key) text
+IsText s moment (EndedGames key) text = IsEndedGamesText s moment (string_bytes key) text
 IsText s moment (ChallengeChoices key) text = IsChallengeChoicesText s (string_bytes key) text
 IsText s moment (EventGames name) text = IsEventGamesText s (string_bytes name) text
 IsText s moment (GameClock game) text = IsClockText s moment game text
 IsText s moment (GameJson game) text = IsGameBody s game text
+IsText s moment (GamePage game) text = IsPageText s moment game text
 IsText s moment (LegalMovesJson game) text = IsMovesBody s game text
 IsText s moment (Board game letters) text = IsBoardText s moment game letters text
 IsText s moment (EventRecords name) text = IsRecordsText s (string_bytes name) text
@@ -143,10 +163,12 @@ IsRefused s Members refusal = ⊥
 IsRefused s Events refusal = ⊥
 IsRefused s (Games listing) refusal = IsNoList s listing refusal
 IsRefused s (MyGames key) refusal = IsNoKey s (string_bytes key) refusal
+IsRefused s (EndedGames key) refusal = IsNoKey s (string_bytes key) refusal
 IsRefused s (ChallengeChoices key) refusal = IsNoKey s (string_bytes key) refusal
 IsRefused s (EventGames name) refusal = IsNoEventNamed s (string_bytes name) refusal
 IsRefused s (GameClock game) refusal = IsNoGame s game refusal
 IsRefused s (GameJson game) refusal = IsNoGame s game refusal
+IsRefused s (GamePage game) refusal = IsNoGame s game refusal
 IsRefused s (LegalMovesJson game) refusal = IsNoGame s game refusal
 IsRefused s (Board game letters) refusal = IsNoGame s game refusal
 IsRefused s (EventRecords name) refusal = IsNoEventNamed s (string_bytes name) refusal

@@ -44,6 +44,7 @@ board_with s pairing diagram moves = record {
   moves = moves;
 }
 
+-- all that is shown of the game beside its entry in lists, with its diagram and its moves
 abbrev pub board_of : ClubState → Bool → ClubGame → Board
 board_of s letters game = board_with s (pairing_of game) (diagram_of letters game) (moves_in game)
 

@@ -51,6 +51,7 @@ pub record AreScoresIn (s : ClubState) (event : ℕ) (scores : List OpponentScor
 
 -- ---- the lines
 
+-- the name of a member; empty if the member does not exist
 abbrev pub name_in : Option Member → List ℕ
 name_in None = []
 name_in (Some member) = member.name

@@ -8,6 +8,8 @@ pub mod Found
 pub mod GameBodies
 pub mod Games
 pub mod Overdue
+pub mod Pages
 pub mod Records
+pub mod Running
 pub mod Viewed
 pub mod Writing

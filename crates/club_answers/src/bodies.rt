@@ -7,6 +7,8 @@ ghost use Rattle.sqlite.specs.Held.{state};
 ghost use Rattle.store_tables.specs.Over.{HasRows};
 ghost use Rattle.store_tables.specs.Reading.{Reads};
 ghost use Rattle.club_rows.specs.Club.{ClubState, IsClub, tables};
+ghost use Rattle.serde_json.specs.Written.{compact_text};
+ghost use Rattle.club_lists.specs.Bodies.{game_data};
 ghost use Rattle.club_lists.specs.ShownViews.{game_view};
 ghost use Rattle.club_answers.specs.Found.{IsFoundAs};
 ghost use Rattle.club_answers.specs.AnswerTexts.{IsNoGame};
@@ -66,12 +68,20 @@ fn with_offer(viewed: ViewedGame, offer: Option<String>) -> GameShown
     }
 }
 
-// The game as the JSON writer takes it.
-fn game_shown(alloc: Global, viewed: ViewedGame) -> Result<GameShown, AllocError>
+/// The game as the JSON writer takes it.
+pub(crate) fn game_shown(alloc: Global, viewed: ViewedGame) -> Result<GameShown, AllocError>
     ensures { IfOk result (λ game. game_view game ≡ shown_of viewed) }
 {
     let offer = offering(alloc, &viewed, viewed.played.offer)?;
     Ok(with_offer(viewed, offer))
+}
+
+// The text of a viewed game with this id, as JSON.
+fn body_text(alloc: Global, game: u64, viewed: ViewedGame) -> Result<String, AllocError>
+    ensures { IfOk result (λ text. string_bytes text ≡ compact_text (game_data game (shown_of viewed))) }
+{
+    let shown = game_shown(alloc, viewed)?;
+    game_text(alloc, game, shown)
 }
 
 /// A game as JSON.
@@ -86,8 +96,7 @@ pub(crate) fn game_body<S: Alter>(
 {
     match view_of(alloc, conn, game)? {
         Some(viewed) => {
-            let shown = game_shown(alloc, viewed)?;
-            let text = game_text(alloc, game, shown)?;
+            let text = body_text(alloc, game, viewed)?;
             Ok(Shown::Text(text))
         }
         None => Ok(Shown::Refused(Refusal::UnknownGame)),

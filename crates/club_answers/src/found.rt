@@ -13,7 +13,8 @@ ghost use Rattle.club_answers.specs.AnswerTexts.{join_lines, IsLegalText, IsNoGa
 use crate::boards::board;
 use crate::bodies::{game_body, moves_body};
 use crate::lists::of_lists;
-use crate::member_answers::{clock, mine};
+use crate::member_answers::mine;
+use crate::pages::{clock, page};
 use crate::{cross_table_lines, legal_of};
 use clocks::Moment;
 use club_lists::members_text;
@@ -109,10 +110,12 @@ pub(crate) fn read_answer<S: Alter>(
         Question::Events => of_lists(alloc, conn, question, moment),
         Question::Games(_) => of_lists(alloc, conn, question, moment),
         Question::MyGames(key) => mine(alloc, conn, key.as_str(), moment),
+        Question::EndedGames(_) => of_lists(alloc, conn, question, moment),
         Question::ChallengeChoices(_) => of_lists(alloc, conn, question, moment),
         Question::EventGames(_) => of_lists(alloc, conn, question, moment),
         Question::GameClock(game) => clock(alloc, conn, *game, moment),
         Question::GameJson(game) => game_body(alloc, conn, *game),
+        Question::GamePage(game) => page(alloc, conn, *game, moment),
         Question::LegalMovesJson(game) => moves_body(alloc, conn, *game),
         Question::Board { game, letters } => board(alloc, conn, *game, *letters, moment),
         Question::EventRecords(_) => of_lists(alloc, conn, question, moment),

@@ -9,10 +9,15 @@ ghost use Rattle.sqlite.specs.State.{HasCleanDisk};
 ghost use Rattle.sqlite.specs.Held.{state};
 ghost use Rattle.club_answers.specs.Exported.{AddsGame, BeginsGame, no_call_failed};
 ghost use Rattle.club_changes.specs.Stored.{IsStoredGame, AreMovesOf};
+ghost use Rattle.std.specs.Option.{option_map};
+ghost use Rattle.club_answers.specs.Boards.{moves_in};
+ghost use Rattle.club_answers.specs.Games.{game_summary_of};
+ghost use Rattle.club_answers.specs.Running.{last_text};
 ghost use Rattle.club_answers.specs.Viewed.{IsPlayedIn};
 
 use crate::exported::{RecordNames, ViewFault, write_record};
 use crate::listed::legal;
+use crate::running::last_move;
 use crate::viewed::{GameProgress, make_played};
 use club_changes::StoredGame;
 use club_games::by_kind;
@@ -47,6 +52,22 @@ pub(crate) fn played_in<S: Alter>(
         HasRows (tables s) (state S.Store conn.old) → IsPlayedIn s game played) }
 {
     by_kind!(stored.kind, make_played::<_, S>(alloc, conn, stored))
+}
+
+/// The last move of a stored game with this number of plies.
+pub(crate) fn last_in<S: Alter>(
+    alloc: Global,
+    conn: &mut Connection<S>,
+    stored: &StoredGame,
+    plies: u32,
+) -> Result<Option<String>, LookupFault>
+    ensures reads { Reads (is_ok result) (state S.Store conn.old) (state S.Store conn.new) }
+    ensures last { HasCleanDisk (state S.Store conn.new) → IfOk result (λ text. (s : ClubState) (id : ℕ)
+        (game : ClubGame) → IsClub s → place s.games id ≡ Some game → IsStoredGame s id game stored.now →
+        plies ≡ (game_summary_of s id game).plies → HasRows (tables s) (state S.Store conn.old) →
+        option_map string_bytes text ≡ last_text (moves_in game)) }
+{
+    by_kind!(stored.kind, last_move::<_, S>(alloc, conn, stored, plies))
 }
 
 /// Writes the record of a stored game in the format of its kind.

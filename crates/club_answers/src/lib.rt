@@ -1,6 +1,18 @@
 //! Answers every query about a club from its tables.
 //!
 //! Reads only; `answer` is the one entry.
+//!
+//! # Guarantees
+//!
+//! - `answer` (`shown`, `begun`, `reads`): each query is answered with what the club's state shows, or refused. After
+//!   a failed write the output is a prefix of that text; nothing changes.
+//! - For each query `IsShown` says what is shown: a game (`IsGameBody`), its legal moves (`IsMovesBody`), a board
+//!   (`IsBoardText`), an event's records (`AreEventRecords`).
+//! - `overdue_games_are_swept` (`counted`, `swept`): the games that are listed as overdue are exactly those that a
+//!   sweep then ends.
+//! - `cross_tables_are_one`: no other lines are those of a cross table.
+//! - `legal_of` (`rows`), `view_of` (`viewed`), `export_game` (`written`, `begun`), `cross_table_lines` (`rows`): what
+//!   a reader is shown of a game and of an event.
 #![tactic(auto)]
 
 mod answers;
@@ -17,9 +29,11 @@ pub mod laws;
 mod listed;
 mod lists;
 mod member_answers;
+mod pages;
 mod read;
 mod reading;
 mod records;
+mod running;
 mod scored;
 mod viewed;
 

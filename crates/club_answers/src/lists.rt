@@ -9,14 +9,15 @@ ghost use Rattle.club_rows.specs.Club.{ClubState, IsClub, tables};
 ghost use Rattle.club_requests.specs.declared.questions.Question.TheVariants as question;
 ghost use Rattle.club_answers.specs.Found.{IsFound, IsFoundAs, IsReadOf};
 ghost use Rattle.club_answers.specs.AnswerTexts.{IsEventGamesText, IsEventsText, IsGamesText, IsChallengeChoicesText};
+ghost use Rattle.club_answers.specs.AnswerTexts.{IsEndedGamesText};
 ghost use Rattle.club_answers.specs.AnswerTexts.{IsNoEventNamed, IsNoKey, IsNoList};
 
 use crate::found::Shown;
 use crate::read::{ClubRead, read_club};
 use clocks::Moment;
 use club_lists::{
-    challenge_choices_json, event_game_ids, event_games_text, event_kind, events_text, games_text,
-    has_event, listing_refusal, member_name_by_key,
+    challenge_choices_json, ended_games_json, event_game_ids, event_games_text, event_kind,
+    events_text, games_text, has_event, listing_refusal, member_name_by_key,
 };
 use club_reads::LookupFault;
 use club_requests::{Listing, Question, Refusal};
@@ -66,6 +67,25 @@ fn inviting(alloc: Global, club: &ClubRead, key: &str) -> Result<Shown, LookupFa
     }
 }
 
+// The ended games of the holder of this key.
+fn ended_games(alloc: Global, club: &ClubRead, key: &str) -> Result<Shown, LookupFault>
+    ensures { IfOk result (λ found. (s : ClubState) (moment : ℕ) → IsReadOf s moment club.now →
+        IsFoundAs (IsEndedGamesText s moment key.now) (IsNoKey s key.now) found) }
+{
+    let Some(name) = member_name_by_key(&club.members, key) else {
+        return Ok(Shown::Refused(Refusal::UnknownKey));
+    };
+    let text = ended_games_json(
+        alloc,
+        &club.members,
+        &club.events,
+        name,
+        club.moment,
+        &club.games,
+    )?;
+    Ok(Shown::Text(text))
+}
+
 // The games of the event with this name.
 fn event_games(alloc: Global, club: &ClubRead, name: &str) -> Result<Shown, LookupFault>
     ensures { IfOk result (λ found. (s : ClubState) (moment : ℕ) → IsReadOf s moment club.now →
@@ -99,6 +119,7 @@ fn shown_of(alloc: Global, club: &ClubRead, question: &Question) -> Result<Shown
     match question {
         Question::Events => events(alloc, club),
         Question::Games(listing) => games(alloc, club, listing),
+        Question::EndedGames(key) => ended_games(alloc, club, key.as_str()),
         Question::ChallengeChoices(key) => inviting(alloc, club, key.as_str()),
         Question::EventGames(name) => event_games(alloc, club, name.as_str()),
         Question::EventRecords(name) => event_records(alloc, club, name),

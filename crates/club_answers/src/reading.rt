@@ -45,8 +45,8 @@ pub fn legal_of<S: Alter>(
     }
 }
 
-// A stored game with the names of its event and of its players.
-fn viewed<S: Alter>(
+/// A stored game with the names of its event and of its players.
+pub(crate) fn viewed<S: Alter>(
     alloc: Global,
     conn: &mut Connection<S>,
     stored: &StoredGame,

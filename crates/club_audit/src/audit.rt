@@ -11,7 +11,7 @@ ghost use Rattle.club_audit.specs.GameAudit.{IsRightAt, StandsAt};
 ghost use Rattle.club_rows.specs.Club.{ClubState};
 
 use crate::challenges::are_challenges;
-use crate::game_audit::wrong_in_event;
+use crate::game_audit::{GameRows, wrong_in_event};
 use crate::people::{are_events, are_members, are_rules, is_place};
 use clocks::Moment;
 use club_requests::values::MOST_GAMES;
@@ -19,7 +19,7 @@ use club_rows::numbers::{declares_of, to_moment};
 use club_rules::Memory;
 use std::alloc::Global;
 use std::collections::HashSet;
-use store_tables::{EventRow, GameTableRow, MoveRow, Rows, SeenRow, Table};
+use store_tables::{EventRow, GameTableRow, Rows, Table};
 
 // Whether the id is in 1..=count.
 fn is_among(id: i64, count: usize) -> bool
@@ -98,8 +98,7 @@ fn with_place(wrong: Option<Table>, stands: bool) -> Option<Table>
 }
 
 /// Returns the first wrong table by all rows of the game at this place (from 0); None if they are those of a legal game
-/// of this club. `last` is the latest timestamp allowed, if given. The moves must be in the order of plies; the
-/// positions may be in any order.
+/// of this club. `last` is the latest timestamp allowed, if given.
 ///
 /// # Errors
 ///
@@ -112,25 +111,23 @@ pub fn wrong_game(
     alloc: Global,
     rows: &Rows,
     place: usize,
-    game: &GameTableRow,
-    moves: &[MoveRow],
-    seen: &[SeenRow],
+    own: &GameRows<'_>,
     last: Option<Moment>,
 ) -> Result<Option<Table>, Memory>
     ensures { IfOk result (λ wrong. (s : ClubState) → HasPeople s rows.now →
-        IsFirstWrong (IsRightAt s rows.now place game.now moves.now seen.now last) wrong) }
+        IsFirstWrong (IsRightAt s rows.now place own.now.game.now own.now.moves.now own.now.seen.now last) wrong) }
 {
-    let event = match event_of(rows, game) {
+    let event = match event_of(rows, own.game) {
         Some(event) => event,
         None => return Ok(Some(Table::Games)),
     };
     // In a register that passed its check each event has its rules.
-    let declares = match declares_in(rows, game) {
+    let declares = match declares_in(rows, own.game) {
         Some(declares) => declares,
         None => return Ok(Some(Table::EventRules)),
     };
-    let wrong = wrong_in_event(alloc, event, declares, game, moves, seen, last)?;
-    Ok(with_place(wrong, stands_at(rows, place, game)))
+    let wrong = wrong_in_event(alloc, event, declares, own, last)?;
+    Ok(with_place(wrong, stands_at(rows, place, own.game)))
 }
 
 /// Returns the first wrong table by all rows except moves, positions and scores; None if there is none. Of the games

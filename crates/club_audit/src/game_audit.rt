@@ -24,6 +24,14 @@ use squares::Side;
 use std::alloc::Global;
 use store_tables::{EventRow, GameTableRow, MoveRow, SeenRow, Table};
 
+/// All rows of one game: its own, those of its moves in the order of plies, and those of its positions in any order.
+#[derive(Clone, Copy)]
+pub struct GameRows<'a> {
+    pub game: &'a GameTableRow,
+    pub moves: &'a [MoveRow],
+    pub seen: &'a [SeenRow],
+}
+
 // The remaining seconds of the side to move.
 fn left_to_mover<R: Rules>(view: &GameView<R>) -> u64
     ensures { result ≡ left_of (R.rules.turn view.now.position) (clocks_in view.now.row) }
@@ -44,11 +52,10 @@ fn is_within<R: Rules>(view: &GameView<R>, last: Moment) -> bool
     }
     let elapsed = last.seconds() - view.row.since.seconds();
     match &view.row.end {
-        Some(GameEnd::Outside(OutsideEnd::Time)) => left_to_mover(view) < elapsed,
-        Some(GameEnd::Outside(OutsideEnd::Resigned)) => true,
-        Some(GameEnd::Outside(OutsideEnd::Agreed)) => true,
-        Some(GameEnd::Outside(OutsideEnd::Declared)) => true,
-        Some(GameEnd::Outside(OutsideEnd::Recorded(_))) => true,
+        Some(GameEnd::Outside(end)) => match end {
+            OutsideEnd::Time => left_to_mover(view) < elapsed,
+            _ => true,
+        },
         Some(GameEnd::Rule(_)) => true,
         None => true,
     }
@@ -71,17 +78,16 @@ fn is_within_given<R: Rules>(view: &GameView<R>, last: Option<Moment>) -> bool
 // The first wrong table by all rows of a game with these rules and terms.
 fn wrong_of_all<R: Rules>(
     alloc: Global,
-    game: &GameTableRow,
+    own: &GameRows<'_>,
     terms: Terms,
-    moves: &[MoveRow],
-    seen: &[SeenRow],
     last: Option<Moment>,
 ) -> Result<Option<Table>, Memory>
     requires budget { IsTrue (is_budget terms.budget) }
     requires increment { IsTrue (is_increment terms.increment) }
-    ensures { IfOk result (IsFirstWrong (IsRightIn R.rules (terms_given terms) last game.now moves.now seen.now)) }
+    ensures { IfOk result (IsFirstWrong (IsRightIn R.rules (terms_given terms) last
+        own.now.game.now own.now.moves.now own.now.seen.now)) }
 {
-    let played = match view_of::<R>(alloc, game, terms, moves)? {
+    let played = match view_of::<R>(alloc, own.game, terms, own.moves)? {
         CheckedRows::Game(played) => played,
         CheckedRows::WrongMoves => return Ok(Some(Table::Moves)),
         CheckedRows::WrongGame => return Ok(Some(Table::Games)),
@@ -89,11 +95,11 @@ fn wrong_of_all<R: Rules>(
     if !is_within_given(&played.view, Moment::new(Moment::LAST)) {
         return Ok(Some(Table::Games));
     }
-    let number = match id(game.id) {
+    let number = match id(own.game.id) {
         Some(number) => number,
         None => return Ok(Some(Table::Games)),
     };
-    if !are_seen::<R>(alloc, number, moves, seen)? {
+    if !are_seen::<R>(alloc, number, own.moves, own.seen)? {
         return Ok(Some(Table::Seen));
     }
     if !is_within_given(&played.view, last) {
@@ -107,28 +113,25 @@ pub(crate) fn wrong_in_event(
     alloc: Global,
     event: &EventRow,
     declares: bool,
-    game: &GameTableRow,
-    moves: &[MoveRow],
-    seen: &[SeenRow],
+    own: &GameRows<'_>,
     last: Option<Moment>,
 ) -> Result<Option<Table>, Memory>
-    ensures { IfOk result (IsFirstWrong (IsRightInEvent event.now declares last game.now moves.now seen.now)) }
+    ensures { IfOk result (IsFirstWrong (IsRightInEvent event.now declares last
+        own.now.game.now own.now.moves.now own.now.seen.now)) }
 {
     let terms = match terms_of(event, declares) {
         Some(terms) => terms,
         None => return Ok(Some(Table::Events)),
     };
     match kind_of(event.game) {
-        Some(GameKind::Draughts) => {
-            wrong_of_all::<Draughts>(alloc, game, terms, moves, seen, last)
-        }
-        Some(GameKind::Shogi) => wrong_of_all::<Shogi>(alloc, game, terms, moves, seen, last),
+        Some(GameKind::Draughts) => wrong_of_all::<Draughts>(alloc, own, terms, last),
+        Some(GameKind::Shogi) => wrong_of_all::<Shogi>(alloc, own, terms, last),
         None => Ok(Some(Table::Events)),
     }
 }
 
 /// Returns the first wrong table by all rows of one game of this event; None if they are those of a legal game. `last`
-/// is the latest timestamp allowed. The moves must be in the order of plies; the positions may be in any order.
+/// is the latest timestamp allowed.
 ///
 /// # Errors
 ///
@@ -142,19 +145,17 @@ pub fn audit_game(
     alloc: Global,
     event: &EventRow,
     declares: bool,
-    game: &GameTableRow,
-    moves: &[MoveRow],
-    seen: &[SeenRow],
+    own: &GameRows<'_>,
     last: Moment,
 ) -> Result<Option<Table>, Memory>
     ensures sound { IfOk result (λ wrong. wrong ≡ None →
-        AreOfEvent event.now declares last game.now moves.now seen.now) }
-    ensures complete { IfOk result (λ wrong. AreOfEvent event.now declares last game.now moves.now seen.now →
-        wrong ≡ None) }
+        AreOfEvent event.now declares last own.now.game.now own.now.moves.now own.now.seen.now) }
+    ensures complete { IfOk result (λ wrong.
+        AreOfEvent event.now declares last own.now.game.now own.now.moves.now own.now.seen.now → wrong ≡ None) }
     ensures first { IfOk result (IsFirstWrong (IsRightInEvent event.now declares
-        (Some last) game.now moves.now seen.now)) }
+        (Some last) own.now.game.now own.now.moves.now own.now.seen.now)) }
 {
     let _within = last.seconds();
-    let wrong = wrong_in_event(alloc, event, declares, game, moves, seen, Some(last))?;
+    let wrong = wrong_in_event(alloc, event, declares, own, Some(last))?;
     Ok(wrong)
 }

@@ -1,1 +1,3 @@
+pub mod OrderLemmas
 pub mod SeatLemmas
+pub mod WordLemmas

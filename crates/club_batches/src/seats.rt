@@ -1,11 +1,13 @@
 //! The batch that seats a round robin.
 
-ghost use Rattle.std.specs.Prelude.{◌≡◌, ◌++◌, None, Some, false, IfOk, OnOk, length, map, string_bytes};
-ghost use Rattle.std.specs.List.{list_any};
+ghost use Rattle.std.specs.Prelude.{◌≡◌, ◌++◌, None, Some, false, IfErr, IfOk, OnOk, length, map, string_bytes};
+ghost use Rattle.std.specs.List.{list_all, list_any};
 ghost use Rattle.club_core.specs.Answer.{command_of, request_of};
-ghost use Rattle.pairings.specs.Table.{all_games};
-ghost use Rattle.club_batches.specs.Seats.{asked_name, has_twice, is_same, key_of, line_of, name_at, numbers_to};
-ghost use Rattle.club_batches.specs.Seats.{seat_command, seat_line, seat_lines, seat_request};
+ghost use Rattle.club_requests.specs.Limits.{is_name};
+ghost use Rattle.club_requests.specs.Outcome.{first_refusal};
+ghost use Rattle.club_batches.specs.Seats.{IsSeatError, are_keys, asked_name, games_of, has_twice, is_same, key_of};
+ghost use Rattle.club_batches.specs.Seats.{line_of, name_at, name_tests, numbers_to, robin_refusal, seat_command};
+ghost use Rattle.club_batches.specs.Seats.{seat_line, seat_lines, seat_request};
 
 use crate::orders::{batch_for, push_order};
 use cli::{Batch, RoundRobin};
@@ -28,6 +30,11 @@ pub enum SeatError {
 }
 
 impl From<AllocError> for SeatError {
+    ghost use Rattle.std.specs.Prelude.{◌≡◌};
+    ghost use Rattle.club_batches.specs.declared.seats.SeatError.TheVariants as seat_error;
+
+    ghost from_gives = { λ _ given. given ≡ seat_error.Memory };
+
     fn from(_refused: AllocError) -> SeatError {
         SeatError::Memory
     }
@@ -109,14 +116,15 @@ fn seat_of(alloc: Global, robin: &RoundRobin, game: BoardPairing) -> Result<Comm
 }
 
 // Whether each name is a valid name of a member.
-fn are_names(names: &[String]) -> bool {
+fn are_names(names: &[String]) -> bool
+    ensures { result ≡ list_all (λ name. is_name (string_bytes name)) names.now }
+{
     names.iter().all(|name| is_name(name.as_str()))
 }
 
-// The refusal that does not depend on the club: the event's name is invalid, or a member's name is invalid or occurs
-// twice.
+// The refusal of the names: the event's name is invalid, or a member's name is invalid or occurs twice.
 fn refusal_of(robin: &RoundRobin) -> Option<Refusal>
-    ensures { result ≡ None → has_twice robin.entry.now.names.items ≡ false }
+    ensures { result ≡ first_refusal (name_tests robin.entry.now) }
 {
     if !is_name(robin.event.as_str()) {
         return Some(Refusal::UnknownEvent);
@@ -131,7 +139,9 @@ fn refusal_of(robin: &RoundRobin) -> Option<Refusal>
 }
 
 // Whether the keys of all games are valid.
-fn are_keys(alloc: Global, prefix: &str, games: &[BoardPairing]) -> Result<bool, AllocError> {
+fn are_keys(alloc: Global, prefix: &str, games: &[BoardPairing]) -> Result<bool, AllocError>
+    ensures { IfOk result (λ valid. valid ≡ are_keys prefix.now games.now) }
+{
     for game in games {
         let key = key_of(alloc, prefix, *game)?;
         if !is_name(key.as_str()) {
@@ -169,17 +179,22 @@ fn seated(
 /// # Errors
 ///
 /// - `SeatError::Refused` with `BadValue` if there are fewer than 2 or more than 32 players, a name is invalid or occurs
-///   twice, or a key is invalid; with `UnknownEvent` if the event's name is invalid.
+///   twice, or a key is invalid; with `UnknownEvent` if the event's name is invalid. The number of players is tested
+///   first, then the event's name, the members' names, and the keys.
 /// - `SeatError::Memory` if out of memory.
+///
+/// # Guarantees
+///
+/// `requests`, `numbers`, `questions`: the batch is exactly this one. `accepted`: no test refuses the round robin.
+/// `refused`: the refusal is that of the first test that fails.
 pub fn seats_of(alloc: Global, robin: &RoundRobin, moment: Moment) -> Result<Batch, SeatError>
     ensures requests { IfOk result (λ batch. map request_of batch.requests.items ≡
-        map (seat_request robin.entry.now moment)
-        (all_games (length robin.entry.now.names.items) robin.entry.now.is_double)) }
-    ensures numbers { IfOk result (λ batch. batch.numbers.items ≡
-        numbers_to (length (all_games (length robin.entry.now.names.items) robin.entry.now.is_double))) }
+        map (seat_request robin.entry.now moment) (games_of robin.entry.now)) }
+    ensures numbers { IfOk result (λ batch. batch.numbers.items ≡ numbers_to (length (games_of robin.entry.now))) }
     ensures questions { IfOk result (λ batch. map asked_name batch.questions.items ≡
         map (λ name. Some (string_bytes name)) robin.entry.now.names.items) }
-    ensures apart { IfOk result (λ batch. has_twice robin.entry.now.names.items ≡ false) }
+    ensures accepted { IfOk result (λ batch. robin_refusal robin.entry.now ≡ None) }
+    ensures refused { IfErr result (IsSeatError robin.entry.now) }
 {
     let players = robin.names.as_slice().len();
     if players < FEWEST_PLAYERS || players > MOST_PLAYERS {

@@ -26,7 +26,6 @@ use Rattle.club_requests.specs.declared.requests.Caller.{Caller}
 use Rattle.club_requests.specs.declared.refusals.Refusal.{Refusal}
 use Rattle.club_core.specs.declared.rows.Offer.{Offer}
 use Rattle.club_requests.specs.declared.outside_end.OutsideEnd.{OutsideEnd}
-use Rattle.club_requests.specs.declared.outside_end.OutsideEnd.TheVariants.{Resigned, Agreed, Time, Declared}
 use Rattle.club_requests.specs.Limits.{is_budget, is_increment, most_plies}
 use Rattle.club_requests.specs.Outcome.{Reply, MoveReply, moved, draw_offered, Outcome, accepted, repeated, refused}
 use Rattle.club_requests.specs.Outcome.{unless, unless_repeat}
@@ -124,14 +123,14 @@ module _ {P M E T : Type 0} (laws : GameRules P M E T) (terms : Terms) (g : Game
         (λ none. of_offer offer ply (running (none-holds (offer_tests laws g side ply) none).0)))
     side_so side (accept_draw ply) =
         if_so laws.has_draw_offers _ _
-        (unless_so (repeat_of_accept laws g side ply) _ (ends laws g Agreed)
-        (λ none. of_end Agreed (running (none-holds (accept_tests laws g side ply) none).0)))
-    side_so side resign = unless_so (repeat_of_resign laws g side) _ (ends laws g Resigned)
-        (λ none. of_end Resigned (running (none-holds (resign_tests laws g side) none).0))
-    side_so side claim_time = unless_so (repeat_of_claim laws g side) _ (ends laws g Time)
-        (λ none. of_end Time (running (none-holds (claim_tests laws terms g moment side) none).0))
-    side_so side (declare ply) = unless_so (repeat_of_declare laws terms g side ply) _ (ends laws g Declared)
-        (λ none. of_end Declared (running (none-holds (declare_tests laws terms g side ply) none).0))
+        (unless_so (repeat_of_accept laws g side ply) _ _
+        (λ none. of_end _ (running (none-holds (accept_tests laws g side ply) none).0)))
+    side_so side resign = unless_so (repeat_of_resign laws g side) _ _
+        (λ none. of_end _ (running (none-holds (resign_tests laws g side) none).0))
+    side_so side claim_time = unless_so (repeat_of_claim laws g side) _ _
+        (λ none. of_end _ (running (none-holds (claim_tests laws terms g moment side) none).0))
+    side_so side (declare ply) = unless_so (repeat_of_declare laws terms g side ply) _ _
+        (λ none. of_end _ (running (none-holds (declare_tests laws terms g side ply) none).0))
 
     by_so : (side : Option Side) (command : GameCommand) → WhereAccepted Is (by_side laws terms g moment side command)
     by_so None command = tt

@@ -49,12 +49,15 @@ use Rattle.store_tables.specs.declared.names.Table.TheVariants.{Moves, Seen}
 
 -- ---- the state machine
 
+-- the request of the state machine for this caller, command and timestamp of the code
 abbrev pub request : given_who.Who → given_command.Command → ℕ → Request
 request who command moment = record { who = who_of who; command = command_of command; moment = moment }
 
+-- the outcome of a request in a state of the club, with the next state if it is accepted
 abbrev pub club_step : ClubState → Request → Outcome ClubState
 club_step = step both_games
 
+-- the state of the club after a request
 abbrev pub club_next : ClubState → Request → ClubState
 club_next = next both_games
 

@@ -4,6 +4,7 @@ use Rattle.club_requests.specs.declared.answers.Outcome.{Outcome}
 use Rattle.club_requests.specs.declared.answers.Outcome.TheVariants.{Accepted, Repeated, Refused}
 use Rattle.club_changes.specs.declared.decided.CommandEffect.{CommandEffect}
 
+-- the command was accepted, neither repeated nor refused
 abbrev pub IsAccepted : Outcome → Type 0
 IsAccepted (Accepted answer) = ⊤
 IsAccepted (Repeated answer) = ⊥

@@ -1,6 +1,20 @@
 //! Computes what a command changes in the tables: its outcome and the rows to upsert, without any I/O.
 //! Calls fail with `Memory` if out of memory, and with `InconsistentRows` if the given rows or values are not those of a legal
 //! club.
+//!
+//! # Guarantees
+//!
+//! - `on_member` (`acts`, `step`), `on_event` (`acts`, `step`): the answer, and the rows that give the tables of the
+//!   next state.
+//! - `put_decision` (`step`), `sweep_games` (`step`), `put_challenge` (`step`), `put_answered` (`step`): the upserted
+//!   rows give the tables of the next state. Nothing is upserted unless the command is accepted.
+//! - `seated_rows` (`puts`), `put_rows`, `new_rows`: the rows of a new game, and of an imported game, its plies and
+//!   positions, are those of the club's state.
+//! - `played_of`: the moves of a stored game are those of its rows.
+//! - `swept_rows` (`rows`), `sweep_leaves_others`: as many games end by time as the state says. A sweep changes no
+//!   other table but `meta`.
+//! - `event_at` (`unfit`), `seated_rows` (`unfit`), `put_answered` (`unfit`), `sweep_games` (`unfit`): rows are
+//!   reported inconsistent only if there is no such event, or they are those of no club.
 #![tactic(auto)]
 
 pub mod challenges;

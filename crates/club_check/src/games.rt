@@ -26,7 +26,7 @@ ghost use Rattle.club_check.specs.Examined.{moves_in, seen_in};
 use crate::fault::OpenFault;
 use crate::read::fault_in;
 use clocks::Moment;
-use club_audit::wrong_game;
+use club_audit::{GameRows, wrong_game};
 use sqlite::{Alter, Connection};
 use std::alloc::Global;
 use store_sql::{ReadFault, Select, check_rowids, read_by_first};
@@ -174,22 +174,21 @@ fn found_of(
     alloc: Global,
     rows: &Rows,
     place: usize,
-    game: &GameTableRow,
-    moves: &[MoveRow],
-    seen: &[SeenRow],
+    own: &GameRows<'_>,
     last: &Option<Moment>,
 ) -> Result<Found, OpenFault>
-    ensures moves { IfOk result (λ found. found.own.moves ≡ length moves.now) }
-    ensures seen { IfOk result (λ found. found.own.seen ≡ length seen.now) }
+    ensures moves { IfOk result (λ found. found.own.moves ≡ length own.now.moves.now) }
+    ensures seen { IfOk result (λ found. found.own.seen ≡ length own.now.seen.now) }
     ensures first { IfOk result (λ found. (s : ClubState) → HasPeople s rows.now →
-        IsFirstWrong (IsRightAt s rows.now place game.now moves.now seen.now last.now) found.wrong) }
+        IsFirstWrong (IsRightAt s rows.now place own.now.game.now own.now.moves.now own.now.seen.now last.now)
+        found.wrong) }
     ensures memory { IfErr result (λ e. e ≡ OpenFault.Memory) }
 {
-    match wrong_game(alloc, rows, place, game, moves, seen, given(last)) {
+    match wrong_game(alloc, rows, place, own, given(last)) {
         Ok(wrong) => Ok(Found {
             own: RowCounts {
-                moves: moves.len(),
-                seen: seen.len(),
+                moves: own.moves.len(),
+                seen: own.seen.len(),
             },
             wrong,
         }),
@@ -233,13 +232,25 @@ fn examine_game<S: Alter>(
         Err(fault) => return Err(fault),
     };
     match seen {
-        Some(seen) => match found_of(alloc, rows, place, game, &moves, &seen, last) {
-            Ok(found) => Ok(found),
-            Err(fault) => Err(fault),
-        },
+        Some(seen) => {
+            let own = GameRows {
+                game,
+                moves: &moves,
+                seen: &seen,
+            };
+            match found_of(alloc, rows, place, &own, last) {
+                Ok(found) => Ok(found),
+                Err(fault) => Err(fault),
+            }
+        }
         None => {
             let none: Vec<SeenRow> = Vec::new(alloc);
-            match found_of(alloc, rows, place, game, &moves, &none, last) {
+            let own = GameRows {
+                game,
+                moves: &moves,
+                seen: &none,
+            };
+            match found_of(alloc, rows, place, &own, last) {
                 Ok(found) => Ok(Found {
                     own: found.own,
                     wrong: first_of(found.wrong, Some(Table::Seen)),

@@ -7,20 +7,18 @@ use Rattle.std.proofs.lemmas.Bool.{ltb-false}
 use Rattle.std.proofs.lemmas.List.{map-append, length-map}
 use Rattle.squares.specs.declared.sides.Side.{Side}
 use Rattle.squares.specs.declared.sides.Side.TheVariants.{First}
-use Rattle.squares.specs.declared.sides.Score.{Score}
 use Rattle.squares.specs.Sides.{other}
 use Rattle.club_rules.specs.declared.refusals.MoveRefusal.{MoveRefusal}
 use Rattle.club_rules.specs.GameRules.{GameRules, ply_limit}
 use Rattle.club_rules.specs.Line.{IsLegalLine}
 use Rattle.club_requests.specs.declared.outside_end.OutsideEnd.{OutsideEnd}
-use Rattle.club_requests.specs.declared.outside_end.OutsideEnd.TheVariants.{Agreed, Declared, Recorded}
 use Rattle.club_core.specs.declared.rows.Offer.{Offer}
 use Rattle.club_requests.specs.declared.refusals.Refusal.{Refusal}
 use Rattle.club_core.specs.Events.{Terms}
 use Rattle.club_requests.specs.Outcome.{first_refusal}
 use Rattle.club_core.specs.Game.{Game, Clocks, turns, spend, spend_all, moves_of, clocks_of, last_position, rule_end}
 use Rattle.club_core.specs.Game.{end_of, turn_of, result_of, end_with, left_of, side_after}
-use Rattle.club_core.specs.Legal.{IsTimely, IsOffer, IsLegalGame}
+use Rattle.club_core.specs.Legal.{IsTimely, IsOffer, IsLegalGame, MayEndBy}
 use Rattle.club_core.specs.Step.{played, offered, ended, checked, checked_as, move_tests, move_refusal}
 use Rattle.club_rules.proofs.Proved.{IsPlayedLine-append}
 use Rattle.club_core.proofs.Played.{moves_of-played, turn-of-game, outside-alone, score-none}
@@ -119,6 +117,11 @@ module _ {P M E T : Type 0} (laws : GameRules P M E T) (are_rules : AreRules law
           let none : false ≡ true = rw running at ended in
           absurd cc
 
+  -- where nothing ended a game from outside, it needs nothing
+  none-outside : (new : Game M) (end : Option OutsideEnd) → end ≡ None → IfSome end (λ o. MayEndBy laws terms new o)
+  none-outside new None none = tt
+  none-outside new (Some o) none = absurd cc
+
   -- a legal game is legal with one more legal move in time
   pub legal-played : (m : M) (moment : ℕ) → result_of laws game ≡ None → (clocks_of game terms).since ≤ moment
       → moment - (clocks_of game terms).since ≤ left_of (turn_of laws game) (clocks_of game terms)
@@ -143,9 +146,7 @@ module _ {P M E T : Type 0} (laws : GameRules P M E T) (are_rules : AreRules law
             (rw (moments, ← side) in_time));
         outside_alone = λ some. let none : false ≡ true = rw no_outside at some in absurd cc;
         offer = tt;
-        agreed = λ is. let none : None ≡ Some Agreed = sym no_outside ∙ is in absurd cc;
-        recorded = λ score is. let none : None ≡ Some (Recorded score) = sym no_outside ∙ is in absurd cc;
-        declared = λ is. let none : None ≡ Some Declared = sym no_outside ∙ is in absurd cc;
+        outside = none-outside (played game m moment) game.outside no_outside;
         players = legal.players;
       }
 
@@ -170,9 +171,7 @@ module _ {P M E T : Type 0} (laws : GameRules P M E T) (are_rules : AreRules law
         timely = legal.timely;
         outside_alone = legal.outside_alone;
         offer = record { allowed = draws; next_ply = next; no_rule_end = running-rule running };
-        agreed = λ is. refl;
-        recorded = λ score is. let none : None ≡ Some (Recorded score) = sym no_outside ∙ is in absurd cc;
-        declared = legal.declared;
+        outside = none-outside (offered game (record { side = side; ply = ply })) game.outside no_outside;
         players = legal.players;
       }
 
@@ -182,23 +181,16 @@ module _ {P M E T : Type 0} (laws : GameRules P M E T) (are_rules : AreRules law
   offer-stays end (Some offer) is =
       record { allowed = is.allowed; next_ply = is.next_ply; no_rule_end = is.no_rule_end }
 
-  some-end : (a b : OutsideEnd) → Some a ≡ Some b → a ≡ b
-  some-end a b is = cc
-
   -- a running legal game is legal with an end from outside
-  pub legal-ended : (end : OutsideEnd) → result_of laws game ≡ None → (end ≡ Agreed → IsSome game.offer)
-      → ((score : Score) → end ≡ Recorded score → ⊥)
-      → (end ≡ Declared → (terms.declares ≡ true) × (laws.can_declare (last_position laws game) ≡ true))
+  pub legal-ended : (end : OutsideEnd) → result_of laws game ≡ None → MayEndBy laws terms (ended game end) end
       → IsLegalGame laws terms (ended game end)
-  legal-ended end running agreed not_recorded declared =
+  legal-ended end running may =
       record {
         line = legal.line;
         plies = legal.plies;
         timely = legal.timely;
         outside_alone = λ some. running-rule running;
         offer = offer-stays end game.offer legal.offer;
-        agreed = λ is. agreed (some-end end Agreed is);
-        recorded = λ score is. absurd (not_recorded score (some-end end (Recorded score) is));
-        declared = λ is. declared (some-end end Declared is);
+        outside = may;
         players = legal.players;
       }

@@ -33,10 +33,12 @@ use Rattle.club_core.specs.Step.{GameCommand, move, offer_draw, accept_draw, res
 use Rattle.club_core.specs.State.{Command, add_member, add_event, seat, import_record, on_game, sweep, open_challenge}
 use Rattle.club_core.specs.State.{withdraw_challenge, answer_challenge, Who, officer, key_holder, Request}
 
+-- the reply to a move, with its texts as bytes
 abbrev pub move_reply_of : MoveAnswer → MoveReply
 move_reply_of m =
     record { ply = m.ply; text = string_bytes m.text; left = m.left; position = string_bytes m.position; end = m.end }
 
+-- the reply of an answer, with its texts as bytes
 abbrev pub reply_of : Answer → Reply
 reply_of (answer.Member id) = member_added id
 reply_of (answer.Event id) = event_added id
@@ -56,6 +58,7 @@ outcome_of (given.Accepted a) = accepted tt (reply_of a)
 outcome_of (given.Repeated a) = repeated (reply_of a)
 outcome_of (given.Refused refusal) = refused refusal
 
+-- the outcome of a transition, without the new state
 abbrev pub answered : {S : Type 0} → Outcome S → Outcome (Unit {0})
 answered o = map_outcome (λ _. tt) o
 
@@ -85,6 +88,7 @@ added_event e =
 abbrev pub events_of : List given_event.Event → List Event
 events_of es = map event_of es
 
+-- the caller of a command, with the key as bytes
 abbrev pub who_of : given_who.Who → Who
 who_of given_who_is.Officer = officer
 who_of (given_who_is.Key key) = key_holder (string_bytes key)
@@ -136,5 +140,6 @@ command_of (given_is.Challenge c) = open_challenge c.number (string_bytes c.even
 command_of (given_is.Withdraw c) = withdraw_challenge c.number
 command_of (given_is.Answer c) = answer_challenge (string_bytes c.challenger) c.number c.accept
 
+-- a request, with its texts as bytes
 abbrev pub request_of : given_request.Request → Request
 request_of r = record { who = who_of r.who; command = command_of r.command; moment = r.moment }

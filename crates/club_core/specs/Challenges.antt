@@ -26,6 +26,7 @@ key_of_challenge c = (c.member, c.number)
 abbrev pub is_under : ℕ → ℕ → Challenge → Bool
 is_under member number c = c.member == member && c.number == number
 
+-- the challenge of this member with this number, if it exists
 abbrev pub challenge_under : List Challenge → ℕ → ℕ → Option Challenge
 challenge_under [] member number = None
 challenge_under (c ∷ cs) member number = if is_under member number c then Some c else challenge_under cs member number
@@ -40,12 +41,14 @@ abbrev pub put_challenge : List Challenge → Challenge → List Challenge
 put_challenge [] new = new ∷ []
 put_challenge (c ∷ cs) new = if is_under new.member new.number c then new ∷ cs else c ∷ put_challenge cs new
 
+-- the challenge is neither withdrawn nor answered
 abbrev pub is_open : ChallengeState → Bool
 is_open Open = true
 is_open Withdrawn = false
 is_open Refused = false
 is_open (Accepted game) = false
 
+-- the challenge in this state
 abbrev pub standing_as : Challenge → ChallengeState → Challenge
 standing_as c standing = record c { standing = standing }
 
@@ -67,12 +70,14 @@ repeat_of_opening event other first (Some c) =
     if asks_same event other first c then Some (challenge_opened c.number) else None
 
 module _ (caller number : ℕ) (other : Option ℕ) (under : Option Challenge) where
+  -- the refusals of a new challenge with their tests, in the order in which they apply
   abbrev pub opening_tests : List (Bool × Refusal)
   opening_tests =
       (is_some under, Conflict)
       ∷ (not (is_challenge_number number && are_distinct (Some caller) other), BadValue)
       ∷ []
 
+  -- the first refusal of a new challenge that applies, if any
   abbrev pub opening_refusal : Option Refusal
   opening_refusal = first_refusal opening_tests
 
@@ -109,9 +114,11 @@ repeat_of_withdrawal number Withdrawn = Some (challenge_withdrawn number)
 repeat_of_withdrawal number Refused = None
 repeat_of_withdrawal number (Accepted game) = None
 
+-- the refusals of a withdrawal with their tests, in the order in which they apply
 abbrev pub withdrawal_tests : ChallengeState → List (Bool × Refusal)
 withdrawal_tests standing = (not (is_open standing), Conflict) ∷ []
 
+-- the first refusal of a withdrawal that applies, if any
 abbrev pub withdrawal_refusal : ChallengeState → Option Refusal
 withdrawal_refusal standing = first_refusal (withdrawal_tests standing)
 
@@ -133,12 +140,14 @@ repeat_of_answer number (Accepted game) true = Some (challenge_accepted number g
 repeat_of_answer number (Accepted game) false = None
 
 module _ (standing : ChallengeState) (games : ℕ) (accept : Bool) where
+  -- the refusals of an answer to a challenge with their tests, in the order in which they apply
   abbrev pub answer_tests : List (Bool × Refusal)
   answer_tests =
       (not (is_open standing), Conflict)
       ∷ (accept && nat_le most_games games, Full)
       ∷ []
 
+  -- the first refusal of an answer to a challenge that applies, if any
   abbrev pub answer_refusal : Option Refusal
   answer_refusal = first_refusal answer_tests
 

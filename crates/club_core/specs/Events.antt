@@ -24,20 +24,24 @@ pub record Event : Type 0 where
   pub game : GameKind
   pub terms : Terms
 
+-- equality of kinds of games
 abbrev pub same_game : GameKind → GameKind → Bool
 same_game Draughts Draughts = true
 same_game Shogi Shogi = true
 same_game Draughts Shogi = false
 same_game Shogi Draughts = false
 
+-- the event has this name
 abbrev pub has_event_name : List ℕ → Event → Bool
 has_event_name name e = bytes_eq e.name name
 
+-- the event has the name, the game, the budget and the increment of the given one
 abbrev pub is_event : Event → Event → Bool
 is_event given e =
     bytes_eq e.name given.name && same_game e.game given.game && e.terms.budget == given.terms.budget &&
     e.terms.increment == given.terms.increment
 
+-- the event's name, budget and increment are within the club's limits
 abbrev pub has_good_values : Event → Bool
 has_good_values e = is_name e.name && is_budget e.terms.budget && is_increment e.terms.increment
 
@@ -59,6 +63,7 @@ module _ (events : List Event) (given : Event) where
   abbrev pub same_event : Option Reply
   same_event = option_map event_added (find_id (is_event given) events)
 
+  -- the refusals of a new event with their tests, in the order in which they apply
   abbrev pub event_tests : List (Bool × Refusal)
   event_tests =
       (list_any (has_event_name given.name) events, NameTaken)
@@ -66,9 +71,11 @@ module _ (events : List Event) (given : Event) where
       ∷ (nat_le most_events (length events), Full)
       ∷ []
 
+  -- the first refusal of a new event that applies, if any
   abbrev pub event_refusal : Option Refusal
   event_refusal = first_refusal event_tests
 
+  -- the transition that adds an event
   abbrev pub event_step : Outcome (List Event)
   event_step =
       unless_repeat same_event

@@ -36,12 +36,14 @@ pub record Imported (M : Type 0) : Type 0 where
   pub pairing : Pairing
   pub recorded : Recorded M
 
+-- equality of formats
 abbrev pub same_format : RecordFormat → RecordFormat → Bool
 same_format Pdn Pdn = true
 same_format Csa Csa = true
 same_format Pdn Csa = false
 same_format Csa Pdn = false
 
+-- the score exists and is this one
 abbrev pub has_score : Option Score → Score → Bool
 has_score None score = false
 has_score (Some result) score = same_score result score
@@ -52,6 +54,7 @@ recorded_end None score = Some (by_record score)
 recorded_end (Some end) score = None
 
 module _ {P M E T : Type 0} (rules : GameRules P M E T) where
+  -- both lists have the same moves in the same order
   abbrev pub same_moves : List M → List M → Bool
   same_moves [] [] = true
   same_moves [] (n ∷ ns) = false
@@ -62,6 +65,7 @@ module _ {P M E T : Type 0} (rules : GameRules P M E T) where
   abbrev pub is_record_of : Game M → Recorded M → Bool
   is_record_of game r = has_score (result_of rules game) r.score && same_moves (moves_of game) r.moves
 
+  -- the reading is a record of this game, if both exist
   abbrev pub reads_record_of : Option (Game M) → Reading M → Bool
   reads_record_of (Some game) (record_is.game r) = is_record_of game r
   reads_record_of (Some game) record_is.no_part = false
@@ -89,6 +93,7 @@ read_in format declares (record_is.game r) =
 read_in format declares record_is.no_part = record_is.no_part
 read_in format declares (record_is.refused refusal) = record_is.refused refusal
 
+-- the text has such a part, even if the text is refused
 abbrev pub has_part : {M : Type 0} → Reading M → Bool
 has_part (record_is.game r) = true
 has_part record_is.no_part = false
@@ -103,6 +108,7 @@ import_game event (Some one) (Some other) games r =
 import_game event (Some one) None games r = refused BadValue
 import_game event None other games r = refused BadValue
 
+-- imports the game that was read, or refuses its text
 abbrev pub import_between : {M : Type 0} → ℕ → Option ℕ → Option ℕ → ℕ → Reading M → Outcome (Imported M)
 import_between event one other games (record_is.game r) = import_game event one other games r
 import_between event one other games record_is.no_part = refused BadValue
@@ -131,9 +137,11 @@ module _ {P M E T : Type 0} (rules : GameRules P M E T) (records : GameRecords M
         ∷ (nat_le most_games games, Full)
         ∷ []
 
+    -- the first refusal of an import that applies, if any
     abbrev pub import_refusal : Option Refusal
     import_refusal = first_refusal import_tests
 
+    -- the transition of an import into an event that exists; `declares`: the event has declarations
     abbrev pub import_step : Bool → Outcome (Imported M)
     import_step declares =
         unless_repeat repeat_of_import

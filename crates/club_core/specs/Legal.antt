@@ -3,11 +3,11 @@ use Rattle.std.specs.Prelude.{◌≡◌, ◌≢◌, ◌+◌, ◌-◌, ◌≤◌,
 use Rattle.std.specs.Prelude.{slice_get}
 use Rattle.squares.specs.declared.sides.Side.{Side}
 use Rattle.squares.specs.declared.sides.Side.TheVariants.{First}
-use Rattle.squares.specs.declared.sides.Score.{Score}
 use Rattle.squares.specs.Sides.{other}
 use Rattle.club_rules.specs.GameRules.{GameRules}
 use Rattle.club_rules.specs.Line.{IsPlayedLine}
-use Rattle.club_requests.specs.declared.outside_end.OutsideEnd.TheVariants.{Agreed, Declared, Recorded}
+use Rattle.club_requests.specs.declared.outside_end.OutsideEnd.{OutsideEnd}
+use Rattle.club_requests.specs.declared.outside_end.OutsideEnd.TheVariants.{Resigned, Agreed, Time, Declared, Recorded}
 use Rattle.club_core.specs.declared.rows.Offer.{Offer}
 use Rattle.club_requests.specs.Limits.{most_plies}
 use Rattle.club_core.specs.Events.{Terms}
@@ -32,6 +32,16 @@ pub record IsRecorded {M : Type 0} (game : Game M) : Type 0 where
   pub no_offer : game.offer ≡ None
   pub at_once : (n : ℕ) (e : Entry M) → slice_get game.entries n ≡ Some e → e.moment ≡ game.start
 
+-- what an end outside the rules needs: agreement needs a draw offer, a declaration needs an event and a position that
+-- allow it, and the score of a record needs an imported game
+abbrev pub MayEndBy : {P M E T : Type 0} → GameRules P M E T → Terms → Game M → OutsideEnd → Type 0
+MayEndBy rules terms game Resigned = Unit {0}
+MayEndBy rules terms game Time = Unit {0}
+MayEndBy rules terms game Agreed = IsSome game.offer
+MayEndBy rules terms game Declared =
+    (terms.declares ≡ true) × (rules.can_declare (last_position rules game) ≡ true)
+MayEndBy rules terms game (Recorded score) = IsRecorded game
+
 -- the invariant of a game: legal moves that were made in time, and a consistent end and draw offer
 pub record IsLegalGame {P M E T : Type 0} (rules : GameRules P M E T) (terms : Terms) (game : Game M) : Type 0 where
   pub line : IsPlayedLine rules rules.start (moves_of game)
@@ -40,8 +50,5 @@ pub record IsLegalGame {P M E T : Type 0} (rules : GameRules P M E T) (terms : T
   -- an outside reason ends a game only if the rules gave no end
   pub outside_alone : IsSome game.outside → rule_end rules game ≡ None
   pub offer : IfSome game.offer (λ o. IsOffer rules game o)
-  pub agreed : game.outside ≡ Some Agreed → IsSome game.offer
-  pub recorded : (score : Score) → game.outside ≡ Some (Recorded score) → IsRecorded game
-  pub declared : game.outside ≡ Some Declared
-      → (terms.declares ≡ true) × (rules.can_declare (last_position rules game) ≡ true)
+  pub outside : IfSome game.outside (λ end. MayEndBy rules terms game end)
   pub players : game.first ≢ game.second

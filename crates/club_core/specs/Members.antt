@@ -19,9 +19,11 @@ abbrev pub find_id : {A : Type 0} → (A → Bool) → List A → Option ℕ
 find_id test [] = None
 find_id test (x ∷ xs) = if test x then Some 1 else option_map suc (find_id test xs)
 
+-- the member has this name and this key
 abbrev pub is_member : List ℕ → List ℕ → Member → Bool
 is_member name key m = bytes_eq m.name name && bytes_eq m.key key
 
+-- the member has this name or this key
 abbrev pub has_name_or_key : List ℕ → List ℕ → Member → Bool
 has_name_or_key name key m = bytes_eq m.name name || bytes_eq m.key key
 
@@ -30,6 +32,7 @@ module _ (members : List Member) (name key : List ℕ) where
   abbrev pub same_member : Option Reply
   same_member = option_map member_added (find_id (is_member name key) members)
 
+  -- the refusals of a new member with their tests, in the order in which they apply
   abbrev pub member_tests : List (Bool × Refusal)
   member_tests =
       (list_any (has_name_or_key name key) members, NameTaken)
@@ -37,9 +40,11 @@ module _ (members : List Member) (name key : List ℕ) where
       ∷ (nat_le most_members (length members), Full)
       ∷ []
 
+  -- the first refusal of a new member that applies, if any
   abbrev pub member_refusal : Option Refusal
   member_refusal = first_refusal member_tests
 
+  -- the transition that adds a member
   abbrev pub member_step : Outcome (List Member)
   member_step =
       unless_repeat same_member

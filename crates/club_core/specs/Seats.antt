@@ -12,6 +12,7 @@ use Rattle.club_core.specs.Events.{Event, has_event_name}
 use Rattle.club_core.specs.declared.seats.Pairing.{Pairing}
 use Rattle.club_core.specs.declared.seats.KeyedGame.{KeyedGame}
 
+-- the member has this name
 abbrev pub has_member_name : List ℕ → Member → Bool
 has_member_name name m = bytes_eq m.name name
 
@@ -35,6 +36,7 @@ are_distinct None second = false
 are_distinct (Some first) None = false
 are_distinct (Some first) (Some second) = not (first == second)
 
+-- the refusals of a new game with their tests, in the order in which they apply
 abbrev pub seat_tests : Option KeyedGame → ℕ → List ℕ → Option ℕ → Option ℕ → List (Bool × Refusal)
 seat_tests under_key games key first second =
     (is_some under_key, Conflict)
@@ -42,6 +44,7 @@ seat_tests under_key games key first second =
     ∷ (nat_le most_games games, Full)
     ∷ []
 
+-- the first refusal of a new game that applies, if any
 abbrev pub seat_refusal : Option KeyedGame → ℕ → List ℕ → Option ℕ → Option ℕ → Option Refusal
 seat_refusal under_key games key first second = first_refusal (seat_tests under_key games key first second)
 
@@ -59,6 +62,7 @@ seat_found (Some event) first second under_key games key =
     (unless (seat_refusal under_key games key first second)
     (pair event first second games))
 
+-- starts a game of an event between two members, all given by name
 abbrev pub seat_step : List Member → List Event → Option KeyedGame → ℕ → List ℕ → List ℕ → List ℕ → List ℕ
     → Outcome Pairing
 seat_step members events under_key games key event first second =

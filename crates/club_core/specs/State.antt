@@ -77,38 +77,47 @@ abbrev pub at_found : {A : Type 0} → List A → Option ℕ → Option A
 at_found xs None = None
 at_found xs (Some id) = place xs id
 
+-- the terms of an event that was looked up; zeros and no declarations if there is none
 abbrev pub terms_at : Option Event → Terms
 terms_at None = record { budget = 0; increment = 0; declares = false }
 terms_at (Some e) = e.terms
 
+-- the game of an event that was looked up; `Draughts` if there is none
 abbrev pub kind_at : Option Event → GameKind
 kind_at None = Draughts
 kind_at (Some e) = e.game
 
+-- the second key exists and is this one
 abbrev pub is_key : List ℕ → Option (List ℕ) → Bool
 is_key key None = false
 is_key key (Some k) = bytes_eq k key
 
 module _ {DM SM : Type 0} where
+  -- the key of a game, if it has one
   abbrev pub key_of : AnyGame DM SM → Option (List ℕ)
   key_of (draughts g) = g.key
   key_of (shogi g) = g.key
 
+  -- the event and the players of a game
   abbrev pub pairing_of : AnyGame DM SM → Pairing
   pairing_of (draughts g) = record { event = g.event; first = g.first; second = g.second }
   pairing_of (shogi g) = record { event = g.event; first = g.first; second = g.second }
 
+  -- the game has this key
   abbrev pub has_key : List ℕ → AnyGame DM SM → Bool
   has_key key g = is_key key (key_of g)
 
+  -- the game with its id, its event and its players, if it exists
   abbrev pub keyed_game : Option (AnyGame DM SM) → ℕ → Option KeyedGame
   keyed_game None id = None
   keyed_game (Some g) id = Some (record { game = id; pairing = pairing_of g })
 
+  -- the game with an id that was looked up, with its event and its players, if it exists
   abbrev pub keyed_at : List (AnyGame DM SM) → Option ℕ → Option KeyedGame
   keyed_at games None = None
   keyed_at games (Some id) = keyed_game (place games id) id
 
+  -- the game stored under a key, if it exists
   abbrev pub any_under : List (AnyGame DM SM) → List ℕ → Option (AnyGame DM SM)
   any_under games key = at_found games (find_id (has_key key) games)
 
@@ -118,6 +127,7 @@ module _ {DM SM : Type 0} where
   draughts_in (Some (draughts g)) = Some g
   draughts_in (Some (shogi g)) = None
 
+  -- the game, if it is one of shogi
   abbrev pub shogi_in : Option (AnyGame DM SM) → Option (Game SM)
   shogi_in None = None
   shogi_in (Some (draughts g)) = None
@@ -141,6 +151,7 @@ seated key pairing start =
       outside = None;
     }
 
+-- a new game of this kind without moves
 abbrev pub seated_as : {DM SM : Type 0} → GameKind → Option (List ℕ) → Pairing → ℕ → AnyGame DM SM
 seated_as Draughts key pairing start = draughts (seated key pairing start)
 seated_as Shogi key pairing start = shogi (seated key pairing start)
@@ -150,9 +161,11 @@ abbrev pub caller_found : Option ℕ → Option Caller
 caller_found None = None
 caller_found (Some id) = Some (Member id)
 
+-- the member has this key
 abbrev pub has_member_key : List ℕ → members.Member → Bool
 has_member_key key m = bytes_eq m.key key
 
+-- the caller of a command: the officer, or the member with the key, if it exists
 abbrev pub caller_of : List members.Member → Who → Option Caller
 caller_of all officer = Some Officer
 caller_of all (key_holder key) = caller_found (find_id (has_member_key key) all)
@@ -163,18 +176,22 @@ state_after s (accepted new reply) = new
 state_after s (repeated reply) = s
 state_after s (refused refusal) = s
 
+-- the command is accepted, and is neither a repetition nor refused
 abbrev pub is_accepted : {S : Type 0} → Outcome S → Bool
 is_accepted (accepted new reply) = true
 is_accepted (repeated reply) = false
 is_accepted (refused refusal) = false
 
 module _ {DM SM : Type 0} (s : State DM SM) (moment : ℕ) where
+  -- the state with these members, after a command at this timestamp
   abbrev pub with_members : List members.Member → State DM SM
   with_members all = record s { last = moment; members = all }
 
+  -- the state with these events, after a command at this timestamp
   abbrev pub with_events : List Event → State DM SM
   with_events all = record s { last = moment; events = all }
 
+  -- the state with a new game under this key, of the event's kind
   abbrev pub with_new_game : List ℕ → Pairing → State DM SM
   with_new_game key pairing =
       record s {
@@ -182,12 +199,15 @@ module _ {DM SM : Type 0} (s : State DM SM) (moment : ℕ) where
         games = s.games ++ seated_as (kind_at (place s.events pairing.event)) (Some key) pairing moment ∷ [];
       }
 
+  -- the state with one more game
   abbrev pub with_imported : AnyGame DM SM → State DM SM
   with_imported game = record s { last = moment; games = s.games ++ game ∷ [] }
 
+  -- the state with the game of this id replaced
   abbrev pub with_game : ℕ → AnyGame DM SM → State DM SM
   with_game id game = record s { last = moment; games = slice_set s.games (id - 1) game }
 
+  -- the state with a challenge inserted or replaced
   abbrev pub with_challenge : Challenge → State DM SM
   with_challenge c = record s { last = moment; challenges = put_challenge s.challenges c }
 
@@ -200,6 +220,7 @@ abbrev pub with_answer : {DM SM : Type 0} → State DM SM → ℕ → Bool → C
 with_answer s moment false c = with_challenge s moment c
 with_answer s moment true c = with_challenge (with_imported s moment (challenge_game s moment c)) moment c
 
+-- the transition of an import, with its event, its players and the game under its key looked up
 abbrev pub import_looked_up : {DM SM P M E T : Type 0} →
     GameRules P M E T → GameRecords M → State DM SM → Import → Option (Game M) → Outcome (Imported M)
 import_looked_up rules records s given old =
@@ -212,6 +233,7 @@ import_looked_up rules records s given old =
     (length s.games)
 
 module _ {DP DM DE DT SP SM SE ST : Type 0} (rules : ClubRules DP DM DE DT SP SM SE ST) where
+  -- a command on the game with this id, which was looked up
   abbrev pub step_game : State DM SM → ℕ → ℕ → Caller → GameCommand → Option (AnyGame DM SM) → Outcome (State DM SM)
   step_game s moment id who command None = refused (no_game_refusal who command)
   step_game s moment id who command (Some (draughts g)) =
@@ -237,6 +259,7 @@ module _ {DP DM DE DT SP SM SE ST : Type 0} (rules : ClubRules DP DM DE DT SP SM
   is_late_any s moment (draughts g) = is_late rules.draughts (terms_at (place s.events g.event)) g moment
   is_late_any s moment (shogi g) = is_late rules.shogi (terms_at (place s.events g.event)) g moment
 
+  -- the game after a sweep
   abbrev pub swept_any : State DM SM → ℕ → AnyGame DM SM → AnyGame DM SM
   swept_any s moment (draughts g) = draughts (swept rules.draughts (terms_at (place s.events g.event)) g moment)
   swept_any s moment (shogi g) = shogi (swept rules.shogi (terms_at (place s.events g.event)) g moment)
@@ -277,6 +300,7 @@ module _ {DP DM DE DT SP SM SE ST : Type 0} (rules : ClubRules DP DM DE DT SP SM
       (challenge_by s.challenges (find_id (has_member_name challenger) s.members) number)
       (length s.games) caller accept))
 
+  -- a command of a caller that was looked up by key; refused if there is none
   abbrev pub step_by : State DM SM → ℕ → Option Caller → Command → Outcome (State DM SM)
   step_by s moment None command = refused UnknownKey
   step_by s moment (Some who) command = step_command s moment who command

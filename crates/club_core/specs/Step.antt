@@ -24,7 +24,8 @@ use Rattle.club_core.specs.Events.{Terms}
 use Rattle.club_requests.specs.Outcome.{Reply, moved, draw_offered, game_ended, Outcome, accepted, refused}
 use Rattle.club_requests.specs.Outcome.{first_refusal}
 use Rattle.club_requests.specs.Outcome.{unless, unless_repeat}
-use Rattle.club_core.specs.Game.{Game, left_of, side_after, outside_score, moves_of, clocks_of, last_position, rule_end}
+use Rattle.club_requests.specs.OutsideEnd.{outside_score}
+use Rattle.club_core.specs.Game.{Game, left_of, side_after, moves_of, clocks_of, last_position, rule_end}
 use Rattle.club_core.specs.Game.{turn_of, result_of, game_at}
 
 -- a command on a game, with its text as bytes
@@ -104,6 +105,7 @@ move_at game zero = None
 move_at game (suc n) = slice_get (moves_of game) n
 
 module _ {P M E T : Type 0} (rules : GameRules P M E T) where
+  -- the move if the rules accept it, otherwise their refusal
   abbrev pub checked_as : M → Result (Unit {0}) MoveRefusal → Result M MoveRefusal
   checked_as m (Ok _) = Ok m
   checked_as m (Err refusal) = Err refusal
@@ -137,17 +139,21 @@ module _ {P M E T : Type 0} (rules : GameRules P M E T) (terms : Terms) (game : 
       same_side side (side_after (ply - 1))
       && reads_as rules (rules.read_move (last_position rules (game_at game (ply - 1))) text) m
 
+  -- the reply if the text is the move that this side already played at this ply
   abbrev pub repeat_of : Option M → Side → List ℕ → Option Reply
   repeat_of None side text = None
   repeat_of (Some m) side text = if repeats m side text then Some (reply_of_move m) else None
 
 module _ {P M E T : Type 0} (rules : GameRules P M E T) (game : Game M) where
+  -- the game has ended
   abbrev pub is_over : Bool
   is_over = is_some (result_of rules game)
 
+  -- this side is to move
   abbrev pub is_turn : Side → Bool
   is_turn side = same_side side (turn_of rules game)
 
+  -- this ply is the next one to play
   abbrev pub is_next_ply : ℕ → Bool
   is_next_ply ply = ply == length game.entries + 1
 
@@ -155,6 +161,7 @@ module _ {P M E T : Type 0} (rules : GameRules P M E T) (game : Game M) where
   abbrev pub if_draws : Outcome (Game M) → Outcome (Game M)
   if_draws outcome = if rules.has_draw_offers then outcome else refused NotInThisGame
 
+  -- the refusals of a draw offer with their tests, in the order in which they apply
   abbrev pub offer_tests : Side → ℕ → List (Bool × Refusal)
   offer_tests side ply =
       (is_over, GameOver)
@@ -162,6 +169,7 @@ module _ {P M E T : Type 0} (rules : GameRules P M E T) (game : Game M) where
       ∷ (has_offer game.offer (other side) ply, Conflict)
       ∷ []
 
+  -- the first refusal of a draw offer that applies, if any
   abbrev pub offer_refusal : Side → ℕ → Option Refusal
   offer_refusal side ply = first_refusal (offer_tests side ply)
 
@@ -177,12 +185,15 @@ module _ {P M E T : Type 0} (rules : GameRules P M E T) (game : Game M) where
   abbrev pub reply_of_end : OutsideEnd → Reply
   reply_of_end end = game_ended end (outside_score end (turn_of rules game))
 
+  -- the reply to a command that ends the game, if it repeats an accepted one
   abbrev pub repeat_of_end : OutsideEnd → Bool → Option Reply
   repeat_of_end end repeats = if repeats then Some (reply_of_end end) else None
 
+  -- ends the game for this reason
   abbrev pub ends : OutsideEnd → Outcome (Game M)
   ends end = accepted (ended game end) (reply_of_end end)
 
+  -- the refusals of an acceptance of a draw with their tests, in the order in which they apply
   abbrev pub accept_tests : Side → ℕ → List (Bool × Refusal)
   accept_tests side ply =
       (is_over, GameOver)
@@ -190,6 +201,7 @@ module _ {P M E T : Type 0} (rules : GameRules P M E T) (game : Game M) where
       ∷ (not (has_offer game.offer (other side) ply), NoOffer)
       ∷ []
 
+  -- the first refusal of an acceptance of a draw that applies, if any
   abbrev pub accept_refusal : Side → ℕ → Option Refusal
   accept_refusal side ply = first_refusal (accept_tests side ply)
 
@@ -205,15 +217,18 @@ module _ {P M E T : Type 0} (rules : GameRules P M E T) (game : Game M) where
       (unless (accept_refusal side ply)
       (ends Agreed)))
 
+  -- the refusals of a resignation with their tests, in the order in which they apply
   abbrev pub resign_tests : Side → List (Bool × Refusal)
   resign_tests side =
       (is_over, GameOver)
       ∷ (not (is_turn side), NotYourTurn)
       ∷ []
 
+  -- the first refusal of a resignation that applies, if any
   abbrev pub resign_refusal : Side → Option Refusal
   resign_refusal side = first_refusal (resign_tests side)
 
+  -- this side, which is to move, already resigned
   abbrev pub repeat_of_resign : Side → Option Reply
   repeat_of_resign side = repeat_of_end Resigned (is_ended_by Resigned game.outside && is_turn side)
 
@@ -236,6 +251,7 @@ module _ {P M E T : Type 0} (rules : GameRules P M E T) (terms : Terms) (game : 
   abbrev pub may_declare : Bool
   may_declare = terms.declares && rules.can_declare (last_position rules game)
 
+  -- the refusals of a declared win with their tests, in the order in which they apply
   abbrev pub declare_tests : Side → ℕ → List (Bool × Refusal)
   declare_tests side ply =
       (is_over rules game, GameOver)
@@ -244,6 +260,7 @@ module _ {P M E T : Type 0} (rules : GameRules P M E T) (terms : Terms) (game : 
       ∷ (not may_declare, NotDeclarable)
       ∷ []
 
+  -- the first refusal of a declared win that applies, if any
   abbrev pub declare_refusal : Side → ℕ → Option Refusal
   declare_refusal side ply = first_refusal (declare_tests side ply)
 
@@ -276,6 +293,7 @@ module _ {P M E T : Type 0} (rules : GameRules P M E T) (terms : Terms) (game : 
       ∷ (nat_lt most_text_bytes (length text), BadValue)
       ∷ []
 
+  -- the first refusal of a new move that applies before its text is read, if any
   abbrev pub move_refusal : Side → ℕ → List ℕ → Option Refusal
   move_refusal side ply text = first_refusal (move_tests side ply text)
 
@@ -285,12 +303,14 @@ module _ {P M E T : Type 0} (rules : GameRules P M E T) (terms : Terms) (game : 
   plays (Ok m) = accepted (played game m moment)
       (reply_of_move rules terms (played game m moment) (length game.entries + 1) m)
 
+  -- a side plays the move of a text at this ply
   abbrev pub step_move : Side → ℕ → List ℕ → Outcome (Game M)
   step_move side ply text =
       unless_repeat (repeat_of rules terms game ply (move_at game ply) side text)
       (unless (move_refusal side ply text)
       (plays (checked rules (last_position rules game) (rules.read_move (last_position rules game) text))))
 
+  -- the refusals of a claim of a win on time with their tests, in the order in which they apply
   abbrev pub claim_tests : Side → List (Bool × Refusal)
   claim_tests side =
       (is_over rules game, GameOver)
@@ -298,6 +318,7 @@ module _ {P M E T : Type 0} (rules : GameRules P M E T) (terms : Terms) (game : 
       ∷ (not is_overdue, TimeLeft)
       ∷ []
 
+  -- the first refusal of a claim of a win on time that applies, if any
   abbrev pub claim_refusal : Side → Option Refusal
   claim_refusal side = first_refusal (claim_tests side)
 
@@ -314,10 +335,12 @@ module _ {P M E T : Type 0} (rules : GameRules P M E T) (terms : Terms) (game : 
   side_step side claim_time = step_claim side
   side_step side (declare ply) = step_declare rules terms game side ply
 
+  -- a command by the player of a side; refused if the caller plays no side
   abbrev pub by_side : Option Side → GameCommand → Outcome (Game M)
   by_side None command = refused NotAPlayer
   by_side (Some side) command = side_step side command
 
+  -- a command of a caller on a game; refused if the caller may not give it
   abbrev pub game_step : Caller → GameCommand → Outcome (Game M)
   game_step who command =
       if may_give who command

@@ -25,6 +25,7 @@ use Rattle.club_core.specs.Game.{Game, Clocks, clocks_of, moves_of, last_positio
 use Rattle.club_core.specs.Game.{left_of, left_after, side_after, game_at}
 use Rattle.club_core.specs.Step.{move_at}
 
+-- the clocks that a row holds
 abbrev pub clocks_in : {E : Type 0} → GameRow E → Clocks
 clocks_in row = record { left_first = row.left_first; left_second = row.left_second; since = row.since }
 

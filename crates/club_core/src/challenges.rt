@@ -112,37 +112,41 @@ fn refusal_of_opening(
     None
 }
 
-/// Opens a challenge after the names are looked up.
-fn opening_found(
-    caller: u32,
+/// A challenge to open, after its names are looked up; `other` is `None` if no member has the opponent's name.
+#[derive(Clone, Copy)]
+struct Opening {
+    member: u32,
     number: u64,
     event: u32,
     other: Option<u32>,
     first: bool,
-    under: Option<Challenge>,
-) -> ChallengeDecision
-    ensures { challenge_outcome_of result ≡ opening_found caller number (Some event) other first under }
+}
+
+/// Opens a challenge after the names are looked up.
+fn opening_found(opening: Opening, under: Option<Challenge>) -> ChallengeDecision
+    ensures { challenge_outcome_of result ≡ opening_found opening.member opening.number (Some opening.event)
+        opening.other opening.first under }
 {
-    match repeat_of_opening(event, other, first, under) {
+    match repeat_of_opening(opening.event, opening.other, opening.first, under) {
         Some(answer) => return ChallengeDecision::Repeated(answer),
         None => {}
     }
-    match refusal_of_opening(caller, number, other, under) {
+    match refusal_of_opening(opening.member, opening.number, opening.other, under) {
         Some(refusal) => return ChallengeDecision::Refused(refusal),
         None => {}
     }
-    let other = match other {
+    let other = match opening.other {
         Some(other) => other,
         None => return ChallengeDecision::Refused(Refusal::BadValue),
     };
-    let number = number as u32;
+    let number = opening.number as u32;
     ChallengeDecision::Accepted {
         challenge: Challenge {
-            member: caller,
+            member: opening.member,
             number,
-            event,
+            event: opening.event,
             other,
-            first,
+            first: opening.first,
             standing: ChallengeState::Open,
         },
         answer: Answer::ChallengeOpened { number },
@@ -174,8 +178,14 @@ pub fn open_challenge(
         Some(event) => event,
         None => return ChallengeDecision::Refused(Refusal::UnknownEvent),
     };
-    let other = find_member(members, command.other.as_str());
-    opening_found(caller, command.number, event, other, command.first, under)
+    let opening = Opening {
+        member: caller,
+        number: command.number,
+        event,
+        other: find_member(members, command.other.as_str()),
+        first: command.first,
+    };
+    opening_found(opening, under)
 }
 
 /// Withdraws the caller's challenge `under`; only members may. Only an open challenge can be withdrawn.

@@ -10,7 +10,7 @@ ghost use Rattle.club_core.specs.Step.{repeat_of_claim, claim_refusal, step_clai
 ghost use Rattle.club_core.specs.View.{Shows, IsDecision, terms_of};
 
 use crate::decided::Decision;
-use crate::ends::{is_ended_by, outside_score};
+use crate::ends::is_ended_by;
 use crate::players::{is_side, left_in};
 use crate::rows::{GameEnd, GameView, copy_row};
 use clocks::Moment;
@@ -24,7 +24,7 @@ pub fn answer_of_end<R: Rules>(view: &GameView<R>, end: OutsideEnd) -> Answer
 {
     Answer::Ended {
         end,
-        result: outside_score(end, R::turn(&view.position)),
+        result: end.score(R::turn(&view.position)),
     }
 }
 
@@ -41,7 +41,7 @@ pub fn accept_end<R: Rules>(view: &GameView<R>, end: OutsideEnd) -> Result<Decis
     let answer = answer_of_end(view, end);
     let mut row = copy_row(&view.row)?;
     row.end = Some(GameEnd::Outside(end));
-    row.result = Some(outside_score(end, R::turn(&view.position)));
+    row.result = Some(end.score(R::turn(&view.position)));
     Ok(Decision::Accepted {
         row,
         made: None,

@@ -3,7 +3,7 @@
 ghost use Rattle.std.specs.Prelude.{◌≡◌};
 ghost use Rattle.std.specs.Option.{option_map};
 ghost use Rattle.club_core.specs.declared.rows.GameEnd.TheVariants.{Rule};
-ghost use Rattle.club_core.specs.Game.{score_with, outside_score};
+ghost use Rattle.club_core.specs.Game.{score_with};
 ghost use Rattle.club_core.specs.View.{rule_in, outside_in};
 ghost use Rattle.club_core.specs.Step.{is_ended_by};
 
@@ -49,19 +49,6 @@ pub fn score_of_end<R: Rules>(end: Option<R::End>, turn: Side) -> Option<Score>
     match &end {
         Some(e) => Some(R::outcome(e, turn)),
         None => None,
-    }
-}
-
-/// The score of an end for an outside reason, given the side to move.
-pub fn outside_score(end: OutsideEnd, turn: Side) -> Score
-    ensures { result ≡ outside_score end turn }
-{
-    match end {
-        OutsideEnd::Resigned => Score::lost_by(turn),
-        OutsideEnd::Time => Score::lost_by(turn),
-        OutsideEnd::Agreed => Score::Draw,
-        OutsideEnd::Declared => Score::lost_by(turn.other()),
-        OutsideEnd::Recorded(score) => score,
     }
 }
 

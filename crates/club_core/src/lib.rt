@@ -1,4 +1,12 @@
 //! The club's state machine: the transition of each command, or the reason for its refusal.
+//!
+//! # Guarantees
+//!
+//! - `decide`, `settle`, `conclude`: the decision on a command in a game is the step of the state machine, for every
+//!   game that the view shows.
+//! - `add_member`, `add_event`, `seat`: adding a member or an event and seating a game are steps of the state machine.
+//! - `open_challenge`, `withdraw`, `answer_challenge`: opening, withdrawing and answering a challenge are steps too,
+//!   with the challenge as it will be stored.
 #![tactic(auto)]
 
 pub mod challenges;
@@ -25,5 +33,7 @@ pub use decisions::{asked_ply, decide, refusal_without_game};
 pub use events::{Event, add_event, event_declares};
 pub use members::{Member, add_member, identify};
 pub use rows::{Asked, GameEnd, GameRow, GameView, Made, Offer};
-pub use seats::{KeyedGame, Pairing, SeatDecision, keyless_row, seat, seated_row};
+pub use seats::{
+    KeyedGame, NamedPairing, Pairing, SeatDecision, StoredGames, keyless_row, seat, seated_row,
+};
 pub use settling::{Settled, conclude, settle};

@@ -151,26 +151,32 @@ fn clock_after<R: Rules>(
     Ok(clock)
 }
 
-/// The row after a move that leaves the mover `left` seconds.
+/// When a side moved, and the seconds that the move left it.
+#[derive(Clone, Copy)]
+struct MoveTime {
+    side: Side,
+    moment: Moment,
+    left: u64,
+}
+
+/// The row after a move at this time, with the new track and position.
 fn moved_row<E: Copy + Drop>(
     row: &GameRow<E>,
-    turn: Side,
-    left: u64,
-    moment: Moment,
+    time: MoveTime,
     track: (u32, u32),
     position: String,
 ) -> Result<GameRow<E>, Memory>
     requires plies { row.now.plies < 2 ^ 32 - 1 }
     ensures clocks { IfOk result
-        (λ new. (increment : ℕ) → left ≡ left_after (left_of turn (clocks_in row.now)) increment
-        (moment - row.now.since) →
-        clocks_in new ≡ spend increment turn moment (clocks_in row.now)) }
-    ensures left { IfOk result (λ new. left_of turn (clocks_in new) ≡ left) }
+        (λ new. (increment : ℕ) → time.left ≡ left_after (left_of time.side (clocks_in row.now)) increment
+        (time.moment - row.now.since) →
+        clocks_in new ≡ spend increment time.side time.moment (clocks_in row.now)) }
+    ensures left { IfOk result (λ new. left_of time.side (clocks_in new) ≡ time.left) }
     ensures key { IfOk result (λ new. option_map (λ k. string_bytes k) new.key
         ≡ option_map (λ k. string_bytes k) row.now.key) }
     ensures others { IfOk result (λ new. new ≡ record row.now {
       key = new.key;
-      since = moment;
+      since = time.moment;
       plies = row.now.plies + 1;
       left_first = new.left_first;
       left_second = new.left_second;
@@ -181,9 +187,9 @@ fn moved_row<E: Copy + Drop>(
       position = position;
     }) }
 {
-    let (left_first, left_second) = match turn {
-        Side::First => (left, row.left_second),
-        Side::Second => (row.left_first, left),
+    let (left_first, left_second) = match time.side {
+        Side::First => (time.left, row.left_second),
+        Side::Second => (row.left_first, time.left),
     };
     Ok(GameRow {
         key: copy_key(&row.key)?,
@@ -191,7 +197,7 @@ fn moved_row<E: Copy + Drop>(
         first: row.first,
         second: row.second,
         start: row.start,
-        since: moment,
+        since: time.moment,
         plies: row.plies + 1,
         left_first,
         left_second,
@@ -224,7 +230,12 @@ fn accept_move<R: Rules>(
     let written = R::write_position(alloc, &position)?;
     let shown = written.clone()?;
     let numbers = R::track_numbers(&track);
-    let row = moved_row(&view.row, turn, left, moment, numbers, written)?;
+    let time = MoveTime {
+        side: turn,
+        moment,
+        left,
+    };
+    let row = moved_row(&view.row, time, numbers, written)?;
     let answer = Answer::Moved(MoveAnswer {
         ply: row.plies,
         text,

@@ -38,6 +38,23 @@ pub struct KeyedGame {
     pub pairing: Pairing,
 }
 
+/// An event and two players as a command names them; a player is `None` if no member has the name.
+#[derive(Clone, Copy, Debug, PartialEq, Eq)]
+pub struct NamedPairing {
+    pub event: u32,
+    pub first: Option<u32>,
+    pub second: Option<u32>,
+}
+
+/// The stored games as a new game with a key depends on them.
+#[derive(Clone, Copy, Debug, PartialEq, Eq)]
+pub struct StoredGames {
+    /// The game that already has the key.
+    pub under_key: Option<KeyedGame>,
+    /// The number of games.
+    pub count: u32,
+}
+
 /// The outcome of a `seat` command: a new game with this id, a repeat of the command that started it, or a refusal.
 #[derive(Clone, Copy, Debug, PartialEq, Eq)]
 pub enum SeatDecision {
@@ -86,78 +103,61 @@ pub fn are_distinct(first: Option<u32>, second: Option<u32>) -> bool
 }
 
 /// The id of the game under the key, if it has the same event and the same players on the same sides.
-pub fn repeated_seat(
-    event: u32,
-    first: Option<u32>,
-    second: Option<u32>,
-    under_key: Option<KeyedGame>,
-) -> Option<u32>
-    ensures { option_map game_seated result ≡ same_seats event first second under_key }
+pub fn repeated_seat(named: NamedPairing, under_key: Option<KeyedGame>) -> Option<u32>
+    ensures { option_map game_seated result ≡ same_seats named.event named.first named.second under_key }
 {
     let old = match under_key {
         Some(old) => old,
         None => return None,
     };
-    let same = event == old.pairing.event
-        && is_id(first, old.pairing.first)
-        && is_id(second, old.pairing.second);
+    let same = named.event == old.pairing.event
+        && is_id(named.first, old.pairing.first)
+        && is_id(named.second, old.pairing.second);
     if same { Some(old.game) } else { None }
 }
 
 /// The refusal of a new game, if any.
-fn refusal_of_seat(
-    under_key: Option<KeyedGame>,
-    games: u32,
-    key: &str,
-    first: Option<u32>,
-    second: Option<u32>,
-) -> Option<Refusal>
-    ensures value { result ≡ seat_refusal under_key games key.now first second }
-    ensures room { IfNone result (games < most_games) }
+fn refusal_of_seat(named: NamedPairing, stored: StoredGames, key: &str) -> Option<Refusal>
+    ensures value { result ≡ seat_refusal stored.under_key stored.count key.now named.first named.second }
+    ensures room { IfNone result (stored.count < most_games) }
 {
-    if under_key.is_some() {
+    if stored.under_key.is_some() {
         return Some(Refusal::Conflict);
     }
-    if !is_name(key) || !are_distinct(first, second) {
+    if !is_name(key) || !are_distinct(named.first, named.second) {
         return Some(Refusal::BadValue);
     }
-    if games >= MOST_GAMES {
+    if stored.count >= MOST_GAMES {
         return Some(Refusal::Full);
     }
     None
 }
 
 /// Seats two players after the names are looked up.
-fn seat_found(
-    event: u32,
-    first: Option<u32>,
-    second: Option<u32>,
-    under_key: Option<KeyedGame>,
-    games: u32,
-    key: &str,
-) -> SeatDecision
-    ensures { seating_of result ≡ seat_found (Some event) first second under_key games key.now }
+fn seat_found(named: NamedPairing, stored: StoredGames, key: &str) -> SeatDecision
+    ensures { seating_of result ≡ seat_found (Some named.event) named.first named.second stored.under_key
+        stored.count key.now }
 {
-    match repeated_seat(event, first, second, under_key) {
+    match repeated_seat(named, stored.under_key) {
         Some(game) => return SeatDecision::Repeated(game),
         None => {}
     }
-    match refusal_of_seat(under_key, games, key, first, second) {
+    match refusal_of_seat(named, stored, key) {
         Some(refusal) => return SeatDecision::Refused(refusal),
         None => {}
     }
-    let first = match first {
+    let first = match named.first {
         Some(first) => first,
         None => return SeatDecision::Refused(Refusal::BadValue),
     };
-    let second = match second {
+    let second = match named.second {
         Some(second) => second,
         None => return SeatDecision::Refused(Refusal::BadValue),
     };
     SeatDecision::Starts(KeyedGame {
-        game: games + 1,
+        game: stored.count + 1,
         pairing: Pairing {
-            event,
+            event: named.event,
             first,
             second,
         },
@@ -166,20 +166,18 @@ fn seat_found(
 
 /// Starts a game between two members; only the officer may.
 ///
-/// `members` and `events` are in the order of ids, `under_key` is the game that already has the key, and `games` is the
-/// number of games. The new game gets the next id.
+/// `members` and `events` are in the order of ids. The new game gets the next id.
 pub fn seat(
     members: &[Member],
     events: &[Event],
-    under_key: Option<KeyedGame>,
-    games: u32,
+    stored: StoredGames,
     caller: Caller,
     command: &Seat,
 ) -> SeatDecision
     requires members { length members.now ≤ most_members }
     requires events { length events.now ≤ most_events }
     ensures { seating_of result ≡ by_officer caller (seat_step (members_of members.now) (events_of events.now)
-        under_key games (string_bytes command.now.key)
+        stored.under_key stored.count (string_bytes command.now.key)
         (string_bytes command.now.event) (string_bytes command.now.first) (string_bytes command.now.second)) }
 {
     if caller != Caller::Officer {
@@ -189,9 +187,12 @@ pub fn seat(
         Some(event) => event,
         None => return SeatDecision::Refused(Refusal::UnknownEvent),
     };
-    let first = find_member(members, command.first.as_str());
-    let second = find_member(members, command.second.as_str());
-    seat_found(event, first, second, under_key, games, command.key.as_str())
+    let named = NamedPairing {
+        event,
+        first: find_member(members, command.first.as_str()),
+        second: find_member(members, command.second.as_str()),
+    };
+    seat_found(named, stored, command.key.as_str())
 }
 
 /// The row of a new game with a key, each player having the budget (in seconds).

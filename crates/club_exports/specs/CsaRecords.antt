@@ -23,6 +23,7 @@ told_end (by.Outside outside.Declared) = csa_end.Declared
 told_end (by.Outside outside.Agreed) = csa_end.Recorded Draw
 told_end (by.Outside (outside.Recorded score)) = csa_end.Recorded score
 
+-- the CSA end of a game, if the game has ended
 abbrev pub end_told : Option (GameEnd SEnd) → Option CsaEnd
 end_told None = None
 end_told (Some end) = Some (told_end end)

@@ -43,6 +43,7 @@ use Rattle.club_rules.specs.declared.record_refusals.RecordRefusal.TheVariants a
 use Rattle.club_rules.specs.Records.{Recorded, Reading, GameRecords, game, no_part, refused}
 use Rattle.club_games.specs.Shogi.{refusal_of}
 
+-- equality of roles, as `==` computes it
 abbrev pub same_role : Role → Role → Bool
 same_role a b = sameb role_of.the_type a b
 
@@ -53,6 +54,7 @@ promotion_of piece code =
     then Some false
     else if same_role code (arrived piece true).role then Some true else None
 
+-- whether the piece on the origin of a step promotes in it; None if there is no piece or its code differs
 abbrev pub promotion_at : Option SPiece → Role → Option Bool
 promotion_at None code = None
 promotion_at (Some piece) code = promotion_of piece code
@@ -68,6 +70,7 @@ dropped_kind role.Lance = Some in_hand.Lance
 dropped_kind role.Pawn = Some in_hand.Pawn
 dropped_kind _ = None
 
+-- the move that a written move denotes, from its origin: a square, or None for the hand
 abbrev pub meant_from : ShogiPosition → WrittenMove → Option ℕ → Option SMove
 meant_from p w None = option_map (λ kind. Drop kind w.to) (dropped_kind w.role)
 meant_from p w (Some from) = option_map (λ promote. Step from w.to promote) (promotion_at (map.get p.board from) w.role)
@@ -97,13 +100,16 @@ replayed ms [] = Ok ms
 replayed ms (w ∷ ws) =
     replay_next ms (λ m. replayed (ms ++ m ∷ []) ws) (end_of opening ms) (meant (last_position opening ms) w)
 
+-- the game of a record, or its fault
 abbrev pub RecordRead : Type 0
 RecordRead = Result (Recorded SMove) CsaFault
 
+-- the game with these moves and this score, or the fault of the score
 abbrev pub with_score : Bool → List SMove → Result Score CsaFault → RecordRead
 with_score declared ms (Ok score) = Ok (record { moves = ms; score = score; declared = declared })
 with_score declared ms (Err f) = Err f
 
+-- the game of a record after the replay of its moves, or the fault of the replay
 abbrev pub with_moves : List NumberedStatement → Replayed → RecordRead
 with_moves placed (Ok ms) =
     with_score (says_declared (end_in placed)) ms (score_in placed ms (end_of opening ms))
@@ -114,9 +120,11 @@ abbrev pub record_reading : List NumberedStatement → RecordRead
 record_reading placed =
     if begins_even placed then with_moves placed (replayed [] (written_moves placed)) else Err fault.OtherOpening
 
+-- the games of a text, or its fault
 abbrev pub RecordsRead : Type 0
 RecordsRead = Result (List (Recorded SMove)) CsaFault
 
+-- the game of a record before the games of later records, or the first fault
 abbrev pub and_more : RecordRead → RecordsRead → RecordsRead
 and_more (Err f) more = Err f
 and_more (Ok g) (Err f) = Err f
@@ -127,10 +135,12 @@ abbrev pub records_reading : List (List NumberedStatement) → RecordsRead
 records_reading [] = Ok []
 records_reading (placed ∷ records) = and_more (record_reading placed) (records_reading records)
 
+-- the games of the statements, or a syntax error at the line of the first one out of order
 abbrev pub ordered_reading : List NumberedStatement → Option ℕ → RecordsRead
 ordered_reading placed (Some line) = Err (fault.BadText line)
 ordered_reading placed None = records_reading (records_of placed)
 
+-- whether a statement is a version
 abbrev pub is_version : Statement → Bool
 is_version statement.Version = true
 is_version _ = false
@@ -160,10 +170,12 @@ csa_refusal fault.ResultDiffers = record_refusal.ResultDiffers Csa
 abbrev pub game_of : CsaGame → Recorded SMove
 game_of g = record { moves = g.moves.items; score = g.score; declared = g.declared }
 
+-- a game that was found, or no such part
 abbrev pub found_game : Option (Recorded SMove) → Reading SMove
 found_game None = no_part
 found_game (Some r) = game r
 
+-- the game after the first `before` games of a text, or the refusal of the text
 abbrev pub part_of : ℕ → RecordsRead → Reading SMove
 part_of before (Err f) = refused (csa_refusal f)
 part_of before (Ok games) = found_game (slice_get games before)
@@ -173,5 +185,6 @@ abbrev pub csa_part : List ℕ → ℕ → Reading SMove
 csa_part text zero = no_part
 csa_part text (suc before) = part_of before (csa_reading text)
 
+-- the records of shogi: texts in CSA
 abbrev pub shogi_records : GameRecords SMove
 shogi_records = record { format = Csa; read = csa_part }

@@ -28,6 +28,7 @@ use Rattle.club_rules.specs.declared.refusals.MoveRefusal.TheVariants.{Ambiguous
 use Rattle.club_rules.specs.GameRules.{GameRules}
 use Rattle.club_rules.specs.MoveRefusal.{refused_by}
 
+-- the club's refusal of an illegal move of draughts
 abbrev pub refusal_of : Illegal → MoveRefusal
 refusal_of illegal.NoSuchMove = NoSuchMove game.Draughts
 refusal_of illegal.MustCapture = MustCapture
@@ -40,10 +41,12 @@ text_refusal fault.Ambiguous = Ambiguous
 text_refusal (fault.Illegal cause) = refusal_of cause
 text_refusal fault.Memory = NoSuchMove game.Draughts
 
+-- the move that a text denotes, or the club's refusal of the text
 abbrev pub move_read : Reading → Result DMove MoveRefusal
 move_read (Ok m) = Ok m
 move_read (Err fault) = Err (text_refusal fault)
 
+-- the club's name of an end of draughts
 abbrev pub name_of : DEnd → EndName
 name_of draughts_end.NoMove = name.NoMove
 name_of draughts_end.Repetition = name.Repetition
@@ -52,6 +55,7 @@ name_of draughts_end.ThreeToOne = name.ThreeToOne
 name_of draughts_end.TwoToOne = name.TwoToOne
 name_of draughts_end.PlyLimit = name.PlyLimit
 
+-- the rules of international draughts, with moves in PDN and positions in FEN
 abbrev pub draughts : GameRules Position DMove DEnd Tail
 draughts = record {
   start = opening;

@@ -29,9 +29,11 @@ pub record Lexed : Type 0 where
   pub tokens : List PlacedToken
   pub stop : Option ℕ
 
+-- a token before those of the rest of the text
 abbrev pub with_token : ℕ → Token → Lexed → Lexed
 with_token at token rest = record { tokens = record { at = at; token = token } ∷ rest.tokens; stop = rest.stop }
 
+-- the tokens from an offset on, by the front of the text; `skips` and `takes` lex what follows it
 abbrev pub after_front : ℕ → (List ℕ → Lexed) → (Token → List ℕ → Lexed) → LexStep → Lexed
 after_front at skips takes ended = record { tokens = []; stop = None }
 after_front at skips takes stuck = record { tokens = []; stop = Some at }
@@ -64,13 +66,16 @@ replayed ms (text ∷ texts) =
     replay_next ms (λ m. replayed (ms ++ m ∷ []) texts) (end_of opening ms)
     (move_value.move_reading (last_position opening ms) text)
 
+-- the game of a text, or its fault
 abbrev pub GameRead : Type 0
 GameRead = Result (Recorded DMove) PdnFault
 
+-- the game with these moves and this score, or the fault of the score
 abbrev pub with_score : List DMove → Result Score PdnFault → GameRead
 with_score ms (Ok score) = Ok (record { moves = ms; score = score; declared = false })
 with_score ms (Err f) = Err f
 
+-- the game of a text after the replay of its moves, or the fault of the replay
 abbrev pub with_moves : List PlacedToken → Replayed → GameRead
 with_moves tokens (Ok ms) = with_score ms (score_in tokens ms)
 with_moves tokens (Err f) = Err f
@@ -89,10 +94,12 @@ tokens_reading tokens =
     then with_moves tokens (replayed [] (move_texts tokens))
     else Err fault.OtherOpening
 
+-- the game of these tokens, or a syntax error at an offset
 abbrev pub formed_reading : List PlacedToken → Option ℕ → GameRead
 formed_reading tokens (Some offset) = Err (fault.BadText offset)
 formed_reading tokens None = tokens_reading tokens
 
+-- the game of a lexed text, or its fault
 abbrev pub lexed_reading : Lexed → GameRead
 lexed_reading l = formed_reading l.tokens (bad_at l.tokens l.stop)
 
@@ -116,6 +123,7 @@ pdn_refusal fault.ResultDiffers = record_refusal.ResultDiffers Pdn
 abbrev pub game_of : PdnGame → Recorded DMove
 game_of g = record { moves = g.moves.items; score = g.score; declared = false }
 
+-- the game of a text, or the club's refusal of the text
 abbrev pub whole : GameRead → Reading DMove
 whole (Err f) = refused (pdn_refusal f)
 whole (Ok r) = game r
@@ -124,5 +132,6 @@ whole (Ok r) = game r
 abbrev pub pdn_part : List ℕ → ℕ → Reading DMove
 pdn_part text part = if part == 1 then whole (pdn_reading text) else no_part
 
+-- the records of draughts: texts in PDN
 abbrev pub draughts_records : GameRecords DMove
 draughts_records = record { format = Pdn; read = pdn_part }

@@ -34,6 +34,7 @@ use Rattle.shogi_moves.specs.Declaring.{can_declare}
 use Rattle.club_rules.specs.GameRules.{GameRules}
 use Rattle.club_rules.specs.MoveRefusal.{refused_by}
 
+-- the club's refusal of an illegal move of shogi
 abbrev pub refusal_of : Illegal → MoveRefusal
 refusal_of illegal.NoSuchMove = NoSuchMove game.Shogi
 refusal_of illegal.NotInHand = NotInHand
@@ -56,6 +57,7 @@ IsPositionText text p = (number : ℕ) × IsSfenText text p number
 abbrev pub same_kind : HandKind → HandKind → Bool
 same_kind a b = sameb the_type a b
 
+-- equality of moves
 abbrev pub same_move : SMove → SMove → Bool
 same_move (Step from to promote) (Step from_b to_b promote_b) =
     (from == from_b) && ((to == to_b) && beq promote promote_b)
@@ -63,12 +65,14 @@ same_move (Drop kind to) (Drop kind_b to_b) = same_kind kind kind_b && (to == to
 same_move (Step from to promote) (Drop kind to_b) = false
 same_move (Drop kind to) (Step from_b to_b promote_b) = false
 
+-- the club's name of an end of shogi
 abbrev pub name_of : SEnd → EndName
 name_of shogi_end.NoMove = name.NoMove
 name_of (shogi_end.PerpetualCheck side) = name.PerpetualCheck
 name_of shogi_end.Fourfold = name.Fourfold
 name_of shogi_end.PlyLimit = name.PlyLimit
 
+-- the rules of shogi, with moves in USI and positions in SFEN
 abbrev pub shogi : GameRules ShogiPosition SMove SEnd Tail
 shogi = record {
   start = opening;

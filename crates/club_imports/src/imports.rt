@@ -11,13 +11,12 @@ ghost use Rattle.club_core.specs.Imports.{read_in, import_game, import_between, 
 ghost use Rattle.club_requests.specs.Limits.{most_members, most_events, most_games};
 ghost use Rattle.club_core.specs.Members.{find_id};
 ghost use Rattle.club_requests.specs.Outcome.{by_officer, game_seated};
-ghost use Rattle.club_core.specs.declared.seats.KeyedGame.{KeyedGame};
 ghost use Rattle.club_core.specs.Seats.{has_member_name};
 ghost use Rattle.club_imports.specs.Importing.{ShowsPlayed, IsByRules, importing_of, AddsByRules};
 
-use crate::played::{PlayedGame, reads_record_of};
+use crate::played::{ComparedGames, reads_record_of};
 use club_core::seats::{are_distinct, find_event, find_member, repeated_seat};
-use club_core::{Event, KeyedGame, Member, Pairing, event_declares};
+use club_core::{Event, Member, NamedPairing, Pairing, StoredGames, event_declares};
 use club_requests::values::{MOST_GAMES, MOST_RECORD_BYTES, is_name};
 use club_requests::{Caller, Import, Refusal};
 use club_rules::{
@@ -79,19 +78,16 @@ fn has_part<M>(reading: &RecordReading<M>) -> bool
 fn repeat_of_import<R: Records>(
     command: &Import,
     reading: &RecordReading<R::Move>,
-    event: u32,
-    first: Option<u32>,
-    second: Option<u32>,
-    under_key: Option<KeyedGame>,
-    played: &Option<PlayedGame<R::Move>>,
+    named: NamedPairing,
+    compared: &ComparedGames<R::Move>,
 ) -> Option<u32>
     requires { reading_of reading.now ≡ reading_of_import R.rules R.records (import_of command.now) }
-    ensures { (old : Option (Game R.Move)) (games : ℕ) → ShowsPlayed R.rules old played.now →
-        option_map game_seated result ≡ repeat_of_import R.rules R.records (import_of command.now) event first second
-        under_key old games }
+    ensures { (old : Option (Game R.Move)) (games : ℕ) → ShowsPlayed R.rules old compared.now.played →
+        option_map game_seated result ≡ repeat_of_import R.rules R.records (import_of command.now) named.event
+        named.first named.second compared.now.stored.under_key old games }
 {
-    if reads_record_of::<R>(played, reading) {
-        return repeated_seat(event, first, second, under_key);
+    if reads_record_of::<R>(&compared.played, reading) {
+        return repeated_seat(named, compared.stored.under_key);
     }
     None
 }
@@ -100,54 +96,54 @@ fn repeat_of_import<R: Records>(
 fn refusal_of_import<R: Records>(
     command: &Import,
     reading: &RecordReading<R::Move>,
-    first: Option<u32>,
-    second: Option<u32>,
-    under_key: Option<KeyedGame>,
-    games: u32,
+    named: NamedPairing,
+    stored: StoredGames,
 ) -> Option<Refusal>
     requires { reading_of reading.now ≡ reading_of_import R.rules R.records (import_of command.now) }
-    ensures value { (event : ℕ) (old : Option (Game R.Move)) →
-        result ≡ import_refusal R.rules R.records (import_of command.now) event first second
-        under_key old games }
-    ensures room { IfNone result (games < most_games) }
+    ensures value { (old : Option (Game R.Move)) →
+        result ≡ import_refusal R.rules R.records (import_of command.now) named.event named.first named.second
+        stored.under_key old stored.count }
+    ensures room { IfNone result (stored.count < most_games) }
 {
-    if under_key.is_some() {
+    if stored.under_key.is_some() {
         return Some(Refusal::Conflict);
     }
-    if !is_name(command.key.as_str()) || !are_distinct(first, second) || !has_part(reading) {
+    if !is_name(command.key.as_str())
+        || !are_distinct(named.first, named.second)
+        || !has_part(reading)
+    {
         return Some(Refusal::BadValue);
     }
-    if games >= MOST_GAMES {
+    if stored.count >= MOST_GAMES {
         return Some(Refusal::Full);
     }
     None
 }
 
-/// Adds a record that was read to an event, if both players were found.
+/// Adds a record that was read to an event, if both players were found. `games` is the number of games.
 fn import_game<R: Rules>(
-    event: u32,
-    first: Option<u32>,
-    second: Option<u32>,
+    named: NamedPairing,
     games: u32,
     recorded: RecordedGame<R::Move>,
 ) -> ImportDecision<R::Move>
     requires room { games < most_games }
     requires by_rules { IsGameByRules R.rules (recorded_of recorded) }
-    ensures value { importing_of result ≡ import_game event first second games (recorded_of recorded) }
+    ensures value { importing_of result ≡ import_game named.event named.first named.second games
+        (recorded_of recorded) }
     ensures by_rules { AddsByRules R.rules result }
 {
-    let first = match first {
+    let first = match named.first {
         Some(first) => first,
         None => return ImportDecision::Refused(Refusal::BadValue),
     };
-    let second = match second {
+    let second = match named.second {
         Some(second) => second,
         None => return ImportDecision::Refused(Refusal::BadValue),
     };
     ImportDecision::Adds(NewGame {
         game: games + 1,
         pairing: Pairing {
-            event,
+            event: named.event,
             first,
             second,
         },
@@ -173,60 +169,54 @@ fn read_in<R: Rules>(
     }
 }
 
-/// Adds the game that was read, or refuses it.
+/// Adds the game that was read, or refuses it. `games` is the number of games.
 fn import_between<R: Rules>(
-    event: u32,
-    first: Option<u32>,
-    second: Option<u32>,
+    named: NamedPairing,
     games: u32,
     reading: RecordReading<R::Move>,
 ) -> ImportDecision<R::Move>
     requires room { games < most_games }
     requires by_rules { IsByRules R.rules (reading_of reading) }
-    ensures value { importing_of result ≡ import_between event first second games (reading_of reading) }
+    ensures value { importing_of result ≡ import_between named.event named.first named.second games
+        (reading_of reading) }
     ensures by_rules { AddsByRules R.rules result }
 {
     match reading {
-        RecordReading::Game(recorded) => import_game::<R>(event, first, second, games, recorded),
+        RecordReading::Game(recorded) => import_game::<R>(named, games, recorded),
         RecordReading::NoPart => ImportDecision::Refused(Refusal::BadValue),
         RecordReading::Refused(refusal) => ImportDecision::Refused(Refusal::Record(refusal)),
     }
 }
 
-/// Decides an import after the names are looked up.
+/// Decides an import after the names are looked up; `declares`: the event has declarations.
 fn import_found<R: Records>(
     alloc: Global,
     command: &Import,
-    event: u32,
-    first: Option<u32>,
-    second: Option<u32>,
-    under_key: Option<KeyedGame>,
-    played: &Option<PlayedGame<R::Move>>,
-    games: u32,
+    named: NamedPairing,
+    compared: &ComparedGames<R::Move>,
     declares: bool,
 ) -> Result<ImportDecision<R::Move>, Memory>
-    ensures value { IfOk result (λ i. (old : Option (Game R.Move)) → ShowsPlayed R.rules old played.now →
-        importing_of i ≡ import_step R.rules R.records (import_of command.now) event first second
-        under_key old games declares) }
+    ensures value { IfOk result (λ i. (old : Option (Game R.Move)) → ShowsPlayed R.rules old compared.now.played →
+        importing_of i ≡ import_step R.rules R.records (import_of command.now) named.event named.first named.second
+        compared.now.stored.under_key old compared.now.stored.count declares) }
     ensures by_rules { IfOk result (λ i. AddsByRules R.rules i) }
 {
     let reading = read_import::<R>(alloc, command)?;
-    match repeat_of_import::<R>(command, &reading, event, first, second, under_key, played) {
+    match repeat_of_import::<R>(command, &reading, named, compared) {
         Some(game) => return Ok(ImportDecision::Repeated(game)),
         None => {}
     }
-    match refusal_of_import::<R>(command, &reading, first, second, under_key, games) {
+    match refusal_of_import::<R>(command, &reading, named, compared.stored) {
         Some(refusal) => return Ok(ImportDecision::Refused(refusal)),
         None => {}
     }
     let reading = read_in::<R>(R::format(), declares, reading);
-    Ok(import_between::<R>(event, first, second, games, reading))
+    Ok(import_between::<R>(named, compared.stored.count, reading))
 }
 
 /// Imports a recorded game; only the officer may.
 ///
-/// `members` and `events` are in the order of ids. `under_key` is the game that already has the key, `played` its moves
-/// and result if it is of this kind, and `games` the number of games. The new game gets the next id.
+/// `members` and `events` are in the order of ids. The new game gets the next id.
 ///
 /// Refusals of the record come after all others. A declaration in an event without declarations is one of them.
 ///
@@ -242,21 +232,19 @@ pub fn import<R: Records>(
     alloc: Global,
     members: &[Member],
     events: &[Event],
-    under_key: Option<KeyedGame>,
-    played: &Option<PlayedGame<R::Move>>,
-    games: u32,
+    compared: &ComparedGames<R::Move>,
     caller: Caller,
     command: &Import,
 ) -> Result<ImportDecision<R::Move>, Memory>
     requires members { length members.now ≤ most_members }
     requires events { length events.now ≤ most_events }
-    ensures value { IfOk result (λ i. (old : Option (Game R.Move)) → ShowsPlayed R.rules old played.now →
+    ensures value { IfOk result (λ i. (old : Option (Game R.Move)) → ShowsPlayed R.rules old compared.now.played →
         importing_of i ≡ by_officer caller (import_found R.rules R.records (import_of command.now)
         (event_declares (events_of events.now) (string_bytes command.now.event))
         (find_id (has_event_name (string_bytes command.now.event)) (events_of events.now))
         (find_id (has_member_name (string_bytes command.now.first)) (members_of members.now))
         (find_id (has_member_name (string_bytes command.now.second)) (members_of members.now))
-        under_key old games)) }
+        compared.now.stored.under_key old compared.now.stored.count)) }
     ensures by_rules { IfOk result (λ i. AddsByRules R.rules i) }
 {
     if caller != Caller::Officer {
@@ -267,9 +255,10 @@ pub fn import<R: Records>(
         None => return Ok(ImportDecision::Refused(Refusal::UnknownEvent)),
     };
     let declares = event_declares(events, command.event.as_str());
-    let first = find_member(members, command.first.as_str());
-    let second = find_member(members, command.second.as_str());
-    import_found::<R>(
-        alloc, command, event, first, second, under_key, played, games, declares,
-    )
+    let named = NamedPairing {
+        event,
+        first: find_member(members, command.first.as_str()),
+        second: find_member(members, command.second.as_str()),
+    };
+    import_found::<R>(alloc, command, named, compared, declares)
 }

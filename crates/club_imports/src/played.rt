@@ -6,6 +6,7 @@ ghost use Rattle.club_core.specs.Game.{Game};
 ghost use Rattle.club_core.specs.Imports.{has_score, same_moves, is_record_of, reads_record_of};
 ghost use Rattle.club_imports.specs.Importing.{IsPlayedOf, ShowsPlayed};
 
+use club_core::StoredGames;
 use club_rules::{RecordReading, RecordedGame, Rules};
 use squares::Score;
 
@@ -14,6 +15,14 @@ use squares::Score;
 pub struct PlayedGame<M> {
     pub moves: Vec<M>,
     pub result: Option<Score>,
+}
+
+/// The stored games with which an import is compared. `played` are the moves and the result of the game under the key,
+/// if it is of the import's kind.
+#[derive(Drop)]
+pub struct ComparedGames<M> {
+    pub stored: StoredGames,
+    pub played: Option<PlayedGame<M>>,
 }
 
 fn has_score(ended: Option<Score>, score: Score) -> bool

@@ -10,10 +10,11 @@ ghost use Rattle.club_requests.specs.Limits.{most_plies, is_budget, is_increment
 ghost use Rattle.club_core.specs.View.{IsRowOf};
 ghost use Rattle.club_imports.specs.OneMoment.{at_moment, clocks_with};
 
+use crate::imports::NewGame;
 use clocks::Moment;
-use club_core::{GameEnd, GameRow, Pairing};
+use club_core::{GameEnd, GameRow};
 use club_requests::OutsideEnd;
-use club_rules::{Memory, RecordedGame, Rules};
+use club_rules::{Memory, Rules};
 use squares::{Score, Side};
 use std::alloc::Global;
 
@@ -109,8 +110,8 @@ fn end_of_record<E>(end: Option<E>, score: Score) -> Option<GameEnd<E>>
     }
 }
 
-/// The row of a recorded game that is imported at this timestamp. The budget and the increment are in seconds; each
-/// move adds the increment and takes no time.
+/// The row of a recorded game that is imported under a key at this timestamp. The budget and the increment are in
+/// seconds; each move adds the increment and takes no time.
 ///
 /// # Errors
 ///
@@ -118,20 +119,19 @@ fn end_of_record<E>(end: Option<E>, score: Score) -> Option<GameEnd<E>>
 pub fn imported_row<R: Rules>(
     alloc: Global,
     key: &str,
-    pairing: Pairing,
+    new: &NewGame<R::Move>,
     budget: u64,
     increment: u64,
     start: Moment,
-    recorded: &RecordedGame<R::Move>,
 ) -> Result<GameRow<R::End>, Memory>
-    requires by_rules { IsGameByRules R.rules (recorded_of recorded.now) }
+    requires by_rules { IsGameByRules R.rules (recorded_of new.now.recorded) }
     requires budget { IsTrue (is_budget budget) }
     requires increment { IsTrue (is_increment increment) }
     ensures { IfOk result (λ row. (declares : Bool) →
         IsRowOf R.rules (record { budget = budget; increment = increment; declares = declares })
-        (imported R.rules (Some key.now) pairing start (recorded_of recorded.now)) row) }
+        (imported R.rules (Some key.now) new.now.pairing start (recorded_of new.now.recorded)) row) }
 {
-    let moves = recorded.moves.as_slice();
+    let moves = new.recorded.moves.as_slice();
     let line_state = line_state_after::<R>(moves);
     let opening = R::start();
     let end = R::judge(alloc, &opening, moves)?;
@@ -140,9 +140,9 @@ pub fn imported_row<R: Rules>(
     let position = R::write_position(alloc, &line_state.position)?;
     Ok(GameRow {
         key: Some(key),
-        event: pairing.event,
-        first: pairing.first,
-        second: pairing.second,
+        event: new.pairing.event,
+        first: new.pairing.first,
+        second: new.pairing.second,
         start,
         since: start,
         plies: moves.len() as u32,
@@ -150,8 +150,8 @@ pub fn imported_row<R: Rules>(
         left_second: left.second,
         track: R::track_numbers(&line_state.track),
         offer: None,
-        end: end_of_record(end, recorded.score),
-        result: Some(recorded.score),
+        end: end_of_record(end, new.recorded.score),
+        result: Some(new.recorded.score),
         position,
     })
 }

@@ -97,9 +97,7 @@ module _ {DM SM P M E T : Type 0} (laws : GameRules P M E T) (kind : GameKind) w
           timely = tt;
           outside_alone = λ some. cc;
           offer = tt;
-          agreed = λ is. cc;
-          recorded = λ score is. cc;
-          declared = λ is. cc;
+          outside = tt;
           players = apart;
         };
         first = is_first;

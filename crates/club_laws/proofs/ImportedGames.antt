@@ -1,7 +1,7 @@
 -- The game of a record is legal, and its result is the record's.
 use Rattle.std.proofs.Common.{◌≡◌, ◌≢◌, ℕ, zero, suc, ◌<◌, ◌≤◌, List, [], ◌∷◌, length, map, take, Option, Some, None}
 use Rattle.std.proofs.Common.{Bool, true, false, not, ◌&&◌, refl, ap, sym, ◌∙◌, subst, arith}
-use Rattle.std.specs.Prelude.{IsSome, slice_get, if◌then◌else◌}
+use Rattle.std.specs.Prelude.{IsSome, IfSome, slice_get, if◌then◌else◌}
 use Rattle.std.proofs.lemmas.List.{length-map, length-take-le}
 use Rattle.squares.specs.declared.sides.Side.{Side}
 use Rattle.squares.specs.declared.sides.Side.TheVariants.{First, Second}
@@ -14,12 +14,12 @@ use Rattle.club_rules.specs.Line.{position_after, IsLegalLine, IsPlayedLine}
 use Rattle.club_rules.specs.Records as record_is
 use Rattle.club_rules.specs.Records.{Recorded, Reading, IsGameByRules}
 use Rattle.club_requests.specs.declared.outside_end.OutsideEnd.{OutsideEnd}
-use Rattle.club_requests.specs.declared.outside_end.OutsideEnd.TheVariants.{Agreed, Declared, Recorded as by_record}
+use Rattle.club_requests.specs.declared.outside_end.OutsideEnd.TheVariants.{Recorded as by_record}
 use Rattle.club_core.specs.Events.{Terms}
 use Rattle.club_core.specs.declared.seats.Pairing.{Pairing}
 use Rattle.club_core.specs.Game.{Entry, Clocks, spend, end_with, score_with, result_of}
 use Rattle.club_core.specs.Imports.{recorded_end, has_score, same_moves, is_record_of, imported, read_in}
-use Rattle.club_core.specs.Legal.{IsTimely, IsLegalGame}
+use Rattle.club_core.specs.Legal.{IsTimely, IsLegalGame, MayEndBy}
 use Rattle.club_core.proofs.Proved.{AreRules}
 
 -- the moves of a record, all at one moment
@@ -140,8 +140,11 @@ module _ {P M E T : Type 0} (laws : GameRules P M E T) where
               (record { left_first = terms.budget; left_second = terms.budget; since = moment }) refl;
           outside_alone = λ some. ap (laws.judge laws.start) moves ∙ outside-only end r.score some;
           offer = tt;
-          agreed = λ is. let same = as-recorded end r.score Agreed is in absurd cc;
-          recorded = λ result is. record { keyed = refl; no_offer = refl; at_once = each-at moment r.moves };
-          declared = λ is. let same = as-recorded end r.score Declared is in absurd cc;
+          outside = record-fits end r.score;
           players = apart;
         }
+      where
+        record-fits : (end : Option E) (score : Score)
+            → IfSome (recorded_end end score) (λ o. MayEndBy laws terms (imported laws (Some key) pairing moment r) o)
+        record-fits None score = record { keyed = refl; no_offer = refl; at_once = each-at moment r.moves }
+        record-fits (Some by_rule) score = tt

@@ -7,14 +7,13 @@ use Rattle.std.proofs.lemmas.Bool.Decides.{nat_tests}
 use Rattle.std.proofs.lemmas.List.{length-map}
 use Rattle.squares.specs.declared.sides.Side.{Side}
 use Rattle.squares.specs.declared.sides.Side.TheVariants.{First}
-use Rattle.squares.specs.declared.sides.Score.{Score}
 use Rattle.squares.specs.Sides.{other}
 use Rattle.club_rules.specs.declared.names.GameKind.{GameKind}
 use Rattle.club_rules.specs.declared.names.GameKind.TheVariants.{Draughts, Shogi}
 use Rattle.club_rules.specs.GameRules.{GameRules}
 use Rattle.club_core.specs.ClubRules.{ClubRules}
 use Rattle.club_requests.specs.declared.outside_end.OutsideEnd.{OutsideEnd}
-use Rattle.club_requests.specs.declared.outside_end.OutsideEnd.TheVariants.{Resigned, Agreed, Time, Declared, Recorded}
+use Rattle.club_requests.specs.declared.outside_end.OutsideEnd.TheVariants.{Time}
 use Rattle.club_core.specs.declared.rows.Offer.{Offer}
 use Rattle.club_core.specs.declared.challenges.Challenge.{Challenge}
 use Rattle.club_core.specs.declared.challenges.ChallengeState.TheVariants.{Open, Withdrawn, Refused, Accepted}
@@ -30,6 +29,7 @@ use Rattle.club_core.specs.Seats.{has_member_name, seat_step}
 use Rattle.club_core.specs.Challenges.{challenge_under, challenge_by, is_open, pairing_for, standing_as, opening_step}
 use Rattle.club_core.specs.Challenges.{withdrawal_step, answer_step}
 use Rattle.club_core.specs.Imports.{Import}
+use Rattle.club_core.specs.Legal.{MayEndBy}
 use Rattle.club_core.specs.Game.{Game, clocks_of, left_of, turn_of, last_position}
 use Rattle.club_core.specs.Step.{GameCommand, move, offer_draw, accept_draw, resign, claim_time, declare, has_offer}
 use Rattle.club_core.specs.Step.{is_over, is_overdue, ended, swept, game_step}
@@ -72,14 +72,13 @@ module _ {P M E T : Type 0} (laws : GameRules P M E T) (are_rules : AreRules law
       absurd cc
 
   ended-legal : (new : Game M) (end : OutsideEnd) → ended game end ≡ new → is_over laws game ≡ false
-      → (end ≡ Agreed → IsSome game.offer) → ((score : Score) → end ≡ Recorded score → ⊥)
+      → MayEndBy laws terms (ended game end) end
       → (end ≡ Time → (clocks_of game terms).since + left_of (turn_of laws game) (clocks_of game terms) < moment)
-      → (end ≡ Declared → (terms.declares ≡ true) × (laws.can_declare (last_position laws game) ≡ true))
       → IsLegalAt laws terms moment new
-  ended-legal new end is running agreed not_recorded lost declared =
+  ended-legal new end is running may lost =
       rw (← is)
       (record {
-        legal = legal-ended laws are_rules terms game own.legal end (not-some _ running) agreed not_recorded declared;
+        legal = legal-ended laws are_rules terms game own.legal end (not-some _ running) may;
         entries = own.entries;
         lost_by_time = λ at. lost (let both : Some end ≡ Some Time = at in cc);
       })
@@ -107,16 +106,13 @@ module _ {P M E T : Type 0} (laws : GameRules P M E T) (are_rules : AreRules law
         lost_by_time = λ is. absurd (not-timed found.0.0 is);
       })
   side-legal side (accept_draw ply) new reply found left =
-      ended-legal new Agreed left.0 found.0.0 (λ is. some-offer game.offer (other side) ply (not-false _ found.0.1.1.0))
-      (λ score is. cc) (λ is. cc) (λ is. cc)
+      ended-legal new _ left.0 found.0.0 (some-offer game.offer (other side) ply (not-false _ found.0.1.1.0)) (λ is. cc)
   side-legal side resign new reply found left =
-      ended-legal new Resigned left.0 found.0 (λ is. cc) (λ score is. cc) (λ is. cc) (λ is. cc)
+      ended-legal new _ left.0 found.0 tt (λ is. cc)
   side-legal side claim_time new reply found left =
-      ended-legal new Time left.0 found.0 (λ is. cc) (λ score is. cc)
-      (λ is. is-late _ _ moment (not-false _ found.1.1.0)) (λ is. cc)
+      ended-legal new _ left.0 found.0 tt (λ is. is-late _ _ moment (not-false _ found.1.1.0))
   side-legal side (declare ply) new reply found left =
-      ended-legal new Declared left.0 found.0 (λ is. cc) (λ score is. cc) (λ is. cc)
-      (λ is. both-true _ _ (not-false _ found.1.1.1.0))
+      ended-legal new _ left.0 found.0 (both-true _ _ (not-false _ found.1.1.1.0)) (λ is. cc)
 
   -- a sweep ends a game where its side to move has lost by time
   swept-legal : IsLegalAt laws terms moment (swept laws terms game moment)
@@ -127,8 +123,7 @@ module _ {P M E T : Type 0} (laws : GameRules P M E T) (are_rules : AreRules law
       late-legal true late running is = own
       late-legal false false running is = own
       late-legal false true running is =
-          ended-legal (ended game Time) Time refl running (λ is. cc) (λ score is. cc) (λ at. is-late _ _ moment is)
-          (λ is. cc)
+          ended-legal (ended game Time) Time refl running tt (λ at. is-late _ _ moment is)
 
 -- a command on a game of one kind
 module _ {DP DM DE DT SP SM SE ST P M E T : Type 0} (kinds : ClubRules DP DM DE DT SP SM SE ST)

@@ -19,7 +19,6 @@ use Rattle.club_rules.specs.GameRules.{GameRules}
 use Rattle.club_core.specs.ClubRules.{ClubRules}
 use Rattle.club_rules.specs.Line.{IsLegalLine}
 use Rattle.club_requests.specs.declared.outside_end.OutsideEnd.{OutsideEnd}
-use Rattle.club_requests.specs.declared.outside_end.OutsideEnd.TheVariants.{Resigned, Agreed, Time, Declared}
 use Rattle.club_core.specs.declared.challenges.Challenge.{Challenge}
 use Rattle.club_core.specs.declared.challenges.ChallengeState.{ChallengeState}
 use Rattle.club_core.specs.declared.challenges.ChallengeState.TheVariants.{Withdrawn}
@@ -220,17 +219,17 @@ module _ {P M E T : Type 0} (laws : GameRules P M E T) (are_rules : AreRules law
       rw (found.1, offer, own, left.1) refl
   side-again side (accept_draw ply) new reply found left later since still =
       let other's : has_offer game.offer (other side) ply ≡ true = not-false _ found.0.1.1.0 in
-      rw (stays-ended Agreed new later left.0 since, found.1, other's, left.1) refl
+      rw (stays-ended _ new later left.0 since, found.1, other's, left.1) refl
   side-again side resign new reply found left later since still =
       let turn : same_side side (turn_of laws game) ≡ true = not-false _ found.1.0 in
-      rw (stays-ended Resigned new later left.0 since, turn, left.1) refl
+      rw (stays-ended _ new later left.0 since, turn, left.1) refl
   side-again side claim_time new reply found left later since still =
       let turn : same_side side (turn_of laws game) ≡ false = found.1.0 in
-      rw (stays-ended Time new later left.0 since, turn, left.1) refl
+      rw (stays-ended _ new later left.0 since, turn, left.1) refl
   side-again side (declare ply) new reply found left later since still =
       let turn : same_side side (turn_of laws game) ≡ true = not-false _ found.1.1.0 in
       let next : is_next_ply laws game ply ≡ true = not-false _ found.1.0 in
-      rw (stays-ended Declared new later left.0 since, turn, next, left.1) refl
+      rw (stays-ended _ new later left.0 since, turn, next, left.1) refl
 
 -- the game of one kind that a command was accepted on, in a later state
 module _ {DP DM DE DT SP SM SE ST P M E T : Type 0} (kinds : ClubRules DP DM DE DT SP SM SE ST)

@@ -19,6 +19,7 @@ module _ {DM SM : Type 0} where
   HasNextPly ply (Some (draughts game)) = ply ≡ length game.entries + 1
   HasNextPly ply (Some (shogi game)) = ply ≡ length game.entries + 1
 
+  -- the command can be repeated in this game: an offer of a draw until the next move, any other always
   abbrev pub StillRepeatsOn : Option (AnyGame DM SM) → GameCommand → Type 0
   StillRepeatsOn game (offer_draw ply) = HasNextPly ply game
   StillRepeatsOn game (move ply text) = Unit {0}
@@ -27,6 +28,7 @@ module _ {DM SM : Type 0} where
   StillRepeatsOn game claim_time = Unit {0}
   StillRepeatsOn game (declare ply) = Unit {0}
 
+  -- the command can be repeated in this state: an offer of a draw until the next move, a sweep never
   abbrev pub StillRepeats : State DM SM → Command → Type 0
   StillRepeats s (on_game id command) = StillRepeatsOn (place s.games id) command
   StillRepeats s (add_member name key) = Unit {0}

@@ -1,6 +1,8 @@
-pub mod BodyLemmas
+pub mod FloatLemmas
 mod GameLines
+mod LastPicked
 mod Lists
 mod Numbered
 mod Picked
 pub mod Proved
+pub mod ValueLemmas

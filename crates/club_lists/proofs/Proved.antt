@@ -1,2 +1,2 @@
 -- What proofs of the crates above may cite.
-pub use Rattle.club_lists.proofs.BodyLemmas.{null_float}
+pub use Rattle.club_lists.proofs.FloatLemmas.{text_float}

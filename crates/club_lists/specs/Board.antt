@@ -55,6 +55,7 @@ turn_line moment told board =
 abbrev pub ended_line : Over → List ℕ
 ended_line over = codes "ended " ++ (over.end ++ (codes " " ++ (over.result ++ codes "\n")))
 
+-- the line of the end, or of the side to move and the clocks while the game is running
 abbrev pub standing_line : ℕ → GameSummary → Board → Option Over → List ℕ
 standing_line moment told board None = turn_line moment told board
 standing_line moment told board (Some over) = ended_line over

@@ -1,14 +1,16 @@
 -- The clock of a game as JSON.
-use Rattle.std.specs.Prelude.{ℕ, ◌-◌, ◌++◌, List, Bool, false, Option, Some, None, codes, nat_le, if◌then◌else◌}
+use Rattle.std.specs.Prelude.{ℕ, ◌-◌, List, Bool, false, Option, Some, None, codes, nat_le, if◌then◌else◌}
+use Rattle.serde_json.specs.Data.{Data, object, member, no_members}
+use Rattle.serde_json.specs.Written.{compact_text}
 use Rattle.squares.specs.declared.sides.Side.{Side}
 use Rattle.squares.specs.declared.sides.Side.TheVariants.{First, Second}
 use Rattle.squares.specs.Sides.{same_side}
 use Rattle.club_requests.specs.Limits.{last_moment}
 use Rattle.club_core.specs.Game.{left_of}
 use Rattle.club_core.specs.Members.{Member}
-use Rattle.club_lists.specs.Json.{quoted_or_null, number_or_null, field, counted, two}
 use Rattle.club_lists.specs.Lines.{player_name}
 use Rattle.club_lists.specs.GameSummary.{GameSummary, deadline, is_over}
+use Rattle.club_lists.specs.Values.{number_data, number_or_null, seconds_pair, text_or_null}
 
 -- last second in which a move is in time; none if beyond the last timestamp
 abbrev pub deadline_within : GameSummary → Option ℕ
@@ -17,6 +19,10 @@ deadline_within told = if nat_le (deadline told) last_moment then Some (deadline
 -- a value that only a running game has
 abbrev pub while_running : {A : Type 0} → GameSummary → Option A → Option A
 while_running told value = if is_over told then None else value
+
+-- the player to move in a running game
+abbrev pub running_turn : List Member → GameSummary → Option (List ℕ)
+running_turn members told = while_running told (Some (player_name members told.turn told))
 
 -- the game is running and the side is to move
 abbrev pub is_running_side : Side → GameSummary → Bool
@@ -28,15 +34,17 @@ left_now moment side told =
     if is_running_side side told then left_of side told.clocks - (moment - told.clocks.since)
     else left_of side told.clocks
 
--- `seconds_left` is the seconds after each side's last move, `now` those at this timestamp; First comes first
+-- the object of a clock: `left` has the seconds after each side's last move, `now` those at this timestamp
+unfoldable pub clock_data : List Member → ℕ → GameSummary → Data
+clock_data members moment told = object
+    (member (codes "deadline") (number_or_null (while_running told (deadline_within told)))
+    (member (codes "game") (number_data told.id)
+    (member (codes "left") (seconds_pair told.clocks.left_first told.clocks.left_second)
+    (member (codes "moment") (number_data moment)
+    (member (codes "now") (seconds_pair (left_now moment First told) (left_now moment Second told))
+    (member (codes "since") (number_data told.clocks.since)
+    (member (codes "turn") (text_or_null (running_turn members told)) no_members)))))))
+
+-- its text
 abbrev pub clock_text : List Member → ℕ → GameSummary → List ℕ
-clock_text members moment told =
-    field (codes "{") (codes "deadline") (number_or_null (while_running told (deadline_within told)))
-    ++ (counted (codes ",") (codes "game") told.id
-    ++ (field (codes ",") (codes "left") (two told.clocks.left_first told.clocks.left_second)
-    ++ (counted (codes ",") (codes "moment") moment
-    ++ (field (codes ",") (codes "now") (two (left_now moment First told) (left_now moment Second told))
-    ++ (counted (codes ",") (codes "since") told.clocks.since
-    ++ (field (codes ",") (codes "turn")
-    (quoted_or_null (while_running told (Some (player_name members told.turn told))))
-    ++ codes "}"))))))
+clock_text members moment told = compact_text (clock_data members moment told)

@@ -1,5 +1,6 @@
 -- The summary of a game, without its moves.
 use Rattle.std.specs.Prelude.{ℕ, ◌+◌, ◌-◌, ◌&&◌, Bool, not, is_some, nat_lt, List, Option}
+use Rattle.std.specs.Option.{option_map}
 use Rattle.squares.specs.declared.sides.Side.{Side}
 use Rattle.club_core.specs.Game.{Clocks, left_of}
 
@@ -22,6 +23,12 @@ pub record GameSummary : Type 0 where
   pub offer : Option Side
   pub over : Option Over
 
+-- a running game, with the text of its last move and its position
+pub record Running : Type 0 where
+  pub told : GameSummary
+  pub last : Option (List ℕ)
+  pub position : List ℕ
+
 -- seconds that the side to move had left after its last move
 abbrev pub left_in : GameSummary → ℕ
 left_in told = left_of told.turn told.clocks
@@ -30,8 +37,17 @@ left_in told = left_of told.turn told.clocks
 abbrev pub deadline : GameSummary → ℕ
 deadline told = told.clocks.since + left_in told
 
+-- the game has ended
 abbrev pub is_over : GameSummary → Bool
 is_over told = is_some told.over
+
+-- name of the end, if the game has ended
+abbrev pub end_of : GameSummary → Option (List ℕ)
+end_of told = option_map (λ over. over.end) told.over
+
+-- scores of First and Second, if the game has ended
+abbrev pub result_of : GameSummary → Option (List ℕ)
+result_of told = option_map (λ over. over.result) told.over
 
 -- the game is running and its side to move has exceeded the time limit at this timestamp
 abbrev pub is_late : ℕ → GameSummary → Bool

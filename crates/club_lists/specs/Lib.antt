@@ -2,12 +2,15 @@ pub mod Board
 pub mod Bodies
 pub mod Clock
 pub mod Dates
+pub mod Ended
 pub mod EventRecords
 pub mod GameShown
 pub mod GameSummary
-pub mod Json
 pub mod Lines
 pub mod Listing
+pub mod Newest
+pub mod Page
 pub mod ShownViews
 pub mod Shows
 pub mod SummaryViews
+pub mod Values

@@ -7,6 +7,7 @@ use Rattle.club_rules.specs.declared.names.GameKind.{GameKind}
 use Rattle.club_rules.specs.declared.names.GameKind.TheVariants.{Draughts, Shogi}
 use Rattle.club_core.specs.Events.{Event}
 use Rattle.club_core.specs.Members.{Member}
+use Rattle.club_core.specs.State.{kind_at, place}
 use Rattle.club_requests.specs.declared.questions.Listing.{Listing}
 use Rattle.club_lists.specs.Dates.{IsUntil}
 use Rattle.club_lists.specs.Listing.{event_of, first_name, second_name, is_listed}
@@ -23,19 +24,26 @@ numbered text id (x ∷ xs) = text id x ++ numbered text (suc id) xs
 abbrev pub member_line : ℕ → Member → List ℕ
 member_line id member = codes "member " ++ (decimal id ++ (codes " " ++ (member.name ++ codes "\n")))
 
+-- the lines of all members, by id
 abbrev pub member_lines : List Member → List ℕ
 member_lines members = numbered member_line 1 members
 
 -- ---- events
 
+-- name of a game, in lists and in JSON
 abbrev pub game_name : GameKind → List ℕ
 game_name Draughts = codes "draughts"
 game_name Shogi = codes "shogi"
+
+-- name of the game that is played in an event
+abbrev pub kind_name : List Event → GameSummary → List ℕ
+kind_name events told = game_name (kind_at (place events told.event))
 
 -- numbers of all and of running games of an event
 abbrev pub games_of : ℕ → List GameSummary → ℕ
 games_of event games = count_by (λ told. told.event == event) games
 
+-- number of running games of an event
 abbrev pub running_of : ℕ → List GameSummary → ℕ
 running_of event games = count_by (λ told. told.event == event && not (is_over told)) games
 
@@ -51,9 +59,11 @@ abbrev pub event_text : ℕ → Event → (games running : ℕ) → List ℕ
 event_text id event games running =
     codes "event " ++ (decimal id ++ (codes " " ++ (event.name ++ (codes " " ++ event_tail event games running))))
 
+-- the line of the event with this id, with the numbers of its games
 abbrev pub event_line : List GameSummary → ℕ → Event → List ℕ
 event_line games id event = event_text id event (games_of id games) (running_of id games)
 
+-- the lines of all events, by id
 abbrev pub event_lines : List GameSummary → List Event → List ℕ
 event_lines games events = numbered (event_line games) 1 events
 

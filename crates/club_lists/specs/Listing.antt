@@ -20,6 +20,7 @@ abbrev pub member_name : Option Member → List ℕ
 member_name None = []
 member_name (Some member) = member.name
 
+-- name of an event; empty if it does not exist
 abbrev pub event_name : Option Event → List ℕ
 event_name None = []
 event_name (Some event) = event.name
@@ -40,12 +41,15 @@ abbrev pub is_unknown : {A : Type 0} → (List ℕ → A → Bool) → List A �
 is_unknown has all None = false
 is_unknown has all (Some name) = not (list_any (has name) all)
 
+-- name of the player who is First
 abbrev pub first_name : List Member → GameSummary → List ℕ
 first_name members told = member_name (place members told.first)
 
+-- name of the player who is Second
 abbrev pub second_name : List Member → GameSummary → List ℕ
 second_name members told = member_name (place members told.second)
 
+-- name of the game's event
 abbrev pub event_of : List Event → GameSummary → List ℕ
 event_of events told = event_name (place events told.event)
 
@@ -54,9 +58,11 @@ abbrev pub has_asked : List Member → Option (List ℕ) → GameSummary → Boo
 has_asked members asked told = is_asked asked (first_name members told) || is_asked asked (second_name members told)
 
 module _ (members : List Member) (events : List Event) (listing : Listing) where
+  -- name of the event that the filter requires, if any
   abbrev pub event_asked : Option (List ℕ)
   event_asked = option_map (λ name. string_bytes name) listing.event
 
+  -- name of the player that the filter requires, if any
   abbrev pub member_asked : Option (List ℕ)
   member_asked = option_map (λ name. string_bytes name) listing.member
 

@@ -4,6 +4,7 @@ use Rattle.std.specs.declared.alloc.Global.{Global}
 use Rattle.club_lists.specs.declared.shown.GameShown as given
 use Rattle.club_lists.specs.GameShown.{GameShown}
 
+-- the bytes of each string
 abbrev pub texts_view : List (String Global) → List (List ℕ)
 texts_view texts = map string_bytes texts
 

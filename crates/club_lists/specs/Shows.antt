@@ -1,68 +1,87 @@
 -- Games, events and challenges as members see them, as JSON.
-use Rattle.std.specs.Prelude.{ℕ, ◌++◌, ◌&&◌, ◌||◌, List, [], ◌∷◌, map, filter, Bool, true, false, not, Option, Some}
+use Rattle.std.specs.Prelude.{ℕ, ◌&&◌, ◌||◌, List, [], ◌∷◌, map, filter, Bool, true, false, not, Option, Some}
 use Rattle.std.specs.Prelude.{None}
 use Rattle.std.specs.Prelude.{codes, if◌then◌else◌}
 use Rattle.std.specs.Option.{option_map}
 use Rattle.std.specs.Str.{bytes_eq}
+use Rattle.serde_json.specs.Data.{Data, string, object, member, no_members}
+use Rattle.serde_json.specs.Written.{compact_text}
 use Rattle.club_core.specs.declared.challenges.Challenge.{Challenge}
 use Rattle.club_core.specs.declared.challenges.ChallengeState.{ChallengeState}
 use Rattle.club_core.specs.declared.challenges.ChallengeState.TheVariants.{Open, Withdrawn, Refused, Accepted}
 use Rattle.club_core.specs.Events.{Event}
 use Rattle.club_core.specs.Members.{Member}
 use Rattle.club_core.specs.State.{has_member_key, place}
-use Rattle.club_lists.specs.Clock.{deadline_within}
-use Rattle.club_lists.specs.Json.{quoted, quoted_or_null, number_or_null, field, named, counted, array}
-use Rattle.club_lists.specs.Lines.{game_name, player_name}
+use Rattle.club_lists.specs.Clock.{deadline_within, running_turn, while_running}
+use Rattle.club_lists.specs.Lines.{game_name, kind_name, player_name}
 use Rattle.club_lists.specs.Listing.{event_name, event_of, first_name, has_asked, member_name, second_name}
-use Rattle.club_lists.specs.GameSummary.{GameSummary, is_over}
+use Rattle.club_lists.specs.GameSummary.{GameSummary, Running, end_of, is_over, result_of}
+use Rattle.club_lists.specs.Newest.{newest}
+use Rattle.club_lists.specs.Values.{array_of, number_data, number_or_null, text_or_null}
 
 -- name of the member with this key
 abbrev pub member_name_by_key : List ℕ → List Member → Option (List ℕ)
 member_name_by_key key [] = None
-member_name_by_key key (member ∷ members) = if has_member_key key member then Some member.name else member_name_by_key key members
+member_name_by_key key (m ∷ members) = if has_member_key key m then Some m.name else member_name_by_key key members
 
 -- ---- the games of an event
 
-unfoldable pub event_game_text : List Member → GameSummary → List ℕ
-event_game_text members told =
-    field (codes "{") (codes "end") (quoted_or_null (option_map (λ o. o.end) told.over))
-    ++ (named (codes ",") (codes "first") (first_name members told)
-    ++ (counted (codes ",") (codes "game") told.id
-    ++ (counted (codes ",") (codes "ply") told.plies
-    ++ (field (codes ",") (codes "result") (quoted_or_null (option_map (λ o. o.result) told.over))
-    ++ (named (codes ",") (codes "second") (second_name members told) ++ codes "}")))))
+-- the object of a game in the list of an event; the deadline and the turn are those of its clock
+unfoldable pub event_game_data : List Member → GameSummary → Data
+event_game_data members told = object
+    (member (codes "deadline") (number_or_null (while_running told (deadline_within told)))
+    (member (codes "end") (text_or_null (end_of told))
+    (member (codes "first") (string (first_name members told))
+    (member (codes "game") (number_data told.id)
+    (member (codes "ply") (number_data told.plies)
+    (member (codes "result") (text_or_null (result_of told))
+    (member (codes "second") (string (second_name members told))
+    (member (codes "turn") (text_or_null (running_turn members told)) no_members))))))))
 
+-- the game is one of the event with this name
 abbrev pub is_of_event : List Event → List ℕ → GameSummary → Bool
 is_of_event events name told = bytes_eq (event_of events told) name
 
-abbrev pub event_game_texts : List Member → List Event → List ℕ → List GameSummary → List (List ℕ)
-event_game_texts members events name games = map (event_game_text members) (filter (is_of_event events name) games)
+-- the games of the event with this name, in their order
+abbrev pub games_of_event : List Member → List Event → List ℕ → List GameSummary → List Data
+games_of_event members events name games = map (event_game_data members) (filter (is_of_event events name) games)
 
+-- the object with these games
+unfoldable pub event_games_data : List Member → List Event → List ℕ → List GameSummary → Data
+event_games_data members events name games =
+    object (member (codes "games") (array_of (games_of_event members events name games)) no_members)
+
+-- its text
 abbrev pub event_games_text : List Member → List Event → List ℕ → List GameSummary → List ℕ
-event_games_text members events name games =
-    field (codes "{") (codes "games") (array (event_game_texts members events name games)) ++ codes "}"
+event_games_text members events name games = compact_text (event_games_data members events name games)
 
 -- ---- events and opponents for a challenge
 
-unfoldable pub event_data : Event → List ℕ
-event_data event =
-    counted (codes "{") (codes "budget") event.terms.budget
-    ++ (named (codes ",") (codes "event") event.name
-    ++ (named (codes ",") (codes "game") (game_name event.game)
-    ++ (counted (codes ",") (codes "increment") event.terms.increment ++ codes "}")))
+-- the object of an event
+unfoldable pub event_data : Event → Data
+event_data event = object
+    (member (codes "budget") (number_data event.terms.budget)
+    (member (codes "event") (string event.name)
+    (member (codes "game") (string (game_name event.game))
+    (member (codes "increment") (number_data event.terms.increment) no_members))))
 
 -- the member has another key
 abbrev pub is_other : List ℕ → Member → Bool
-is_other key member = not (has_member_key key member)
+is_other key m = not (has_member_key key m)
 
-abbrev pub other_texts : List ℕ → List Member → List (List ℕ)
-other_texts key members = map (λ m. quoted m.name) (filter (is_other key) members)
+-- names of all members except the one with this key
+abbrev pub other_names : List ℕ → List Member → List Data
+other_names key members = map (λ m. string m.name) (filter (is_other key) members)
 
--- all events, and all members except the one with this key
+-- the object with all events, and with all members except the one with this key
+unfoldable pub challenge_choices : List ℕ → List Member → List Event → Data
+challenge_choices key members events = object
+    (member (codes "events") (array_of (map event_data events))
+    (member (codes "members") (array_of (other_names key members)) no_members))
+
+-- its text
 abbrev pub challenge_choices_json : List ℕ → List Member → List Event → List ℕ
-challenge_choices_json key members events =
-    field (codes "{") (codes "events") (array (map event_data events))
-    ++ (field (codes ",") (codes "members") (array (other_texts key members)) ++ codes "}")
+challenge_choices_json key members events = compact_text (challenge_choices key members events)
 
 -- ---- games and challenges of a member
 
@@ -70,30 +89,30 @@ challenge_choices_json key members events =
 abbrev pub offerer : List Member → GameSummary → Option (List ℕ)
 offerer members told = option_map (λ side. player_name members side told) told.offer
 
--- a running game of the caller: up to its id, and the rest
-unfoldable pub own_game_front : List Member → List Event → GameSummary → List ℕ
-own_game_front members events told =
-    field (codes "{") (codes "deadline") (number_or_null (deadline_within told))
-    ++ (named (codes ",") (codes "event") (event_of events told)
-    ++ (named (codes ",") (codes "first") (first_name members told) ++ counted (codes ",") (codes "game") told.id))
-
-unfoldable pub own_game_back : List Member → GameSummary → List ℕ
-own_game_back members told =
-    field (codes ",") (codes "offer") (quoted_or_null (offerer members told))
-    ++ (counted (codes ",") (codes "ply") told.plies
-    ++ (named (codes ",") (codes "second") (second_name members told)
-    ++ (named (codes ",") (codes "turn") (player_name members told.turn told) ++ codes "}")))
-
-abbrev pub own_game_text : List Member → List Event → GameSummary → List ℕ
-own_game_text members events told = own_game_front members events told ++ own_game_back members told
+-- the object of a running game of a member
+unfoldable pub own_game_data : List Member → List Event → Running → Data
+own_game_data members events running = object
+    (member (codes "deadline") (number_or_null (deadline_within running.told))
+    (member (codes "event") (string (event_of events running.told))
+    (member (codes "first") (string (first_name members running.told))
+    (member (codes "game") (number_data running.told.id)
+    (member (codes "kind") (string (kind_name events running.told))
+    (member (codes "last") (text_or_null running.last)
+    (member (codes "offer") (text_or_null (offerer members running.told))
+    (member (codes "ply") (number_data running.told.plies)
+    (member (codes "position") (string running.position)
+    (member (codes "second") (string (second_name members running.told))
+    (member (codes "turn") (string (player_name members running.told.turn running.told)) no_members)))))))))))
 
 -- the game is running and the member with this name plays in it
 abbrev pub is_own : List Member → List ℕ → GameSummary → Bool
 is_own members name told = not (is_over told) && has_asked members (Some name) told
 
-abbrev pub own_game_texts : List Member → List Event → List ℕ → List GameSummary → List (List ℕ)
-own_game_texts members events name games = map (own_game_text members events) (filter (is_own members name) games)
+-- ids of the running games of the member with this name, in order
+abbrev pub own_game_ids : List Member → List ℕ → List GameSummary → List ℕ
+own_game_ids members name games = map (λ told. told.id) (filter (is_own members name) games)
 
+-- the challenge is open
 abbrev pub is_open : ChallengeState → Bool
 is_open Open = true
 is_open Withdrawn = false
@@ -107,23 +126,37 @@ started Withdrawn = None
 started Refused = None
 started (Accepted game) = Some game
 
+-- the challenge was accepted
 abbrev pub is_accepted : ChallengeState → Bool
 is_accepted Open = false
 is_accepted Withdrawn = false
 is_accepted Refused = false
 is_accepted (Accepted game) = true
 
+-- the challenge was refused
+abbrev pub is_refused : ChallengeState → Bool
+is_refused Open = false
+is_refused Withdrawn = false
+is_refused Refused = true
+is_refused (Accepted game) = false
+
+-- name of a challenge's state
 abbrev pub state_text : ChallengeState → List ℕ
 state_text Open = codes "open"
 state_text Withdrawn = codes "withdrawn"
 state_text Refused = codes "refused"
 state_text (Accepted game) = codes "accepted"
 
+-- the most refused challenges that are listed
+abbrev pub most_refused : ℕ
+most_refused = 20
+
 module _ (members : List Member) where
   -- names of the challenger and of the challenged member
   abbrev pub from_name : Challenge → List ℕ
   from_name c = member_name (place members c.member)
 
+  -- name of the challenged member
   abbrev pub to_name : Challenge → List ℕ
   to_name c = member_name (place members c.other)
 
@@ -131,6 +164,7 @@ module _ (members : List Member) where
   abbrev pub first_of : Challenge → List ℕ
   first_of c = if c.first then from_name c else to_name c
 
+  -- name of the player as Second
   abbrev pub second_of : Challenge → List ℕ
   second_of c = if c.first then to_name c else from_name c
 
@@ -140,30 +174,42 @@ module _ (members : List Member) where
       bytes_eq (from_name c) name && (is_open c.standing || is_accepted c.standing)
       || bytes_eq (to_name c) name && is_open c.standing
 
-  -- a challenge: up to the game that it started, and the rest
-  unfoldable pub challenge_front : List Event → Challenge → List ℕ
-  challenge_front events c =
-      named (codes "{") (codes "event") (event_name (place events c.event))
-      ++ (named (codes ",") (codes "first") (first_of c)
-      ++ (named (codes ",") (codes "from") (from_name c)
-      ++ field (codes ",") (codes "game") (number_or_null (started c.standing))))
+  -- the member's own challenge was refused
+  abbrev pub is_own_refused : List ℕ → Challenge → Bool
+  is_own_refused name c = bytes_eq (from_name c) name && is_refused c.standing
 
-  unfoldable pub challenge_back : Challenge → List ℕ
-  challenge_back c =
-      counted (codes ",") (codes "number") c.number
-      ++ (named (codes ",") (codes "second") (second_of c)
-      ++ (named (codes ",") (codes "state") (state_text c.standing)
-      ++ (named (codes ",") (codes "to") (to_name c) ++ codes "}")))
+  -- the object of a challenge
+  unfoldable pub challenge_data : List Event → Challenge → Data
+  challenge_data events c = object
+      (member (codes "event") (string (event_name (place events c.event)))
+      (member (codes "first") (string (first_of c))
+      (member (codes "from") (string (from_name c))
+      (member (codes "game") (number_or_null (started c.standing))
+      (member (codes "number") (number_data c.number)
+      (member (codes "second") (string (second_of c))
+      (member (codes "state") (string (state_text c.standing))
+      (member (codes "to") (string (to_name c)) no_members))))))))
 
-  abbrev pub challenge_text : List Event → Challenge → List ℕ
-  challenge_text events c = challenge_front events c ++ challenge_back c
+  -- the challenges that are shown to the member with this name
+  abbrev pub shown_challenges : List Event → List ℕ → List Challenge → List Data
+  shown_challenges events name challenges = map (challenge_data events) (filter (is_shown name) challenges)
 
-  abbrev pub challenge_texts : List Event → List ℕ → List Challenge → List (List ℕ)
-  challenge_texts events name challenges = map (challenge_text events) (filter (is_shown name) challenges)
+  -- the newest refused challenges of the member with this name, newest first
+  abbrev pub newest_refused : List Event → List ℕ → List Challenge → List Data
+  newest_refused events name challenges =
+      map (challenge_data events) (newest most_refused (is_own_refused name) challenges)
 
--- challenges and running games of the member with this name
-abbrev pub my_games_json : List Member → List Event → List ℕ → ℕ → List Challenge → List GameSummary → List ℕ
+-- the object with the challenges of the member with this name, these running games of his, and the newest of his
+-- refused challenges
+unfoldable pub my_games_data : List Member → List Event → List ℕ → ℕ → List Challenge → List Running → Data
+my_games_data members events name moment challenges games = object
+    (member (codes "challenges") (array_of (shown_challenges members events name challenges))
+    (member (codes "games") (array_of (map (own_game_data members events) games))
+    (member (codes "member") (string name)
+    (member (codes "moment") (number_data moment)
+    (member (codes "refused") (array_of (newest_refused members events name challenges)) no_members)))))
+
+-- its text
+abbrev pub my_games_json : List Member → List Event → List ℕ → ℕ → List Challenge → List Running → List ℕ
 my_games_json members events name moment challenges games =
-    field (codes "{") (codes "challenges") (array (challenge_texts members events name challenges))
-    ++ (field (codes ",") (codes "games") (array (own_game_texts members events name games))
-    ++ (named (codes ",") (codes "member") name ++ (counted (codes ",") (codes "moment") moment ++ codes "}")))
+    compact_text (my_games_data members events name moment challenges games)

@@ -1,54 +1,56 @@
 //! The clock of a game as JSON.
 
 ghost use Rattle.std.specs.Prelude.{◌≡◌, IfOk, string_bytes};
+ghost use Rattle.serde_json.specs.View.{view};
 ghost use Rattle.squares.specs.declared.sides.Side.TheVariants.{First, Second};
 ghost use Rattle.club_core.specs.Answer.{members_of};
-ghost use Rattle.club_lists.specs.Clock.{clock_text, deadline_within, is_running_side, left_now, while_running};
-ghost use Rattle.club_lists.specs.Json.{number_or_null, quoted_or_null};
-ghost use Rattle.club_lists.specs.Lines.{player_name};
+ghost use Rattle.club_lists.specs.Clock.{clock_data, clock_text, deadline_within, is_running_side, left_now, running_turn};
+ghost use Rattle.club_lists.specs.Clock.{while_running};
 ghost use Rattle.club_lists.specs.SummaryViews.{summary_of};
+ghost use Rattle.club_lists.specs.Values.{number_or_null, text_or_null};
 
 use crate::game_entry::GameEntry;
-use crate::json::{push_counted, push_field, quote, two};
 use crate::lines::turn_name;
 use clocks::Moment;
 use club_core::Member;
+use serde_json::{Value, json};
 use squares::Side;
 use std::alloc::{AllocError, Global};
 
 /// The last Unix second in which a move is in time, or null if it is beyond `Moment::LAST`.
-pub(crate) fn deadline_text(alloc: Global, game: &GameEntry) -> Result<String, AllocError>
-    ensures { IfOk result (λ text. string_bytes text ≡ number_or_null (deadline_within (summary_of game.now))) }
+pub(crate) fn deadline_value(game: &GameEntry) -> Value
+    ensures { view result ≡ number_or_null (deadline_within (summary_of game.now)) }
 {
     match game.deadline() {
-        Some(moment) => {
-            let second = moment.seconds();
-            format!(in alloc; "{second}")
-        }
-        None => String::from_str(alloc, "null"),
+        Some(moment) => Value::from(moment.seconds()),
+        None => Value::Null,
     }
 }
 
-// The deadline of a running game; null if it has ended.
-fn running_deadline(alloc: Global, game: &GameEntry) -> Result<String, AllocError>
-    ensures { IfOk result (λ text. string_bytes text ≡
-        number_or_null (while_running (summary_of game.now) (deadline_within (summary_of game.now)))) }
+/// The deadline of a running game; null if it has ended.
+pub(crate) fn running_deadline(game: &GameEntry) -> Value
+    ensures { view result ≡
+        number_or_null (while_running (summary_of game.now) (deadline_within (summary_of game.now))) }
 {
     if game.is_over() {
-        return String::from_str(alloc, "null");
+        return Value::Null;
     }
-    deadline_text(alloc, game)
+    deadline_value(game)
 }
 
-// The player to move in a running game; null if it has ended.
-fn running_turn(alloc: Global, members: &[Member], game: &GameEntry) -> Result<String, AllocError>
-    ensures { IfOk result (λ text. string_bytes text ≡ quoted_or_null (while_running (summary_of game.now)
-        (Some (player_name (members_of members.now) game.now.turn (summary_of game.now))))) }
+/// The player to move in a running game; null if it has ended.
+pub(crate) fn running_turn(
+    alloc: Global,
+    members: &[Member],
+    game: &GameEntry,
+) -> Result<Value, AllocError>
+    ensures { IfOk result (λ value. view value ≡
+        text_or_null (running_turn (members_of members.now) (summary_of game.now))) }
 {
     if game.is_over() {
-        return String::from_str(alloc, "null");
+        return Ok(Value::Null);
     }
-    quote(alloc, turn_name(members, game))
+    Value::try_from_str(alloc, turn_name(members, game))
 }
 
 // Whether the game is running and the side is to move.
@@ -87,11 +89,36 @@ pub(crate) fn second_now(game: &GameEntry, moment: Moment) -> u64
     game.left_second
 }
 
+/// The object of a game's clock at a timestamp.
+#[tactic(auto, unfolding(crate::specs::Clock::clock_data))]
+pub(crate) fn clock_value(
+    alloc: Global,
+    members: &[Member],
+    game: &GameEntry,
+    moment: Moment,
+) -> Result<Value, AllocError>
+    ensures { IfOk result (λ value. view value ≡
+        clock_data (members_of members.now) moment (summary_of game.now)) }
+{
+    let deadline = running_deadline(game);
+    let turn = running_turn(alloc, members, game)?;
+    json!(in alloc; {
+        "deadline": deadline,
+        "game": game.id,
+        "left": [game.left_first, game.left_second],
+        "moment": moment.seconds(),
+        "now": [first_now(game, moment), second_now(game, moment)],
+        "since": game.since.seconds(),
+        "turn": turn
+    })
+}
+
 /// The clock of a game at a timestamp, as a JSON object. All times are in seconds.
 ///
 /// # Errors
 ///
 /// `AllocError` if out of memory.
+#[tactic(auto, using(crate::proofs::FloatLemmas::clock_float))]
 pub fn clock_text(
     alloc: Global,
     members: &[Member],
@@ -101,18 +128,6 @@ pub fn clock_text(
     ensures { IfOk result (λ text. string_bytes text ≡
         clock_text (members_of members.now) moment (summary_of game.now)) }
 {
-    let deadline = running_deadline(alloc, game)?;
-    let left = two(alloc, game.left_first, game.left_second)?;
-    let now = two(alloc, first_now(game, moment), second_now(game, moment))?;
-    let turn = running_turn(alloc, members, game)?;
-    let mut text = String::new(alloc);
-    push_field(&mut text, "{", "deadline", deadline.as_str())?;
-    push_counted(&mut text, ",", "game", u64::from(game.id))?;
-    push_field(&mut text, ",", "left", left.as_str())?;
-    push_counted(&mut text, ",", "moment", moment.seconds())?;
-    push_field(&mut text, ",", "now", now.as_str())?;
-    push_counted(&mut text, ",", "since", game.since.seconds())?;
-    push_field(&mut text, ",", "turn", turn.as_str())?;
-    text.push_str("}")?;
-    Ok(text)
+    let value = clock_value(alloc, members, game, moment)?;
+    value.to_string(alloc)
 }

@@ -42,6 +42,16 @@ pub struct GameEntry {
     pub over: Option<GameOver>,
 }
 
+/// A running game, with its last move and its position.
+#[derive(Debug, Drop)]
+pub struct RunningGame {
+    pub entry: GameEntry,
+    /// The text of the last move; `None` before the first.
+    pub last: Option<String>,
+    /// The position in the notation of the game.
+    pub position: String,
+}
+
 impl GameEntry {
     /// The seconds that the side to move had left after its last move.
     pub fn seconds_left(&self) -> u64

@@ -1,28 +1,42 @@
 //! The texts of a club's lists, boards and JSON objects, without access to the store.
 //!
 //! JSON follows RFC 8259: <https://www.rfc-editor.org/rfc/rfc8259>.
+//!
+//! # Guarantees
+//!
+//! - `game_text`, `moves_text`, `page_text`: the JSON of a game, of its legal moves, and of both with the clock is the
+//!   one compact text of its data.
+//! - `my_games_json`, `ended_games_json`, `challenge_choices_json`, `event_games_text`: the lists of a member and of
+//!   an event are exactly these texts.
+//! - The lines of members, events and games are exactly the bytes that `specs/Lines` gives.
+//! - A deadline is the last second in which the move is in time, or `never` or null after the last timestamp
+//!   (`specs/Clock`).
 #![tactic(auto)]
 
 pub mod board;
 mod bodies;
 pub mod clock;
 pub mod dates;
+pub mod ended;
 pub mod event_records;
 pub mod game_entry;
-mod json;
 pub mod lines;
 pub mod listing;
 pub mod member_json;
 pub mod mine;
+pub mod page;
 pub mod shown;
+mod values;
 
 pub use board::{BoardView, board_text};
-pub use bodies::{game_text, moves_text, text_value};
+pub use bodies::{game_text, moves_text};
 pub use clock::clock_text;
+pub use ended::ended_games_json;
 pub use event_records::{event_game_ids, event_kind};
-pub use game_entry::{GameEntry, GameOver};
+pub use game_entry::{GameEntry, GameOver, RunningGame};
 pub use lines::{events_text, games_text, members_text};
 pub use listing::{has_event, listing_refusal};
-pub use member_json::{challenge_choices_json, event_games_text, member_name_by_key};
-pub use mine::my_games_json;
+pub use member_json::{challenge_choices_json, event_games_text, member_name_by_key, own_game_ids};
+pub use mine::{MemberGames, my_games_json};
+pub use page::{GamePage, page_text};
 pub use shown::{GameShown, end_name};

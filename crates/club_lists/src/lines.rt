@@ -3,8 +3,10 @@
 ghost use Rattle.std.specs.Prelude.{◌≡◌, ◌==◌, IfOk, not, ◌&&◌, string_bytes};
 ghost use Rattle.std.specs.Option.{option_map};
 ghost use Rattle.club_core.specs.Answer.{event_of, members_of, events_of};
+ghost use Rattle.club_core.specs.State.{kind_at, place};
 ghost use Rattle.club_lists.specs.Dates.{IsUntil};
 ghost use Rattle.club_lists.specs.Lines.{member_lines, game_name, games_of, running_of, event_tail, event_text};
+ghost use Rattle.club_lists.specs.Lines.{kind_name};
 ghost use Rattle.club_lists.specs.Lines.{event_line, game_tail};
 ghost use Rattle.club_lists.specs.Lines.{event_lines, key_text, player_name, game_line, IsGameState, IsGameLine, IsPart};
 ghost use Rattle.club_lists.specs.Lines.{AreGameLines};
@@ -48,6 +50,26 @@ pub(crate) fn game_name(game: GameKind) -> &'static str
         GameKind::Draughts => "draughts",
         GameKind::Shogi => "shogi",
     }
+}
+
+// The game that is played in the event with this id; `Draughts` if there is no such event.
+fn kind_of(events: &[Event], id: u32) -> GameKind
+    ensures { result ≡ kind_at (place (events_of events.now) id) }
+{
+    if id == 0 {
+        return GameKind::Draughts;
+    }
+    match events.get(id as usize - 1) {
+        Some(event) => event.game,
+        None => GameKind::Draughts,
+    }
+}
+
+/// The name of the game that is played in the event of this game.
+pub(crate) fn kind_name(events: &[Event], game: &GameEntry) -> &'static str
+    ensures { result.now ≡ kind_name (events_of events.now) (summary_of game.now) }
+{
+    game_name(kind_of(events, game.event))
 }
 
 // The number of games of an event.

@@ -1,21 +1,23 @@
 //! Games and events as members see them, as JSON.
 
-ghost use Rattle.std.specs.Prelude.{◌≡◌, ◌++◌, None, Some, IfOk, IfSome, OnOk, map, string_bytes};
+ghost use Rattle.std.specs.Prelude.{◌≡◌, None, Some, IfOk, IfSome, map, string_bytes};
 ghost use Rattle.std.specs.Option.{option_map};
+ghost use Rattle.serde_json.specs.View.{view};
 ghost use Rattle.club_core.specs.Answer.{event_of, events_of, member_of, members_of};
-ghost use Rattle.club_lists.specs.Json.{quoted_or_null};
-ghost use Rattle.club_lists.specs.Shows.{event_data, event_game_text, event_game_texts, event_games_text};
-ghost use Rattle.club_lists.specs.Shows.{challenge_choices_json};
-ghost use Rattle.club_lists.specs.Shows.{is_of_event, is_other, is_own, member_name_by_key, offerer, other_texts, own_game_text};
-ghost use Rattle.club_lists.specs.Shows.{own_game_back, own_game_front, own_game_texts};
-ghost use Rattle.club_lists.specs.SummaryViews.{summaries_of, summary_of};
+ghost use Rattle.club_lists.specs.GameSummary.{end_of, result_of};
+ghost use Rattle.club_lists.specs.Listing.{has_asked};
+ghost use Rattle.club_lists.specs.Shows.{event_data, event_game_data, event_games_data, event_games_text, games_of_event};
+ghost use Rattle.club_lists.specs.Shows.{challenge_choices, challenge_choices_json, is_other, other_names};
+ghost use Rattle.club_lists.specs.Shows.{is_of_event, is_own, member_name_by_key, offerer, own_game_data, own_game_ids};
+ghost use Rattle.club_lists.specs.SummaryViews.{running_view, running_views, summaries_of, summary_of};
+ghost use Rattle.club_lists.specs.Values.{text_or_null};
 
-use crate::clock::deadline_text;
-use crate::game_entry::GameEntry;
-use crate::json::{array, push_counted, push_field, push_named, quote};
-use crate::lines::{game_name, turn_name};
+use crate::clock::{deadline_value, running_deadline, running_turn};
+use crate::game_entry::{GameEntry, RunningGame};
+use crate::lines::{game_name, kind_name, turn_name};
 use crate::listing::{event_name, member_name};
 use club_core::{Event, Member};
+use serde_json::{Value, json};
 use squares::Side;
 use std::alloc::{AllocError, Global};
 
@@ -32,49 +34,50 @@ pub fn member_name_by_key<'a>(members: &'a [Member], key: &str) -> Option<&'a st
     None
 }
 
-// The name of the end of a game, or null.
-fn end_text(alloc: Global, game: &GameEntry) -> Result<String, AllocError>
-    ensures { IfOk result (λ text. string_bytes text ≡
-        quoted_or_null (option_map (λ o. o.end) (summary_of game.now).over)) }
+/// The name of the end of a game, or null.
+pub(crate) fn end_value(alloc: Global, game: &GameEntry) -> Result<Value, AllocError>
+    ensures { IfOk result (λ value. view value ≡ text_or_null (end_of (summary_of game.now))) }
 {
     match &game.over {
-        Some(over) => quote(alloc, over.end.as_str()),
-        None => String::from_str(alloc, "null"),
+        Some(over) => Value::try_from_str(alloc, over.end.as_str()),
+        None => Ok(Value::Null),
     }
 }
 
-// The result of a game, or null.
-fn result_text(alloc: Global, game: &GameEntry) -> Result<String, AllocError>
-    ensures { IfOk result (λ text. string_bytes text ≡
-        quoted_or_null (option_map (λ o. o.result) (summary_of game.now).over)) }
+/// The result of a game, or null.
+pub(crate) fn result_value(alloc: Global, game: &GameEntry) -> Result<Value, AllocError>
+    ensures { IfOk result (λ value. view value ≡ text_or_null (result_of (summary_of game.now))) }
 {
     match &game.over {
-        Some(over) => quote(alloc, over.result.as_str()),
-        None => String::from_str(alloc, "null"),
+        Some(over) => Value::try_from_str(alloc, over.result.as_str()),
+        None => Ok(Value::Null),
     }
 }
 
 // A game in the list of an event.
-#[tactic(auto, unfolding(crate::specs::Shows::event_game_text))]
-fn event_game_text(
+#[tactic(auto, unfolding(crate::specs::Shows::event_game_data))]
+fn event_game_value(
     alloc: Global,
     members: &[Member],
     game: &GameEntry,
-) -> Result<String, AllocError>
-    ensures { IfOk result (λ text. string_bytes text ≡
-        event_game_text (members_of members.now) (summary_of game.now)) }
+) -> Result<Value, AllocError>
+    ensures { IfOk result (λ value. view value ≡
+        event_game_data (members_of members.now) (summary_of game.now)) }
 {
-    let end = end_text(alloc, game)?;
-    let score = result_text(alloc, game)?;
-    let mut text = String::new(alloc);
-    push_field(&mut text, "{", "end", end.as_str())?;
-    push_named(&mut text, ",", "first", member_name(members, game.first))?;
-    push_counted(&mut text, ",", "game", u64::from(game.id))?;
-    push_counted(&mut text, ",", "ply", u64::from(game.plies))?;
-    push_field(&mut text, ",", "result", score.as_str())?;
-    push_named(&mut text, ",", "second", member_name(members, game.second))?;
-    text.push_str("}")?;
-    Ok(text)
+    let deadline = running_deadline(game);
+    let end = end_value(alloc, game)?;
+    let score = result_value(alloc, game)?;
+    let turn = running_turn(alloc, members, game)?;
+    json!(in alloc; {
+        "deadline": deadline,
+        "end": end,
+        "first": member_name(members, game.first),
+        "game": game.id,
+        "ply": game.plies,
+        "result": score,
+        "second": member_name(members, game.second),
+        "turn": turn
+    })
 }
 
 /// Whether the game belongs to the event with this name.
@@ -84,24 +87,39 @@ pub(crate) fn is_of_event(events: &[Event], name: &str, game: &GameEntry) -> boo
     event_name(events, game.event) == name
 }
 
-fn event_game_texts(
+fn games_of_event(
     alloc: Global,
     members: &[Member],
     events: &[Event],
     name: &str,
     games: &[GameEntry],
-) -> Result<Vec<String>, AllocError>
-    ensures { IfOk result (λ texts. map (λ t. string_bytes t) texts.items ≡
-        event_game_texts (members_of members.now) (events_of events.now) name.now (summaries_of games.now)) }
+) -> Result<Vec<Value>, AllocError>
+    ensures { IfOk result (λ values. map view values.items ≡
+        games_of_event (members_of members.now) (events_of events.now) name.now (summaries_of games.now)) }
 {
-    let mut texts = Vec::new(alloc);
+    let mut values = Vec::new(alloc);
     for game in games {
         if !is_of_event(events, name, game) {
             continue;
         }
-        texts.push(event_game_text(alloc, members, game)?)?;
+        values.push(event_game_value(alloc, members, game)?)?;
     }
-    Ok(texts)
+    Ok(values)
+}
+
+#[tactic(auto, unfolding(crate::specs::Shows::event_games_data))]
+fn event_games_value(
+    alloc: Global,
+    members: &[Member],
+    events: &[Event],
+    name: &str,
+    games: &[GameEntry],
+) -> Result<Value, AllocError>
+    ensures { IfOk result (λ value. view value ≡
+        event_games_data (members_of members.now) (events_of events.now) name.now (summaries_of games.now)) }
+{
+    let listed = games_of_event(alloc, members, events, name, games)?;
+    json!(in alloc; {"games": listed})
 }
 
 /// The games of the event with this name, as a JSON object.
@@ -109,6 +127,7 @@ fn event_game_texts(
 /// # Errors
 ///
 /// `AllocError` if out of memory.
+#[tactic(auto, using(crate::proofs::FloatLemmas::event_games_float))]
 pub fn event_games_text(
     alloc: Global,
     members: &[Member],
@@ -119,35 +138,30 @@ pub fn event_games_text(
     ensures { IfOk result (λ text. string_bytes text ≡
         event_games_text (members_of members.now) (events_of events.now) name.now (summaries_of games.now)) }
 {
-    let texts = event_game_texts(alloc, members, events, name, games)?;
-    let listed = array(alloc, &texts)?;
-    let mut text = String::new(alloc);
-    push_field(&mut text, "{", "games", listed.as_str())?;
-    text.push_str("}")?;
-    Ok(text)
+    let value = event_games_value(alloc, members, events, name, games)?;
+    value.to_string(alloc)
 }
 
 #[tactic(auto, unfolding(crate::specs::Shows::event_data))]
-fn event_data(alloc: Global, event: &Event) -> Result<String, AllocError>
-    ensures { IfOk result (λ text. string_bytes text ≡ event_data (event_of event.now)) }
+fn event_value(alloc: Global, event: &Event) -> Result<Value, AllocError>
+    ensures { IfOk result (λ value. view value ≡ event_data (event_of event.now)) }
 {
-    let mut text = String::new(alloc);
-    push_counted(&mut text, "{", "budget", event.budget)?;
-    push_named(&mut text, ",", "event", event.name.as_str())?;
-    push_named(&mut text, ",", "game", game_name(event.game))?;
-    push_counted(&mut text, ",", "increment", event.increment)?;
-    text.push_str("}")?;
-    Ok(text)
+    json!(in alloc; {
+        "budget": event.budget,
+        "event": event.name.as_str(),
+        "game": game_name(event.game),
+        "increment": event.increment
+    })
 }
 
-fn event_texts(alloc: Global, events: &[Event]) -> Result<Vec<String>, AllocError>
-    ensures { IfOk result (λ texts. map (λ t. string_bytes t) texts.items ≡ map event_data (events_of events.now)) }
+fn event_values(alloc: Global, events: &[Event]) -> Result<Vec<Value>, AllocError>
+    ensures { IfOk result (λ values. map view values.items ≡ map event_data (events_of events.now)) }
 {
-    let mut texts = Vec::new(alloc);
+    let mut values = Vec::new(alloc);
     for event in events {
-        texts.push(event_data(alloc, event)?)?;
+        values.push(event_value(alloc, event)?)?;
     }
-    Ok(texts)
+    Ok(values)
 }
 
 // Whether a member has another key.
@@ -158,18 +172,32 @@ fn is_other(key: &str, member: &Member) -> bool
 }
 
 // The names of the members with another key.
-fn other_texts(alloc: Global, key: &str, members: &[Member]) -> Result<Vec<String>, AllocError>
-    ensures { IfOk result (λ texts. map (λ t. string_bytes t) texts.items ≡
-        other_texts key.now (members_of members.now)) }
+fn other_names(alloc: Global, key: &str, members: &[Member]) -> Result<Vec<Value>, AllocError>
+    ensures { IfOk result (λ values. map view values.items ≡ other_names key.now (members_of members.now)) }
 {
-    let mut texts = Vec::new(alloc);
+    let mut values = Vec::new(alloc);
     for member in members {
         if !is_other(key, member) {
             continue;
         }
-        texts.push(quote(alloc, member.name.as_str())?)?;
+        values.push(Value::try_from_str(alloc, member.name.as_str())?)?;
     }
-    Ok(texts)
+    Ok(values)
+}
+
+#[tactic(auto, unfolding(crate::specs::Shows::challenge_choices))]
+fn challenge_choices(
+    alloc: Global,
+    key: &str,
+    members: &[Member],
+    events: &[Event],
+) -> Result<Value, AllocError>
+    ensures { IfOk result (λ value. view value ≡
+        challenge_choices key.now (members_of members.now) (events_of events.now)) }
+{
+    let all = event_values(alloc, events)?;
+    let others = other_names(alloc, key, members)?;
+    json!(in alloc; {"events": all, "members": others})
 }
 
 /// All events, and all members except the one with this key, as a JSON object.
@@ -177,6 +205,7 @@ fn other_texts(alloc: Global, key: &str, members: &[Member]) -> Result<Vec<Strin
 /// # Errors
 ///
 /// `AllocError` if out of memory.
+#[tactic(auto, using(crate::proofs::FloatLemmas::choices_float))]
 pub fn challenge_choices_json(
     alloc: Global,
     key: &str,
@@ -186,82 +215,69 @@ pub fn challenge_choices_json(
     ensures { IfOk result (λ text. string_bytes text ≡
         challenge_choices_json key.now (members_of members.now) (events_of events.now)) }
 {
-    let all = event_texts(alloc, events)?;
-    let all = array(alloc, &all)?;
-    let others = other_texts(alloc, key, members)?;
-    let others = array(alloc, &others)?;
-    let mut text = String::new(alloc);
-    push_field(&mut text, "{", "events", all.as_str())?;
-    push_field(&mut text, ",", "members", others.as_str())?;
-    text.push_str("}")?;
-    Ok(text)
+    let value = challenge_choices(alloc, key, members, events)?;
+    value.to_string(alloc)
 }
 
 // The name of the player who offers a draw, or null.
-fn offer_text(alloc: Global, members: &[Member], game: &GameEntry) -> Result<String, AllocError>
-    ensures { IfOk result (λ text. string_bytes text ≡
-        quoted_or_null (offerer (members_of members.now) (summary_of game.now))) }
+fn offer_value(alloc: Global, members: &[Member], game: &GameEntry) -> Result<Value, AllocError>
+    ensures { IfOk result (λ value. view value ≡
+        text_or_null (offerer (members_of members.now) (summary_of game.now))) }
 {
     match game.offer {
-        Some(Side::First) => quote(alloc, member_name(members, game.first)),
-        Some(Side::Second) => quote(alloc, member_name(members, game.second)),
-        None => String::from_str(alloc, "null"),
+        Some(Side::First) => Value::try_from_str(alloc, member_name(members, game.first)),
+        Some(Side::Second) => Value::try_from_str(alloc, member_name(members, game.second)),
+        None => Ok(Value::Null),
     }
 }
 
-// A running game of the caller, up to its id.
-#[tactic(auto, unfolding(crate::specs::Shows::own_game_front))]
-fn own_game_front(
+// The text of the last move, or null.
+fn last_value(alloc: Global, last: &Option<String>) -> Result<Value, AllocError>
+    ensures { IfOk result (λ value. view value ≡ text_or_null (option_map string_bytes last.now)) }
+{
+    match last {
+        Some(last) => Value::try_from_str(alloc, last.as_str()),
+        None => Ok(Value::Null),
+    }
+}
+
+// A running game of a member.
+#[tactic(auto, unfolding(crate::specs::Shows::own_game_data))]
+fn own_game_value(
     alloc: Global,
     members: &[Member],
     events: &[Event],
-    game: &GameEntry,
-) -> Result<String, AllocError>
-    ensures { IfOk result (λ text. string_bytes text ≡
-        own_game_front (members_of members.now) (events_of events.now) (summary_of game.now)) }
+    running: &RunningGame,
+) -> Result<Value, AllocError>
+    ensures { IfOk result (λ value. view value ≡
+        own_game_data (members_of members.now) (events_of events.now) (running_view running.now)) }
 {
-    let deadline = deadline_text(alloc, game)?;
-    let mut text = String::new(alloc);
-    push_field(&mut text, "{", "deadline", deadline.as_str())?;
-    push_named(&mut text, ",", "event", event_name(events, game.event))?;
-    push_named(&mut text, ",", "first", member_name(members, game.first))?;
-    push_counted(&mut text, ",", "game", u64::from(game.id))?;
-    Ok(text)
+    let game = &running.entry;
+    let last = last_value(alloc, &running.last)?;
+    let offer = offer_value(alloc, members, game)?;
+    json!(in alloc; {
+        "deadline": deadline_value(game),
+        "event": event_name(events, game.event),
+        "first": member_name(members, game.first),
+        "game": game.id,
+        "kind": kind_name(events, game),
+        "last": last,
+        "offer": offer,
+        "ply": game.plies,
+        "position": running.position.as_str(),
+        "second": member_name(members, game.second),
+        "turn": turn_name(members, game)
+    })
 }
 
-// Appends the rest of a running game.
-#[tactic(auto, unfolding(crate::specs::Shows::own_game_back))]
-fn push_own_game(
-    alloc: Global,
-    text: &mut String,
-    members: &[Member],
-    game: &GameEntry,
-) -> Result<(), AllocError>
-    ensures { OnOk result (string_bytes text.new ≡
-        string_bytes text.old ++ own_game_back (members_of members.now) (summary_of game.now)) }
+/// Whether the member with this name is a player of the game.
+pub(crate) fn is_player(members: &[Member], name: &str, game: &GameEntry) -> bool
+    ensures { result ≡ has_asked (members_of members.now) (Some name.now) (summary_of game.now) }
 {
-    let offer = offer_text(alloc, members, game)?;
-    push_field(text, ",", "offer", offer.as_str())?;
-    push_counted(text, ",", "ply", u64::from(game.plies))?;
-    push_named(text, ",", "second", member_name(members, game.second))?;
-    push_named(text, ",", "turn", turn_name(members, game))?;
-    text.push_str("}")?;
-    Ok(())
-}
-
-// A running game of the caller.
-fn own_game_text(
-    alloc: Global,
-    members: &[Member],
-    events: &[Event],
-    game: &GameEntry,
-) -> Result<String, AllocError>
-    ensures { IfOk result (λ text. string_bytes text ≡
-        own_game_text (members_of members.now) (events_of events.now) (summary_of game.now)) }
-{
-    let mut text = own_game_front(alloc, members, events, game)?;
-    push_own_game(alloc, &mut text, members, game)?;
-    Ok(text)
+    if member_name(members, game.first) == name {
+        return true;
+    }
+    member_name(members, game.second) == name
 }
 
 // Whether the game is running and the member with this name plays in it.
@@ -271,29 +287,46 @@ fn is_own(members: &[Member], name: &str, game: &GameEntry) -> bool
     if game.is_over() {
         return false;
     }
-    if member_name(members, game.first) == name {
-        return true;
-    }
-    member_name(members, game.second) == name
+    is_player(members, name, game)
 }
 
-/// The running games of the member with this name.
-pub(crate) fn own_game_texts(
+/// The ids of the running games of the member with this name, in order.
+///
+/// # Errors
+///
+/// `AllocError` if out of memory.
+pub fn own_game_ids(
     alloc: Global,
     members: &[Member],
-    events: &[Event],
     name: &str,
     games: &[GameEntry],
-) -> Result<Vec<String>, AllocError>
-    ensures { IfOk result (λ texts. map (λ t. string_bytes t) texts.items ≡
-        own_game_texts (members_of members.now) (events_of events.now) name.now (summaries_of games.now)) }
+) -> Result<Vec<u32>, AllocError>
+    ensures { IfOk result (λ ids. ids.items ≡
+        own_game_ids (members_of members.now) name.now (summaries_of games.now)) }
 {
-    let mut texts = Vec::new(alloc);
+    let mut ids = Vec::new(alloc);
     for game in games {
         if !is_own(members, name, game) {
             continue;
         }
-        texts.push(own_game_text(alloc, members, events, game)?)?;
+        ids.push(game.id)?;
     }
-    Ok(texts)
+    Ok(ids)
+}
+
+/// The objects of running games.
+pub(crate) fn own_game_values(
+    alloc: Global,
+    members: &[Member],
+    events: &[Event],
+    games: &[RunningGame],
+) -> Result<Vec<Value>, AllocError>
+    ensures { IfOk result (λ values. map view values.items ≡
+        map (own_game_data (members_of members.now) (events_of events.now)) (running_views games.now)) }
+{
+    let mut values = Vec::new(alloc);
+    for game in games {
+        values.push(own_game_value(alloc, members, events, game)?)?;
+    }
+    Ok(values)
 }

@@ -1,30 +1,34 @@
 //! The running games and the challenges of a member, as JSON.
 
-ghost use Rattle.std.specs.Prelude.{◌≡◌, ◌++◌, IfOk, OnOk, map, string_bytes};
+ghost use Rattle.std.specs.Prelude.{◌≡◌, IfOk, count_by, map, string_bytes};
+ghost use Rattle.serde_json.specs.View.{view};
 ghost use Rattle.club_core.specs.Answer.{events_of, members_of};
-ghost use Rattle.club_lists.specs.Json.{number_or_null};
-ghost use Rattle.club_lists.specs.Shows.{challenge_text, challenge_texts, first_of, is_shown, my_games_json};
-ghost use Rattle.club_lists.specs.Shows.{second_of, started, state_text, is_open, is_accepted};
-ghost use Rattle.club_lists.specs.Shows.{challenge_back, challenge_front};
-ghost use Rattle.club_lists.specs.SummaryViews.{summaries_of};
+ghost use Rattle.club_lists.specs.Shows.{challenge_data, first_of, is_accepted, is_open, is_own_refused, is_refused};
+ghost use Rattle.club_lists.specs.Shows.{is_shown, my_games_data, my_games_json, newest_refused, second_of};
+ghost use Rattle.club_lists.specs.Shows.{shown_challenges, started, state_text};
+ghost use Rattle.club_lists.specs.SummaryViews.{running_views};
+ghost use Rattle.club_lists.specs.Values.{number_or_null};
 
-use crate::game_entry::GameEntry;
-use crate::json::{array, push_counted, push_field, push_named};
+use crate::game_entry::RunningGame;
 use crate::listing::{event_name, member_name};
-use crate::member_json::own_game_texts;
+use crate::member_json::own_game_values;
 use clocks::Moment;
 use club_core::{Challenge, ChallengeState, Event, Member};
+use serde_json::{Value, json};
 use std::alloc::{AllocError, Global};
 
+// The most refused challenges that are listed.
+const MOST_REFUSED: usize = 20;
+
 // The game that a challenge started, or null.
-fn started_text(alloc: Global, standing: ChallengeState) -> Result<String, AllocError>
-    ensures { IfOk result (λ text. string_bytes text ≡ number_or_null (started standing)) }
+fn started_value(standing: ChallengeState) -> Value
+    ensures { view result ≡ number_or_null (started standing) }
 {
     match standing {
-        ChallengeState::Accepted { game } => format!(in alloc; "{game}"),
-        ChallengeState::Open => String::from_str(alloc, "null"),
-        ChallengeState::Withdrawn => String::from_str(alloc, "null"),
-        ChallengeState::Refused => String::from_str(alloc, "null"),
+        ChallengeState::Accepted { game } => Value::from(game),
+        ChallengeState::Open => Value::Null,
+        ChallengeState::Withdrawn => Value::Null,
+        ChallengeState::Refused => Value::Null,
     }
 }
 
@@ -59,6 +63,17 @@ fn is_accepted(standing: ChallengeState) -> bool
         ChallengeState::Withdrawn => false,
         ChallengeState::Refused => false,
         ChallengeState::Accepted { game: _ } => true,
+    }
+}
+
+fn is_refused(standing: ChallengeState) -> bool
+    ensures { result ≡ is_refused standing }
+{
+    match standing {
+        ChallengeState::Open => false,
+        ChallengeState::Withdrawn => false,
+        ChallengeState::Refused => true,
+        ChallengeState::Accepted { game: _ } => false,
     }
 }
 
@@ -102,110 +117,145 @@ fn is_shown(members: &[Member], name: &str, challenge: &Challenge) -> bool
     false
 }
 
-// A challenge, up to the game that it started.
-#[tactic(auto, unfolding(crate::specs::Shows::challenge_front))]
-fn challenge_front(
+// Whether the challenge is one of the member with this name and was refused.
+fn is_own_refused(members: &[Member], name: &str, challenge: &Challenge) -> bool
+    ensures { result ≡ is_own_refused (members_of members.now) name.now challenge.now }
+{
+    if member_name(members, challenge.member) != name {
+        return false;
+    }
+    is_refused(challenge.standing)
+}
+
+#[tactic(auto, unfolding(crate::specs::Shows::challenge_data))]
+fn challenge_value(
     alloc: Global,
     members: &[Member],
     events: &[Event],
     challenge: &Challenge,
-) -> Result<String, AllocError>
-    ensures { IfOk result (λ text. string_bytes text ≡
-        challenge_front (members_of members.now) (events_of events.now) challenge.now) }
+) -> Result<Value, AllocError>
+    ensures { IfOk result (λ value. view value ≡
+        challenge_data (members_of members.now) (events_of events.now) challenge.now) }
 {
-    let started = started_text(alloc, challenge.standing)?;
-    let mut text = String::new(alloc);
-    push_named(&mut text, "{", "event", event_name(events, challenge.event))?;
-    push_named(&mut text, ",", "first", first_of(members, challenge))?;
-    push_named(
-        &mut text,
-        ",",
-        "from",
-        member_name(members, challenge.member),
-    )?;
-    push_field(&mut text, ",", "game", started.as_str())?;
-    Ok(text)
-}
-
-// Appends the rest of a challenge.
-#[tactic(auto, unfolding(crate::specs::Shows::challenge_back))]
-fn push_challenge(
-    text: &mut String,
-    members: &[Member],
-    challenge: &Challenge,
-) -> Result<(), AllocError>
-    ensures { OnOk result (string_bytes text.new ≡
-        string_bytes text.old ++ challenge_back (members_of members.now) challenge.now) }
-{
-    push_counted(text, ",", "number", u64::from(challenge.number))?;
-    push_named(text, ",", "second", second_of(members, challenge))?;
-    push_named(text, ",", "state", state_text(challenge.standing))?;
-    push_named(text, ",", "to", member_name(members, challenge.other))?;
-    text.push_str("}")?;
-    Ok(())
-}
-
-fn challenge_text(
-    alloc: Global,
-    members: &[Member],
-    events: &[Event],
-    challenge: &Challenge,
-) -> Result<String, AllocError>
-    ensures { IfOk result (λ text. string_bytes text ≡
-        challenge_text (members_of members.now) (events_of events.now) challenge.now) }
-{
-    let mut text = challenge_front(alloc, members, events, challenge)?;
-    push_challenge(&mut text, members, challenge)?;
-    Ok(text)
+    json!(in alloc; {
+        "event": event_name(events, challenge.event),
+        "first": first_of(members, challenge),
+        "from": member_name(members, challenge.member),
+        "game": started_value(challenge.standing),
+        "number": challenge.number,
+        "second": second_of(members, challenge),
+        "state": state_text(challenge.standing),
+        "to": member_name(members, challenge.other)
+    })
 }
 
 // The challenges that the member with this name sees.
-fn challenge_texts(
+fn shown_challenges(
     alloc: Global,
     members: &[Member],
     events: &[Event],
     name: &str,
     challenges: &[Challenge],
-) -> Result<Vec<String>, AllocError>
-    ensures { IfOk result (λ texts. map (λ t. string_bytes t) texts.items ≡
-        challenge_texts (members_of members.now) (events_of events.now) name.now challenges.now) }
+) -> Result<Vec<Value>, AllocError>
+    ensures { IfOk result (λ values. map view values.items ≡
+        shown_challenges (members_of members.now) (events_of events.now) name.now challenges.now) }
 {
-    let mut texts = Vec::new(alloc);
+    let mut values = Vec::new(alloc);
     for challenge in challenges {
         if !is_shown(members, name, challenge) {
             continue;
         }
-        texts.push(challenge_text(alloc, members, events, challenge)?)?;
+        values.push(challenge_value(alloc, members, events, challenge)?)?;
     }
-    Ok(texts)
+    Ok(values)
 }
 
-/// The challenges and the running games of the member with this name, as a JSON object with the timestamp.
+// The number of refused challenges of the member with this name.
+fn count_refused(members: &[Member], name: &str, challenges: &[Challenge]) -> usize
+    ensures { result ≡ count_by (is_own_refused (members_of members.now) name.now) challenges.now }
+{
+    challenges
+        .iter()
+        .filter(|challenge| is_own_refused(members, name, challenge))
+        .count()
+}
+
+// The newest refused challenges of the member with this name.
+fn newest_refused(
+    alloc: Global,
+    members: &[Member],
+    events: &[Event],
+    name: &str,
+    challenges: &[Challenge],
+) -> Result<Vec<Value>, AllocError>
+    ensures { IfOk result (λ values. map view values.items ≡
+        newest_refused (members_of members.now) (events_of events.now) name.now challenges.now) }
+{
+    let mut older = count_refused(members, name, challenges).saturating_sub(MOST_REFUSED);
+    let mut values = Vec::new(alloc);
+    for challenge in challenges {
+        if !is_own_refused(members, name, challenge) {
+            continue;
+        }
+        if older > 0 {
+            older -= 1;
+            continue;
+        }
+        values.push(challenge_value(alloc, members, events, challenge)?)?;
+    }
+    values.reverse();
+    Ok(values)
+}
+
+/// The challenges of a club and the running games of a member.
+#[derive(Drop)]
+pub struct MemberGames {
+    pub challenges: Vec<Challenge>,
+    pub running: Vec<RunningGame>,
+}
+
+#[tactic(auto, unfolding(crate::specs::Shows::my_games_data))]
+fn my_games_value(
+    alloc: Global,
+    members: &[Member],
+    events: &[Event],
+    name: &str,
+    moment: Moment,
+    own: &MemberGames,
+) -> Result<Value, AllocError>
+    ensures { IfOk result (λ value. view value ≡ my_games_data (members_of members.now) (events_of events.now)
+        name.now moment own.now.challenges.items (running_views own.now.running.items)) }
+{
+    let shown = shown_challenges(alloc, members, events, name, &own.challenges)?;
+    let games = own_game_values(alloc, members, events, &own.running)?;
+    let refused = newest_refused(alloc, members, events, name, &own.challenges)?;
+    json!(in alloc; {
+        "challenges": shown,
+        "games": games,
+        "member": name,
+        "moment": moment.seconds(),
+        "refused": refused
+    })
+}
+
+/// The challenges of the member with this name, these running games of his, and the newest of his refused challenges
+/// (at most 20), as a JSON object with the timestamp.
 ///
 /// # Errors
 ///
 /// `AllocError` if out of memory.
+#[tactic(auto, using(crate::proofs::FloatLemmas::my_games_float))]
 pub fn my_games_json(
     alloc: Global,
     members: &[Member],
     events: &[Event],
     name: &str,
     moment: Moment,
-    challenges: &[Challenge],
-    games: &[GameEntry],
+    own: &MemberGames,
 ) -> Result<String, AllocError>
     ensures { IfOk result (λ text. string_bytes text ≡ my_games_json (members_of members.now) (events_of events.now)
-        name.now moment challenges.now (summaries_of games.now)) }
+        name.now moment own.now.challenges.items (running_views own.now.running.items)) }
 {
-    let challenges = challenge_texts(alloc, members, events, name, challenges)?;
-    let challenges = array(alloc, &challenges)?;
-    let games = own_game_texts(alloc, members, events, name, games)?;
-    let games = array(alloc, &games)?;
-    let mut text = String::new(alloc);
-    push_field(&mut text, "{", "challenges", challenges.as_str())?;
-    push_field(&mut text, ",", "games", games.as_str())?;
-    push_named(&mut text, ",", "member", name)?;
-    push_counted(&mut text, ",", "moment", moment.seconds())?;
-    text.push_str("}")?;
-    Ok(text)
+    let value = my_games_value(alloc, members, events, name, moment, own)?;
+    value.to_string(alloc)
 }

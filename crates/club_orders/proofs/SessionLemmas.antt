@@ -1,43 +1,57 @@
 -- What sessions led to, and what stands where they led.
-use Rattle.std.proofs.Common.{List, [], ◌++◌, append-nil, sym, subst}
+use Rattle.std.proofs.Common.{◌≡◌, List, [], ◌++◌, append-nil, inl, inr, refl, sym, subst}
+use Rattle.sqlite.specs.Schema.{Schema}
 use Rattle.sqlite.specs.Tree.{Trees}
 use Rattle.sqlite.specs.State.{State}
 use Rattle.store_tables.specs.Over.{IsFirstBeside, Neighbours}
-use Rattle.store_tables.specs.Placed.{HasTables}
+use Rattle.store_tables.specs.Placed.{HasClubTables, HasTables}
 use Rattle.store_tables.specs.declared.names.Version.{Version}
 use Rattle.store_tables.specs.declared.names.Version.TheVariants.{First, Current}
 use Rattle.store_tables.proofs.Proved.{first_of_current, leaves_beside}
 use Rattle.club_rows.specs.Club.{ClubState, tables}
 use Rattle.club_rows.specs.FirstSchema.{IsFirstClub, first_tables}
-use Rattle.store.specs.Histories.{HistoryStep, IsReachable, IsHistory, IsHistoryAt}
+use Rattle.store.specs.Histories.{HistoryStep, IsReachable, IsReachableIn, IsHistory}
 
 -- with no session more
-pub led_still : (them : Neighbours) (sessions : List HistoryStep) (db : Trees) → IsReachable them sessions db
-    → IsReachable them (sessions ++ []) db
-led_still them sessions db led = subst (λ xs. IsReachable them xs db) (sym (append-nil sessions)) led
+pub led_still : (from version : Version) (them : Neighbours) (sessions : List HistoryStep) (db : Trees)
+    → IsReachable from version them sessions db → IsReachable from version them (sessions ++ []) db
+led_still from version them sessions db led =
+    subst (λ xs. IsReachable from version them xs db) (sym (append-nil sessions)) led
+
+pub led_still_in : (from : Version) (versions : List Version) (them : Neighbours) (sessions : List HistoryStep)
+    (db : Trees) → IsReachableIn from versions them sessions db → IsReachableIn from versions them (sessions ++ []) db
+led_still_in from versions them sessions db led = record {
+  version = led.version;
+  among = led.among;
+  reached = led_still from led.version them sessions db led.reached;
+}
 
 -- what a stop leaves of tables that sessions led to is what they led to
-pub left_led : (them : Neighbours) (sessions : List HistoryStep) (s : State) → IsHistory them sessions s
-    → (db : Trees) → s.may_leave db → IsReachable them sessions db
-left_led them sessions s at db left = record {
-  from = at.from;
-  after = record { version = Current; state = at.after };
+pub left_led : (from : Version) (them : Neighbours) (sessions : List HistoryStep) (s : State)
+    → IsHistory from Current them sessions s → (db : Trees) → s.may_leave db → IsReachable from Current them sessions db
+left_led from them sessions s at db left = record {
+  after = at.after;
   legal = at.legal;
   leads = at.leads;
   leaves = leaves_beside them (tables at.after) s at.exactly db left;
 }
 
 -- tables that are not those of schema 1 stand where the sessions lead in schema 2
-pub newer_history : (version : Version) (them : Neighbours) (sessions : List HistoryStep) (s : State)
-    → ((c : ClubState) → IsFirstClub c → ¬ IsFirstBeside them (first_tables c) s) → IsHistoryAt version them sessions s
-    → IsHistory them sessions s
-newer_history First them sessions s newer at = absurd (newer at.after at.legal at.exactly)
-newer_history Current them sessions s newer at = at
+pub newer_history : (from version : Version) (them : Neighbours) (sessions : List HistoryStep) (s : State)
+    → ((c : ClubState) → IsFirstClub c → ¬ IsFirstBeside them (first_tables c) s)
+    → IsHistory from version them sessions s → (version ≡ Current) × IsHistory from Current them sessions s
+newer_history from First them sessions s newer at = absurd (newer at.after at.legal at.exactly)
+newer_history from Current them sessions s newer at = (refl, at)
+
+-- a club of either version has the tables of schema 1
+pub first_tables_of : (schema : Schema) → HasClubTables schema → HasTables First schema
+first_tables_of schema (inl first) = first.0
+first_tables_of schema (inr current) = first_of_current schema current
 
 -- wherever sessions lead, the tables of schema 1 stand
-pub stand_first : (version : Version) (them : Neighbours) (sessions : List HistoryStep) (s : State)
-    → IsHistoryAt version them sessions s → HasTables First s.now.schema
-stand_first First them sessions s at =
+pub stand_first : (from version : Version) (them : Neighbours) (sessions : List HistoryStep) (s : State)
+    → IsHistory from version them sessions s → HasTables First s.now.schema
+stand_first from First them sessions s at =
     subst (HasTables First) (sym at.exactly.exactly.now.schema) at.exactly.before.tables.0
-stand_first Current them sessions s at =
+stand_first from Current them sessions s at =
     subst (HasTables First) (sym at.exactly.exactly.now.schema) (first_of_current them.schema at.exactly.clear.club)

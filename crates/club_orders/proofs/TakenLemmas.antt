@@ -2,9 +2,10 @@
 use Rattle.std.proofs.Common.{◌≡◌, true, ap, sym, subst, ◌∙◌, Result, Ok, Err}
 use Rattle.std.specs.Prelude.{IfOk, IfErr}
 use Rattle.sqlite.specs.State.{State}
+use Rattle.sqlite.specs.Tree.{Trees}
 use Rattle.store_tables.specs.Contents as of_schema
 use Rattle.store_tables.specs.Contents.{Content}
-use Rattle.store_tables.specs.Over.{HasRows, HoldsClubAmong, IsFirstBeside, Neighbours}
+use Rattle.store_tables.specs.Over.{HasRows, HoldsClubAmong, IsFirstBeside, LeavesBeside, Neighbours}
 use Rattle.store_tables.specs.Placed.{HasTablesOf}
 use Rattle.store_tables.specs.Reading.{KeepsContent}
 use Rattle.store_tables.specs.Room.{IsWithoutClub, LeavesNoClub}
@@ -14,6 +15,7 @@ use Rattle.sqlite.specs.Schema.{Schema}
 use Rattle.schema_match.specs.Shapes.{is_of_club}
 use Rattle.club_rows.specs.Club.{ClubState, tables}
 use Rattle.club_rows.specs.FirstSchema.{first_tables}
+use Rattle.club_check.specs.Refused.{IsKept}
 use Rattle.club_check.specs.Versions.{HoldsRows}
 use Rattle.club_orders.specs.declared.report.Report.{Report}
 use Rattle.club_orders.specs.declared.report.Report.TheVariants.{Unopened}
@@ -26,6 +28,11 @@ use Rattle.store.proofs.Proved.{holds_beside, holds_first}
 abbrev pub IsExact : State → Type 0
 IsExact s = (schema : Schema) (content : Content) → of_schema.Leaves schema content s.committed.trees
     → of_schema.IsExactly schema content s
+
+-- whatever a crash leaves of a club that is kept has its tables
+pub kept_tables : (club : ClubState) (old new : State) (has : HasState club old.committed.trees) → IsKept old new
+    → (db : Trees) → new.may_leave db → LeavesBeside has.them (tables club) db
+kept_tables club old new has kept db left = subst (LeavesBeside has.them (tables club)) (sym (kept db left)) has.leaves
 
 module _ (club : ClubState) (s : State) (exact : IsExact s) (has : HasState club s.committed.trees) where
   pub stands_beside : HoldsClubAmong has.them (tables club) s

@@ -36,16 +36,20 @@ answer_lines [] outcomes = []
 answer_lines (number ∷ numbers) [] = []
 answer_lines (number ∷ numbers) (outcome ∷ outcomes) = answer_line number outcome ++ answer_lines numbers outcomes
 
+-- the lines of all requests of a batch that have an outcome
 abbrev pub lines_of : BatchResults → List ℕ
 lines_of batched = answer_lines batched.numbers.items batched.outcomes.items
 
+-- the line of a fault
 abbrev pub fault_text : StoreFault → List ℕ
 fault_text fault = codes "store " ++ store_fault_text fault ++ codes "\n"
 
+-- the line of the fault that ended a batch, if there was one
 abbrev pub fault_line : Option StoreFault → List ℕ
 fault_line None = []
 fault_line (Some fault) = fault_text fault
 
+-- the request was refused
 abbrev pub is_refused : Outcome → Bool
 is_refused (outcome.Accepted answer) = false
 is_refused (outcome.Repeated answer) = false
@@ -57,6 +61,7 @@ status_of (Some fault) any_refused = 3
 status_of None true = 1
 status_of None false = 0
 
+-- the exit status of a batch
 abbrev pub batch_status : BatchResults → ℕ
 batch_status batched = status_of batched.fault (list_any is_refused batched.outcomes.items)
 

@@ -21,30 +21,36 @@ use Rattle.club_orders.specs.declared.causes.WrongValue.TheVariants.{RecordLengt
 
 -- the first value that is invalid in itself; if all others are valid, the last one
 
+-- the wrong value of a new member: the name or the key
 abbrev pub value_of_member : AddMember → WrongValue
 value_of_member m = if is_name (string_bytes m.name) then MemberKey else MemberName
 
+-- the wrong value of a new event: the name, the budget or the increment
 abbrev pub value_of_event : AddEvent → WrongValue
 value_of_event e =
     if is_name (string_bytes e.name) then (if is_budget e.budget then Increment else Budget) else EventName
 
+-- the wrong value of a new game: the key, the same player twice, or an unknown player
 abbrev pub value_of_seat : Seat → WrongValue
 value_of_seat s =
     if is_name (string_bytes s.key)
     then (if bytes_eq (string_bytes s.first) (string_bytes s.second) then SamePlayer else UnknownPlayer)
     else GameKey
 
+-- the wrong value of an imported record: its length, its part, or a player or the record itself
 abbrev pub value_of_record : Import → WrongValue
 value_of_record i =
     if nat_lt most_record_bytes (length i.text.items) then RecordLength
     else (if i.part == 0 then NoPart else PlayerOrRecord)
 
+-- the wrong value of an import: the game's key, the same player twice, or a value of the record
 abbrev pub value_of_import : Import → WrongValue
 value_of_import i =
     if is_name (string_bytes i.key)
     then (if bytes_eq (string_bytes i.first) (string_bytes i.second) then SamePlayer else value_of_record i)
     else GameKey
 
+-- the wrong value of a command on a game, which can only be the text of a move
 abbrev pub value_on_game : GameCommand → Option WrongValue
 value_on_game (Move ply text) = Some MoveText
 value_on_game _ = None
@@ -58,6 +64,7 @@ wrong_value (command.Import c) = Some (value_of_import c)
 wrong_value (command.OnGame c) = value_on_game c.command
 wrong_value _ = None
 
+-- the explanation of the wrong value, or of the refusal 65 if the command does not show one
 abbrev pub value_explained : Option WrongValue → Explanation
 value_explained (Some value) = explanation.Value value
 value_explained None = explanation.Refusal BadValue

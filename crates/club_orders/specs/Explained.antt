@@ -33,6 +33,7 @@ abbrev pub games_explained : Refusal → Explanation
 games_explained BadValue = explanation.Value ListedMember
 games_explained refusal = explanation.Refusal refusal
 
+-- the explanation of a refused query
 abbrev pub question_explained : Question → Refusal → Explanation
 question_explained (Games listing) refusal = games_explained refusal
 question_explained question refusal = explanation.Refusal refusal
@@ -48,11 +49,12 @@ abbrev pub foreign_explained : Task → ExplainedFault
 foreign_explained task.Init = fault.NotEmpty
 foreign_explained _ = fault.NoClub
 
--- fault 71: schema 1 is older than the program, any other number newer
+-- fault 71: schema 1 is older than the program; of any other number it says that the file is newer
 abbrev pub schema_explained : ℤ → ExplainedFault
 schema_explained (pos n) = if n == 1 then fault.OlderSchema else fault.LaterSchema
 schema_explained (negsuc n) = fault.LaterSchema
 
+-- the explanation of a fault in opening the club for a task
 abbrev pub opening_explained : Task → OpenFault → ExplainedFault
 opening_explained task open_fault.Foreign = foreign_explained task
 opening_explained task (open_fault.Schema number) = schema_explained number
@@ -60,16 +62,18 @@ opening_explained task (open_fault.Damaged table) = fault.Damaged
 opening_explained task open_fault.Store = fault.Store
 opening_explained task open_fault.Memory = fault.Memory
 
+-- the explanation of a fault of an open club
 abbrev pub stop_explained : StoreFault → ExplainedFault
 stop_explained store_fault.Store = fault.Store
 stop_explained store_fault.Reopen = fault.Reopen
 stop_explained store_fault.Memory = fault.Memory
 
+-- the explanation of an outcome, if it is a refusal
 abbrev pub answer_explained : Task → Outcome → Option Explanation
 answer_explained task (outcome.Refused refusal) = Some (task_explained task refusal)
 answer_explained task _ = None
 
--- a refusal or a fault has an explanation, a success has none
+-- the explanation of a refusal or a fault; a success and the report of a batch have none
 abbrev pub report_explained : Task → Report → Option Explanation
 report_explained task (Answered outcome) = answer_explained task outcome
 report_explained task (Unopened fault) = Some (explanation.Fault (opening_explained task fault))
@@ -101,6 +105,7 @@ explained_at status task report =
     if status == report_status report then report_explained task report
     else Some (explanation.Fault (lost_explained report))
 
+-- the explanation as a line, if it is requested and there is one
 abbrev pub second_line : (explains : Bool) → Option Explanation → List ℕ
 second_line true (Some e) = line_of e
 second_line true None = []

@@ -2,5 +2,6 @@ pub mod Batches
 pub mod Causes
 pub mod Explained
 pub mod Lines
+pub mod NextStates
 pub mod Refused
 pub mod Report

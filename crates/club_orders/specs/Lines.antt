@@ -118,6 +118,7 @@ fault_line fault.NoPort = NO_PORT.now
 fault_line fault.NoOutput = NO_OUTPUT.now
 fault_line fault.NoCopy = NO_COPY.now
 
+-- the text of an explanation
 abbrev pub line_of : Explanation → List ℕ
 line_of (explanation.Refusal refusal) = refusal_line refusal
 line_of (explanation.Value value) = value_line value

@@ -4,7 +4,8 @@ use Rattle.sqlite.specs.Tree.{Trees}
 use Rattle.sqlite.specs.State.{State, Opens}
 use Rattle.store_tables.specs.Placed.{HasClubTables}
 use Rattle.store_tables.specs.Over.{HasRows, HoldsClubAmong, LeavesFirst, Neighbours}
-use Rattle.store_tables.specs.declared.names.Version.TheVariants.{First}
+use Rattle.store_tables.specs.declared.names.Version.{Version}
+use Rattle.store_tables.specs.declared.names.Version.TheVariants.{First, Current}
 use Rattle.club_rows.specs.Club.{ClubState, tables}
 use Rattle.club_rows.specs.FirstSchema.{IsFirstClub, first_tables}
 use Rattle.schema_match.specs.Shapes.{is_of_club}
@@ -14,6 +15,8 @@ use Rattle.club_check.specs.RightTables.{NamesFirstDamaged}
 use Rattle.club_check.specs.declared.fault.OpenFault.{OpenFault}
 use Rattle.club_check.specs.declared.fault.OpenFault.TheVariants.{Schema, Store, Memory}
 use Rattle.store.specs.Histories.{HistoryStep, HasState, IsHistory, IsReachable}
+use Rattle.club_orders.specs.Report.{IfTaken, IfUpgradeOf}
+use Rattle.club_orders.specs.declared.report.Report.{Report}
 use Rattle.cli.specs.declared.words.Task.{Task}
 use Rattle.cli.specs.declared.words.Task.TheVariants as task
 
@@ -35,17 +38,19 @@ pub record HasFirst (them : Neighbours) (s : ClubState) (trees : Trees) : Type 0
   pub leaves : LeavesFirst them (first_tables s) trees
   pub shape : is_of_club First leaves.schema ≡ true
 
--- A club was opened: it is not of schema 1, and legal if its tables are a club's. Its state and its history continue
--- from what was found, beside the same foreign tables, and also from whatever a crash leaves.
+-- A club was opened: it is of schema 2 and not of schema 1, and legal if its tables are a club's. Its state and its
+-- history continue from what was found, beside the same foreign tables, and also from whatever a crash leaves.
 pub record IsTakenOver (old new : State) : Type 0 where
   pub newer : (them : Neighbours) (s : ClubState) → ¬ HasFirst them s old.committed.trees
   pub legal : HasClubTables old.now.schema → HoldClub old.committed.trees
   pub stands : (s : ClubState) → (has : HasState s old.committed.trees) → HoldsClubAmong has.them (tables s) new
   pub rows : (s : ClubState) → HasState s old.committed.trees → HasRows (tables s) new
-  pub history : (them : Neighbours) (sessions : List HistoryStep) → IsReachable them sessions old.committed.trees
-      → IsHistory them sessions new
-  pub leads : (them : Neighbours) (sessions : List HistoryStep) → IsReachable them sessions old.committed.trees
-      → (db : Trees) → new.may_leave db → IsReachable them sessions db
+  pub history : (from version : Version) (them : Neighbours) (sessions : List HistoryStep)
+      → IsReachable from version them sessions old.committed.trees
+      → (version ≡ Current) × IsHistory from Current them sessions new
+  pub leads : (from version : Version) (them : Neighbours) (sessions : List HistoryStep)
+      → IsReachable from version them sessions old.committed.trees → (db : Trees) → new.may_leave db
+      → IsReachable from version them sessions db
 
 -- every task opens a club, except its creation and its upgrade
 abbrev pub IfOpensClub : Task → Type 0 → Type 0
@@ -53,6 +58,14 @@ IfOpensClub task.Init Holds = ⊤
 IfOpensClub task.Upgrade Holds = ⊤
 IfOpensClub _ Holds = Holds
 
+-- a property that only an upgrade must have
 abbrev pub IfUpgrade : Task → Type 0 → Type 0
 IfUpgrade task.Upgrade Holds = Holds
 IfUpgrade _ Holds = ⊤
+
+-- If the task accepted the file, this holds for its schema version. Only an upgrade accepts schema 1; the creation of a
+-- club accepts no club.
+abbrev pub IfAccepted : Task → Report → (Version → Type 0) → Type 0
+IfAccepted task.Init report Holds = ⊤
+IfAccepted task.Upgrade report Holds = IfUpgradeOf report Holds
+IfAccepted _ report Holds = IfTaken report (Holds Current)

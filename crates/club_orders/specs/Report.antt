@@ -7,6 +7,8 @@ use Rattle.sqlite.specs.State.{State}
 use Rattle.store_tables.specs.Contents.{IsEmpty}
 use Rattle.store_tables.specs.Over.{LeavesBeside, LeavesFirst, Neighbours, alone}
 use Rattle.store_tables.specs.Room.{LeavesNoClub}
+use Rattle.store_tables.specs.declared.names.Version.{Version}
+use Rattle.store_tables.specs.declared.names.Version.TheVariants.{First, Current}
 use Rattle.club_requests.specs.declared.requests.Who.TheVariants.{Officer}
 use Rattle.club_requests.specs.declared.requests.Command.{Command}
 use Rattle.club_requests.specs.declared.answers.Outcome.{Outcome}
@@ -24,6 +26,8 @@ use Rattle.store.specs.declared.fault.StoreFault.TheVariants as store_fault
 use Rattle.club_check.specs.FaultText.{open_fault_text}
 use Rattle.store.specs.FaultText.{store_fault_text}
 use Rattle.store.specs.Histories.{HistoryStep, IsReachable, answered_session, cut_session, upgraded}
+use Rattle.store.specs.declared.upgrade_result.Upgrade.{Upgrade}
+use Rattle.store.specs.declared.upgrade_result.Upgrade.TheVariants.{Done, Already}
 use Rattle.club_changes.specs.Steps.{request}
 use Rattle.club_requests.specs.declared.questions.Question.{Question}
 use Rattle.club_answers.specs.AnswerTexts.{HasWrittenAnswer, HasShownSome}
@@ -59,6 +63,7 @@ report_text (Listening port) = codes "listening 127.0.0.1:" ++ decimal port ++ c
 report_text PortUnavailable = codes "store 76 Input\n"
 report_text NoMemory = codes "store 75 Memory\n"
 
+-- 0 for an accepted or repeated request, 1 for a refused one
 abbrev pub outcome_status : Outcome → ℕ
 outcome_status (outcome.Accepted answer) = 0
 outcome_status (outcome.Repeated answer) = 0
@@ -113,9 +118,21 @@ request_sessions asked _ = []
 
 -- the upgrade in the report: answered or cut off
 abbrev pub upgrade_of : Report → HistoryStep
-upgrade_of Upgraded = upgraded true
-upgrade_of AlreadyUpgraded = upgraded true
-upgrade_of _ = upgraded false
+upgrade_of Upgraded = upgraded Current true
+upgrade_of AlreadyUpgraded = upgraded Current true
+upgrade_of _ = upgraded Current false
+
+-- The schemas in which an upgrade of a file in one of these schemas leaves it: schema 2; if it was cut off, perhaps the
+-- one that was there.
+abbrev pub schemas_after_upgrade : Report → List Version → List Version
+schemas_after_upgrade Upgraded before = Current ∷ []
+schemas_after_upgrade AlreadyUpgraded before = Current ∷ []
+schemas_after_upgrade _ before = Current ∷ before
+
+-- The schemas in which a task leaves a file that is in one of these schemas. Only an upgrade changes the schema.
+abbrev pub schemas_after : Task → Report → List Version → List Version
+schemas_after task.Upgrade report before = schemas_after_upgrade report before
+schemas_after _ report before = before
 
 -- creating a club and reading add no step
 abbrev pub task_sessions : Task → ℕ → Report → List HistoryStep
@@ -133,18 +150,22 @@ Answers _ Holds = ⊥
 
 -- ---- properties of one kind of task
 
+-- a property that only a single request must have, about its command
 abbrev pub IfRequest : Task → (Command → Type 0) → Type 0
 IfRequest (task.Request command) Holds = Holds command
 IfRequest _ Holds = ⊤
 
+-- a property that only a batch must have
 abbrev pub IfBatch : Task → (Batch → Type 0) → Type 0
 IfBatch (task.Batch batch) Holds = Holds batch
 IfBatch _ Holds = ⊤
 
+-- a property that only a query must have
 abbrev pub IfAsk : Task → (Question → Type 0) → Type 0
 IfAsk (task.Ask question) Holds = Holds question
 IfAsk _ Holds = ⊤
 
+-- a property that only `verify` must have
 abbrev pub IfVerify : Task → Type 0 → Type 0
 IfVerify task.Verify Holds = Holds
 IfVerify _ Holds = ⊤
@@ -176,6 +197,24 @@ Shows s moment question before now (StoreFailed fault) =
     ((fault ≡ store_fault.Store) ⊎ (fault ≡ store_fault.Memory)) × HasShownSome s moment question before now
 Shows s moment question before now _ = ⊥
 
+-- ---- creation
+
+-- a table of a club exists already, or a call of the database failed
+abbrev pub IsExisting : OpenFault → Type 0
+IsExisting fault = (fault ≡ open_fault.Foreign) ⊎ (fault ≡ open_fault.Store)
+
+-- a club was created; or there is one already, or a call of the database failed
+abbrev pub IsCreation : Report → Type 0
+IsCreation Ready = ⊤
+IsCreation (Unopened fault) = IsExisting fault
+IsCreation _ = ⊥
+
+-- a club was created, or a call of the database failed
+abbrev pub IsCreated : Report → Type 0
+IsCreated Ready = ⊤
+IsCreated (Unopened fault) = fault ≡ open_fault.Store
+IsCreated _ = ⊥
+
 -- ---- verification
 
 -- the file is sound; or a call of the database failed, or memory ran out
@@ -194,6 +233,17 @@ IsOfCopy (StoreFailed fault) = (fault ≡ store_fault.Store) ⊎ (fault ≡ stor
 IsOfCopy _ = ⊥
 
 -- ---- upgrade
+
+abbrev pub upgrade_report : Upgrade → Report
+upgrade_report Done = Upgraded
+upgrade_report Already = AlreadyUpgraded
+
+-- if an upgrade accepted the file, this holds for the schema version that it found
+abbrev pub IfUpgradeOf : Report → (Version → Type 0) → Type 0
+IfUpgradeOf Upgraded Holds = Holds First
+IfUpgradeOf AlreadyUpgraded Holds = Holds Current
+IfUpgradeOf (Unopened fault) Holds = ⊤
+IfUpgradeOf _ Holds = ⊥
 
 -- the file was upgraded; or a call of the database failed, or memory ran out
 abbrev pub IsUpgraded : Report → Type 0
@@ -232,12 +282,12 @@ abbrev pub OnlyUnopened : Report → (OpenFault → Type 0) → Type 0
 OnlyUnopened (Unopened fault) Holds = Holds fault
 OnlyUnopened _ Holds = ⊥
 
--- There is an empty club; or none was created, and there is no table, or an empty club after all.
+-- There is an empty club of schema 2; or none was created, and there is no table, or an empty club after all.
 abbrev pub IsBegun : Report → Trees → Type 0
-IsBegun Ready trees = IsReachable alone [] trees
-IsBegun _ trees = IsEmpty trees ⊎ IsReachable alone [] trees
+IsBegun Ready trees = IsReachable Current Current alone [] trees
+IsBegun _ trees = IsEmpty trees ⊎ IsReachable Current Current alone [] trees
 
 -- The same for a club that is created beside these foreign tables.
 abbrev pub IsBegunBehind : Neighbours → Report → Trees → Type 0
-IsBegunBehind them Ready trees = IsReachable them [] trees
-IsBegunBehind them _ trees = LeavesNoClub them trees ⊎ IsReachable them [] trees
+IsBegunBehind them Ready trees = IsReachable Current Current them [] trees
+IsBegunBehind them _ trees = LeavesNoClub them trees ⊎ IsReachable Current Current them [] trees

@@ -6,6 +6,7 @@ ghost use Rattle.sqlite.specs.Held.{state};
 ghost use Rattle.store_tables.specs.Over.{HasRows};
 ghost use Rattle.store_tables.specs.Reading.{Reads};
 ghost use Rattle.club_rows.specs.Club.{ClubState, IsClub, tables};
+ghost use Rattle.club_orders.specs.NextStates.{LeavesBatch};
 ghost use Rattle.club_orders.specs.Batches.{batch_sessions, AnswersBatch, AreAsked, IsAsked};
 
 use crate::batched::BatchResults;
@@ -70,6 +71,10 @@ impl Execute for Batch {
     ghost IsAnswer = { λ batch s moment before now report. AnswersBatch s moment batch report };
 
     ghost chapters = { λ batch moment report. batch_sessions batch.requests.items report };
+
+    ghost Leaves = { λ batch them s moment report trees. LeavesBatch them s batch.requests.items report trees };
+
+    ghost unchanged = { λ batch them s moment fault trees is. is };
 
     ghost untaken = { λ batch s moment bytes fault is. is };
 

@@ -6,6 +6,7 @@ ghost use Rattle.sqlite.specs.Held.{state};
 ghost use Rattle.sqlite_trees.specs.View.{doubt};
 ghost use Rattle.store_tables.specs.Placed.{HasClubTables};
 ghost use Rattle.store_tables.specs.Contents.{IsEmpty};
+ghost use Rattle.store_tables.specs.Over.{LeavesBeside};
 ghost use Rattle.store_tables.specs.Room.{LeavesNoClub};
 ghost use Rattle.store_tables.specs.Club.{IsExactly, IsOpened};
 ghost use Rattle.store_tables.specs.Reading.{KeepsContent};
@@ -14,15 +15,17 @@ ghost use Rattle.schema_match.specs.Shapes.{is_of_club};
 ghost use Rattle.club_core.specs.Answer.{answered, outcome_of};
 ghost use Rattle.club_rows.specs.Club.{ClubState, IsClub, tables};
 ghost use Rattle.club_changes.specs.Steps.{club_step};
-ghost use Rattle.store.specs.Histories.{HasState, IsReachable, upgraded};
+ghost use Rattle.store.specs.Histories.{HasState, IsReachableIn};
 ghost use Rattle.cli.specs.declared.words.Task.TheVariants.{Init};
 ghost use Rattle.club_orders.specs.Batches.{AnswersBatch};
+ghost use Rattle.club_orders.specs.NextStates.{LeavesRequest, LeavesTask};
 ghost use Rattle.club_orders.specs.Report.{given, Answers, ask_report, IfRequest, IfAsk, IfBatch, IfVerify, IfUnopened};
-ghost use Rattle.club_orders.specs.Report.{IfTaken, IsUpgradeResult, IsRepeated, OnlyUnopened, upgrade_of};
+ghost use Rattle.club_orders.specs.Report.{IfTaken, IfUpgradeOf, IsUpgradeResult, IsRepeated, OnlyUnopened, upgrade_of};
+ghost use Rattle.club_orders.specs.Report.{IsCreated, IsCreation, IsExisting, upgrade_report};
 ghost use Rattle.club_orders.specs.Report.{Shows, IsPassed, IsBegun, IsBegunBehind, request_sessions, task_sessions};
-ghost use Rattle.club_orders.specs.Report.{writes};
+ghost use Rattle.club_orders.specs.Report.{schemas_after, schemas_after_upgrade, writes};
 ghost use Rattle.club_check.specs.Refused.{HoldClub, IsKept, IsRefusal};
-ghost use Rattle.club_orders.specs.Refused.{HasFirst, IfOpensClub, IfUpgrade, IsOlder, IsUpgradeRefusal};
+ghost use Rattle.club_orders.specs.Refused.{HasFirst, IfAccepted, IfOpensClub, IfUpgrade, IsOlder, IsUpgradeRefusal};
 
 use crate::open_club::{Execute, execute_in_club, open_checked};
 use crate::report::Report;
@@ -45,18 +48,26 @@ fn init<S: Alter>(alloc: Global, conn: Connection<S>) -> (Report, Connection<S>)
     ensures begun { HasCleanDisk (state S.Store result.1) → Opens (state S.Store conn) → IsLive (state S.Store conn) →
         IsEmpty (state S.Store conn).committed.trees →
         (db : _) → (state S.Store result.1).may_leave db → IsBegun result.0 db }
+    ensures possible_reports { IsCreation result.0 }
     ensures empty { HasCleanDisk (state S.Store result.1) → Opens (state S.Store conn) → IsLive (state S.Store conn) →
-        IsEmpty (state S.Store conn).committed.trees → IfUnopened result.0 (λ fault. fault ≡ OpenFault.Store) }
+        IsEmpty (state S.Store conn).committed.trees → IsCreated result.0 }
     // Beside foreign tables, which keep their rows.
     ensures behind { HasCleanDisk (state S.Store result.1) → Opens (state S.Store conn) → IsLive (state S.Store conn) →
         (them : _) → LeavesNoClub them (state S.Store conn).committed.trees →
-        IfUnopened result.0 (λ fault. fault ≡ OpenFault.Store)
+        IsCreated result.0
         × ((db : _) → (state S.Store result.1).may_leave db → IsBegunBehind them result.0 db) }
+    ensures existing { HasCleanDisk (state S.Store result.1) → Opens (state S.Store conn) →
+        HasClubTables (state S.Store conn).now.schema →
+        OnlyUnopened result.0 IsExisting × IsKept (state S.Store conn) (state S.Store result.1) }
+    ensures unchanged { HasCleanDisk (state S.Store result.1) → Opens (state S.Store conn) →
+        IsLive (state S.Store conn) → (s : ClubState) → HasState s (state S.Store conn).committed.trees →
+        IsKept (state S.Store conn) (state S.Store result.1) }
     ensures spares { HasCleanDisk (state S.Store result.1) → Opens (state S.Store conn) →
         result.0 ≡ Report.Unopened OpenFault.Foreign → IsKept (state S.Store conn) (state S.Store result.1) }
     ensures history { HasCleanDisk (state S.Store result.1) → Opens (state S.Store conn) → IsLive (state S.Store conn) →
-        (them : _) (sessions : _) → IsReachable them sessions (state S.Store conn).committed.trees →
-        (db : _) → (state S.Store result.1).may_leave db → IsReachable them sessions db }
+        (from : _) (versions : _) (them : _) (sessions : _) →
+        IsReachableIn from versions them sessions (state S.Store conn).committed.trees →
+        (db : _) → (state S.Store result.1).may_leave db → IsReachableIn from versions them sessions db }
 {
     opened_empty_holds(&conn);
     holds_exactly(&conn);
@@ -77,6 +88,10 @@ impl Execute for Command {
         outcome_of outcome ≡ answered (club_step s (given c moment))) };
 
     ghost chapters = { λ c moment report. request_sessions (given c moment) report };
+
+    ghost Leaves = { λ c them s moment report trees. LeavesRequest them s (given c moment) report trees };
+
+    ghost unchanged = { λ c them s moment fault trees is. is };
 
     ghost untaken = { λ c s moment bytes fault is. is };
 
@@ -115,6 +130,10 @@ impl Execute for Question {
 
     ghost chapters = { λ question moment report. [] };
 
+    ghost Leaves = { λ question them s moment report trees. LeavesBeside them (tables s) trees };
+
+    ghost unchanged = { λ question them s moment fault trees is. is };
+
     ghost untaken = { λ question s moment bytes fault is. (is, refl) };
 
     ghost no_chapter = { λ question moment fault. refl };
@@ -141,11 +160,14 @@ fn run_upgrade<S: Alter>(alloc: Global, conn: Connection<S>) -> (Report, Connect
     ensures repeats { HasCleanDisk (state S.Store result.1) → Opens (state S.Store conn) → IsLive (state S.Store conn) →
         (s : ClubState) → IsClub s → HasState s (state S.Store conn).committed.trees →
         IsRepeated result.0 × IsKept (state S.Store conn) (state S.Store result.1) }
+    ensures shape { IfUpgradeOf result.0 (λ version. is_of_club version (state S.Store conn).now.schema ≡ true) }
     ensures refuses { HasCleanDisk (state S.Store result.1) →
         IfUnopened result.0 (IsUpgradeRefusal (state S.Store conn) (state S.Store result.1)) }
     ensures history { HasCleanDisk (state S.Store result.1) → Opens (state S.Store conn) → IsLive (state S.Store conn) →
-        (them : _) (chapters : _) → IsReachable them chapters (state S.Store conn).committed.trees →
-        (db : _) → (state S.Store result.1).may_leave db → IsReachable them (chapters ++ upgrade_of result.0 ∷ []) db }
+        (from : _) (versions : _) (them : _) (chapters : _) →
+        IsReachableIn from versions them chapters (state S.Store conn).committed.trees →
+        (db : _) → (state S.Store result.1).may_leave db →
+        IsReachableIn from (schemas_after_upgrade result.0 versions) them (chapters ++ upgrade_of result.0 ∷ []) db }
 {
     holds_exactly(&conn);
     crash_keeps_history(&conn);
@@ -160,10 +182,7 @@ fn run_upgrade<S: Alter>(alloc: Global, conn: Connection<S>) -> (Report, Connect
 
 // The report of an upgrade.
 fn report_of_upgrade(done: Upgrade) -> Report
-    ensures done { done ≡ Upgrade.Done → result ≡ Report.Upgraded }
-    ensures already { done ≡ Upgrade.Already → result ≡ Report.AlreadyUpgraded }
-    ensures either { upgrade_of result ≡ upgraded true }
-    ensures taken { IfUnopened result (λ fault. ⊥) }
+    ensures { result ≡ upgrade_report done }
 {
     match done {
         Upgrade::Done => Report::Upgraded,
@@ -202,8 +221,9 @@ pub fn verify<S: Alter>(alloc: Global, conn: Connection<S>) -> (Report, Connecti
         (them : _) (s : ClubState) → HasFirst them s (state S.Store conn).committed.trees →
         OnlyUnopened result.0 IsOlder }
     ensures history { HasCleanDisk (state S.Store result.1) → Opens (state S.Store conn) → IsLive (state S.Store conn) →
-        (them : _) (sessions : _) → IsReachable them sessions (state S.Store conn).committed.trees →
-        (db : _) → (state S.Store result.1).may_leave db → IsReachable them sessions db }
+        (from : _) (versions : _) (them : _) (sessions : _) →
+        IsReachableIn from versions them sessions (state S.Store conn).committed.trees →
+        (db : _) → (state S.Store result.1).may_leave db → IsReachableIn from versions them sessions db }
 {
     match open_checked(alloc, conn) {
         Ok(club) => (Report::Sound, club.into_connection()),
@@ -218,7 +238,12 @@ pub fn verify<S: Alter>(alloc: Global, conn: Connection<S>) -> (Report, Connecti
 ///
 /// - `answer`, `given`, `asked`: the reported outcomes and the text written are those of the club's specification.
 /// - `history`: whatever a crash leaves is reached by the earlier history and this task, beside the same foreign tables.
-/// - `begun`, `behind`: after the creation of a club, or a crash in it, there is an empty club or no club.
+///   Only an upgrade changes the schema.
+/// - `next_state`: from a legal state, whatever a crash leaves is that state or the next one; the next one after success.
+/// - `begun`, `behind`: after the creation of a club, or a crash in it, there is an empty club of schema 2 or no club.
+/// - `creation`, `empty`, `existing`: a club is created, or the report says that there is one or that a call failed. An
+///   existing club is unchanged.
+/// - `shape`: a file is accepted only with the schema of a club; by an upgrade, of either version.
 /// - `refuses`, `withheld`: the reason why a file was rejected is true, and the file is unchanged. Only an upgrade in
 ///   which a database call failed may have changed it.
 pub fn act<S: Alter, W: Write>(
@@ -234,14 +259,14 @@ pub fn act<S: Alter, W: Write>(
     ensures begun { HasCleanDisk (state S.Store result.1) → Opens (state S.Store conn) → IsLive (state S.Store conn) →
         task.now ≡ Init → IsEmpty (state S.Store conn).committed.trees →
         (db : _) → (state S.Store result.1).may_leave db → IsBegun result.0 db }
+    ensures creation { task.now ≡ Init → IsCreation result.0 }
     // In a database without tables the creation fails only if a call fails.
     ensures empty { HasCleanDisk (state S.Store result.1) → Opens (state S.Store conn) → IsLive (state S.Store conn) →
-        task.now ≡ Init → IsEmpty (state S.Store conn).committed.trees →
-        IfUnopened result.0 (λ fault. fault ≡ OpenFault.Store) }
+        task.now ≡ Init → IsEmpty (state S.Store conn).committed.trees → IsCreated result.0 }
     // Beside foreign tables, too, which keep their rows.
     ensures behind { HasCleanDisk (state S.Store result.1) → Opens (state S.Store conn) → IsLive (state S.Store conn) →
         task.now ≡ Init → (them : _) → LeavesNoClub them (state S.Store conn).committed.trees →
-        IfUnopened result.0 (λ fault. fault ≡ OpenFault.Store)
+        IsCreated result.0
         × ((db : _) → (state S.Store result.1).may_leave db → IsBegunBehind them result.0 db) }
     ensures answer { HasCleanDisk (state S.Store result.1) → Opens (state S.Store conn) → IsLive (state S.Store conn) →
         (s : ClubState) → IsClub s → HasState s (state S.Store conn).committed.trees →
@@ -263,8 +288,7 @@ pub fn act<S: Alter, W: Write>(
         HasClubTables (state S.Store conn).now.schema → IfVerify task.now (result.0 ≡ Report.Sound →
         HoldClub (state S.Store conn).committed.trees) }
     // The schema of an accepted file is equivalent to a club's, whatever `CREATE` statements made it.
-    ensures shape { IfOpensClub task.now (IfTaken result.0 (
-        is_of_club Current (state S.Store conn).now.schema ≡ true)) }
+    ensures shape { IfAccepted task.now result.0 (λ version. is_of_club version (state S.Store conn).now.schema ≡ true) }
     ensures refuses { HasCleanDisk (state S.Store result.1) → IfOpensClub task.now (IfUnopened result.0
         (IsRefusal (state S.Store conn) (state S.Store result.1))) }
     ensures older { HasCleanDisk (state S.Store result.1) → Opens (state S.Store conn) → IsLive (state S.Store conn) →
@@ -278,13 +302,24 @@ pub fn act<S: Alter, W: Write>(
         IfUpgrade task.now (IsRepeated result.0 × IsKept (state S.Store conn) (state S.Store result.1)) }
     ensures withheld { HasCleanDisk (state S.Store result.1) → IfUpgrade task.now (IfUnopened result.0
         (IsUpgradeRefusal (state S.Store conn) (state S.Store result.1))) }
+    // No club is created where there is one, sound or damaged.
+    ensures existing { HasCleanDisk (state S.Store result.1) → Opens (state S.Store conn) → task.now ≡ Init →
+        HasClubTables (state S.Store conn).now.schema →
+        OnlyUnopened result.0 IsExisting × IsKept (state S.Store conn) (state S.Store result.1) }
     ensures spares { HasCleanDisk (state S.Store result.1) → Opens (state S.Store conn) → task.now ≡ Init →
         result.0 ≡ Report.Unopened OpenFault.Foreign → IsKept (state S.Store conn) (state S.Store result.1) }
     ensures silent { writes task.now ≡ false → out.new ≡ out.old }
+    // From any legal state, whatever history led to it.
+    ensures next_state { HasCleanDisk (state S.Store result.1) → Opens (state S.Store conn) →
+        IsLive (state S.Store conn) → (s : ClubState) → IsClub s →
+        (has : HasState s (state S.Store conn).committed.trees) → (db : _) → (state S.Store result.1).may_leave db →
+        LeavesTask has.them s task.now moment result.0 db }
     ensures history { HasCleanDisk (state S.Store result.1) → Opens (state S.Store conn) → IsLive (state S.Store conn) →
-        (them : _) (sessions : _) → IsReachable them sessions (state S.Store conn).committed.trees →
+        (from : _) (versions : _) (them : _) (sessions : _) →
+        IsReachableIn from versions them sessions (state S.Store conn).committed.trees →
         (db : _) → (state S.Store result.1).may_leave db →
-        IsReachable them (sessions ++ task_sessions task.now moment result.0) db }
+        IsReachableIn from (schemas_after task.now result.0 versions) them
+        (sessions ++ task_sessions task.now moment result.0) db }
 {
     match task {
         Task::Init => init(alloc, conn),

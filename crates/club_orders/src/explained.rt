@@ -137,26 +137,41 @@ fn second_line(explains: bool, explanation: Option<Explanation>) -> &'static str
     }
 }
 
+/// A report on a task, as it is to be printed.
+#[derive(Clone, Copy)]
+pub struct TaskReport<'a> {
+    /// What was to be done.
+    pub task: &'a Task,
+    /// How it ended.
+    pub report: &'a Report,
+    /// Whether a second line explains a refusal or a fault.
+    pub explains: bool,
+}
+
 /// Prints a report as `print` does and returns the same exit status.
-/// If `explains`, a refusal or fault is followed on standard error by a line that says what it means for the task and
-/// what to do.
+/// If it is to be explained, a refusal or fault is followed on standard error by a line that says what it means for the
+/// task and what to do.
 pub fn print_explained<O: Write, E: Write>(
     line: String,
-    task: &Task,
-    report: &Report,
-    explains: bool,
+    given: &TaskReport<'_>,
     out: &mut O,
     err: &mut E,
 ) -> u8
     requires { string_bytes line ≡ [] }
-    ensures status { (result ≡ report_status report.now) ⊎ (result ≡ 3) }
-    ensures done { result ≡ 0 → Appends (O.contents out.old) (O.contents out.new) (report_text report.now) }
-    ensures refused { result ≡ 1 →
-        IsRefusalExplained explains task.now report.now (E.contents err.old) (E.contents err.new) }
-    ensures told { result ≡ 3 →
-        IsFaultExplained explains task.now report.now (E.contents err.old) (E.contents err.new) }
-    ensures silent { report_status report.now ≢ 0 → out.new ≡ out.old }
+    ensures status { (result ≡ report_status given.now.report.now) ⊎ (result ≡ 3) }
+    ensures done { result ≡ 0 →
+        Appends (O.contents out.old) (O.contents out.new) (report_text given.now.report.now) }
+    ensures refused { result ≡ 1 → IsRefusalExplained given.now.explains given.now.task.now given.now.report.now
+        (E.contents err.old) (E.contents err.new) }
+    ensures told { result ≡ 3 → IsFaultExplained given.now.explains given.now.task.now given.now.report.now
+        (E.contents err.old) (E.contents err.new) }
+    ensures silent { report_status given.now.report.now ≢ 0 → out.new ≡ out.old }
 {
+    let TaskReport {
+        task,
+        report,
+        explains,
+    } = *given;
     let status = print(line, report, out, err);
     let second = second_line(explains, explained_at(status, task, report));
     let _is_told = write_out(err, second.as_bytes());

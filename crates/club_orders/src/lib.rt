@@ -1,4 +1,21 @@
 //! Executes the officer's commands over one open file of a club, and prints and explains the results.
+//!
+//! # Guarantees
+//!
+//! - `act`: what `club_session::execute_order` promises of an order, over a connection that was just opened.
+//! - `act` (`given`, `history`): the orders of a batch are one session more, up to a fault. If a query that comes
+//!   first is refused, none is executed.
+//! - `back_up` (`copied`, `after_crash`, `reads`): after `copied` the copy has exactly the club's tables. Otherwise a
+//!   crash leaves no table, or all; the club is only read.
+//! - `back_up` (`untouched`, `stays_open`): if a call of the club, or memory, is blamed, nothing was done to the copy;
+//!   if the copy is blamed, the club is unchanged.
+//! - `verify` (`same`, `keeps`): a club that is found sound is unchanged, and a crash leaves what was committed.
+//! - `print` (`status`, `done`, `refused`, `told`, `silent`): a report is printed to the stream of its status, or a
+//!   prefix if that fails.
+//! - `print_batch` (`printed`, `told`): the lines of all answered orders in turn, and then the fault, if one ended the
+//!   batch.
+//! - `print_explained` (`refused`, `told`), `Explanation::line`, `explain_refusal`: with `--explain` a refusal or a
+//!   fault is followed by its explanation, or a prefix of it.
 #![tactic(auto)]
 
 pub mod batch;
@@ -16,5 +33,5 @@ pub use batched::{BatchResults, print_batch};
 pub use causes::{ExplainedFault, Explanation, WrongValue, explain_refusal};
 pub use copying::back_up;
 pub use execution::{act, verify};
-pub use explained::print_explained;
+pub use explained::{TaskReport, print_explained};
 pub use report::{BAD_WORDS, DONE, FAULT, REFUSED, Report, print};

@@ -5,13 +5,14 @@ ghost use Rattle.sqlite.specs.State.{HasCleanDisk, Opens, IsLive};
 ghost use Rattle.sqlite.specs.Held.{state};
 ghost use Rattle.sqlite_trees.specs.View.{doubt};
 ghost use Rattle.store_tables.specs.Club.{IsExactly, IsOpened};
-ghost use Rattle.store_tables.specs.Over.{HoldsClubAmong};
+ghost use Rattle.sqlite.specs.Tree.{Trees};
+ghost use Rattle.store_tables.specs.Over.{HoldsClubAmong, LeavesBeside, Neighbours};
 ghost use Rattle.store_tables.specs.Reading.{OnlyReads, Reads};
 ghost use Rattle.store_tables.specs.declared.names.Version.TheVariants.{Current};
 ghost use Rattle.schema_match.specs.Shapes.{is_of_club};
 ghost use Rattle.club_rows.specs.Club.{ClubState, IsClub, tables};
 ghost use Rattle.club_check.specs.Refused.{IsRefusal};
-ghost use Rattle.store.specs.Histories.{HistoryStep, HasState, IsHistory, IsReachable};
+ghost use Rattle.store.specs.Histories.{HistoryStep, HasState, IsHistory, IsReachable, IsReachableIn};
 ghost use Rattle.club_orders.specs.Refused.{HasFirst, IsOlder, IsTakenOver};
 ghost use Rattle.club_orders.specs.Report.{IfTaken, IfUnopened, OnlyUnopened};
 
@@ -55,9 +56,9 @@ pub(crate) fn open_checked<S: Alter>(
         IsLive (state S.Store conn) → (them : _) (s : ClubState) →
         HasFirst them s (state S.Store conn).committed.trees → IsOlder u.fault) }
     ensures history { IfErr result (λ u. HasCleanDisk (state S.Store u.conn) → Opens (state S.Store conn) →
-        IsLive (state S.Store conn) → (them : _) (sessions : _) →
-        IsReachable them sessions (state S.Store conn).committed.trees →
-        (db : _) → (state S.Store u.conn).may_leave db → IsReachable them sessions db) }
+        IsLive (state S.Store conn) → (from version : _) (them : _) (sessions : _) →
+        IsReachable from version them sessions (state S.Store conn).committed.trees →
+        (db : _) → (state S.Store u.conn).may_leave db → IsReachable from version them sessions db) }
 {
     holds_exactly(&conn);
     opened_history_holds(&conn);
@@ -79,6 +80,9 @@ pub(crate) trait Execute {
     /// The steps that the task adds to the history of the club.
     ghost chapters: { Self → ℕ → Report → List HistoryStep };
 
+    /// The tables that a crash leaves after the task, from a legal state before it, beside these foreign tables.
+    ghost Leaves: { Self → Neighbours → ClubState → ℕ → Report → Trees → Type 0 };
+
     /// Executes the task at this timestamp and reports the result.
     fn execute<S: Alter, W: Write>(
         &self,
@@ -94,15 +98,22 @@ pub(crate) trait Execute {
         ensures answer { HasCleanDisk (state S.Store club.new.connection) → (them : _) (s : ClubState) →
             IsClub s → HoldsClubAmong them (tables s) (state S.Store club.old.connection) →
             IsAnswer self.now s moment (W.contents out.old) (W.contents out.new) result }
-        ensures history { HasCleanDisk (state S.Store club.new.connection) → (them : _) (sessions : _) →
-            IsHistory them sessions (state S.Store club.old.connection) →
+        ensures next_state { HasCleanDisk (state S.Store club.new.connection) → (them : _) (s : ClubState) →
+            IsClub s → HoldsClubAmong them (tables s) (state S.Store club.old.connection) →
+            (db : _) → (state S.Store club.new.connection).may_leave db → Leaves self.now them s moment result db }
+        ensures history { HasCleanDisk (state S.Store club.new.connection) → (from : _) (them : _) (sessions : _) →
+            IsHistory from Current them sessions (state S.Store club.old.connection) →
             (db : _) → (state S.Store club.new.connection).may_leave db →
-            IsReachable them (sessions ++ chapters self.now moment result) db };
+            IsReachable from Current them (sessions ++ chapters self.now moment result) db };
 
     /// If a call failed or memory ran out while the club was opened, that fault is an answer.
     ghost untaken: { (task : Self) (s : ClubState) (moment : ℕ) (bytes : Option (List ℕ)) (fault : OpenFault) →
         (fault ≡ open_fault.Store) ⊎ (fault ≡ open_fault.Memory) →
         IsAnswer task s moment bytes bytes (Unopened fault) };
+
+    /// If the club was not opened, its tables stay.
+    ghost unchanged: { (task : Self) (them : Neighbours) (s : ClubState) (moment : ℕ) (fault : OpenFault) (trees : Trees) →
+        LeavesBeside them (tables s) trees → Leaves task them s moment (Unopened fault) trees };
 
     /// If the club was not opened, the history has no new step.
     ghost no_chapter: { (task : Self) (moment : ℕ) (fault : OpenFault) → chapters task moment (Unopened fault) ≡ [] };
@@ -129,10 +140,15 @@ pub(crate) fn execute_in_club<S: Alter, T: Execute, W: Write>(
     ensures older { HasCleanDisk (state S.Store result.1) → Opens (state S.Store conn) → IsLive (state S.Store conn) →
         (them : _) (s : ClubState) → HasFirst them s (state S.Store conn).committed.trees →
         OnlyUnopened result.0 IsOlder }
+    ensures next_state { HasCleanDisk (state S.Store result.1) → Opens (state S.Store conn) →
+        IsLive (state S.Store conn) → (s : ClubState) → IsClub s →
+        (has : HasState s (state S.Store conn).committed.trees) → (db : _) → (state S.Store result.1).may_leave db →
+        T.Leaves task.now has.them s moment result.0 db }
     ensures history { HasCleanDisk (state S.Store result.1) → Opens (state S.Store conn) → IsLive (state S.Store conn) →
-        (them : _) (sessions : _) → IsReachable them sessions (state S.Store conn).committed.trees →
+        (from : _) (versions : _) (them : _) (sessions : _) →
+        IsReachableIn from versions them sessions (state S.Store conn).committed.trees →
         (db : _) → (state S.Store result.1).may_leave db →
-        IsReachable them (sessions ++ T.chapters task.now moment result.0) db }
+        IsReachableIn from versions them (sessions ++ T.chapters task.now moment result.0) db }
 {
     let mut club = match open_checked(alloc, conn) {
         Ok(club) => club,

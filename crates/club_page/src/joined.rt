@@ -43,9 +43,9 @@ pub fn page_1() -> &'static str
      color:inherit}button,select,input:not([type=checkbox]),.button{min-height:2.5rem;\
      padding:.3rem .9rem;background:var(--raised);border:1px solid var(--edge);border-radius:.4rem}\
      button,.button{display:inline-block;cursor:pointer;text-decoration:none}\
-     button:hover,.button:hover{background:var(--sunk)}button.main{background:var(--accent);\
-     border-color:var(--accent);color:var(--on-accent);font-weight:600}\
-     button.main:hover{border-color:var(--ink)}button.danger{color:var(--late)}\
+     .button{display:inline-grid;place-content:center}button:hover,.button:hover{background:var(--sunk)}\
+     button.main{background:var(--accent);border-color:var(--accent);color:var(--on-accent);\
+     font-weight:600}button.main:hover{border-color:var(--ink)}button.danger{color:var(--late)}\
      button.main.danger{background:var(--late);border-color:var(--late);color:var(--on-accent)}\
      button:disabled{color:var(--faint);background:none;border-style:dashed;cursor:default}\
      :focus-visible{outline:3px solid var(--accent);outline-offset:2px}label{display:block;\
@@ -122,15 +122,15 @@ pub fn page_1() -> &'static str
      line-height:1.2}.dot{display:inline-block;margin-inline-end:.45rem;vertical-align:-.1rem;\
      width:.95rem;height:.95rem;border:2px solid var(--edge);border-radius:50%;background:#fffaf0}\
      .draughts .dot.side1{background:#26221e}.shogi .dot{width:1.05rem;height:1.05rem;border:0;\
-     border-radius:0;background:currentColor;clip-path:polygon(50% 0,86% 18%,100% 100%,0 100%,14% 18%)}\
-     .shogi .dot.side1::before{content:\"\";display:block;height:100%;background:var(--ground);\
-     clip-path:polygon(50% 16%,73% 28%,86% 90%,14% 90%,27% 28%)}.clock{margin-inline-start:auto;\
-     padding:.15rem .6rem;border-radius:.4rem;background:var(--sunk);color:var(--faint);\
-     font-variant-numeric:tabular-nums;white-space:nowrap}.player.turn .clock{background:var(--wash);\
-     color:var(--ink);font-weight:650;box-shadow:inset 0 0 0 1px var(--accent)}\
-     .player.turn .clock.low{background:var(--wash-late);color:var(--late);\
-     box-shadow:inset 0 0 0 1px var(--late)}.hand{display:flex;order:1;flex:0 1 auto;gap:.1rem;\
-     align-items:center;min-width:6rem;min-height:2.6rem;padding:0 .4rem;border-radius:.3rem;\
+     border-radius:0;background:var(--edge);clip-path:polygon(50% 0,86% 18%,100% 100%,0 100%,14% 18%)}\
+     .shogi .dot::before{content:\"\";display:block;height:100%;background:#26221e;\
+     clip-path:polygon(50% 16%,73% 28%,86% 90%,14% 90%,27% 28%)}\
+     .shogi .dot.side1::before{background:#fffaf0}.clock{margin-inline-start:auto;padding:.15rem .6rem;\
+     border-radius:.4rem;background:var(--sunk);color:var(--faint);font-variant-numeric:tabular-nums;\
+     white-space:nowrap}.player.turn .clock{background:var(--wash);color:var(--ink);font-weight:650;\
+     box-shadow:inset 0 0 0 1px var(--accent)}.player.turn .clock.low{background:var(--wash-late);\
+     color:var(--late);box-shadow:inset 0 0 0 1px var(--late)}.hand{display:flex;order:1;flex:0 1 auto;\
+     gap:.1rem;align-items:center;min-width:6rem;min-height:2.6rem;padding:0 .4rem;border-radius:.3rem;\
      background:#d3a962;box-shadow:inset 0 0 0 1px #8f6a2f}.shogi .clock{order:2}\
      #play .hand button{position:relative;flex:none;width:2.35rem;min-height:0;padding:0;border:0;\
      border-radius:.2rem;background:none}\
@@ -186,8 +186,9 @@ pub fn page_1() -> &'static str
      min-height:9.8rem;padding:.8rem 1rem;background:var(--raised);border:1px solid var(--line);\
      border-radius:var(--round)}#state b{display:block;font-size:1.15rem}#hint{color:var(--accent);\
      font-weight:600}.told #hint{text-decoration:underline}#confirm{display:flex;gap:.5rem}\
-     #confirm .main,#urgent button{flex:1}#urgent{display:flex;flex-wrap:wrap;gap:.5rem}\
-     #urgent:empty,#confirm:not([hidden]) + #urgent{display:none}#steps{display:grid;\
+     #confirm .main,#urgent button{flex:1}#next a{width:100%;text-align:center}\
+     #next:empty,#confirm:not([hidden]) ~ #next{display:none}#urgent{display:flex;flex-wrap:wrap;\
+     gap:.5rem}#urgent:empty,#confirm:not([hidden]) + #urgent{display:none}#steps{display:grid;\
      grid-template-columns:repeat(5,1fr);gap:.35rem}#steps button{padding:.2rem 0}\
      #steps [aria-disabled=true]{color:var(--faint);border-color:var(--line)}\
      #steps [value=start] .icon,#steps [value=back] .icon,#steps [value=on] .icon,#steps [value=present] \
@@ -202,12 +203,20 @@ pub fn page_1() -> &'static str
      width:2.5rem;padding-inline-end:.5rem;color:var(--faint);text-align:end}#moves button{flex:1;\
      min-height:1.9rem;padding:.1rem .5rem;border:0;background:none;text-align:start;white-space:nowrap}\
      #moves button:hover{background:var(--sunk)}#moves [aria-current]{background:var(--accent);\
-     color:var(--on-accent);font-weight:650}#actions,#tools{display:flex;flex-wrap:wrap;gap:.5rem}\
-     @media (max-width:56em){#game,#game:has(.shogi){grid-template-columns:minmax(0,min(100%,40rem))}\
-     #say{min-height:7rem}#moves{height:auto;min-height:2.8rem;max-height:11rem}}\
-     @media (max-width:37.5em){main{padding-inline:.6rem}header{padding-inline:.6rem;gap:.5rem}\
-     #play{margin-inline:-.6rem}.player{padding-inline:.6rem}.shogi .hand{order:3;flex:1 0 100%}\
-     .shogi .clock{order:2}.shogi #far .hand{order:3}#frame{border-radius:0}.draughts #frame{padding:0}\
+     color:var(--on-accent);font-weight:650}#actions:empty{display:none}#actions,#tools{display:flex;\
+     flex-wrap:wrap;gap:.5rem}@media (max-width:56em){.game h1{max-width:40rem;margin-inline:auto}\
+     #game,#game:has(.shogi){grid-template-columns:minmax(0,min(100%,40rem))}#say{min-height:7rem}\
+     #moves{height:auto;min-height:2.8rem;max-height:11rem}}\
+     @media (min-width:37.51em) and (max-width:60em) and (max-height:31em){.game h1{max-width:none;\
+     text-align:start}#game,#game:has(.shogi){--board:max(100dvh - .8rem,15rem);\
+     grid-template-columns:min(var(--board),60%) minmax(0,1fr);grid-template-rows:auto auto 1fr;\
+     gap:.3rem .9rem}#game:has(.shogi){--board:max((100dvh - 1rem) * .93,15rem)}#play{display:contents}\
+     #frame{grid-area:1 / 1 / span 3}#game .player{grid-column:2;min-height:2.4rem}#say{min-height:5rem;\
+     padding:.5rem .8rem}#steps{grid-template-columns:repeat(auto-fit,minmax(2.2rem,1fr))}\
+     .clock{white-space:normal}}@media (max-width:37.5em){main{padding-inline:.6rem}\
+     header{padding-inline:.6rem;gap:.5rem}#play{margin-inline:-.6rem}.player{padding-inline:.6rem}\
+     .shogi .hand{order:3;flex:1 0 100%}.shogi .clock{order:2}.shogi #far .hand{order:3}\
+     #frame{border-radius:0}.draughts #frame{padding:0}\
      .shogi #frame{grid-template-columns:minmax(0,1fr) 1rem;padding:0 0 .2rem .2rem}\
      #confirm,#urgent{position:fixed;inset:auto 0 0;z-index:15;\
      padding:.6rem .6rem max(.6rem,env(safe-area-inset-bottom));background:var(--raised);\
@@ -248,23 +257,23 @@ pub fn page_1() -> &'static str
      \n<div id=board role=grid aria-labelledby=title></div>\n<div id=ranks aria-hidden=true></div>\n</div>\
      \n<div class=player id=near><span id=near-player></span><span id=near-clock class=clock role=timer>\
      </span><span id=near-hand class=hand></span></div>\n</div>\n<div id=side>\n<div id=say>\
-     \n<p id=state role=status></p>\n<p id=hint></p>\n<p id=confirm hidden></p>\n<p id=urgent></p>\n</div>\
-     \n<p id=steps></p>\n<p id=actions></p>\n<ol id=moves></ol>\n<p id=tools></p>\n</div>\n</section>\n</main>\
-     \n<div id=notices>\n<div id=away role=status></div>\n<div id=unsent role=alert></div>\
-     \n<div id=wrong role=alert></div>\n</div>\n<dialog id=dialog aria-labelledby=question>\n<p id=question>\
-     </p>\n<p id=options></p>\n</dialog>\n<dialog id=settings aria-labelledby=settings-title>\
-     \n<form method=dialog>\n<h2 id=settings-title data-text=settings> </h2>\n<label>\
-     <span data-text=languageName> </span><select id=language></select></label>\n<label class=choice>\
-     <input type=checkbox id=confirm-choice><span data-text=confirmChoice> </span></label>\
-     \n<label class=choice><input type=checkbox id=animate-choice><span data-text=animateChoice> </span>\
-     </label>\n<label class=choice><input type=checkbox id=letters-choice><span data-text=lettersChoice> \
-     </span></label>\n<label class=choice><input type=checkbox id=alerts-choice>\
-     <span data-text=alertsChoice> </span></label>\
-     \n<p id=alerts-refused role=status hidden data-text=alertsRefused> </p>\n<label class=choice>\
-     <input type=checkbox id=sound-choice><span data-text=soundChoice> </span></label>\n<p>\
-     \n<button type=button id=sign-out data-text=signOut> </button>\n<button class=main data-text=done> \
-     </button>\n</p>\n</form>\n</dialog>\n<script type=\"module\">const byId=(id)=>\
-     document.getElementById(id);\
+     \n<p id=state role=status></p>\n<p id=hint></p>\n<p id=confirm hidden></p>\n<p id=urgent></p>\
+     \n<p id=next></p>\n</div>\n<p id=steps></p>\n<p id=actions></p>\n<ol id=moves></ol>\n<p id=tools></p>\
+     \n</div>\n</section>\n</main>\n<div id=notices>\n<div id=away role=status></div>\
+     \n<div id=unsent role=alert></div>\n<div id=wrong role=alert></div>\n</div>\
+     \n<dialog id=dialog aria-labelledby=question>\n<p id=question></p>\n<p id=options></p>\n</dialog>\
+     \n<dialog id=settings aria-labelledby=settings-title>\n<form method=dialog>\
+     \n<h2 id=settings-title data-text=settings> </h2>\n<label><span data-text=languageName> </span>\
+     <select id=language></select></label>\n<label class=choice><input type=checkbox id=confirm-choice>\
+     <span data-text=confirmChoice> </span></label>\n<label class=choice>\
+     <input type=checkbox id=animate-choice><span data-text=animateChoice> </span></label>\
+     \n<label class=choice><input type=checkbox id=letters-choice><span data-text=lettersChoice> </span>\
+     </label>\n<label class=choice><input type=checkbox id=alerts-choice><span data-text=alertsChoice> \
+     </span></label>\n<p id=alerts-refused role=status hidden data-text=alertsRefused> </p>\
+     \n<label class=choice><input type=checkbox id=sound-choice><span data-text=soundChoice> </span>\
+     </label>\n<p>\n<button type=button id=sign-out data-text=signOut> </button>\
+     \n<button class=main data-text=done> </button>\n</p>\n</form>\n</dialog>\n<script type=\"module\">\
+     const byId=(id)=>document.getElementById(id);\
      function make(tag,properties,...children){const made=Object.assign(document.createElement(tag),prop\
      erties);made.append(...children);return made}\
      function draw(tag,attributes,...children){const made=document.createElementNS('http://www.w3.org/20\
@@ -284,9 +293,9 @@ pub fn page_1() -> &'static str
      const CHOICES={confirm:true,animate:true,letters:false,alerts:false,sound:false};\
      const choices=Object.keys(CHOICES);const chosen=(name)=>\
      (recall(name)??String(CHOICES[name]))==='true';const TONES=[[660,0],[880,0.14]];const VOLUME=0.12;\
-     const LENGTH=0.35;let announced=null;const canNotify=()=>\
-     chosen('alerts')&&window.Notification?.permission==='granted';const isWatching=()=>\
-     canNotify()||chosen('sound');function ring(){const audio=new AudioContext();\
+     const LENGTH=0.35;let announced=null;const isForbidden=()=>\
+     window.Notification?.permission!=='granted';const canNotify=()=>chosen('alerts')&&!isForbidden();\
+     const isWatching=()=>canNotify()||chosen('sound');function ring(){const audio=new AudioContext();\
      for(const[pitch,delay]of TONES){const start=audio.currentTime+delay;\
      const tone=audio.createOscillator();const volume=audio.createGain();tone.frequency.value=pitch;\
      volume.gain.setValueAtTime(VOLUME,start);\
@@ -303,7 +312,14 @@ pub fn page_1() -> &'static str
      if(canNotify()&&!document.hasFocus())fresh.forEach(notify)}const mayNotify=async()=>\
      await window.Notification?.requestPermission()==='granted';\
      function writeManifest(){const address=location.origin+location.pathname;\
-     const manifest={name:'Gathlwyro',id:address,start_url:address,"
+     const manifest={name:'Gathlwyro',id:address,start_url:address,scope:address,display:'standalone',ba\
+     ckground_color:'#f5f2ea',theme_color:'#1d5f4b',icons:[{src:byId('icon').href,sizes:'any',type:'imag\
+     e/svg+xml'}]};\
+     const href=`data:application/manifest+json,${encodeURIComponent(JSON.stringify(manifest))}`;\
+     document.head.append(make('link',{rel:'manifest',href}))}\
+     const TEXTS={code:['en','de','nl','ja','fr'],language:['English','Deutsch','Nederlands','\\u65e5\\u67\
+     2c\\u8a9e','Fran\\u00e7ais'],languageName:['Language','Sprache','Taal','\\u8a00\\u8a9e','Langue'],yourN\
+     ame:['Your name','I"
 }
 
 /// Part 2 of the page, in ASCII.
@@ -311,22 +327,16 @@ pub fn page_1() -> &'static str
 pub fn page_2() -> &'static str
     ensures { result.now ≡ page_2 }
 {
-    "scope:address,display:'standalone',background_color:'#f5f2ea',theme_color:'#1d5f4b',icons:[{src:by\
-     Id('icon').href,sizes:'any',type:'image/svg+xml'}]};\
-     const href=`data:application/manifest+json,${encodeURIComponent(JSON.stringify(manifest))}`;\
-     document.head.append(make('link',{rel:'manifest',href}))}\
-     const TEXTS={code:['en','de','nl','ja','fr'],language:['English','Deutsch','Nederlands','\\u65e5\\u67\
-     2c\\u8a9e','Fran\\u00e7ais'],languageName:['Language','Sprache','Taal','\\u8a00\\u8a9e','Langue'],yourN\
-     ame:['Your name','Ihr Name','Uw naam','\\u540d\\u524d','Votre nom'],key:['Member key','Mitgliedsschl\\\
-     u00fcssel','Lidsleutel','\\u4f1a\\u54e1\\u30ad\\u30fc','Cl\\u00e9 de membre'],keyHint:['You got the key \
-     from the club\\u2019s officer. The name helps your password manager to tell members apart.','Den Sch\
-     l\\u00fcssel erhalten Sie vom Turnierleiter. Am Namen unterscheidet Ihr Passwortmanager mehrere Mitg\
-     lieder.','De sleutel krijgt u van de wedstrijdleider. Aan de naam herkent uw wachtwoordbeheer versc\
-     hillende leden.','\\u30ad\\u30fc\\u306f\\u30af\\u30e9\\u30d6\\u306e\\u4fc2\\u304b\\u3089\\u53d7\\u3051\\u53d6\\u3\
-     063\\u305f\\u3082\\u306e\\u3067\\u3059\\u3002\\u540d\\u524d\\u306f\\u30d1\\u30b9\\u30ef\\u30fc\\u30c9\\u7ba1\\u7406\
-     \\u30c4\\u30fc\\u30eb\\u304c\\u4f1a\\u54e1\\u3092\\u533a\\u5225\\u3059\\u308b\\u305f\\u3081\\u306b\\u4f7f\\u3044\\u3\
-     07e\\u3059\\u3002','La cl\\u00e9 vous est remise par le responsable du club. Le nom permet \\u00e0 votr\
-     e gestionnaire de mots de passe de distinguer les membres.'],otherName:['This key belongs to {name}\
+    "hr Name','Uw naam','\\u540d\\u524d','Votre nom'],key:['Member key','Mitgliedsschl\\u00fcssel','Lidsle\
+     utel','\\u4f1a\\u54e1\\u30ad\\u30fc','Cl\\u00e9 de membre'],keyHint:['The club\\u2019s officer gave you t\
+     he key. Your password manager needs the name to tell members apart.','Den Schl\\u00fcssel erhalten S\
+     ie vom Turnierleiter. Am Namen unterscheidet Ihr Passwortmanager mehrere Mitglieder.','De sleutel k\
+     rijgt u van de wedstrijdleider. Aan de naam herkent uw wachtwoordbeheer verschillende leden.','\\u30\
+     ad\\u30fc\\u306f\\u30af\\u30e9\\u30d6\\u306e\\u5e79\\u4e8b\\u304b\\u3089\\u53d7\\u3051\\u53d6\\u3063\\u305f\\u3082\\\
+     u306e\\u3067\\u3059\\u3002\\u540d\\u524d\\u306f\\u30d1\\u30b9\\u30ef\\u30fc\\u30c9\\u7ba1\\u7406\\u30c4\\u30fc\\u30\
+     eb\\u304c\\u4f1a\\u54e1\\u3092\\u533a\\u5225\\u3059\\u308b\\u305f\\u3081\\u306b\\u4f7f\\u3044\\u307e\\u3059\\u3002'\
+     ,'La cl\\u00e9 vous est remise par le responsable du club. Le nom permet \\u00e0 votre gestionnaire d\
+     e mots de passe de distinguer les membres.'],otherName:['This key belongs to {name}\
      . You are signed in as {name}.','Dieser Schl\\u00fcssel geh\\u00f6rt {name}. Sie sind als {name} \
      angemeldet.','Deze sleutel is van {name}. U bent aangemeld als {name}\
      .','\\u3053\\u306e\\u30ad\\u30fc\\u306f{name}\\u3055\\u3093\\u306e\\u3082\\u306e\\u3067\\u3059\\u3002{name}\
@@ -344,41 +354,52 @@ pub fn page_2() -> &'static str
      306b\\u78ba\\u8a8d\\u3059\\u308b','Confirmer chaque coup avant l\\u2019envoi'],animateChoice:['Animate m\
      oves','Z\\u00fcge animieren','Zetten animeren','\\u99d2\\u306e\\u52d5\\u304d\\u3092\\u30a2\\u30cb\\u30e1\\u30\
      fc\\u30b7\\u30e7\\u30f3\\u3067\\u8868\\u793a\\u3059\\u308b','Animer les coups'],alertsChoice:['Notify me wh\
-     en something waits for me','Mich benachrichtigen, wenn etwas auf mich wartet','Mij een melding stur\
-     en als er iets op mij wacht','\\u624b\\u756a\\u3084\\u6311\\u6226\\u3092\\u901a\\u77e5\\u3059\\u308b','Me not\
-     ifier quand quelque chose m\\u2019attend'],soundChoice:['Play a sound when something waits for me','\
-     Ton abspielen, wenn etwas auf mich wartet','Geluid afspelen als er iets op mij wacht','\\u624b\\u756a\
-     \\u3084\\u6311\\u6226\\u3092\\u97f3\\u3067\\u77e5\\u3089\\u305b\\u308b','\\u00c9mettre un son quand quelque ch\
-     ose m\\u2019attend'],alertsRefused:['The browser does not allow notifications from this page.','Der \
-     Browser erlaubt dieser Seite keine Benachrichtigungen.','De browser staat meldingen van deze pagina \
-     niet toe.','\\u30d6\\u30e9\\u30a6\\u30b6\\u30fc\\u306e\\u8a2d\\u5b9a\\u3067\\u3053\\u306e\\u30da\\u30fc\\u30b8\\u3\
-     06e\\u901a\\u77e5\\u304c\\u8a31\\u53ef\\u3055\\u308c\\u3066\\u3044\\u307e\\u305b\\u3093\\u3002','Le navigateur n\
-     \\u2019autorise pas les notifications de cette page.'],lettersChoice:['Western letters on shogi piec\
-     es','Lateinische Buchstaben auf Shogi-Steinen','Westerse letters op shogistukken','\\u5c06\\u68cb\\u30\
-     6e\\u99d2\\u3092\\u30a2\\u30eb\\u30d5\\u30a1\\u30d9\\u30c3\\u30c8\\u3067\\u8868\\u793a\\u3059\\u308b','Lettres la\
-     tines sur les pi\\u00e8ces de shogi'],loading:['Loading\\u2026','Wird geladen\\u00a0\\u2026','Laden\\u20\
-     26','\\u8aad\\u307f\\u8fbc\\u307f\\u4e2d\\u2026','Chargement\\u2026'],missing:['The address may be wrong, \
-     or belong to another club.','Vielleicht ist die Adresse falsch oder geh\\u00f6rt zu einem anderen Cl\
-     ub.','Misschien is het adres onjuist of van een andere club.','\\u30a2\\u30c9\\u30ec\\u30b9\\u304c\\u9593\
-     \\u9055\\u3063\\u3066\\u3044\\u308b\\u304b\\u3001\\u5225\\u306e\\u30af\\u30e9\\u30d6\\u306e\\u3082\\u306e\\u3067\\u3\
-     059\\u3002','L\\u2019adresse est peut-\\u00eatre erron\\u00e9e ou celle d\\u2019un autre club.'],news:['\
-     Games with your move: {moves}. Challenges: {challenges}\
+     en something waits for me or a game ends, while this page is open in a tab','Mich benachrichtigen, \
+     wenn etwas auf mich wartet oder eine Partie endet, solange diese Seite in einem Tab offen ist','Mij \
+     een melding sturen als er iets op mij wacht of een partij eindigt, zolang deze pagina in een tabbla\
+     d open is','\\u624b\\u756a\\u30fb\\u6311\\u6226\\u30fb\\u7d42\\u5c40\\u3092\\u901a\\u77e5\\u3059\\u308b\\uff08\\u3\
+     053\\u306e\\u30da\\u30fc\\u30b8\\u304c\\u30bf\\u30d6\\u3067\\u958b\\u3044\\u3066\\u3044\\u308b\\u9593\\uff09','Me \
+     notifier quand quelque chose m\\u2019attend ou qu\\u2019une partie se termine, tant que cette page es\
+     t ouverte dans un onglet'],soundChoice:['Play a sound for the same','Dazu einen Ton abspielen','Daa\
+     rbij een geluid afspelen','\\u540c\\u3058\\u5834\\u5408\\u306b\\u97f3\\u3092\\u9cf4\\u3089\\u3059','\\u00c9met\
+     tre un son dans les m\\u00eames cas'],alertsRefused:['The browser does not allow notifications from \
+     this page.','Der Browser erlaubt dieser Seite keine Benachrichtigungen.','De browser staat meldinge\
+     n van deze pagina niet toe.','\\u30d6\\u30e9\\u30a6\\u30b6\\u30fc\\u306e\\u8a2d\\u5b9a\\u3067\\u3053\\u306e\\u3\
+     0da\\u30fc\\u30b8\\u306e\\u901a\\u77e5\\u304c\\u8a31\\u53ef\\u3055\\u308c\\u3066\\u3044\\u307e\\u305b\\u3093\\u3002\
+     ','Le navigateur n\\u2019autorise pas les notifications de cette page.'],lettersChoice:['Western let\
+     ters on shogi pieces','Lateinische Buchstaben auf Shogi-Steinen','Westerse letters op shogistukken'\
+     ,'\\u5c06\\u68cb\\u306e\\u99d2\\u3092\\u30a2\\u30eb\\u30d5\\u30a1\\u30d9\\u30c3\\u30c8\\u3067\\u8868\\u793a\\u3059\\\
+     u308b','Lettres latines sur les pi\\u00e8ces de shogi'],loading:['Loading\\u2026','Wird geladen\\u00a0\
+     \\u2026','Laden\\u2026','\\u8aad\\u307f\\u8fbc\\u307f\\u4e2d\\u2026','Chargement\\u2026'],missing:['The addr\
+     ess may be wrong, or belong to another club.','Vielleicht ist die Adresse falsch oder geh\\u00f6rt z\
+     u einem anderen Club.','Misschien is het adres onjuist of van een andere club.','\\u30a2\\u30c9\\u30ec\
+     \\u30b9\\u304c\\u9593\\u9055\\u3063\\u3066\\u3044\\u308b\\u304b\\u3001\\u5225\\u306e\\u30af\\u30e9\\u30d6\\u306e\\u3\
+     082\\u306e\\u3067\\u3059\\u3002','L\\u2019adresse est peut-\\u00eatre erron\\u00e9e ou celle d\\u2019un aut\
+     re club.'],news:['Games with your move: {moves}. Challenges: {challenges}\
      .','Partien, in denen Sie am Zug sind: {moves}. Herausforderungen: {challenges}\
      .','Partijen waarin u aan zet bent: {moves}. Uitdagingen: {challenges}\
      .','\\u624b\\u756a\\u306e\\u5bfe\\u5c40: {moves}\\u3002\\u6311\\u6226: {challenges}\
      \\u3002','Parties o\\u00f9 vous \\u00eates au trait\\u00a0: {moves}. D\\u00e9fis\\u00a0: {challenges}\
      .'],toClaim:['Opponent out of time','Gegner hat die Zeit \\u00fcberschritten','Tegenstander heeft de \
      tijd overschreden','\\u76f8\\u624b\\u306e\\u6642\\u9593\\u5207\\u308c','Temps de l\\u2019adversaire d\\u00e9\
-     pass\\u00e9'],toMove:['Your move','Sie sind am Zug','U bent aan zet','\\u3042\\u306a\\u305f\\u306e\\u624b\
-     \\u756a','\\u00c0 vous de jouer'],toWait:['Opponent\\u2019s move','Gegner am Zug','Tegenstander aan ze\
-     t','\\u76f8\\u624b\\u306e\\u624b\\u756a','\\u00c0 l\\u2019adversaire de jouer'],noticeTurn:['Your turn aga\
-     inst {name} ({event})','Sie sind am Zug gegen {name} ({event})','U bent aan zet tegen {name} \
-     ({event})','{name}\\u3055\\u3093\\u3068\\u306e\\u5bfe\\u5c40\\uff08{event}\
+     pass\\u00e9'],toAnswer:['Draw offers','Remisangebote','Remiseaanbiedingen','\\u5f15\\u304d\\u5206\\u3051\
+     \\u306e\\u63d0\\u6848','Propositions de remise'],toMove:['Your move','Sie sind am Zug','U bent aan zet\
+     ','\\u3042\\u306a\\u305f\\u306e\\u624b\\u756a','\\u00c0 vous de jouer'],toWait:['Opponent\\u2019s move','Ge\
+     gner am Zug','Tegenstander aan zet','\\u76f8\\u624b\\u306e\\u624b\\u756a','\\u00c0 l\\u2019adversaire de j\
+     ouer'],noticeTurn:['Your turn against {name} ({event})','Sie sind am Zug gegen {name} ({event}\
+     )','U bent aan zet tegen {name} ({event})','{name}\\u3055\\u3093\\u3068\\u306e\\u5bfe\\u5c40\\uff08{event}\
      \\uff09\\uff1a\\u3042\\u306a\\u305f\\u306e\\u624b\\u756a\\u3067\\u3059','\\u00c0 vous de jouer contre {name} \
      ({event})'],noticeOver:['{name} is out of time ({event})','{name} \
      hat die Zeit \\u00fcberschritten ({event})','{name} heeft de tijd overschreden ({event})','{name}\
      \\u3055\\u3093\\u306f\\u6642\\u9593\\u5207\\u308c\\u3067\\u3059\\uff08{event}\\uff09','{name} \
-     a d\\u00e9pass\\u00e9 le temps ({event})'],noticeEnded:['The game against {name} has ended ({event}\
+     a d\\u00e9pass\\u00e9 le temps ({event})'],noticeOffer:['{name} offers a draw ({event})','{name} \
+     bietet Remis an ({event})','{name} biedt remise aan ({event})','{name}\
+     \\u3055\\u3093\\u304c\\u5f15\\u304d\\u5206\\u3051\\u3092\\u63d0\\u6848\\u3057\\u3066\\u3044\\u307e\\u3059\\uff08{ev\
+     ent}\\uff09','{name} propose la remise ({event})'],noticeDeclined:['{name} \
+     declined your challenge ({event})','{name} hat Ihre Herausforderung abgelehnt ({event})','{name} \
+     heeft uw uitdaging afgewezen ({event})','{name}\
+     \\u3055\\u3093\\u304c\\u6311\\u6226\\u3092\\u65ad\\u308a\\u307e\\u3057\\u305f\\uff08{event}\\uff09','{name} \
+     a refus\\u00e9 votre d\\u00e9fi ({event})'],noticeEnded:['The game against {name} has ended ({event}\
      )','Die Partie gegen {name} ist beendet ({event})','De partij tegen {name} is afgelopen ({event}\
      )','{name}\
      \\u3055\\u3093\\u3068\\u306e\\u5bfe\\u5c40\\u304c\\u7d42\\u4e86\\u3057\\u307e\\u3057\\u305f\\uff08{event}\
@@ -388,15 +409,15 @@ pub fn page_2() -> &'static str
      elden Sie sich beim Turnierleiter f\\u00fcr ein Turnier an.','U hebt geen lopende partijen. Daag hie\
      ronder een lid uit, of meld u bij de wedstrijdleider aan voor een toernooi.','\\u9032\\u884c\\u4e2d\\u3\
      06e\\u5bfe\\u5c40\\u306f\\u3042\\u308a\\u307e\\u305b\\u3093\\u3002\\u4e0b\\u306e\\u6b04\\u304b\\u3089\\u4f1a\\u54e1\
-     \\u306b\\u6311\\u6226\\u3059\\u308b\\u304b\\u3001\\u4fc2\\u306b\\u5927\\u4f1a\\u3078\\u306e\\u53c2\\u52a0\\u3092\\u7\
-     533\\u3057\\u8fbc\\u3093\\u3067\\u304f\\u3060\\u3055\\u3044\\u3002','Vous n\\u2019avez aucune partie en cours\
-     . D\\u00e9fiez un membre ci-dessous, ou inscrivez-vous \\u00e0 un tournoi aupr\\u00e8s du responsable.\
-     '],youAre:['you play {side}','Sie spielen {side}','u speelt met {side}\
+     \\u306b\\u6311\\u6226\\u3059\\u308b\\u304b\\u3001\\u5e79\\u4e8b\\u306b\\u5927\\u4f1a\\u3078\\u306e\\u53c2\\u52a0\\u3\
+     092\\u7533\\u3057\\u8fbc\\u3093\\u3067\\u304f\\u3060\\u3055\\u3044\\u3002','Vous n\\u2019avez aucune partie en \
+     cours. D\\u00e9fiez un membre ci-dessous, ou inscrivez-vous \\u00e0 un tournoi aupr\\u00e8s du respons\
+     able.'],youAre:['you play {side}','Sie spielen {side}','u speelt met {side}\
      ','\\u3042\\u306a\\u305f\\u306f{side}','vous jouez avec les {side}\
      '],game:['Game','Partie','Partij','\\u5bfe\\u5c40','Partie'],event:['Event','Turnier','Toernooi','\\u5\
      927\\u4f1a','Tournoi'],yourTurn:['Your turn','Sie sind am Zug','U bent aan zet','\\u3042\\u306a\\u305f\\\
      u306e\\u756a\\u3067\\u3059','\\u00c0 vous de jouer'],turn:['{name} to move','{name} ist am Zug','{name} \
-     is aan zet','{name}\\u306e\\u756a\\u3067\\u3059','Au trait\\u00a0: {name}'],left:['{span} \
+     is aan zet','{name}\\u3055\\u3093\\u306e\\u756a\\u3067\\u3059','Au trait\\u00a0: {name}'],left:['{span} \
      left','noch {span}','nog {span}','\\u6b8b\\u308a{span}','il reste {span}'],until:['Until {moment}\
      , {left}.','Bis {moment}, {left}.','Tot {moment}, {left}.','\\u671f\\u9650 {moment}\\uff08{left}\
      \\uff09','Jusqu\\u2019au {moment}, {left}\
@@ -408,8 +429,9 @@ pub fn page_2() -> &'static str
      chreden: claim de winst','\\u6642\\u9593\\u5207\\u308c\\uff1a\\u52dd\\u3061\\u3092\\u7533\\u8acb\\u3067\\u304d\\\
      u307e\\u3059','Temps d\\u00e9pass\\u00e9\\u00a0: r\\u00e9clamez le gain'],overOther:['The time is up.','\
      Die Zeit ist abgelaufen.','De tijd is om.','\\u6642\\u9593\\u5207\\u308c\\u3067\\u3059\\u3002','Le temps e\
-     st \\u00e9coul\\u00e9.'],offers:['{name} offers a draw','{name} bietet Remis an','{name} \
-     biedt remise aan','{name}\
+     st \\u00e9coul\\u00e9.'],over:['out of time','Zeit \\u00fcberschritten','tijd overschreden','\\u6642\\u9\
+     593\\u5207\\u308c','temps d\\u00e9pass\\u00e9'],offers:['{name} offers a draw','{name} \
+     bietet Remis an','{name} biedt remise aan','{name}\
      \\u3055\\u3093\\u304c\\u5f15\\u304d\\u5206\\u3051\\u3092\\u63d0\\u6848\\u3057\\u3066\\u3044\\u307e\\u3059','{name} \
      propose la remise'],yourOffer:['You have offered a draw. The offer is valid until the next move.','\
      Sie haben Remis angeboten. Das Angebot gilt bis zum n\\u00e4chsten Zug.','U hebt remise aangeboden. \
@@ -431,7 +453,7 @@ pub fn page_2() -> &'static str
      ritaire\\u00a0: jouez une des pi\\u00e8ces marqu\\u00e9es.'],inCheck:['You are in check. Move one of t\
      he marked pieces.','Sie stehen im Schach. Ziehen Sie mit einem markierten Stein.','U staat schaak. \
      Speel een van de gemarkeerde stukken.','\\u738b\\u624b\\u3067\\u3059\\u3002\\u5370\\u306e\\u4ed8\\u3044\\u305\
-     f\\u99d2\\u3067\\u9632\\u3044\\u3067\\u304f\\u3060\\u3055\\u3044\\u3002','Vous \\u00eates en \\u00e9chec. Jouez \
+     f\\u99d2\\u3067\\u5fdc\\u3058\\u3066\\u304f\\u3060\\u3055\\u3044\\u3002','Vous \\u00eates en \\u00e9chec. Jouez \
      une des pi\\u00e8ces marqu\\u00e9es.'],confirmHint:['{move}: send this move?','{move}\
      : diesen Zug senden?','{move}: deze zet verzenden?','{move}\
      \\uff1a\\u9001\\u4fe1\\u3057\\u307e\\u3059\\u304b\\uff1f','{move}\
@@ -453,22 +475,27 @@ pub fn page_2() -> &'static str
      niets gebeurt dubbel.','\\u5b9f\\u884c\\u3055\\u308c\\u307e\\u305b\\u3093\\u3067\\u3057\\u305f\\uff08{why}\
      \\uff09\\u3002\\u3082\\u3046\\u4e00\\u5ea6\\u304a\\u8a66\\u3057\\u304f\\u3060\\u3055\\u3044\\u3002\\u4e8c\\u91cd\\u3\
      06b\\u306f\\u306a\\u308a\\u307e\\u305b\\u3093\\u3002','Non effectu\\u00e9\\u00a0: {why}\
-     . R\\u00e9essayez\\u00a0; \
-     rien ne sera fait deux fois.'],retrying:['Trying again\\u2026','Neuer Versuch l\\u00e4uft\\u00a0\\u2026\
-     ','Nieuwe poging\\u2026','\\u518d\\u63a5\\u7d9a\\u4e2d\\u2026','Nouvel essai\\u2026'],running:['in progres\
-     s','l\\u00e4uft','loopt','\\u5bfe\\u5c40\\u4e2d','en cours'],runningGames:['Games in progress','Laufend\
-     e Partien','Lopende partijen','\\u5bfe\\u5c40\\u4e2d','Parties en cours'],endedGames:['Finished games'\
-     ,'Beendete Partien','Afgelopen partijen','\\u7d42\\u4e86\\u3057\\u305f\\u5bfe\\u5c40','Parties termin\\u00\
-     e9es'],noEnded:['None yet.','Noch keine.','Nog geen.','\\u307e\\u3060\\u3042\\u308a\\u307e\\u305b\\u3093\\u\
-     3002','Aucune pour l\\u2019instant.'],noGamesYet:['No games yet. They begin when members accept chal\
-     lenges or the officer makes pairings.','Noch keine Partien. Sie beginnen, sobald Mitglieder Herausf\
-     orderungen annehmen oder der Turnierleiter Paarungen ansetzt.','Nog geen partijen. Ze beginnen zodr\
-     a leden uitdagingen aannemen of de wedstrijdleider de indeling maakt.','\\u307e\\u3060\\u5bfe\\u5c40\\u3\
-     06f\\u3042\\u308a\\u307e\\u305b\\u3093\\u3002\\u6311\\u6226\\u304c\\u6210\\u7acb\\u3059\\u308b\\u304b\\u3001\\u4fc2\
-     \\u304c\\u7d44\\u307f\\u5408\\u308f\\u305b\\u3092\\u6c7a\\u3081\\u308b\\u3068\\u59cb\\u307e\\u308a\\u307e\\u3059\\u3\
-     002','Pas encore de partie. Elles commencent quand un d\\u00e9fi est accept\\u00e9 ou que le responsa\
-     ble fait les appariements.'],scoring:['a win counts 2, a draw 1; \
-     a dot is a game in progress','Sieg 2 Punkte, Remis 1; \
+     . R\\u00e9essayez\\u00a0; rien ne sera fait deux fois.'],retrying:['{why}. Trying again\\u2026','{why}\
+     . Neuer Versuch l\\u00e4uft\\u00a0\\u2026','{why}. Nieuwe poging\\u2026','{why}\
+     \\u3002\\u518d\\u63a5\\u7d9a\\u4e2d\\u2026','{why}\
+     . Nouvel essai\\u2026'],running:['in progress','l\\u00e4uft','loopt','\\u5bfe\\u5c40\\u4e2d','en cours']\
+     ,runningGames:['Games in progress','Laufende Partien','Lopende partijen','\\u5bfe\\u5c40\\u4e2d','Part\
+     ies en cours'],endedGames:['Finished games','Beendete Partien','Afgelopen partijen','\\u7d42\\u4e86\\u\
+     3057\\u305f\\u5bfe\\u5c40','Parties termin\\u00e9es'],noEnded:['None yet.','Noch keine.','Nog geen.','\\\
+     u307e\\u3060\\u3042\\u308a\\u307e\\u305b\\u3093\\u3002','Aucune pour l\\u2019instant.'],older:['Older games \
+     are listed at their events ({count}).','\\u00c4ltere Partien stehen bei ihren Turnieren ({count}\
+     ).','Oudere partijen staan bij hun toernooien ({count}\
+     ).','\\u3053\\u308c\\u3088\\u308a\\u524d\\u306e\\u5bfe\\u5c40\\u306f\\u5404\\u5927\\u4f1a\\u306e\\u4e00\\u89a7\\u30\
+     6b\\u3042\\u308a\\u307e\\u3059\\uff08{count}\
+     \\u5c40\\uff09\\u3002','Les parties plus anciennes figurent dans la liste de leur tournoi ({count}\
+     ).'],noGamesYet:['No games yet. They begin when members accept challenges or the officer makes pair\
+     ings.','Noch keine Partien. Sie beginnen, sobald Mitglieder Herausforderungen annehmen oder der Tur\
+     nierleiter Paarungen ansetzt.','Nog geen partijen. Ze beginnen zodra leden uitdagingen aannemen of \
+     de wedstrijdleider de indeling maakt.','\\u307e\\u3060\\u5bfe\\u5c40\\u306f\\u3042\\u308a\\u307e\\u305b\\u309\
+     3\\u3002\\u6311\\u6226\\u304c\\u6210\\u7acb\\u3059\\u308b\\u304b\\u3001\\u5e79\\u4e8b\\u304c\\u7d44\\u307f\\u5408\\u\
+     308f\\u305b\\u3092\\u6c7a\\u3081\\u308b\\u3068\\u59cb\\u307e\\u308a\\u307e\\u3059\\u3002','Pas encore de partie\
+     . Elles commencent quand un d\\u00e9fi est accept\\u00e9 ou que le responsable fait les appariements.\
+     '],scoring:['a win counts 2, a draw 1; a dot is a game in progress','Sieg 2 Punkte, Remis 1; \
      \\u2022 ist eine laufende Partie','winst telt 2, remise 1; \
      \\u2022 is een lopende partij','\\u52dd\\u30612\\u70b9\\u3001\\u5f15\\u304d\\u5206\\u30511\\u70b9\\u3002\\u2022\
      \\u306f\\u5bfe\\u5c40\\u4e2d','gain 2 points, remise 1\\u00a0; \
@@ -484,21 +511,24 @@ pub fn page_2() -> &'static str
      \\u3055\\u3093\\u304b\\u3089\\u306e\\u6311\\u6226\\uff1a','{from} \
      vous d\\u00e9fie\\u00a0:'],challenged:['You challenged {to}:','Sie fordern {to} \
      heraus:','U daagt {to} uit:','{to}\
-     \\u3055\\u3093\\u3078\\u306e\\u6311\\u6226\\uff1a','Vous d\\u00e9fiez {to}\\u00a0:'],starts:['{first} \
-     begins','{first} beginnt','{first} begint','\\u5148\\u624b\\u306f{first}','{first} \
+     \\u3055\\u3093\\u3078\\u306e\\u6311\\u6226\\uff1a','Vous d\\u00e9fiez {to}\\u00a0:'],starts:['{event} \
+     ({game}), {first} begins','{event} ({game}), {first} beginnt','{event} ({game}), {first} \
+     begint','{event}\\uff08{game}\\uff09\\u3001\\u5148\\u624b\\u306f{first}','{event} ({game}), {first} \
      commence'],accepted:['accepted','angenommen','aangenomen','\\u6210\\u7acb','accept\\u00e9'],toGame:['T\
-     o the game','Zur Partie','Naar de partij','\\u5bfe\\u5c40\\u3078','Voir la partie'],take:['Accept','An\
-     nehmen','Aannemen','\\u53d7\\u3051\\u308b','Accepter'],refuse:['Decline','Ablehnen','Afwijzen','\\u65ad\
-     \\u308b','Refuser'],withdraw:['Withdraw','Zur\\u00fcckziehen','Intrekken','\\u53d6\\u308a\\u4e0b\\u3052\\u\
-     308b','Retirer'],challenge:['Challenge','Herausfordern','Uitdagen','\\u6311\\u6226\\u3059\\u308b','D\\u0\
-     0e9fier'],begins:['Who begins','Es beginnt','Wie begint','\\u5148\\u624b','Qui commence'],me:['Me','I\
-     ch','Ik','\\u81ea\\u5206','Moi'],they:['My opponent','Mein Gegner','Mijn tegenstander','\\u76f8\\u624b'\
-     ,'Mon adversaire'],opponent:['Opponent','Gegner','Tegenstander','\\u76f8\\u624b','Adversaire'],events\
-     :['Events','Turniere','Toernooien','\\u5927\\u4f1a','Tournois'],terms:['{game}, {budget} \
-     + {increment} per move','{game}, {budget} + {increment} pro Zug','{game}, {budget} + {increment} \
-     per zet','{game}\\u3001\\u6301\\u3061\\u6642\\u9593{budget}\\uff0b1\\u624b\\u3054\\u3068\\u306b{increment}\
-     ','{game}, {budget} + {increment} par coup'],wholeGame:['{game}, {budget} for the game','{game}\
-     , {budget} f\\u00fcr die Partie','{game}, {budget} voor de partij','{game}\
+     o the game','Zur Partie','Naar de partij','\\u5bfe\\u5c40\\u3078','Voir la partie'],declined:['Decline\
+     d challenges','Abgelehnte Herausforderungen','Afgewezen uitdagingen','\\u65ad\\u3089\\u308c\\u305f\\u631\
+     1\\u6226','D\\u00e9fis refus\\u00e9s'],take:['Accept','Annehmen','Aannemen','\\u53d7\\u3051\\u308b','Acce\
+     pter'],refuse:['Decline','Ablehnen','Afwijzen','\\u65ad\\u308b','Refuser'],withdraw:['Withdraw','Zur\\\
+     u00fcckziehen','Intrekken','\\u53d6\\u308a\\u4e0b\\u3052\\u308b','Retirer'],challenge:['Challenge','Hera\
+     usfordern','Uitdagen','\\u6311\\u6226\\u3059\\u308b','D\\u00e9fier'],begins:['Who begins','Es beginnt','\
+     Wie begint','\\u5148\\u624b','Qui commence'],me:['Me','Ich','Ik','\\u81ea\\u5206','Moi'],they:['My oppo\
+     nent','Mein Gegner','Mijn tegenstander','\\u76f8\\u624b','Mon adversaire'],opponent:['Opponent','Gegn\
+     er','Tegenstander','\\u76f8\\u624b','Adversaire'],events:['Events','Turniere','Toernooien','\\u5927\\u4\
+     f1a','Tournois'],terms:['{game}, {budget} + {increment} per move','{game}, {budget} + {increment} \
+     pro Zug','{game}, {budget} + {increment} per zet','{game}\\u3001\\u6301\\u3061\\u6642\\u9593{budget}\
+     \\uff0b1\\u624b\\u3054\\u3068\\u306b{increment}','{game}, {budget} + {increment} \
+     par coup'],wholeGame:['{game}, {budget} for the game','{game}, {budget} \
+     f\\u00fcr die Partie','{game}, {budget} voor de partij','{game}\
      \\u3001\\u6301\\u3061\\u6642\\u9593{budget}','{game}, {budget} \
      pour la partie'],place:['Place','Platz','Plaats','\\u9806\\u4f4d','Rang'],name:['Name','Name','Naam',\
      '\\u540d\\u524d','Nom'],points:['Points','Punkte','Punten','\\u70b9','Points'],played:['Played','Gespi\
@@ -530,18 +560,22 @@ pub fn page_2() -> &'static str
      u\\u2019\\u00e0 son tour'],claim:['Claim the win on time','Zeit\\u00fcberschreitung reklamieren','Wins\
      t op tijd claimen','\\u6642\\u9593\\u5207\\u308c\\u52dd\\u3061\\u3092\\u7533\\u8acb','R\\u00e9clamer le gain \
      au temps'],declare:['Declare the entered king','Eingetretenen K\\u00f6nig erkl\\u00e4ren','Koning in \
-     promotiezone verklaren','\\u5165\\u7389\\u5ba3\\u8a00','D\\u00e9clarer l\\u2019entr\\u00e9e du roi'],cance\
-     l:['Cancel','Abbrechen','Annuleren','\\u30ad\\u30e3\\u30f3\\u30bb\\u30eb','Annuler'],record:['Download t\
-     he record','Notation herunterladen','Notatie downloaden','\\u68cb\\u8b5c\\u3092\\u4fdd\\u5b58','T\\u00e9l\
-     \\u00e9charger la notation'],draughts:['draughts','Dame','dammen','\\u56fd\\u969b\\u30c9\\u30e9\\u30d5\\u3\
-     0c4','dames'],shogi:['shogi','Shogi','shogi','\\u5c06\\u68cb','shogi'],white:['white','Wei\\u00df','wi\
-     t','\\u767d','blancs'],black:['black','Schwarz','zwart','\\u9ed2','noirs'],sente:['black','Schwarz','\
-     zwart','\\u5148\\u624b','noirs'],gote:['white','Wei\\u00df','wit','\\u5f8c\\u624b','blancs'],silent:['Th\
-     e server does not answer','Der Server antwortet nicht','De server antwoordt niet','\\u30b5\\u30fc\\u30\
-     d0\\u30fc\\u304c\\u5fdc\\u7b54\\u3057\\u307e\\u305b\\u3093','Le serveur ne r\\u00e9pond pas'],refused:['The \
-     club refuses: {name} ({number})','Der Club lehnt ab: {name} ({number})','De club weigert: {name} \
-     ({number})','\\u62d2\\u5426\\u3055\\u308c\\u307e\\u3057\\u305f\\uff1a{name} ({number}\
-     )','Le club refuse\\u00a0: {name} ({number}\
+     promotiezone verklaren','\\u5165\\u7389\\u5ba3\\u8a00','D\\u00e9clarer l\\u2019entr\\u00e9e du roi'],sure:\
+     ['{what}?','{what}?','{what}?','{what}\
+     \\uff1a\\u3088\\u308d\\u3057\\u3044\\u3067\\u3059\\u304b\\uff1f','{what}\
+     \\u00a0?'],nextGame:['Next game ({count})','N\\u00e4chste Partie ({count})','Volgende partij ({count}\
+     )','\\u6b21\\u306e\\u5bfe\\u5c40\\u3078\\uff08{count}\\uff09','Partie suivante ({count}\
+     )'],cancel:['Cancel','Abbrechen','Annuleren','\\u30ad\\u30e3\\u30f3\\u30bb\\u30eb','Annuler'],record:['D\
+     ownload the record','Notation herunterladen','Notatie downloaden','\\u68cb\\u8b5c\\u3092\\u4fdd\\u5b58',\
+     'T\\u00e9l\\u00e9charger la notation'],draughts:['draughts','Dame','dammen','\\u56fd\\u969b\\u30c9\\u30e9\
+     \\u30d5\\u30c4','dames'],shogi:['shogi','Shogi','shogi','\\u5c06\\u68cb','shogi'],white:['white','Wei\\u\
+     00df','wit','\\u767d','blancs'],black:['black','Schwarz','zwart','\\u9ed2','noirs'],sente:['black','S\
+     chwarz','zwart','\\u5148\\u624b','noirs'],gote:['white','Wei\\u00df','wit','\\u5f8c\\u624b','blancs'],si\
+     lent:['The server does not answer','Der Server antwortet nicht','De server antwoordt niet','\\u30b5\\\
+     u30fc\\u30d0\\u30fc\\u304c\\u5fdc\\u7b54\\u3057\\u307e\\u305b\\u3093','Le serveur ne r\\u00e9pond pas'],refus\
+     ed:['The club refuses: {name} ({number})','Der Club lehnt ab: {name} ({number}\
+     )','De club weigert: {name} ({number})','\\u62d2\\u5426\\u3055\\u308c\\u307e\\u3057\\u305f\\uff1a{name} \
+     ({number})','Le club refuse\\u00a0: {name} ({number}\
      )'],illegal:['The rules forbid this move','Die Regeln verbieten diesen Zug','De spelregels verbiede\
      n deze zet','\\u305d\\u306e\\u624b\\u306f\\u53cd\\u5247\\u3067\\u3059','Les r\\u00e8gles interdisent ce coup\
      '],50:['No member has this key','Kein Mitglied hat diesen Schl\\u00fcssel','Geen lid heeft deze sleu\
@@ -575,10 +609,7 @@ pub fn page_2() -> &'static str
      ist besch\\u00e4digt','Het bestand van de club is beschadigd','\\u30af\\u30e9\\u30d6\\u306e\\u30c7\\u30fc\\\
      u30bf\\u304c\\u58ca\\u308c\\u3066\\u3044\\u307e\\u3059','Le fichier du club est endommag\\u00e9'],73:['The \
      club is unavailable','Der Club ist gerade nicht verf\\u00fcgbar','De club is even niet beschikbaar',\
-     '\\u30af\\u30e9\\u30d6\\u306f\\u73fe\\u5728\\u5229\\u7528\\u3067\\u304d\\u307e\\u305b\\u3093','Le club est momen\
-     tan\\u00e9ment indisponible'],won:['{name} won','{name} hat gewonnen','{name} won','{name}\
-     \\u306e\\u52dd\\u3061','{name} \
-     a gagn\\u00e9'],youWon:['You won','Sie haben gewonnen','U hebt gewonnen','\\u3042\\u306a\\u305"
+     '\\u30af\\u30e9\\u30d6\\u306f\\u73fe\\u5728\\u5229"
 }
 
 /// Part 3 of the page, in ASCII.
@@ -586,47 +617,55 @@ pub fn page_2() -> &'static str
 pub fn page_3() -> &'static str
     ensures { result.now ≡ page_3 }
 {
-    "f\\u306e\\u52dd\\u3061','Vous avez gagn\\u00e9'],youLost:['You lost','Sie haben verloren','U hebt verl\
-     oren','\\u3042\\u306a\\u305f\\u306e\\u8ca0\\u3051','Vous avez perdu'],drawn:['Draw','Remis','Remise','\\u5\
-     f15\\u304d\\u5206\\u3051','Remise'],NoMove:['no move left','kein Zug mehr m\\u00f6glich','geen zet meer \
-     mogelijk','\\u6307\\u305b\\u308b\\u624b\\u304c\\u306a\\u3044','plus de coup possible'],Mate:['checkmate','\
-     Matt','mat','\\u8a70\\u307f','mat'],Repetition:['threefold repetition','dreifache Stellungswiederholu\
-     ng','driemaal dezelfde stand','\\u540c\\u4e00\\u5c40\\u97623\\u56de','triple r\\u00e9p\\u00e9tition'],King\
-     Moves:['25 moves by kings only','25 Z\\u00fcge nur mit Damen','25 zetten met alleen dammen','\\u6210\\\
-     u99d2\\u306e\\u307f25\\u624b','25 coups de dames sans prise'],ThreeToOne:['three pieces against a king\
-     ','drei Steine gegen eine Dame','drie om \\u00e9\\u00e9n','\\u4e09\\u5bfe\\u4e00','trois pi\\u00e8ces con\
-     tre une dame'],TwoToOne:['two pieces against a king','zwei Steine gegen eine Dame','twee om \\u00e9\\\
-     u00e9n','\\u4e8c\\u5bfe\\u4e00','deux pi\\u00e8ces contre une dame'],PlyLimit:['limit of 600 plies','Gr\
-     enze von 600 Halbz\\u00fcgen','grens van 600 halve zetten','\\u6700\\u9577\\u624b\\u6570\\uff08600\\u624b\\\
-     uff09','limite de 600 demi-coups'],PerpetualCheck:['perpetual check','Dauerschach','eeuwig schaak',\
-     '\\u9023\\u7d9a\\u738b\\u624b\\u306e\\u5343\\u65e5\\u624b','\\u00e9chec perp\\u00e9tuel'],Fourfold:['fourfold \
-     repetition','vierfache Stellungswiederholung','viermaal dezelfde stand','\\u5343\\u65e5\\u624b','quadr\
-     uple r\\u00e9p\\u00e9tition'],Agreed:['by agreement','durch Vereinbarung','in onderling overleg','\\u5\
-     408\\u610f','d\\u2019un commun accord'],Resigned:['by resignation','durch Aufgabe','door opgave','\\u6\
-     295\\u4e86','par abandon'],Time:['on time','durch Zeit\\u00fcberschreitung','op tijd','\\u6642\\u9593\\u\
-     5207\\u308c','au temps'],Declared:['by the entered king','durch den eingetretenen K\\u00f6nig','door \
-     de koning in de promotiezone','\\u5165\\u7389\\u5ba3\\u8a00','par l\\u2019entr\\u00e9e du roi'],Recorded:\
-     ['as recorded','laut Notation','volgens notatie','\\u68cb\\u8b5c\\u306b\\u3088\\u308b','selon la notatio\
-     n'],man:['man','Stein','schijf','\\u4e26\\u99d2','pion'],king:['king','Dame','dam','\\u6210\\u99d2','da\
-     me'],K:['king','K\\u00f6nig','koning','\\u7389','roi'],R:['rook','Turm','toren','\\u98db\\u8eca','tour'\
-     ],B:['bishop','L\\u00e4ufer','loper','\\u89d2','fou'],G:['gold','Goldgeneral','gouden generaal','\\u91\
-     d1','g\\u00e9n\\u00e9ral d\\u2019or'],S:['silver','Silbergeneral','zilveren generaal','\\u9280','g\\u00e\
-     9n\\u00e9ral d\\u2019argent'],N:['knight','Springer','paard','\\u6842\\u99ac','cavalier'],L:['lance','L\
-     anze','lans','\\u9999\\u8eca','lance'],P:['pawn','Bauer','pion','\\u6b69','pion'],'+R':['dragon','Drac\
-     he','draak','\\u7adc','dragon'],'+B':['horse','Pferd','gepromoveerde loper','\\u99ac','cheval'],'+S':\
-     ['promoted silver','bef\\u00f6rderter Silbergeneral','gepromoveerde zilveren generaal','\\u6210\\u9280\
-     ','g\\u00e9n\\u00e9ral d\\u2019argent promu'],'+N':['promoted knight','bef\\u00f6rderter Springer','gep\
-     romoveerd paard','\\u6210\\u6842','cavalier promu'],'+L':['promoted lance','bef\\u00f6rderte Lanze','g\
-     epromoveerde lans','\\u6210\\u9999','lance promue'],'+P':['tokin','Tokin','tokin','\\u3068\\u91d1','tok\
-     in']};const DAY=86400;const UNITS={day:DAY,hour:3600,minute:60,second:1};let language=0;\
+    "\\u7528\\u3067\\u304d\\u307e\\u305b\\u3093','Le club est momentan\\u00e9ment indisponible'],ending:['{who\
+     }: {why} ({result})','{who}: {why} ({result})','{who}: {why} ({result})','{who}\\uff1a{why}\
+     \\uff08{result}\\uff09','{who}\\u00a0: {why} ({result})'],won:['{name} won','{name} \
+     hat gewonnen','{name} heeft gewonnen','{name}\\u306e\\u52dd\\u3061','{name} \
+     a gagn\\u00e9'],youWon:['You won','Sie haben gewonnen','U hebt gewonnen','\\u3042\\u306a\\u305f\\u306e\\u\
+     52dd\\u3061','Vous avez gagn\\u00e9'],youLost:['You lost','Sie haben verloren','U hebt verloren','\\u3\
+     042\\u306a\\u305f\\u306e\\u8ca0\\u3051','Vous avez perdu'],drawn:['Draw','Remis','Remise','\\u5f15\\u304d\\\
+     u5206\\u3051','Remise'],NoMove:['no move left','kein Zug mehr m\\u00f6glich','geen zet meer mogelijk'\
+     ,'\\u6307\\u305b\\u308b\\u624b\\u304c\\u306a\\u3044','plus de coup possible'],Mate:['checkmate','Matt','ma\
+     t','\\u8a70\\u307f','mat'],Repetition:['threefold repetition','dreifache Stellungswiederholung','drie\
+     maal dezelfde stand','\\u540c\\u4e00\\u5c40\\u97623\\u56de','triple r\\u00e9p\\u00e9tition'],KingMoves:['2\
+     5 moves of kings without a capture','25 Damenz\\u00fcge ohne Schlag','25 zetten met dammen zonder sl\
+     ag','\\u30ad\\u30f3\\u30b0\\u306e\\u307f\\u3067\\u53d6\\u308a\\u306a\\u305725\\u624b','25 coups de dames sans \
+     prise'],ThreeToOne:['three pieces against a king','drei Steine gegen eine Dame','drie om \\u00e9\\u00\
+     e9n','\\u30ad\\u30f3\\u30b01\\u679a\\u306b\\u5bfe\\u30573\\u679a','trois pi\\u00e8ces contre une dame'],TwoT\
+     oOne:['two pieces against a king','zwei Steine gegen eine Dame','twee om \\u00e9\\u00e9n','\\u30ad\\u30\
+     f3\\u30b01\\u679a\\u306b\\u5bfe\\u30572\\u679a','deux pi\\u00e8ces contre une dame'],PlyLimit:['limit of 6\
+     00 plies','Grenze von 600 Halbz\\u00fcgen','grens van 600 halve zetten','\\u6700\\u5927\\u624b\\u6570\\uf\
+     f08600\\u624b\\uff09','limite de 600 demi-coups'],PerpetualCheck:['perpetual check','Dauerschach','ee\
+     uwig schaak','\\u9023\\u7d9a\\u738b\\u624b\\u306e\\u5343\\u65e5\\u624b','\\u00e9chec perp\\u00e9tuel'],Fourfo\
+     ld:['fourfold repetition','vierfache Stellungswiederholung','viermaal dezelfde stand','\\u5343\\u65e5\
+     \\u624b','quadruple r\\u00e9p\\u00e9tition'],Agreed:['by agreement','durch Vereinbarung','in onderling \
+     overleg','\\u5408\\u610f','d\\u2019un commun accord'],Resigned:['by resignation','durch Aufgabe','door \
+     opgave','\\u6295\\u4e86','par abandon'],Time:['on time','durch Zeit\\u00fcberschreitung','op tijd','\\u\
+     6642\\u9593\\u5207\\u308c','au temps'],Declared:['by the entered king','durch den eingetretenen K\\u00f\
+     6nig','door de koning in de promotiezone','\\u5165\\u7389\\u5ba3\\u8a00','par l\\u2019entr\\u00e9e du roi\
+     '],Recorded:['as recorded','laut Notation','volgens notatie','\\u68cb\\u8b5c\\u306b\\u3088\\u308b','selo\
+     n la notation'],man:['man','Stein','schijf','\\u30de\\u30f3','pion'],king:['king','Dame','dam','\\u30a\
+     d\\u30f3\\u30b0','dame'],K:['king','K\\u00f6nig','koning','\\u7389','roi'],R:['rook','Turm','toren','\\u\
+     98db\\u8eca','tour'],B:['bishop','L\\u00e4ufer','loper','\\u89d2','fou'],G:['gold','Goldgeneral','goud\
+     en generaal','\\u91d1','g\\u00e9n\\u00e9ral d\\u2019or'],S:['silver','Silbergeneral','zilveren generaal\
+     ','\\u9280','g\\u00e9n\\u00e9ral d\\u2019argent'],N:['knight','Springer','paard','\\u6842\\u99ac','cavali\
+     er'],L:['lance','Lanze','lans','\\u9999\\u8eca','lance'],P:['pawn','Bauer','pion','\\u6b69','pion'],'+\
+     R':['dragon','Drache','draak','\\u7adc','dragon'],'+B':['horse','Pferd','gepromoveerde loper','\\u99a\
+     c','cheval'],'+S':['promoted silver','bef\\u00f6rderter Silbergeneral','gepromoveerde zilveren gener\
+     aal','\\u6210\\u9280','g\\u00e9n\\u00e9ral d\\u2019argent promu'],'+N':['promoted knight','bef\\u00f6rder\
+     ter Springer','gepromoveerd paard','\\u6210\\u6842','cavalier promu'],'+L':['promoted lance','bef\\u00\
+     f6rderte Lanze','gepromoveerde lans','\\u6210\\u9999','lance promue'],'+P':['tokin','Tokin','tokin','\
+     \\u3068\\u91d1','tokin']};const DAY=86400;const UNITS={day:DAY,hour:3600,minute:60,second:1};\
+     let language=0;\
      function text(name,values,other){const columns=TEXTS[name]??TEXTS[other]??[String(name)];\
      return(columns[language]??columns[0]).replace(/\\{(\\w+)\\}/g,(_,it)=>values[it])}\
      const isJapanese=()=>text('code')==='ja';const kindName=(kind)=>text(kind);const locale=()=>\
      navigator.languages.find((it)=>it.startsWith(text('code')))??text('code');\
      function moment(seconds){const how={weekday:'short',day:'numeric',month:'short',hour:'numeric',minu\
      te:'2-digit'};return seconds?new Date(seconds*1000).toLocaleString(locale(),how):''}\
-     function amount(count,unit){return count.toLocaleString(locale(),{style:'unit',unit,unitDisplay:'lo\
-     ng'})}function span(seconds){const fits=([,size])=>seconds>=2*size||seconds===size;\
+     function amount(count,unit){const words=count.toLocaleString(locale(),{style:'unit',unit,unitDispla\
+     y:'long'});return isJapanese()?words.replace(' ',''):words}\
+     function span(seconds){const fits=([,size])=>seconds>=2*size||seconds===size;\
      const[unit,size]=Object.entries(UNITS).find(fits)??['second',1];\
      return amount(Math.floor(seconds/size),unit)}\
      function clockFace(seconds){const whole=Math.max(Math.floor(seconds),0);const digits=(by,base)=>\
@@ -646,8 +685,9 @@ pub fn page_3() -> &'static str
      function ending(game,reader){const players=[game.first,game.second];const won=winnerOf(game);\
      const name=players[won];\
      const who=won===undefined?text('drawn'):!players.includes(reader)?text('won',{name}\
-     ):name===reader?text('youWon'):text('youLost');return `${who}: ${reason(game)} (${game.result})`}\
-     const PATIENCE=20000;const SILENT=0;let memberKey='';const showKey=(key)=>{memberKey=key};\
+     ):name===reader?text('youWon'):text('youLost');\
+     return text('ending',{who,why:reason(game),result:game.result})}const PATIENCE=20000;\
+     const SILENT=0;let memberKey='';const showKey=(key)=>{memberKey=key};\
      function refusal(number,name){const kind=number>99||!number?'silent':number<40?'illegal':'refused';\
      return Object.assign(Error(text(number,{number,name},kind)),{number})}const isPassing=({number})=>\
      number===SILENT||number>=70&&number<80||number>99;function silence(){throw refusal(SILENT)}\
@@ -657,55 +697,30 @@ pub fn page_3() -> &'static str
      const reply=await fetch(path,{...how,headers,signal:AbortSignal.timeout(PATIENCE)}).catch(silence);\
      if(reply.ok)return reply;const{error=reply.status,name}=(await reply.json().catch(()=>null))??{};\
      throw refusal(error,name)}const ask=async(path,body)=>\
-     (await request(path,body)).json().catch(silence);const POINTS={'2-0':[2,0],'1-1':[1,1],'0-2':[0,2]}\
-     ;const pair=(game)=>`${game.first} \\u2013 ${game.second}`;const outcome=(game)=>\
-     (game.end?reason(game):text('turn',{name:[game.first,game.second][game.ply%2]}));const WIDEST=40;\
-     const STEP=50;const FEW=10;let seenEvent='';let repaint=()=>{};let shownRows={};\
-     function ranked(words){return words.trim().split('\\n').slice(1).map((line)=>\
-     line.trim().split(/\\s+/).slice(0,7))}const both=(one,other)=>[one,other].sort().join(' ');\
-     function cell(games,name){return make('td',{className:'cell'},...games.map((it)=>\
-     make('a',{href:`#game/${it.game}`,title:`${pair(it)}: ${it.result ?? text('running')}\
-     `,ariaLabel:`${text('game')} ${it.game}, ${pair(it)}: ${it.result ?? text('running')}\
-     `,className:it.end?'':'running'},it.end?String(POINTS[it.result][it.first===name?0:1]):'\\u2022')))}\
-     function crossTable(words,games,reader){const table=ranked(words);const names=table.map((it)=>\
-     it[1]);const more=[...new Set(games.flatMap((it)=>[it.first,it.second]))].filter((it)=>\
-     !names.includes(it));const rows=[...table,...more.map((it)=>['\\u2013',it,0,0,0,0,0])];\
-     const byPairs={};for(const it of games)(byPairs[both(it.first,it.second)]??=[]).push(it);\
-     const head=(label,title='')=>make('th',{scope:'col',title},label);const columns=rows.length>\
-     WIDEST?[]:rows;const cells=(row,at)=>columns.map((other,to)=>\
-     {return at===to?make('td',{className:'self'}):cell(byPairs[both(row[1],other[1])]??[],row[1])});\
-     return make('table',{className:'cross'},make('thead',{},make('tr',{}\
-     ,head('',text('place')),head(text('name')),...columns.map((it,at)=>\
-     head(String(at+1),it[1])),...['points','played','wins','draws','losses'].map((it)=>\
-     head(text(it))))),make('tbody',{},...rows.map((row,at)=>\
-     make('tr',{className:row[1]===reader?'mine':''},make('td',{}\
-     ,String(row[0])),make('th',{scope:'row'},row[1]),...cells(row,at),make('td',{className:'points'}\
-     ,String(row[2])),...row.slice(3).map((it)=>make('td',{},String(it)))))))}const moveCount=(count)=>\
-     {return text(new Intl.PluralRules(text('code')).select(count)==='one'?'oneMove':'moveCount',{count}\
-     )};function list(name,all,reader,kind){const sought=byId('search').value.trim().toLowerCase();\
-     const isOwn=(it)=>[it.first,it.second].includes(reader);const games=all.filter((it)=>\
-     pair(it).toLowerCase().includes(sought)).sort((it,other)=>isOwn(other)-isOwn(it));\
-     if(!games[0])return[];const count=shownRows[name]??STEP;const more=()=>{shownRows[name]=count+STEP;\
-     repaint()};const row=(it)=>make('li',{className:isOwn(it)?'mine':''},make('span',{}\
-     ,make('span',{className:'number',ariaHidden:true},`${it.game}`),make('a',{href:`#game/${it.game}`}\
-     ,pair(it))),make('span',{className:'faint'}\
-     ,`${moveCount(kind === 'draughts' ? Math.ceil(it.ply / 2) : it.ply)} \\u00b7 ${outcome(it)}\
-     `),make('b',{},it.result??''));return[make('h2',{},`${text(name)} `,make('span',{className:'count'}\
-     ,String(games.length))),make('ul',{className:'rows'}\
-     ,...games.slice(0,count).map(row)),...(games.length>\
-     count?[button(text('more',{count:games.length-count}),more,name)]:[])]}\
-     function paintLists(games,reader,kind){const lists=[['runningGames',games.filter((it)=>\
-     !it.end)],['endedGames',games.filter((it)=>it.end)]];const found=lists.flatMap(([name,some])=>\
-     list(name,some,reader,kind));\
-     fill('event-games',...(found[0]||!games[0]?found:[make('p',{className:'faint',role:'status'}\
-     ,text('none'))]))}function startEvent(){byId('search').oninput=()=>repaint()}\
-     async function lookAtEvent(name,reader){const words=await(await request(`events/${name}\
-     /table`)).text();const{games}=await ask(`events/${name}/games`);const{events}\
-     =await ask('me/events');return()=>{const kind=events.find((it)=>it.event===name)?.game;\
-     fill('title',name);fill('about',`${text(kind)} \\u00b7 ${text('scoring')}`);\
-     fill('standings',...(games[0]?[crossTable(words,games,reader)]:[make('p',{className:'empty'}\
-     ,text('noGamesYet'))]));if(name!==seenEvent){byId('search').value='';shownRows={}}seenEvent=name;\
-     byId('search-games').hidden=games.length<=FEW;repaint=()=>paintLists(games,reader,kind);repaint()}}\
+     (await request(path,body)).json().catch(silence);const SQUARES=Array.from({length:50},(_,at)=>\
+     String(at+1));const PLACES=[0,10,20,30,40].flatMap((at)=>[...SQUARES.slice(at,at+10),'']);\
+     const DIRECTIONS=[-6,-5,5,6];const isKing=(piece)=>piece===piece.toUpperCase();\
+     const sideOf=(piece)=>(piece.toLowerCase()==='w'?0:1);\
+     function jumps(board,piece,square,step){const found=[];const start=PLACES.indexOf(square);\
+     const end=start+step*(isKing(piece)?10:3);let over=null;for(let at=start+step;PLACES[at]&&at!==end;\
+     at+=step){const met=board[PLACES[at]];if(met&&(over||sideOf(met)===sideOf(piece)))break;\
+     if(over)found.push([over,PLACES[at]]);if(met)over=PLACES[at]}return found}\
+     function takenBy(board,named){const standing={...board,[named[0]]:''};let most=[];\
+     const extend=(squares,taken)=>{const fits=named[2]?`${squares}`===`${named}\
+     `:squares.at(-1)===named[1];if(fits&&taken.length>most.length)most=taken;\
+     for(const[over,landing]of DIRECTIONS.flatMap((it)=>\
+     jumps(standing,board[named[0]],squares.at(-1),it))){if(!taken.includes(over))extend([...squares,lan\
+     ding],[...taken,over])}};extend([named[0]],[]);return most}\
+     const draughts={opening:`W:W${SQUARES.slice(30)}:B${SQUARES.slice(0, 20)}\
+     `,rows:Array.from({length:10},(_,row)=>\
+     SQUARES.slice(row*5,row*5+5)),hand:[],sides:['white','black'],read(position){const board={};\
+     for(const list of position.split(':').slice(1)){for(const[,king,square]of list.matchAll(/(K?)(\\d+)/\
+     g)){board[square]=king?list[0]:list[0].toLowerCase()}}return{board}},play({board}\
+     ,move){const squares=this.squares(move);const[from,to]=[squares[0],squares.at(-1)];\
+     const crowned=sideOf(board[from])?to>45:to<6;const next={...board};\
+     for(const square of[from,...takenBy(board,squares)])delete next[square];\
+     next[to]=crowned?board[from].toUpperCase():board[from];return{board:next}},squares:(move)=>\
+     move.split(/[-x]/),side:sideOf,kind:(piece)=>(isKing(piece)?'king':'man')};\
      const ROOF='M50 8Q38 30 10 45M50 8Q62 30 90 45';\
      const TREE='M50 6V57M48 29Q34 46 8 55M52 29Q66 46 92 55';\
      const EARTHS='V46M50 46H95M55 67H91M73 52V89M50 89H95';\
@@ -768,8 +783,238 @@ pub fn page_3() -> &'static str
      t:'M19 4V20M5 4L15 12 5 20Z',flip:'M8 20V5M8 4L4 9M8 4L12 9M16 4V19M16 20L12 15M16 20L20 15',settin\
      gs:'M3 7H10M16 7H21M3 17H6M12 17H21M13 4V10M9 14V20',record:'M12 4V15M12 15L7 10M12 15L17 10M4 20H2\
      0'};const icon=(name)=>draw('svg',{viewBox:'0 0 24 24',class:'icon','aria-hidden':true}\
-     ,draw('path',{d:ICONS[name]}));const FAR_ENOUGH=6;const QUICK=180;let cells={};let dragged=null;\
-     let isDragEnd=false;\
+     ,draw('path',{d:ICONS[name]}));let looker=null;const line=(words,...more)=>(words?[make('p',{}\
+     ,words),...more]:[]);const sayAway=(words='')=>\
+     fill('away',...line(words&&text('retrying',{why:words})));\
+     function complain(words=''){fill('wrong',...line(words,button(text('dismiss'),()=>complain())))}\
+     function sayUnsent(words,again,dismissed){fill('unsent',...line(words,button(text('again'),again,''\
+     ,'main'),button(text('dismiss'),dismissed)))}const lookAgain=()=>looker();\
+     const startNotices=(look)=>{looker=look};async function perform(deed){try{await deed();complain()}\
+     catch(error){if(isPassing(error))sayAway(error.message);\
+     complain(isPassing(error)?text('notDone',{why:error.message}):error.message)}await lookAgain()}\
+     const RANKS=[...'abcdefghi'];const FAR=['abc','ghi'];const isUpper=(piece)=>\
+     piece===piece.toUpperCase();const ownerOf=(piece)=>(isUpper(piece)?0:1);\
+     const CROSS=[[0,-1],[0,1],[1,0],[-1,0]];const SLANTED=[[1,-1],[-1,-1],[1,1],[-1,1]];\
+     const GOLD=[...CROSS,[1,-1],[-1,-1]];const ALL=[...CROSS,...SLANTED];\
+     const STEPS={K:ALL,G:GOLD,S:[[0,-1],...SLANTED],N:[[1,-2],[-1,-2]],P:[[0,-1]],'+S':GOLD,'+N':GOLD,'\
+     +L':GOLD,'+P':GOLD,'+R':SLANTED,'+B':CROSS};\
+     const LINES={R:CROSS,B:SLANTED,L:[[0,-1]],'+R':CROSS,'+B':SLANTED};\
+     const NUMERALS='\\u4e00\\u4e8c\\u4e09\\u56db\\u4e94\\u516d\\u4e03\\u516b\\u4e5d';\
+     const NAMES={K:'\\u7389',R:'\\u98db',B:'\\u89d2',G:'\\u91d1',S:'\\u9280',N:'\\u6842',L:'\\u9999',P:'\\u6b69\
+     ','+R':'\\u7adc','+B':'\\u99ac','+S':'\\u6210\\u9280','+N':'\\u6210\\u6842','+L':'\\u6210\\u9999','+P':'\\u3\
+     068'};const[UP,BACK,ASIDE,STRAIGHT,RIGHT,LEFT]='\\u4e0a\\u5f15\\u5bc4\\u76f4\\u53f3\\u5de6';\
+     const[SAME,DROP,PROMOTED,NOT]='\\u540c\\u6253\\u6210\\u4e0d';\
+     function away(square,files,ranks){const file=Number(square[0])+files;\
+     const rank=RANKS[RANKS.indexOf(square[1])+ranks];return file>0&&file<10&&rank?file+rank:null}\
+     function attacked(board,square){const piece=board[square];const kind=piece.toUpperCase();\
+     const ahead=isUpper(piece)?1:-1;const found=(STEPS[kind]??[]).map(([files,ranks])=>\
+     away(square,files,ranks*ahead));\
+     for(const[files,ranks]of LINES[kind]??[]){for(let at=away(square,files,ranks*ahead);at;\
+     at=away(at,files,ranks*ahead)){found.push(at);if(board[at])break}}return found}\
+     const alike=(board,piece,target)=>{return Object.keys(board).filter((it)=>\
+     board[it]===piece&&attacked(board,it).includes(target))};\
+     const shogi={opening:'lnsgkgsnl/1r5b1/ppppppppp/9/9/9/PPPPPPPPP/1B5R1/LNSGKGSNL b -',rows:RANKS.map\
+     ((rank)=>[...'987654321'].map((file)=>\
+     file+rank)),hand:[...'RBGSNLP'],sides:['sente','gote'],read(position){const[ranks,,pieces]=position\
+     .split(' ');const board={};const hand={};ranks.split('/').forEach((rank,down)=>{let file=9;\
+     for(const[item]of rank.matchAll(/\\d|\\+?[a-z]/gi)){if(item>0)file-=item;else board[`${file--}\
+     ${RANKS[down]}`]=item}});\
+     for(const[,count,piece]of pieces.matchAll(/(\\d*)([a-z])/gi))hand[piece]=Number(count||1);\
+     return{board,hand}},play(position,move,side){const[from,to]=this.squares(move);\
+     const board={...position.board};const hand={...position.hand};const own=(piece)=>\
+     (side?piece.toLowerCase():piece.toUpperCase());const change=(piece,by)=>\
+     {hand[own(piece)]=(hand[own(piece)]??0)+by};if(board[to])change(board[to].at(-1),1);\
+     if(from[1]==='*')change(from[0],-1);board[to]=from[1]==='*'?own(from[0]):(move[4]??'')+board[from];\
+     delete board[from];return{board,hand}},squares:(move)=>\
+     [move.slice(0,2),move.slice(2,4)],side:ownerOf,hasEntered({board}\
+     ,side){return Object.keys(board).some((it)=>board[it]==='Kk'[side]&&FAR[side].includes(it[1]))}\
+     ,kind:(piece)=>piece.toUpperCase(),checked({board},side){const king=Object.keys(board).find((it)=>\
+     board[it]==='Kk'[side]);return Object.keys(board).find((it)=>\
+     ownerOf(board[it])!==side&&attacked(board,it).includes(king))&&king},written({board}\
+     ,move,side){const[from,to]=this.squares(move);if(from[1]==='*')return from+to;\
+     const piece=board[from];const origin=alike(board,piece,to)[1]?from:'';\
+     const stays=this.mayPromote(piece,from,to,side)?'=':'';return `${this.kind(piece)}${origin}\
+     ${board[to] ? 'x' : '-'}${to}${move[4] ?? stays}`},writtenInJapan({board}\
+     ,move,side,before){const[from,to]=this.squares(move);const isDrop=from[1]==='*';\
+     const piece=isDrop?(side?from[0].toLowerCase():from[0]):board[from];\
+     const number=String.fromCharCode(0xff10+Number(to[0]))+NUMERALS[RANKS.indexOf(to[1])];\
+     const place=before&&this.squares(before)[1]===to?`${SAME}\\u3000`:number;\
+     const others=alike(board,piece,to).filter((it)=>it!==from);\
+     const how=isDrop?(others[0]?DROP:''):this.apart(piece,from,to,others,side);\
+     const stays=!isDrop&&this.mayPromote(piece,from,to,side)?NOT+PROMOTED:'';\
+     return '\\u25b2\\u25b3'[side]+place+NAMES[this.kind(piece)]+how+(move[4]?PROMOTED:stays)}\
+     ,mayPromote(piece,from,to,side){return!piece[1]&&!'KG'.includes(this.kind(piece))&&[from,to].some((\
+     it)=>FAR[side].includes(it[1]))},apart(piece,from,to,others,side){if(!others[0])return '';\
+     const ahead=side?-1:1;const rise=(it)=>Math.sign(it[1].charCodeAt()-to[1].charCodeAt())*ahead;\
+     const aside=(it)=>(to[0]-it[0])*ahead;const direction={1:UP,0:ASIDE,'-1':BACK}[rise(from)];\
+     if(others.every((it)=>rise(it)!==rise(from)))return direction;\
+     const isShort=!'RB'.includes(this.kind(piece).at(-1));if(isShort&&rise(from)>\
+     0&&!aside(from))return STRAIGHT;const hand=others.some((it)=>aside(it)<aside(from))?RIGHT:LEFT;\
+     const isOutermost=others.every((it)=>(hand===RIGHT?aside(it)<aside(from):aside(it)>aside(from)));\
+     return isOutermost?hand:hand+direction},files:[...'987654321'],ranks:(isJapanese)=>\
+     (isJapanese?[...NUMERALS]:RANKS)};const CHALLENGES=9999;const MINUTE=60;const LASTING=300000;\
+     let me=null;let club=null;let received=0;let unanswered=0;const pictures=new Map();\
+     let paintedHome='';const link=(view,name,words=name)=>make('a',{href:`#${view}/${name}`},words);\
+     const isMine=(game)=>game.turn===me.member;const opponent=(game)=>\
+     (game.first===me.member?game.second:game.first);const secondsLeft=(game)=>\
+     (game.deadline===null?Infinity:game.deadline-me.moment);const minute=()=>\
+     Math.floor(me.moment/MINUTE);const isOver=(game)=>secondsLeft(game)<0;const kindOf=(event)=>\
+     club.events.find((it)=>it.event===event)?.game;const rulesOf=({kind})=>\
+     (kind==='shogi'?shogi:draughts);const toMe=(it)=>it.state==='open'&&it.to===me.member;\
+     const GROUPS=['toClaim','toAnswer','toMove','toWait'];const[CLAIM,ANSWER,MOVE,WAIT]=GROUPS.keys();\
+     const hasOffer=(game)=>game.offer&&game.offer!==me.member;const rank=(game)=>\
+     (isMine(game)?MOVE:isOver(game)?CLAIM:hasOffer(game)?ANSWER:WAIT);const waitingGames=()=>\
+     me.games.filter((it)=>rank(it)<WAIT);const byUrgency=(one,other)=>\
+     rank(one)-rank(other)||secondsLeft(one)-secondsLeft(other)||one.game-other.game;\
+     function timeLeft(game){if(game.deadline===null)return '';\
+     if(isOver(game))return text(isMine(game)?'overMine':'overTheirs');\
+     return text('left',{span:span(secondsLeft(game))})}\
+     function pictureOf(game){if(pictures.get(game.game)?.ply!==game.ply){const rules=rulesOf(game);\
+     const last=game.last?rules.squares(game.last):[];const near=game.second===me.member?1:0;\
+     pictures.set(game.game,{ply:game.ply,drawn:miniature(rules,rules.read(game.position),near,[last[0],\
+     last.at(-1)])})}return pictures.get(game.game).drawn.cloneNode(true)}\
+     function card(game){const own=game.first===me.member?0:1;const rules=rulesOf(game);\
+     const isLate=secondsLeft(game)<DAY;const words=(name,...its)=>make('span',{className:name},...its);\
+     const turn=isMine(game)?text('yourTurn'):text('turn',{name:game.turn});\
+     return make('li',{className:`card${rank(game) < WAIT ? ' mine' : ''}`}\
+     ,make('a',{href:`#game/${game.game}`}\
+     ,pictureOf(game),words('facts',words('who',opponent(game)),words('faint',`${game.event} \
+     \\u00b7 ${text('youAre', { side: text(rules.sides[own]) })}\
+     `),words(isMine(game)?'turn mine':'turn',turn),make('span',{className:isLate?'left late':'left',tit\
+     le:moment(game.deadline)}\
+     ,timeLeft(game)),...(game.offer?[words('tag',text('offers',{name:game.offer}))]:[]))))}\
+     function group(name,games){if(!games[0])return[];return[make('h2',{},`${text(name)} \
+     `,make('span',{className:'count'},String(games.length))),make('ul',{className:'cards'}\
+     ,...games.map(card))]}function paintGames(){const sorted=me.games.toSorted(byUrgency);\
+     const parts=GROUPS.flatMap((name,at)=>group(name,sorted.filter((it)=>rank(it)===at)));\
+     const none=make('p',{className:'panel empty'},text('noGames'));\
+     fill('games',...(parts[0]?parts:[none]))}function answers({from,number}\
+     ){const path=`answers/${from}/${number}`;const answer=(name,where,body,look)=>\
+     {return button(text(name),()=>perform(()=>ask(where,body)),`${name} ${where}`,look)};\
+     return from===me.member?[answer('withdraw',`challenges/${number}/withdraw`,{}\
+     )]:[answer('take',path,{accept:true},'main'),answer('refuse',path,{accept:false})]}\
+     function paintChallenges(){const begun=(it)=>me.games.find((game)=>\
+     game.game===it.game&&game.ply<2);const shown=me.challenges.filter((it)=>\
+     it.state==='open'||begun(it)).sort((it,other)=>toMe(other)-toMe(it));const row=(it)=>\
+     make('li',{className:toMe(it)?'mine':''},make('span',{}\
+     ,text(toMe(it)?'challengesYou':'challenged',it),make('span',{className:'faint'}\
+     ,` ${text('starts', { ...it, game: text(kindOf(it.event)) })}`)),make('span',{className:'answers'}\
+     ,...(it.state==='open'?answers(it):[make('span',{className:'tag good'}\
+     ,text('accepted')),link('game',it.game,text('toGame'))])));const declined=me.refused.map((it)=>\
+     make('li',{},make('span',{},text('challenged',it),make('span',{className:'faint'}\
+     ,` ${text('starts', { ...it, game: text(kindOf(it.event)) })}`))));\
+     const folded=make('details',{id:'declined',open:!!byId('declined')?.open},make('summary',{}\
+     ,`${text('declined')} `,make('span',{className:'count'}\
+     ,String(declined.length))),make('ul',{className:'rows'},...declined));\
+     fill('challenges',...(shown[0]?[make('h2',{},text('challenges')),make('ul',{className:'rows'}\
+     ,...shown.map(row))]:[]),...(declined[0]?[folded]:[]))}function paintClub(){const terms=(it)=>\
+     text(it.increment?'terms':'wholeGame',{game:text(it.game),budget:span(it.budget),increment:span(it.\
+     increment)});fill('events',...club.events.map((it)=>make('li',{}\
+     ,link('event',it.event),make('span',{className:'faint'},terms(it)))));\
+     const others=club.members.filter((it)=>it!==me.member);fill('other',...others.map((it)=>\
+     make('option',{},it)));fill('cup',...club.events.map((it)=>make('option',{value:it.event}\
+     ,`${it.event} (${text(it.game)})`)));byId('challenge').hidden=!others[0]||!club.events[0]}\
+     async function lookAtEnded(){if(!byId('ended').open)return;const{games,more}=await ask('me/ended');\
+     const faint=(...words)=>make('span',{className:'faint'},words.filter((it)=>it).join(' \\u00b7 '));\
+     const rows=games.map((it)=>make('li',{}\
+     ,link('game',it.game,opponent(it)),faint(it.event,ending(it,me.member),moment(it.ended))));\
+     fill('ended-games',rows[0]?make('ul',{className:'rows'},...rows):make('p',{className:'faint'}\
+     ,text('noEnded')),...(more?[make('p',{className:'faint'},text('older',{count:more}))]:[]))}\
+     async function lookAtMe(){me=await ask('me');\
+     return{member:me.member,waiting:waitingGames().length+me.challenges.filter(toMe).length}}\
+     function nextGame(shown){const others=waitingGames().filter((it)=>it.game!==shown).sort(byUrgency);\
+     return{next:others[0],count:others.length}}function newsOf(){const item=(it,name,kind)=>\
+     {const words=text(name,{name:opponent(it),event:it.event});return{tag:`${kind} ${it.game}\
+     `,words,place:`game/${it.game}`,end:kind==='game'}};return[...me.games.filter(isMine).map((it)=>\
+     item(it,'noticeTurn',`ply ${it.ply}`)),...me.games.filter((it)=>!isMine(it)&&isOver(it)).map((it)=>\
+     item(it,'noticeOver','over')),...me.games.filter(hasOffer).map((it)=>\
+     item(it,'noticeOffer',`offer ${it.ply}`)),...me.games.map((it)=>\
+     item(it,'noticeEnded','game')),...me.refused.map((it)=>{return{tag:`declined ${it.number}\
+     `,words:text('noticeDeclined',{name:it.to,event:it.event}),place:''}}\
+     ),...me.challenges.filter(toMe).map((it)=>{return{tag:`challenge ${it.from} ${it.number}\
+     `,words:`${text('challengesYou', it)} ${it.event}`,place:''}})]}\
+     async function lookAtClub(names){if(!club||names.some((it)=>!kindOf(it))||Date.now()-received>\
+     LASTING){club=await ask('me/events');received=Date.now()}return club}\
+     async function lookAtHome(_,mine)"
+}
+
+/// Part 4 of the page, in ASCII.
+#[tactic(auto, unfolding(crate::specs::Joined::page_4))]
+pub fn page_4() -> &'static str
+    ensures { result.now ≡ page_4 }
+{
+    "{await mine;await lookAtClub([...me.challenges,...me.refused].map((it)=>it.event));return()=>\
+     {fill('title',text('home'));const isNear=me.games.some((it)=>Math.abs(secondsLeft(it))<2*MINUTE);\
+     const now=JSON.stringify([{...me,moment:isNear?me.moment:minute()},club,text('code')]);\
+     if(now===paintedHome)return;paintedHome=now;paintGames();paintChallenges();paintClub();\
+     lookAtEnded().catch(()=>{});\
+     byId('news').textContent=text('news',{moves:me.games.filter(isMine).length,challenges:me.challenges\
+     .filter(toMe).length})}}\
+     async function challenge(terms,tries=3){unanswered||=Math.ceil(Math.random()*CHALLENGES);\
+     try{await ask(`challenges/${unanswered}`,terms);unanswered=0}\
+     catch(error){if(error.number!==58||!tries)throw error;unanswered=0;await challenge(terms,tries-1)}}\
+     function paintWelcome(){const opening=(rules)=>miniature(rules,rules.read(rules.opening),0,[]);\
+     fill('welcome',opening(draughts),opening(shogi));club=null;pictures.clear()}\
+     function startHome(){byId('challenge').onsubmit=(event)=>{event.preventDefault();\
+     const terms={event:byId('cup').value,first:!byId('begins').selectedIndex,other:byId('other').value}\
+     ;perform(()=>challenge(terms))};byId('ended').ontoggle=()=>lookAtEnded().catch(()=>{})}\
+     const POINTS={'2-0':[2,0],'1-1':[1,1],'0-2':[0,2]};const pair=(game)=>`${game.first} \
+     \\u2013 ${game.second}`;const WIDEST=40;const STEP=50;const FEW=10;const MANY=500;let seenEvent='';\
+     let seenReplies='';let repaint=()=>{};let held={games:[]};let shownRows={};\
+     function ranked(words){return words.trim().split('\\n').slice(1).map((line)=>\
+     line.trim().split(/\\s+/).slice(0,7))}function outcome(game){if(game.end)return[reason(game)];\
+     const seconds=secondsLeft(game);\
+     const left=seconds<0?text('over'):seconds<Infinity?text('left',{span:span(seconds)}):'';\
+     return[text('turn',{name:game.turn}),left]}const both=(one,other)=>[one,other].sort().join(' ');\
+     function cell(games,name){return make('td',{className:'cell'},...games.map((it)=>\
+     make('a',{href:`#game/${it.game}`,title:`${pair(it)}: ${it.result ?? text('running')}\
+     `,ariaLabel:`${text('game')} ${it.game}, ${pair(it)}: ${it.result ?? text('running')}\
+     `,className:it.end?'':'running'},it.end?String(POINTS[it.result][it.first===name?0:1]):'\\u2022')))}\
+     function crossTable(words,games,reader){const table=ranked(words);const names=table.map((it)=>\
+     it[1]);const more=[...new Set(games.flatMap((it)=>[it.first,it.second]))].filter((it)=>\
+     !names.includes(it));const rows=[...table,...more.map((it)=>['\\u2013',it,0,0,0,0,0])];\
+     const byPairs={};for(const it of games)(byPairs[both(it.first,it.second)]??=[]).push(it);\
+     const head=(label,title='')=>make('th',{scope:'col',title},label);const columns=rows.length>\
+     WIDEST?[]:rows;const cells=(row,at)=>columns.map((other,to)=>\
+     {return at===to?make('td',{className:'self'}):cell(byPairs[both(row[1],other[1])]??[],row[1])});\
+     return make('table',{className:'cross'},make('thead',{},make('tr',{}\
+     ,head('',text('place')),head(text('name')),head(text('points')),...columns.map((it,at)=>\
+     head(String(at+1),it[1])),...['played','wins','draws','losses'].map((it)=>\
+     head(text(it))))),make('tbody',{},...rows.map((row,at)=>\
+     make('tr',{className:row[1]===reader?'mine':''},make('td',{}\
+     ,String(row[0])),make('th',{scope:'row'},row[1]),make('td',{className:'points'}\
+     ,String(row[2])),...cells(row,at),...row.slice(3).map((it)=>make('td',{},String(it)))))))}\
+     const moveCount=(count)=>\
+     {return text(new Intl.PluralRules(text('code')).select(count)==='one'?'oneMove':'moveCount',{count}\
+     )};function list(name,all,reader,kind){const sought=byId('search').value.trim().toLowerCase();\
+     const isOwn=(it)=>[it.first,it.second].includes(reader);const games=all.filter((it)=>\
+     pair(it).toLowerCase().includes(sought)).sort((it,other)=>isOwn(other)-isOwn(it));\
+     if(!games[0])return[];const count=shownRows[name]??STEP;const more=()=>{shownRows[name]=count+STEP;\
+     repaint()};const words=(...some)=>some.filter((it)=>it).join(' \\u00b7 ');const row=(it)=>\
+     make('li',{className:isOwn(it)?'mine':''},make('span',{}\
+     ,make('span',{className:'number',ariaHidden:true},`${it.game}`),make('a',{href:`#game/${it.game}`}\
+     ,pair(it))),make('span',{className:'faint'}\
+     ,words(moveCount(kind==='draughts'?Math.ceil(it.ply/2):it.ply),...outcome(it))),make('b',{}\
+     ,it.result??''));return[make('h2',{},`${text(name)} `,make('span',{className:'count'}\
+     ,String(games.length))),make('ul',{className:'rows'}\
+     ,...games.slice(0,count).map(row)),...(games.length>\
+     count?[button(text('more',{count:games.length-count}),more,name)]:[])]}\
+     function paintLists(games,reader,kind){const lists=[['runningGames',games.filter((it)=>\
+     !it.end)],['endedGames',games.filter((it)=>it.end)]];const found=lists.flatMap(([name,some])=>\
+     list(name,some,reader,kind));\
+     fill('event-games',...(found[0]||!games[0]?found:[make('p',{className:'faint',role:'status'}\
+     ,text('none'))]))}function startEvent(){byId('search').oninput=()=>repaint()}\
+     async function requestEvent(name){const words=await(await request(`events/${name}/table`)).text();\
+     const{games}=await ask(`events/${name}/games`);held={words,games,at:Date.now()}}\
+     async function lookAtEvent(name,_,isShown){if(!isShown||held.games.length<=MANY||Date.now()-held.at\
+     >LASTING)await requestEvent(name);const{words,games}=held;const{events}=await lookAtClub([name]);\
+     return(reader)=>{const kind=events.find((it)=>it.event===name)?.game;fill('title',name);\
+     const now=JSON.stringify([name,words,games,kind,reader,minute(),text('code')]);\
+     if(now===seenReplies)return;seenReplies=now;fill('about',`${text(kind)} \\u00b7 ${text('scoring')}\
+     `);fill('standings',...(games[0]?[crossTable(words,games,reader)]:[make('p',{className:'empty'}\
+     ,text('noGamesYet'))]));if(name!==seenEvent){byId('search').value='';shownRows={}}seenEvent=name;\
+     byId('search-games').hidden=games.length<=FEW;repaint=()=>paintLists(games,reader,kind);repaint()}}\
+     const FAR_ENOUGH=6;const QUICK=180;let cells={};let dragged=null;let isDragEnd=false;\
      function layCell(name,square,properties){cells[name]=make('button',{type:'button',...properties});\
      cells[name].dataset.square=square;return cells[name]}\
      function layHand(id,rules,side,own){byId(id).hidden=!rules.hand[0];\
@@ -826,106 +1071,7 @@ pub fn page_3() -> &'static str
      {const cell=!button&&target.closest('.movable');\
      dragged=cell&&{cell,picture:cell.firstChild,x:clientX,y:clientY}};document.onpointermove=(event)=>\
      dragged&&drag(event,lifted);document.onpointerup=document.onpointercancel=(event)=>\
-     dragged&&endDrag(event,dropped)}const SQUARES=Array.from({length:50},(_,at)=>String(at+1));\
-     const PLACES=[0,10,20,30,40].flatMap((at)=>[...SQUARES.slice(at,at+10),'']);\
-     const DIRECTIONS=[-6,-5,5,6];const isKing=(piece)=>piece===piece.toUpperCase();\
-     const sideOf=(piece)=>(piece.toLowerCase()==='w'?0:1);\
-     function jumps(board,piece,square,step){const found=[];const start=PLACES.indexOf(square);\
-     const end=start+step*(isKing(piece)?10:3);let over=null;for(let at=start+step;PLACES[at]&&at!==end;\
-     at+=step){const met=board[PLACES[at]];if(met&&(over||sideOf(met)===sideOf(piece)))break;\
-     if(over)found.push([over,PLACES[at]]);if(met)over=PLACES[at]}return found}\
-     function takenBy(board,named){const standing={...board,[named[0]]:''};let most=[];\
-     const extend=(squares,taken)=>{const fits=named[2]?`${squares}`===`${named}\
-     `:squares.at(-1)===named[1];if(fits&&taken.length>most.length)most=taken;\
-     for(const[over,landing]of DIRECTIONS.flatMap((it)=>\
-     jumps(standing,board[named[0]],squares.at(-1),it))){if(!taken.includes(over))extend([...squares,lan\
-     ding],[...taken,over])}};extend([named[0]],[]);return most}\
-     const draughts={opening:`W:W${SQUARES.slice(30)}:B${SQUARES.slice(0, 20)}\
-     `,rows:Array.from({length:10},(_,row)=>\
-     SQUARES.slice(row*5,row*5+5)),hand:[],sides:['white','black'],read(position){const board={};\
-     for(const list of position.split(':').slice(1)){for(const[,king,square]of list.matchAll(/(K?)(\\d+)/\
-     g)){board[square]=king?list[0]:list[0].toLowerCase()}}return{board}},play({board}\
-     ,move){const squares=this.squares(move);const[from,to]=[squares[0],squares.at(-1)];\
-     const crowned=sideOf(board[from])?to>45:to<6;const next={...board};\
-     for(const square of[from,...takenBy(board,squares)])delete next[square];\
-     next[to]=crowned?board[from].toUpperCase():board[from];return{board:next}},squares:(move)=>\
-     move.split(/[-x]/),side:sideOf,kind:(piece)=>(isKing(piece)?'king':'man')};let looker=null;\
-     const line=(words,...more)=>(words?[make('p',{},words),...more]:[]);const sayAway=(words='')=>\
-     fill('away',...line(words&&`${words}. ${text('retrying')}`));\
-     function complain(words=''){fill('wrong',...line(words,button(text('dismiss'),()=>complain())))}\
-     function sayUnsent(words,again,dismissed){fill('unsent',...line(words,button(text('again'),again,''\
-     ,'main'),button(text('dismiss'),dismissed)))}const lookAgain=()=>looker();\
-     const startNotices=(look)=>{looker=look};async function perform(deed){try{await deed();complain()}\
-     catch(error){if(isPassing(error))sayAway(error.message);\
-     complain(isPassing(error)?text('notDone',{why:error.message}):error.message)}await lookAgain()}\
-     const RANKS=[...'abcdefghi'];const FAR=['abc','ghi'];const isUpper=(piece)=>\
-     piece===piece.toUpperCase();const ownerOf=(piece)=>(isUpper(piece)?0:1);\
-     const CROSS=[[0,-1],[0,1],[1,0],[-1,0]];const SLANTED=[[1,-1],[-1,-1],[1,1],[-1,1]];\
-     const GOLD=[...CROSS,[1,-1],[-1,-1]];const ALL=[...CROSS,...SLANTED];\
-     const STEPS={K:ALL,G:GOLD,S:[[0,-1],...SLANTED],N:[[1,-2],[-1,-2]],P:[[0,-1]],'+S':GOLD,'+N':GOLD,'\
-     +L':GOLD,'+P':GOLD,'+R':SLANTED,'+B':CROSS};\
-     const LINES={R:CROSS,B:SLANTED,L:[[0,-1]],'+R':CROSS,'+B':SLANTED};\
-     const NUMERALS='\\u4e00\\u4e8c\\u4e09\\u56db\\u4e94\\u516d\\u4e03\\u516b\\u4e5d';\
-     const NAMES={K:'\\u7389',R:'\\u98db',B:'\\u89d2',G:'\\u91d1',S:'\\u9280',N:'\\u6842',L:'\\u9999',P:'\\u6b69\
-     ','+R':'\\u7adc','+B':'\\u99ac','+S':'\\u6210\\u9280','+N':'\\u6210\\u6842','+L':'\\u6210\\u9999','+P':'\\u3\
-     068'};const[UP,BACK,ASIDE,STRAIGHT,RIGHT,LEFT]='\\u4e0a\\u5f15\\u5bc4\\u76f4\\u53f3\\u5de6';\
-     const[SAME,DROP,PROMOTED,NOT]='\\u540c\\u6253\\u6210\\u4e0d';\
-     function away(square,files,ranks){const file=Number(square[0])+files;\
-     const rank=RANKS[RANKS.indexOf(square[1])+ranks];return file>0&&file<10&&rank?file+rank:null}\
-     function attacked(board,square){const piece=board[square];const kind=piece.toUpperCase();\
-     const ahead=isUpper(piece)?1:-1;const found=(STEPS[kind]??[]).map(([files,ranks])=>\
-     away(square,files,ranks*ahead));\
-     for(const[files,ranks]of LINES[kind]??[]){for(let at=away(square,files,ranks*ahead);at;\
-     at=away(at,files,ranks*ahead)){found.push(at);if(board[at])break}}return found}\
-     const alike=(board,piece,target)=>{return Object.keys(board).filter((it)=>\
-     board[it]===piece&&attacked(board,it).includes(target))};\
-     const shogi={opening:'lnsgkgsnl/1r5b1/ppppppppp/9/9/9/PPPPPPPPP/1B5R1/LNSGKGSNL b -',rows:RANKS.map\
-     ((rank)=>[...'987654321'].map((file)=>\
-     file+rank)),hand:[...'RBGSNLP'],sides:['sente','gote'],read(position){const[ranks,,pieces]=position\
-     .split(' ');const board={};const hand={};ranks.split('/').forEach((rank,down)=>{let file=9;\
-     for(const[item]of rank.matchAll(/\\d|\\+?[a-z]/gi)){if(item>0)file-=item;else board[`${file--}\
-     ${RANKS[down]}`]=item}});\
-     for(const[,count,piece]of pieces.matchAll(/(\\d*)([a-z])/gi))hand[piece]=Number(count||1);\
-     return{board,hand}},play(position,move,side){const[from,to]=this.squa"
-}
-
-/// Part 4 of the page, in ASCII.
-#[tactic(auto, unfolding(crate::specs::Joined::page_4))]
-pub fn page_4() -> &'static str
-    ensures { result.now ≡ page_4 }
-{
-    "res(move);const board={...position.board};const hand={...position.hand};const own=(piece)=>\
-     (side?piece.toLowerCase():piece.toUpperCase());const change=(piece,by)=>\
-     {hand[own(piece)]=(hand[own(piece)]??0)+by};if(board[to])change(board[to].at(-1),1);\
-     if(from[1]==='*')change(from[0],-1);board[to]=from[1]==='*'?own(from[0]):(move[4]??'')+board[from];\
-     delete board[from];return{board,hand}},squares:(move)=>\
-     [move.slice(0,2),move.slice(2,4)],side:ownerOf,hasEntered({board}\
-     ,side){return Object.keys(board).some((it)=>board[it]==='Kk'[side]&&FAR[side].includes(it[1]))}\
-     ,kind:(piece)=>piece.toUpperCase(),checked({board},side){const king=Object.keys(board).find((it)=>\
-     board[it]==='Kk'[side]);return Object.keys(board).find((it)=>\
-     ownerOf(board[it])!==side&&attacked(board,it).includes(king))&&king},written({board}\
-     ,move,side){const[from,to]=this.squares(move);if(from[1]==='*')return from+to;\
-     const piece=board[from];const origin=alike(board,piece,to)[1]?from:'';\
-     const stays=this.mayPromote(piece,from,to,side)?'=':'';return `${this.kind(piece)}${origin}\
-     ${board[to] ? 'x' : '-'}${to}${move[4] ?? stays}`},writtenInJapan({board}\
-     ,move,side,before){const[from,to]=this.squares(move);const isDrop=from[1]==='*';\
-     const piece=isDrop?(side?from[0].toLowerCase():from[0]):board[from];\
-     const number=String.fromCharCode(0xff10+Number(to[0]))+NUMERALS[RANKS.indexOf(to[1])];\
-     const place=before&&this.squares(before)[1]===to?`${SAME}\\u3000`:number;\
-     const others=alike(board,piece,to).filter((it)=>it!==from);\
-     const how=isDrop?(others[0]?DROP:''):this.apart(piece,from,to,others,side);\
-     const stays=!isDrop&&this.mayPromote(piece,from,to,side)?NOT+PROMOTED:'';\
-     return '\\u25b2\\u25b3'[side]+place+NAMES[this.kind(piece)]+how+(move[4]?PROMOTED:stays)}\
-     ,mayPromote(piece,from,to,side){return!piece[1]&&!'KG'.includes(this.kind(piece))&&[from,to].some((\
-     it)=>FAR[side].includes(it[1]))},apart(piece,from,to,others,side){if(!others[0])return '';\
-     const ahead=side?-1:1;const rise=(it)=>Math.sign(it[1].charCodeAt()-to[1].charCodeAt())*ahead;\
-     const aside=(it)=>(to[0]-it[0])*ahead;const direction={1:UP,0:ASIDE,'-1':BACK}[rise(from)];\
-     if(others.every((it)=>rise(it)!==rise(from)))return direction;\
-     const isShort=!'RB'.includes(this.kind(piece).at(-1));if(isShort&&rise(from)>\
-     0&&!aside(from))return STRAIGHT;const hand=others.some((it)=>aside(it)<aside(from))?RIGHT:LEFT;\
-     const isOutermost=others.every((it)=>(hand===RIGHT?aside(it)<aside(from):aside(it)>aside(from)));\
-     return isOutermost?hand:hand+direction},files:[...'987654321'],ranks:(isJapanese)=>\
-     (isJapanese?[...NUMERALS]:RANKS)};const kept=()=>JSON.parse(recall('unsent')??'null');\
+     dragged&&endDrag(event,dropped)}const kept=()=>JSON.parse(recall('unsent')??'null');\
      function putAway(){forget('unsent');sayUnsent()}function tellUnsent(){const it=kept();\
      if(it)sayUnsent(text('unsent',it),()=>deliver(it).then(lookAgain),putAway);else sayUnsent()}\
      async function deliver(it){let isTaken=false;try{await ask(`games/${it.game}/moves/${it.ply}\
@@ -936,8 +1082,8 @@ pub fn page_4() -> &'static str
      =it.ply||end))putAway()}const BUTTONS={start:-1000,back:-1,on:1,present:1000};let reader='';\
      let game=null;let clock=null;let told=0;let legal=[];let rules=draughts;let positions=[];\
      let written=[];let ply=null;let isFlipped=false;let touched=null;let waiting=null;let sent=null;\
-     let seen={};const players=()=>[game.first,game.second];const own=()=>players().indexOf(reader);\
-     const near=()=>((own()===1)!==isFlipped?1:0);const isMyTurn=()=>\
+     let paintedGame='';let seen={};const players=()=>[game.first,game.second];const own=()=>\
+     players().indexOf(reader);const near=()=>((own()===1)!==isFlipped?1:0);const isMyTurn=()=>\
      game&&!game.end&&own()===game.ply%2;const plies=()=>ply??game.ply;const first=(move)=>\
      rules.squares(move)[0];const target=(move)=>rules.squares(move).at(-1);const tried=()=>\
      (ply===null?waiting??sent:null);const playable=()=>(isMyTurn()&&ply===null&&!tried()?legal:[]);\
@@ -994,11 +1140,12 @@ pub fn page_4() -> &'static str
      if(legal[0].includes('x'))return text('mustTake');\
      return rules.checked?.(positions[game.ply],own())?text('inCheck'):''}\
      function action(name,path,looks=''){return button(text(name),async()=>\
-     {if(await choose(`${text(name)}?`,[text(name)],undefined,`main ${looks}`)===0)perform(()=>\
-     ask(path,{}))},path,looks)}function actions(){const next=game.ply+1;const found=[];\
-     const may=(name,end,looks)=>found.push(action(name,`games/${game.game}/${end}`,looks));\
-     if(game.end||own()<0)return found;if(game.offer&&game.offer!==reader)may('accept',`draw/${next}\
-     /accept`,'main');if(!isMyTurn()&&isOverdue())may('claim','claim-time','main');\
+     {if(await choose(text('sure',{what:text(name)}),[text(name)],undefined,`main ${looks}\
+     `)===0)perform(()=>ask(path,{}))},path,looks)}function actions(){const next=game.ply+1;\
+     const found=[];const may=(name,end,looks)=>found.push(action(name,`games/${game.game}/${end}\
+     `,looks));if(game.end||own()<0)return found;\
+     if(game.offer&&game.offer!==reader)may('accept',`draw/${next}/accept`,'main');\
+     if(!isMyTurn()&&isOverdue())may('claim','claim-time','main');\
      if(isMyTurn()&&rules.hasEntered?.(positions[game.ply],own()))may('declare',`declare/${next}`);\
      if(rules===draughts&&!game.offer)may('offer',`draw/${next}/offer`);may('resign','resign','danger');\
      if(!isMyTurn())Object.assign(found.at(-1),{disabled:true,title:text('resignWhen')});return found}\
@@ -1013,7 +1160,7 @@ pub fn page_4() -> &'static str
      function paintSteps(){const made=Object.entries(BUTTONS).map(([name,by])=>\
      {const step=button(icon(name),()=>stepTo(plies()+by),name);const at=by<0?plies()>0:ply!==null;\
      return Object.assign(step,{ariaLabel:text(name),title:text(name),ariaDisabled:!at})});\
-     const flip=button(icon('flip'),()=>{isFlipped=!isFlipped;lay()},'flip');\
+     const flip=button(icon('flip'),turnBoard,'flip');\
      fill('steps',...made,Object.assign(flip,{ariaLabel:text('flip'),title:text('flip'),ariaPressed:isFl\
      ipped}))}function paint(){paintPosition();paintPlayer('far',1-near());paintPlayer('near',near());\
      tick();written=game.moves.map((_,at)=>spell(at));fill('title',`${text('game')} ${game.game}\
@@ -1024,9 +1171,13 @@ pub fn page_4() -> &'static str
      send(waiting),'confirm','main'),button(text('takeBack'),()=>takeBack(),'back')]:[]));\
      const found=actions();const isUrgent=(it)=>it.className==='main';\
      fill('urgent',...found.filter(isUrgent));fill('actions',...found.filter((it)=>!isUrgent(it)));\
-     paintSteps();paintMoves();const words=make('span',{},icon('record'),` ${text('record')}`);\
-     fill('tools',Object.assign(button(words,()=>perform(download),'record'),{id:'record'}));\
-     tellUnsent()}function lay(){layBoard(rules,near(),own());seen={};paint()}\
+     const{next,count}=nextGame(game.game);const isFree=next&&!isMyTurn();\
+     fill('next',...(isFree?[make('a',{href:`#game/${next.game}`,className:'button'}\
+     ,text('nextGame',{count}))]:[]));paintSteps();paintMoves();const words=make('span',{}\
+     ,icon('record'),` ${text('record')}`);fill('tools',Object.assign(button(words,()=>\
+     perform(download),'record'),{id:'record'}));tellUnsent()}\
+     function lay(){layBoard(rules,near(),own());seen={};paint()}\
+     function turnBoard(){isFlipped=!isFlipped;lay()}\
      function stepTo(count){ply=count<game.ply?Math.max(count,0):null;touched=waiting=null;paint()}\
      function takeBack(){const from=waiting&&first(waiting);waiting=touched=null;paint();focusOn(from)}\
      async function send(move){const to=target(move);\
@@ -1052,117 +1203,31 @@ pub fn page_4() -> &'static str
      async function download(){const href=URL.createObjectURL(await(await request(`games/${game.game}\
      /record`)).blob());make('a',{href,download:`${game.event}-${game.game}\
      .${rules === shogi ? 'csa' : 'pdn'}`}).click()}\
-     function take(now){const isOther=game?.game!==now.game;\
+     function take(now,kind){const isOther=game?.game!==now.game;\
      if(isOther||now.ply!==game.ply||now.end)touched=waiting=sent=null;game=now;settle(now);\
-     rules=now.position.includes('/')?shogi:draughts;positions=[rules.read(rules.opening)];\
+     rules=kind==='shogi'?shogi:draughts;positions=[rules.read(rules.opening)];\
      now.moves.forEach((move,at)=>positions.push(rules.play(positions[at],move,at%2)));\
      positions[now.ply]=rules.read(now.position);if(!isOther)return;ply=null;isFlipped=false;seen={};\
-     layBoard(rules,near(),own())}async function lookAtGame(id,name){const now=await ask(`games/${id}`);\
-     const time=await ask(`games/${id}/clock`);const{moves}=await ask(`games/${id}/legal`);return()=>\
-     {reader=name;clock=time;told=Date.now();legal=moves;take(now);paint()}}const repaintGame=()=>\
-     isOpen()&&lay();function leaveGame(){game=null;byId('dialog').close()}\
-     function startGame(){startBoard({touched:touch,lifted:lift,dropped:go});setInterval(tick,1000);\
-     document.onkeydown=({key,target:on})=>{if(!isOpen()||on.closest('select, input, dialog'))return;\
-     if(key==='Escape'){if(waiting)takeBack();else lift(null)}\
+     layBoard(rules,near(),own())}async function lookAtGame(id){const now=await ask(`games/${id}/page`);\
+     return(name)=>{reader=name;clock=now.clock;told=Date.now();legal=now.legal;const{next,count}\
+     =nextGame(now.game.game);\
+     const left=clock.deadline===null||isOverdue()||span(clock.deadline-clock.moment);\
+     const replies=JSON.stringify([now.game,now.kind,legal,left,next?.game,count,name,text('code')]);\
+     if(replies===paintedGame)return;take(now.game,now.kind);paint();paintedGame=replies}}\
+     const repaintGame=()=>isOpen()&&lay();function leaveGame(){game=null;paintedGame='';\
+     byId('dialog').close()}function startGame(){startBoard({touched:touch,lifted:lift,dropped:go});\
+     setInterval(tick,1000);document.onkeydown=({key,target:on,ctrlKey,altKey,metaKey})=>\
+     {if(!isOpen()||ctrlKey||altKey||metaKey||on.closest('select, input, dialog'))return;\
+     if(key==='f')turnBoard();if(key==='Escape'){if(waiting)takeBack();else lift(null)}\
      if(on.closest('[role=grid], #standings'))return;\
      const to={ArrowLeft:plies()-1,ArrowRight:plies()+1,Home:0,End:game.ply}[key];\
-     if(to!==undefined)stepTo(to)}}const CHALLENGES=9999;const AT_ONCE=3;let me=null;let club=null;\
-     let unanswered=0;const pictures=new Map();let wanted=[];let asked=0;\
-     const link=(view,name,words=name)=>make('a',{href:`#${view}/${name}`},words);const isMine=(game)=>\
-     game.turn===me.member;const opponent=(game)=>(game.first===me.member?game.second:game.first);\
-     const secondsLeft=(game)=>(game.deadline===null?Infinity:game.deadline-me.moment);\
-     const isOver=(game)=>secondsLeft(game)<0;const kindOf=(event)=>club.events.find((it)=>\
-     it.event===event)?.game;const rulesOf=(event)=>(kindOf(event)==='shogi'?shogi:draughts);\
-     const toMe=(it)=>it.state==='open'&&it.to===me.member;const rank=(game)=>\
-     (isMine(game)?1:isOver(game)?0:2);const byUrgency=(one,other)=>\
-     rank(one)-rank(other)||secondsLeft(one)-secondsLeft(other)||one.game-other.game;\
-     function timeLeft(game){if(game.deadline===null)return '';\
-     if(isOver(game))return text(isMine(game)?'overMine':'overTheirs');\
-     return text('left',{span:span(secondsLeft(game))})}\
-     function pictureOf(game){const shown=pictures.get(game.game);\
-     if(shown?.ply!==game.ply)wanted.push(game);if(shown)return shown.drawn.cloneNode(true);\
-     const rules=rulesOf(game.event);return miniature(rules,{board:{}},0,[])}\
-     async function drawNext(){const game=wanted.shift();if(!game)return;asked+=1;\
-     try{const told=await ask(`games/${game.game}`);\
-     const rules=told.position.includes('/')?shogi:draughts;\
-     const last=told.moves.length?rules.squares(told.moves.at(-1)):[];\
-     const near=told.second===me.member?1:0;\
-     const drawn=miniature(rules,rules.read(told.position),near,[last[0],last.at(-1)]);\
-     pictures.set(game.game,{ply:game.ply,drawn});\
-     const host=document.querySelector(`#games a[href=\"#game/${game.game}\"] svg`);\
-     host?.replaceWith(drawn.cloneNode(true))}catch{}asked-=1;await drawNext()}\
-     function card(game){const own=game.first===me.member?0:1;const rules=rulesOf(game.event);\
-     const isLate=secondsLeft(game)<DAY;const words=(name,...its)=>make('span',{className:name},...its);\
-     const turn=isMine(game)?text('yourTurn'):text('turn',{name:game.turn});\
-     return make('li',{className:`card${isMine(game) ? ' mine' : ''}`}\
-     ,make('a',{href:`#game/${game.game}`}\
-     ,pictureOf(game),words('facts',words('who',opponent(game)),words('faint',`${game.event} \
-     \\u00b7 ${text('youAre', { side: text(rules.sides[own]) })}\
-     `),words(isMine(game)?'turn mine':'turn',turn),make('span',{className:isLate?'left late':'left',tit\
-     le:moment(game.deadline)}\
-     ,timeLeft(game)),...(game.offer?[words('tag',text('offers',{name:game.offer}))]:[]))))}\
-     function group(name,games){if(!games[0])return[];return[make('h2',{},`${text(name)} \
-     `,make('span',{className:'count'},String(games.length))),make('ul',{className:'cards'}\
-     ,...games.map(card))]}function paintGames(){wanted=[];const sorted=me.games.toSorted(byUrgency);\
-     const parts=[['toClaim',0],['toMove',1],['toWait',2]].flatMap(([name,at])=>\
-     {return group(name,sorted.filter((it)=>rank(it)===at))});\
-     const none=make('p',{className:'panel empty'},text('noGames'));\
-     fill('games',...(parts[0]?parts:[none]));while(wanted[0]&&asked<AT_ONCE)drawNext()}\
-     function answers({from,number}){const path=`answers/${from}/${number}`;\
-     const answer=(name,where,body,look)=>{return button(text(name),()=>perform(()=>\
-     ask(where,body)),`${name} ${where}`,look)};\
-     return from===me.member?[answer('withdraw',`challenges/${number}/withdraw`,{}\
-     )]:[answer('take',path,{accept:true},'main'),answer('refuse',path,{accept:false})]}\
-     function paintChallenges(){const begun=(it)=>me.games.find((game)=>\
-     game.game===it.game&&game.ply<2);const shown=me.challenges.filter((it)=>\
-     it.state==='open'||begun(it)).sort((it,other)=>toMe(other)-toMe(it));const row=(it)=>\
-     make('li',{className:toMe(it)?'mine':''},make('span',{}\
-     ,text(toMe(it)?'challengesYou':'challenged',it),make('span',{className:'faint'},` ${it.event} \
-     (${text(kindOf(it.event))}), ${text('starts', it)}`)),make('span',{className:'answers'}\
-     ,...(it.state==='open'?answers(it):[make('span',{className:'tag good'}\
-     ,text('accepted')),link('game',it.game,text('toGame'))])));\
-     fill('challenges',...(shown[0]?[make('h2',{},text('challenges')),make('ul',{className:'rows'}\
-     ,...shown.map(row))]:[]))}function paintClub(){const terms=(it)=>\
-     text(it.increment?'terms':'wholeGame',{game:text(it.game),budget:span(it.budget),increment:span(it.\
-     increment)});fill('events',...club.events.map((it)=>make('li',{}\
-     ,link('event',it.event),make('span',{className:'faint'},terms(it)))));\
-     const others=club.members.filter((it)=>it!==me.member);fill('other',...others.map((it)=>\
-     make('option',{},it)));fill('cup',...club.events.map((it)=>make('option',{value:it.event}\
-     ,`${it.event}: ${text(it.game)}`)));byId('challenge').hidden=!others[0]||!club.events[0]}\
-     async function lookAtEnded(){if(!byId('ended').open)return;const lists=[];\
-     for(const{event,game:kind}of club.events){const{games}=await ask(`events/${event}/games`);\
-     lists.push(...games.filter((it)=>it.end&&[it.first,it.second].includes(me.member)).map((it)=>\
-     ({...it,event,kind})))}const rows=lists.sort((one,other)=>other.game-one.game).map((it)=>\
-     {return make('li',{},link('game',it.game,opponent(it)),make('span',{className:'faint'},`${it.event} \
-     \\u00b7 ${ending(it, me.member)}`))});fill('ended-games',rows[0]?make('ul',{className:'rows'}\
-     ,...rows):make('p',{className:'faint'},text('noEnded')))}\
-     async function lookAtMe(){me=await ask('me');const moves=me.games.filter((it)=>\
-     isMine(it)||isOver(it)).length;\
-     return{member:me.member,waiting:moves+me.challenges.filter(toMe).length}}\
-     function newsOf(){const item=(it,name,kind)=>\
-     {const words=text(name,{name:opponent(it),event:it.event});return{tag:`${kind} ${it.game}\
-     `,words,place:`game/${it.game}`,end:kind==='game'}};return[...me.games.filter(isMine).map((it)=>\
-     item(it,'noticeTurn',`ply ${it.ply}`)),...me.games.filter((it)=>!isMine(it)&&isOver(it)).map((it)=>\
-     item(it,'noticeOver','over')),...me.games.map((it)=>\
-     item(it,'noticeEnded','game')),...me.challenges.filter(toMe).map((it)=>\
-     {return{tag:`challenge ${it.from} ${it.number}`,words:`${text('challengesYou', it)} ${it.event}\
-     `,place:''}})]}async function lookAtHome(){club=await ask('me/events');return()=>\
-     {fill('title',text('home'));paintGames();paintChallenges();paintClub();\
-     byId('news').textContent=text('news',{moves:me.games.filter(isMine).length,challenges:me.challenges\
-     .filter(toMe).length})}}\
-     async function challenge(terms,tries=3){unanswered||=Math.ceil(Math.random()*CHALLENGES);\
-     try{await ask(`challenges/${unanswered}`,terms);unanswered=0}\
-     catch(error){if(error.number!==58||!tries)throw error;unanswered=0;await challenge(terms,tries-1)}}\
-     function paintWelcome(){const opening=(rules)=>miniature(rules,rules.read(rules.opening),0,[]);\
-     fill('welcome',opening(draughts),opening(shogi))}\
-     function startHome(){byId('challenge').onsubmit=(event)=>{event.preventDefault();\
-     const terms={event:byId('cup').value,first:!byId('begins').selectedIndex,other:byId('other').value}\
-     ;perform(()=>challenge(terms))};byId('ended').ontoggle=()=>lookAtEnded().catch(()=>{})}\
+     if(to!==undefined)stepTo(to)}}\
      async function store(name,box){const isRefused=name==='alerts'&&box.checked&&!await mayNotify();\
      if(name==='alerts')byId('alerts-refused').hidden=!isRefused;if(isRefused)box.checked=false;\
      keep(name,box.checked)}function startSettings(changed){const dialog=byId('settings');\
      byId('open-settings').prepend(icon('settings'));byId('open-settings').onclick=()=>\
-     dialog.showModal();dialog.onclick=({target})=>{if(target===dialog)dialog.close()};\
+     {byId('alerts-refused').hidden=!chosen('alerts')||!isForbidden();dialog.showModal()};\
+     dialog.onclick=({target})=>{if(target===dialog)dialog.close()};\
      for(const name of choices){const box=byId(`${name}-choice`);box.checked=chosen(name);\
      box.onchange=()=>store(name,box).then(changed)}}const OFTEN=4000;const SELDOM=30000;\
      const HIDDEN=300000;const SOON=300;const UNKNOWN=[52,53];\
@@ -1175,20 +1240,21 @@ pub fn page_4() -> &'static str
      function showWaiting(){const{view,name}=place();\
      showWords('waiting',{home:text('home'),game:`${text('game')} ${name}`,event:name}[view])}\
      function place(){const[,view='home',name]=/^#(game|event)\\/([\\w.-]+)$/.exec(location.hash)??[];\
-     return{view,name}}async function lookOnce(){const{hash}=location;const{view,name}=place();\
-     const me=await lookAtMe();fill('member',me.member);fill('badge',me.waiting?String(me.waiting):'');\
+     return{view,name}}function isUnknown(error){if(!UNKNOWN.includes(error.number))throw error}\
+     async function lookOnce(){const{hash}=location;const{view,name}=place();\
+     const isHidden=document.hidden;const mine=lookAtMe();\
+     const[me,paint]=await Promise.all([mine,isHidden?null:VIEWS[view](name,mine,shown===hash).catch(isU\
+     nknown)]);fill('member',me.member);fill('badge',me.waiting?String(me.waiting):'');\
      const count=me.waiting?`(${me.waiting}) `:'';announce(me.member,me.waiting,newsOf());\
-     if(document.hidden){document.title=count+(byId('title').textContent||text('home'));return}\
-     let paint=null;try{paint=await VIEWS[view](name,me.member)}\
-     catch(error){if(!UNKNOWN.includes(error.number))throw error}if(hash!==location.hash||!key)return;\
-     if(paint){show(view);paint();shown=hash}else showWords('missing',text(view==='game'?53:52));\
-     tellUnsent();document.title=count+byId('title').textContent}function isBack(){sayAway();\
-     return SELDOM}function isWrong(error){if(!key)return SELDOM;\
-     if(error.number===50)enter('',error.message);else if(isPassing(error))sayAway(error.message);\
-     else complain(error.message);if(key&&shown!==location.hash)showWaiting();\
-     return isPassing(error)?OFTEN:SELDOM}function lookLater(pause){clearTimeout(timer);\
-     if(document.hidden&&!isWatching())return;timer=setTimeout(()=>\
-     key&&look(),document.hidden?HIDDEN:pause)}function look(){clearTimeout(timer);\
+     if(isHidden){document.title=count+(byId('title').textContent||text('home'));return}\
+     if(hash!==location.hash||!key)return;if(paint){show(view);paint(me.member);shown=hash}\
+     else showWords('missing',text(view==='game'?53:52));tellUnsent();\
+     document.title=count+byId('title').textContent}function isBack(){sayAway();return SELDOM}\
+     function isWrong(error){if(!key)return SELDOM;if(error.number===50)enter('',error.message);\
+     else if(isPassing(error))sayAway(error.message);else complain(error.message);\
+     if(key&&shown!==location.hash)showWaiting();return isPassing(error)?OFTEN:SELDOM}\
+     function lookLater(pause){clearTimeout(timer);if(document.hidden&&!isWatching())return;\
+     timer=setTimeout(()=>key&&look(),document.hidden?HIDDEN:pause)}function look(){clearTimeout(timer);\
      looking=looking.then(lookOnce).then(isBack,isWrong).then(lookLater);return looking}\
      async function lookAround(){const{hash}=location;const slow=setTimeout(()=>\
      hash===location.hash&&shown!==hash&&showWaiting(),SOON);await look();clearTimeout(slow)}\
@@ -1215,7 +1281,7 @@ pub fn page_4() -> &'static str
 pub fn policy() -> &'static str
     ensures { result.now ≡ policy }
 {
-    "default-src 'none'; style-src 'sha256-72GCgPIbp3UsPalvtz9+kEoAkabtuVaO+25wTInZm7o='; \
-     script-src 'sha256-2zrAt2yfB9R7DHbDdpQTO0/YZ2xfWUAFHoih67VivNU='; connect-src 'self'; \
+    "default-src 'none'; style-src 'sha256-5tpAp8X0/GF1op9K1QPJpxFYsNnUM4YvYJr2fAFpY20='; \
+     script-src 'sha256-4Jdqlf97PGqiRoLmcEfgJREllaUoN7sxUs+j6APoWSo='; connect-src 'self'; \
      img-src data:; manifest-src data:; base-uri 'none'; form-action 'none'; frame-ancestors 'none'"
 }

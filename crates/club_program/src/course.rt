@@ -1,7 +1,12 @@
 //! The step after a serving session, by its result.
 
-ghost use Rattle.std.specs.Prelude.{◌≡◌};
-ghost use Rattle.club_program.specs.Course.{after_fault, after_session, is_permanent};
+ghost use Rattle.std.specs.Prelude.{◌≡◌, ◌≢◌, ◌⊎◌, None, Some, Ok, Err, true, false};
+ghost use Rattle.club_orders.specs.declared.report.Report.{Report};
+ghost use Rattle.club_orders.specs.declared.report.Report.TheVariants.{InUse, Unopened};
+ghost use Rattle.club_program.specs.declared.course.AfterSession.TheVariants.{GoesOn, WaitsForFile, Unavailable};
+ghost use Rattle.http_desk.specs.declared.faults.ClubFault.{ClubFault};
+ghost use Rattle.http_desk.specs.declared.faults.ClubFault.TheVariants.{Foreign, Schema, Damaged, Store, Reopen, Memory};
+ghost use Rattle.club_check.specs.declared.fault.OpenFault.{OpenFault};
 
 use club_orders::Report;
 use http_desk::ClubFault;
@@ -17,27 +22,27 @@ pub(crate) enum AfterSession {
     Unavailable(ClubFault),
 }
 
-fn after_fault(fault: ClubFault) -> AfterSession
-    ensures { result ≡ after_fault fault }
-{
-    match fault {
-        ClubFault::Reopen => AfterSession::GoesOn,
-        ClubFault::Foreign => AfterSession::Unavailable(ClubFault::Foreign),
-        ClubFault::Schema => AfterSession::Unavailable(ClubFault::Schema),
-        ClubFault::Damaged => AfterSession::Unavailable(ClubFault::Damaged),
-        ClubFault::Store => AfterSession::Unavailable(ClubFault::Store),
-        ClubFault::Memory => AfterSession::Unavailable(ClubFault::Memory),
-    }
-}
-
 /// The step after a session: after a failed call the club is reopened; if another program holds the file, the server
 /// waits; otherwise requests get the fault.
+///
+/// # Guarantees
+///
+/// - `again`: after a session without a fault, and after a failed call, the club is opened again.
+/// - `told`: any other fault of a session is what requests get.
+/// - `waits`: a file that another program holds is waited for.
+/// - `foreign`, `failed`: without a club's file requests get `Foreign`, and after any other report `Store`.
 pub(crate) fn after_session(done: Result<Option<ClubFault>, Report>) -> AfterSession
-    ensures { result ≡ after_session done }
+    ensures again { (done ≡ Ok None) ⊎ (done ≡ Ok (Some Reopen)) → result ≡ GoesOn }
+    ensures told { (fault : ClubFault) → done ≡ Ok (Some fault) → fault ≢ Reopen → result ≡ Unavailable fault }
+    ensures waits { done ≡ Err InUse → result ≡ WaitsForFile }
+    ensures foreign { (reason : OpenFault) → done ≡ Err (Unopened reason) → result ≡ Unavailable Foreign }
+    ensures failed { (report : Report) → done ≡ Err report → report ≢ InUse →
+        ((reason : OpenFault) → report ≢ Unopened reason) → result ≡ Unavailable Store }
 {
     match done {
         Ok(None) => AfterSession::GoesOn,
-        Ok(Some(fault)) => after_fault(fault),
+        Ok(Some(ClubFault::Reopen)) => AfterSession::GoesOn,
+        Ok(Some(fault)) => AfterSession::Unavailable(fault),
         Err(Report::InUse) => AfterSession::WaitsForFile,
         Err(Report::Unopened(_)) => AfterSession::Unavailable(ClubFault::Foreign),
         Err(_) => AfterSession::Unavailable(ClubFault::Store),
@@ -46,8 +51,14 @@ pub(crate) fn after_session(done: Result<Option<ClubFault>, Report>) -> AfterSes
 
 /// Whether a fault lasts until someone changes the file, so that it can be reported for a while without another
 /// check.
+///
+/// # Guarantees
+///
+/// - `content`: what is wrong with the content of the file lasts.
+/// - `passing`: a failed call may succeed later, and so may an allocation.
 pub(crate) fn is_permanent(fault: ClubFault) -> bool
-    ensures { result ≡ is_permanent fault }
+    ensures content { (fault ≡ Foreign) ⊎ (fault ≡ Schema) ⊎ (fault ≡ Damaged) → result ≡ true }
+    ensures passing { (fault ≡ Store) ⊎ (fault ≡ Reopen) ⊎ (fault ≡ Memory) → result ≡ false }
 {
     match fault {
         ClubFault::Foreign => true,

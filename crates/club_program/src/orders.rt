@@ -7,7 +7,7 @@ use crate::printing::{line_room, print_in, print_report, print_without_room};
 use crate::records::record_in;
 use cli::{Order, Task};
 use club_orders::Report;
-use club_session::{back_up, discard_files, execute_order};
+use club_session::{back_up, discard_files, execute_order, open_files};
 use control_socket::request_lease;
 use server::clock;
 use sqlite_disk::Wary;
@@ -18,10 +18,12 @@ fn backed_up(rt: &HostRuntime, file: &str, copy: &str) -> Report {
 
 // Executes a command at the timestamp of the command line or of the system clock.
 fn run_on_file(rt: &HostRuntime, order: &Order) -> Report {
-    match order.now.or(clock(rt)) {
-        Some(moment) => discard_files(execute_order(rt, order, moment, Wary, &mut rt.stdout())),
-        None => Report::NoClock,
-    }
+    let moment = match order.now.or(clock(rt)) {
+        Some(moment) => moment,
+        None => return Report::NoClock,
+    };
+    let opened = open_files(rt, order, Wary);
+    discard_files(execute_order(rt.alloc(), opened, &order.task, moment, &mut rt.stdout()))
 }
 
 /// Executes a command over the file; a server that holds it releases it meanwhile.

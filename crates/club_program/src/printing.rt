@@ -3,7 +3,7 @@
 ghost use Rattle.std.specs.Prelude.{◌≡◌, ◌≤◌, [], IfOk, string_bytes};
 
 use cli::{BadWords, Task};
-use club_orders::{BAD_WORDS, DONE, Report, print_batch, print_explained};
+use club_orders::{BAD_WORDS, DONE, Report, TaskReport, print_batch, print_explained};
 use std::alloc::AllocError;
 use std::io::Write;
 
@@ -27,14 +27,12 @@ pub(crate) fn print_without_room(rt: &HostRuntime, task: &Task, explains: bool) 
     ensures { result ≤ 3 }
 {
     let line = String::new(rt.alloc());
-    print_explained(
-        line,
+    let given = TaskReport {
         task,
-        &Report::NoMemory,
+        report: &Report::NoMemory,
         explains,
-        &mut rt.stdout(),
-        &mut rt.stderr(),
-    )
+    };
+    print_explained(line, &given, &mut rt.stdout(), &mut rt.stderr())
 }
 
 /// Prints a report into an allocated line, with an explanation if wanted; batches have none.
@@ -51,14 +49,14 @@ pub(crate) fn print_in(
 {
     match report {
         Report::Batched(batched) => print_batch(line, batched, &mut rt.stdout(), &mut rt.stderr()),
-        _ => print_explained(
-            line,
-            task,
-            report,
-            explains,
-            &mut rt.stdout(),
-            &mut rt.stderr(),
-        ),
+        _ => {
+            let given = TaskReport {
+                task,
+                report,
+                explains,
+            };
+            print_explained(line, &given, &mut rt.stdout(), &mut rt.stderr())
+        }
     }
 }
 

@@ -46,21 +46,24 @@ fn serve_stretch(rt: &HostRuntime, file: &str, callers: &mut Server<'_>) -> Afte
 // Answers requests with the fault: those that are ready, and for a lasting fault also those that follow for a while.
 fn report_unavailable(rt: &HostRuntime, callers: &mut Server<'_>, fault: ClubFault) {
     if is_permanent(fault) {
-        callers.begin();
+        callers.begin_unavailable();
     } else {
         callers.serve_queued_only();
     }
     serve_unavailable(rt.alloc(), callers, fault);
 }
 
-// Receives clients until there is something to do, after so many attempts to open the file; `false` if no more
-// connections will follow.
-fn wait_for_work(callers: &mut Server<'_>, tries: u32) -> bool {
+// Receives clients until the file must be opened, after so many attempts to open it; `false` if no more connections
+// will follow. With a control socket the server holds a file that serves, so that no request waits for an opening.
+fn wait_for_work(callers: &mut Server<'_>, tries: u32, serves: bool) -> bool {
     if tries > PATIENCE {
         return callers.await_for(Duration::from_millis(AGAIN_MILLISECONDS));
     }
     if tries > 0 {
         return callers.receive_for(Duration::from_millis(AGAIN_MILLISECONDS));
+    }
+    if serves && callers.has_door() {
+        return callers.await_for(Duration::ZERO);
     }
     if callers.has_work() && !callers.has_door() {
         return callers.receive_for(Duration::from_millis(GIVEN_UP_MILLISECONDS));
@@ -77,19 +80,22 @@ fn give_way(callers: &mut Server<'_>) -> bool {
 // Serves over a file until no more connections will follow.
 fn serve(rt: &HostRuntime, file: &str, callers: &mut Server<'_>) {
     let mut tries: u32 = 0;
+    let mut serves = true;
     for _ in 0..u64::MAX {
-        if !wait_for_work(callers, tries) {
+        if !wait_for_work(callers, tries, serves) {
             return;
         }
         match serve_stretch(rt, file, callers) {
             AfterSession::GoesOn => {
                 tries = 0;
+                serves = true;
                 if !give_way(callers) {
                     return;
                 }
             }
             AfterSession::Unavailable(fault) => {
                 tries = 0;
+                serves = false;
                 report_unavailable(rt, callers, fault);
             }
             AfterSession::WaitsForFile => {

@@ -1,5 +1,10 @@
 //! The command line: the words given to the program, and their parsing.
 
+ghost use Rattle.std.specs.Prelude.{◌≡◌, ◌++◌, ◌∷◌, IfOk, IfErr, drop, map, option_map, string_bytes};
+ghost use Rattle.cli.specs.Said.{AreRefused, StatesInvocation};
+ghost use Rattle.club_program.specs.CommandLine.{file_at, file_behind, is_option, option_words, plain_path};
+ghost use Rattle.club_program.specs.CommandLine.{plain_words, with_file};
+
 use cli::{BadWords, Invocation, read_words};
 use std::alloc::AllocError;
 use std::io::ErrorKind;
@@ -22,32 +27,61 @@ pub(crate) fn given_words(rt: &HostRuntime) -> Result<Vec<String>, BadWords> {
     Ok(words.collect(rt.alloc())?)
 }
 
-fn texts<'a>(rt: &HostRuntime, words: &'a [String]) -> Result<Vec<&'a str>, AllocError> {
-    words.iter().map(|word| word.as_str()).collect(rt.alloc())
+fn texts<'a>(rt: &HostRuntime, words: &'a [String]) -> Result<Vec<&'a str>, AllocError>
+    ensures { IfOk result (λ texts. map (λ t. t.now) texts.items ≡ map string_bytes words.now) }
+{
+    let mut texts = Vec::new(rt.alloc());
+    for word in words {
+        texts.push(word.as_str())?;
+    }
+    Ok(texts)
 }
 
-// The number of words of the option at an index; 0 if it is no option of those before the file.
-fn option_words(words: &[&str], at: usize) -> usize {
-    match words.get(at) {
-        Some(word) if *word == "--now" => 2,
-        Some(word) if word.starts_with("--now=") || *word == "--explain" => 1,
-        _ => 0,
+// Whether a word is an option before the file, with its value.
+fn is_option(word: &str) -> bool
+    ensures { result ≡ is_option word.now }
+{
+    word == "--explain" || word.starts_with("--now=")
+}
+
+// The number of words of the option that these words begin with.
+fn option_words(words: &[&str]) -> usize
+    ensures { result ≡ option_words (map (λ t. t.now) words.now) }
+{
+    match words.first() {
+        None => 0,
+        Some(word) => {
+            if is_option(word) {
+                1
+            } else if *word == "--now" {
+                2
+            } else {
+                0
+            }
+        }
     }
 }
 
-// The index of a `--` before the file, after at most two options.
-fn dashes_at(words: &[&str]) -> Option<usize> {
-    let first: usize = 1;
-    let second = first.saturating_add(option_words(words, first));
-    let at = second.saturating_add(option_words(words, second));
-    match words.get(at) {
-        Some(word) if *word == "--" => Some(at),
-        _ => None,
-    }
+// The number of words of the option at an index.
+fn option_words_at(words: &[&str], at: usize) -> usize
+    ensures { result ≡ option_words (drop at (map (λ t. t.now) words.now)) }
+{
+    let (_, rest) = words.split_at(at.min(words.len()));
+    option_words(rest)
+}
+
+// The index of the word behind the program's name and at most two options.
+fn file_at(words: &[&str]) -> usize
+    ensures { result ≡ file_at (map (λ t. t.now) words.now) }
+{
+    let second = 1 + option_words_at(words, 1);
+    second + option_words_at(words, second)
 }
 
 // The same file by a path that does not start with a hyphen.
-fn plain_path(rt: &HostRuntime, file: &str) -> Result<String, AllocError> {
+fn plain_path(rt: &HostRuntime, file: &str) -> Result<String, AllocError>
+    ensures { IfOk result (λ path. string_bytes path ≡ plain_path file.now) }
+{
     if file.starts_with('-') {
         format!(in rt.alloc(); "./{file}")
     } else {
@@ -55,22 +89,57 @@ fn plain_path(rt: &HostRuntime, file: &str) -> Result<String, AllocError> {
     }
 }
 
-// The words, with the file in place of the `--` and the word after it.
+// The options and the words behind them, with a path in place of the first two of these.
 fn with_file<'a>(
     rt: &HostRuntime,
-    words: &[&'a str],
-    at: usize,
-    file: &'a str,
-) -> Result<Vec<&'a str>, AllocError> {
+    options: &[&'a str],
+    rest: &[&'a str],
+    path: &'a Option<String>,
+) -> Result<Vec<&'a str>, AllocError>
+    ensures { IfOk result (λ taken. map (λ t. t.now) taken.items ≡
+        with_file (map (λ t. t.now) options.now) (map (λ t. t.now) rest.now) (option_map string_bytes path.now)) }
+{
     let mut taken = Vec::new(rt.alloc());
-    for (place, word) in words.iter().enumerate() {
-        if place == at {
-            taken.push(file)?;
-        } else if place != at.saturating_add(1) {
-            taken.push(*word)?;
+    taken.extend_from_slice(options)?;
+    match path {
+        None => taken.extend_from_slice(rest)?,
+        Some(path) => {
+            taken.push(path.as_str())?;
+            let (_, others) = rest.split_at(rest.len().min(2));
+            taken.extend_from_slice(others)?;
         }
     }
     Ok(taken)
+}
+
+// The word behind a `--` that these words begin with.
+fn file_behind<'a>(words: &[&'a str]) -> Option<&'a str>
+    ensures { option_map (λ t. t.now) result ≡ file_behind (map (λ t. t.now) words.now) }
+{
+    match words.split_first() {
+        None => None,
+        Some((mark, rest)) => {
+            if *mark == "--" {
+                rest.first().copied()
+            } else {
+                None
+            }
+        }
+    }
+}
+
+// The path of the file behind a `--`, if these words begin so.
+fn path_behind(rt: &HostRuntime, words: &[&str]) -> Result<Option<String>, AllocError>
+    ensures { IfOk result (λ path. option_map string_bytes path ≡
+        option_map plain_path (file_behind (map (λ t. t.now) words.now))) }
+{
+    match file_behind(words) {
+        None => Ok(None),
+        Some(file) => {
+            let path = plain_path(rt, file)?;
+            Ok(Some(path))
+        }
+    }
 }
 
 /// Parses the command line. After a `--` the file may start with a hyphen.
@@ -78,15 +147,18 @@ fn with_file<'a>(
 /// # Errors
 ///
 /// `BadWords` if it is malformed, asks for help or the version, or if out of memory.
-pub(crate) fn parse_words(rt: &HostRuntime, words: &[String]) -> Result<Invocation, BadWords> {
-    let words = texts(rt, words)?;
-    let Some(at) = dashes_at(words.as_slice()) else {
-        return read_words(rt.alloc(), words.as_slice());
-    };
-    let Some(file) = words.get(at.saturating_add(1)) else {
-        return read_words(rt.alloc(), words.as_slice());
-    };
-    let file = plain_path(rt, file)?;
-    let words = with_file(rt, words.as_slice(), at, file.as_str())?;
-    read_words(rt.alloc(), words.as_slice())
+///
+/// # Guarantees
+///
+/// `ok`, `err`: the result is the one for these words with the file in its place.
+pub(crate) fn parse_words(rt: &HostRuntime, words: &[String]) -> Result<Invocation, BadWords>
+    ensures ok { IfOk result (StatesInvocation (plain_words (map string_bytes words.now))) }
+    ensures err { IfErr result (AreRefused (plain_words (map string_bytes words.now))) }
+{
+    let texts = texts(rt, words)?;
+    let words = texts.as_slice();
+    let (options, rest) = words.split_at(file_at(words).min(words.len()));
+    let path = path_behind(rt, rest)?;
+    let taken = with_file(rt, options, rest, &path)?;
+    read_words(rt.alloc(), taken.as_slice())
 }

@@ -25,7 +25,7 @@ ghost use Rattle.club_changes.specs.Steps.{score_list};
 
 use crate::fault::LookupFault;
 use crate::found::first;
-use club_core::Decision;
+use club_core::{Decision, Pairing};
 use club_rows::{Occurrences, ScoreRows, occurrences_in, score_after, seen_after};
 use club_rules::Rules;
 use sqlite::{Alter, Connection};
@@ -166,7 +166,12 @@ pub fn score_rows_after<S: Alter>(
 {
     let firsts = score_of(alloc, conn, event, one, other)?;
     let seconds = score_of(alloc, conn, event, other, one)?;
-    match score_after(event, one, other, score, firsts.as_ref(), seconds.as_ref()) {
+    let pairing = Pairing {
+        event,
+        first: one,
+        second: other,
+    };
+    match score_after(pairing, score, firsts.as_ref(), seconds.as_ref()) {
         Some(pair) => Ok(pair),
         None => Err(LookupFault::Store),
     }

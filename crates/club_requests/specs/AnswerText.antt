@@ -16,9 +16,11 @@ abbrev pub end_tail : Option EndName → List ℕ
 end_tail None = []
 end_tail (Some end) = codes " end " ++ end_text end
 
+-- the answer to a move: its ply, its text, and the end that the rules gave, if any
 abbrev pub moved_text : MoveAnswer → List ℕ
 moved_text moved = codes "ply " ++ decimal moved.ply ++ codes " " ++ string_bytes moved.text ++ end_tail moved.end
 
+-- the printed form of an answer
 abbrev pub answer_text : Answer → List ℕ
 answer_text (answer.Member id) = codes "member " ++ decimal id
 answer_text (answer.Event id) = codes "event " ++ decimal id
@@ -33,6 +35,7 @@ answer_text (answer.ChallengeRefused number) = codes "challenge " ++ decimal num
 answer_text (answer.ChallengeAccepted number game) =
     codes "challenge " ++ (decimal number ++ (codes " accepted game " ++ decimal game))
 
+-- the printed form of an outcome: whether the command is accepted, repeated or refused, and its answer or refusal
 abbrev pub outcome_text : Outcome → List ℕ
 outcome_text (outcome.Accepted answer) = codes "accepted " ++ answer_text answer
 outcome_text (outcome.Repeated answer) = codes "repeated " ++ answer_text answer

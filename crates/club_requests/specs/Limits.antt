@@ -4,20 +4,23 @@ use Rattle.std.specs.Char.{is_ascii_alphanumeric}
 use Rattle.std.specs.List.{list_all}
 use Rattle.club_rules.specs.GameRules.{ply_limit}
 
--- maximum numbers of members, events and games of a club
+-- the most members of a club
 abbrev pub most_members : ℕ
 most_members = 200
 
+-- maximum number of events of a club
 abbrev pub most_events : ℕ
 most_events = 50
 
+-- maximum number of games of a club
 abbrev pub most_games : ℕ
 most_games = 5000
 
--- maximum numbers of plies of a game, and of bytes of a move's text
+-- the most plies of a game
 abbrev pub most_plies : ℕ
 most_plies = ply_limit
 
+-- maximum number of bytes of a move's text
 abbrev pub most_text_bytes : ℕ
 most_text_bytes = 200
 

@@ -42,6 +42,7 @@ pub data Outcome (S : Type 0) : Type 0 where
   repeated : Reply → Outcome S
   refused : Refusal → Outcome S
 
+-- the outcome with its new state, if any, mapped by a function
 abbrev pub map_outcome : {S T : Type 0} → (S → T) → Outcome S → Outcome T
 map_outcome f (accepted after reply) = accepted (f after) reply
 map_outcome f (repeated reply) = repeated reply
@@ -52,10 +53,12 @@ abbrev pub first_refusal : List (Bool × Refusal) → Option Refusal
 first_refusal [] = None
 first_refusal (test ∷ tests) = if test.0 then Some test.1 else first_refusal tests
 
+-- a refusal if there is one, otherwise the outcome
 abbrev pub unless : {S : Type 0} → Option Refusal → Outcome S → Outcome S
 unless (Some refusal) outcome = refused refusal
 unless None outcome = outcome
 
+-- the earlier reply if the command repeats an accepted one, otherwise the outcome
 abbrev pub unless_repeat : {S : Type 0} → Option Reply → Outcome S → Outcome S
 unless_repeat (Some reply) outcome = repeated reply
 unless_repeat None outcome = outcome

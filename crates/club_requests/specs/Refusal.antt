@@ -13,6 +13,7 @@ use Rattle.club_requests.specs.declared.refusals.Refusal.TheVariants.{TimeLeft}
 use Rattle.club_requests.specs.declared.refusals.Refusal.TheVariants.{NoOffer, NameTaken, BadValue, Full, NotDeclarable}
 use Rattle.club_requests.specs.declared.refusals.Refusal.TheVariants.{Play, Record}
 
+-- the number of a refusal
 abbrev pub refusal_number : Refusal → ℕ
 refusal_number UnknownKey = 50
 refusal_number NotAllowed = 51
@@ -35,6 +36,7 @@ refusal_number NotDeclarable = 67
 refusal_number (Play ply refusal) = move_refusal_number refusal
 refusal_number (Record refusal) = record_refusal_number refusal
 
+-- the name of a refusal
 abbrev pub refusal_name : Refusal → List ℕ
 refusal_name UnknownKey = codes "UnknownKey"
 refusal_name NotAllowed = codes "NotAllowed"

@@ -1,4 +1,10 @@
 //! The commands and queries that a club accepts, who gives them, its outcomes and refusals, and the limits of values.
+//!
+//! # Guarantees
+//!
+//! - `Display` for `Outcome`, `Answer`, `Refusal`: an outcome is written as its one line.
+//! - `is_name`, `is_member_key`, `is_challenge_number`, `is_budget`, `is_increment`: values are accepted exactly
+//!   within the club's limits.
 #![tactic(auto)]
 
 pub mod answers;
@@ -9,7 +15,7 @@ pub mod requests;
 pub mod values;
 
 pub use answers::{Answer, MoveAnswer, Outcome};
-pub use outside_end::OutsideEnd;
+pub use outside_end::{OutsideEnd, is_outside};
 pub use questions::{GameFilter, Listing, Question};
 pub use refusals::Refusal;
 pub use requests::{

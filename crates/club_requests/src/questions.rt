@@ -39,6 +39,8 @@ pub enum Question {
     Games(Listing),
     /// The running games and challenges of the member with this key, as JSON.
     MyGames(String),
+    /// The ended games of the member with this key, as JSON.
+    EndedGames(String),
     /// The events, and the members whom the member with this key may challenge, as JSON.
     ChallengeChoices(String),
     /// The games of the event with this name, as JSON.
@@ -47,6 +49,8 @@ pub enum Question {
     GameClock(u64),
     /// The game with this id as members see it, as JSON.
     GameJson(u64),
+    /// The game with this id, its clock and its legal moves, as JSON.
+    GamePage(u64),
     /// The legal moves of the game with this id, as JSON.
     LegalMovesJson(u64),
     /// A game for a person to read: its players, clocks, board and moves.

@@ -9,13 +9,16 @@ use Rattle.squares.specs.declared.sides.Side.{Side}
 use Rattle.squares.specs.declared.sides.Side.TheVariants.{First}
 use Rattle.squares.specs.Sides.{other}
 use Rattle.club_rules.specs.GameRules.{GameRules}
+use Rattle.club_core.specs.declared.rows.GameEnd.TheVariants.{Outside}
 use Rattle.club_core.specs.declared.rows.GameRow.{GameRow}
 use Rattle.club_core.specs.declared.rows.Offer.{Offer}
 use Rattle.club_requests.specs.Limits.{is_name}
+use Rattle.club_requests.specs.declared.outside_end.OutsideEnd.{OutsideEnd}
+use Rattle.club_requests.specs.declared.outside_end.OutsideEnd.TheVariants.{Recorded}
 use Rattle.club_core.specs.Events.{Terms}
 use Rattle.club_core.specs.Game.{Entry, Game, Clocks, spend, spend_all, clocks_of, opening_clocks, rule_end, end_of}
-use Rattle.club_core.specs.Game.{last_position}
-use Rattle.club_core.specs.Legal.{IsTimely, IsOffer, IsLegalGame}
+use Rattle.club_core.specs.Game.{last_position, end_with, moments_of}
+use Rattle.club_core.specs.Legal.{IsTimely, IsOffer, IsLegalGame, MayEndBy}
 use Rattle.club_core.specs.View.{IsRowOf}
 use Rattle.club_rows.specs.Replay.{game_from}
 use Rattle.club_rows.proofs.ColumnLemmas.{spend-since}
@@ -88,6 +91,40 @@ module _ {P M E T : Type 0} (rules : GameRules P M E T) (terms : Terms) (game : 
   key-named : (key : Option (List ℕ)) → may_have_key key ≡ true → IfSome key (λ k. IsTrue (is_name k))
   key-named key is = grind arith
 
+  -- an end outside the rules that the row may have is one that the game may have, and back
+  end-legal : (end : OutsideEnd) → IsTimely terms.increment First (moments_of game) (opening_clocks game terms)
+      → may_have_end {E = E} (is_some game.key) (is_some game.offer) declares game.start (clocks_of game terms).since
+      (Some (Outside end)) ≡ true → MayEndBy rules terms game end
+  end-legal (Recorded score) timely test =
+      let at_once = all-at-once terms.increment First game.entries (opening_clocks game terms) timely in
+      grind (arith, nat_tests, test, at_once)
+  end-legal _ timely test = grind (arith, test)
+
+  end-stands : (end : OutsideEnd) → MayEndBy rules terms game end
+      → may_have_end {E = E} (is_some game.key) (is_some game.offer) declares game.start (clocks_of game terms).since
+      (Some (Outside end)) ≡ true
+  end-stands (Recorded score) may =
+      let at_once = stays-at-once terms.increment First game.entries (opening_clocks game terms) game.start refl in
+      grind (arith, nat_tests, may, at_once)
+  end-stands _ may = grind (arith, may)
+
+  outside-legal : (ruled : Option E) (outside : Option OutsideEnd)
+      → IsTimely terms.increment First (moments_of game) (opening_clocks game terms)
+      → (IsSome outside → ruled ≡ None)
+      → may_have_end (is_some game.key) (is_some game.offer) declares game.start (clocks_of game terms).since
+      (end_with ruled outside) ≡ true → IfSome outside (λ end. MayEndBy rules terms game end)
+  outside-legal ruled None timely alone test = tt
+  outside-legal None (Some end) timely alone test = end-legal end timely test
+  outside-legal (Some by_rule) (Some end) timely alone test = let none = alone refl in cc
+
+  outside-stands : (ruled : Option E) (outside : Option OutsideEnd)
+      → IfSome outside (λ end. MayEndBy rules terms game end)
+      → may_have_end (is_some game.key) (is_some game.offer) declares game.start (clocks_of game terms).since
+      (end_with ruled outside) ≡ true
+  outside-stands (Some by_rule) outside may = refl
+  outside-stands None None may = refl
+  outside-stands None (Some end) may = end-stands end may
+
   -- a game that was replayed and whose row may stand is legal
   pub stands-legal : IsLegalGame rules terms (game_from game.start game.entries)
       → (IsSome game.outside → rule_end rules game ≡ None) → stands ≡ true → IsLegalGame rules terms game
@@ -103,12 +140,7 @@ module _ {P M E T : Type 0} (rules : GameRules P M E T) (terms : Terms) (game : 
           timely = moves.timely;
           outside_alone = alone;
           offer = offer-legal game.offer front.1;
-          agreed = λ is. rw (alone (ap is_some is), is) at parts.1;
-          declared = λ is. let both = rw (alone (ap is_some is), is) at parts.1 in and_parts _ _ both;
-          recorded = λ s is.
-              let test = rw (alone (ap is_some is), is) at parts.1 in
-              let at_once = all-at-once terms.increment First game.entries (opening_clocks game terms) moves.timely in
-              grind (arith, nat_tests, test, at_once);
+          outside = outside-legal (rule_end rules game) game.outside moves.timely alone parts.1;
           players = λ same. true≢false (sym (eq-eqb game.first game.second same) ∙ not-true _ head.1);
         },
         key-named game.key head.0,
@@ -117,5 +149,5 @@ module _ {P M E T : Type 0} (rules : GameRules P M E T) (terms : Terms) (game : 
   -- the row of a legal game may stand
   pub legal-stands : IsLegalGame rules terms game → IfSome game.key (λ k. IsTrue (is_name k)) → stands ≡ true
   legal-stands legal named =
-      let at_once = stays-at-once terms.increment First game.entries (opening_clocks game terms) game.start refl in
-      grind (arith, nat_tests, at_once)
+      let may = outside-stands (rule_end rules game) game.outside legal.outside in
+      grind (arith, nat_tests, may)

@@ -25,6 +25,7 @@ both_games = both draughts shogi draughts_records shogi_records
 abbrev pub ClubGame : Type 0
 ClubGame = AnyGame DMove SMove
 
+-- a state of a club with draughts and shogi games, legal or not
 abbrev pub ClubState : Type 0
 ClubState = State DMove SMove
 

@@ -18,10 +18,12 @@ first_tables s t = if t == 0 then meta_row 1 s.last ∷ [] else (if t == 16 then
 
 -- ---- of either schema
 
+-- a legal state of a club of this schema version
 abbrev pub IsClubOf : Version → ClubState → Type 0
 IsClubOf First s = IsFirstClub s
 IsClubOf Current s = IsClub s
 
+-- the content of the tables of a state in this schema version
 abbrev pub tables_at : Version → ClubState → Content
 tables_at First s = first_tables s
 tables_at Current s = tables s

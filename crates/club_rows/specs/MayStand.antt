@@ -7,7 +7,7 @@ use Rattle.club_core.specs.declared.rows.GameView.{GameView}
 use Rattle.club_core.specs.declared.rows.GameEnd.{GameEnd}
 use Rattle.club_core.specs.declared.rows.GameEnd.TheVariants.{Rule, Outside}
 use Rattle.club_core.specs.declared.rows.Offer.{Offer}
-use Rattle.club_requests.specs.declared.outside_end.OutsideEnd.TheVariants.{Resigned, Agreed, Time, Declared, Recorded}
+use Rattle.club_requests.specs.OutsideEnd.{outside_allowed}
 use Rattle.club_requests.specs.Limits.{is_name}
 use Rattle.club_core.specs.View.{rule_in}
 use Rattle.club_rules.specs.GameRules.{GameRules}
@@ -21,16 +21,12 @@ abbrev pub may_have_offer : Bool → ℕ → Bool → Option Offer → Bool
 may_have_offer allowed plies ended None = true
 may_have_offer allowed plies ended (Some offer) = allowed && not ended && offer.ply == plies + 1
 
--- Agreement needs an offer; a declaration needs a position where the side to move may declare; a record needs a key, no
--- offer, and all moves at the start.
+-- An end outside the rules must be allowed: a record needs a key, no offer, and all moves at the start.
 abbrev pub may_have_end : {E : Type 0} → Bool → Bool → Bool → ℕ → ℕ → Option (GameEnd E) → Bool
 may_have_end key offer declares start since None = true
 may_have_end key offer declares start since (Some (Rule e)) = true
-may_have_end key offer declares start since (Some (Outside Resigned)) = true
-may_have_end key offer declares start since (Some (Outside Time)) = true
-may_have_end key offer declares start since (Some (Outside Agreed)) = offer
-may_have_end key offer declares start since (Some (Outside Declared)) = declares
-may_have_end key offer declares start since (Some (Outside (Recorded score))) = key && not offer && since == start
+may_have_end key offer declares start since (Some (Outside end)) =
+    outside_allowed offer declares (key && not offer && since == start) end
 
 -- the event allows declarations, and the side to move may declare a win
 abbrev pub may_declare : {R P M E T : Type 0} → GameRules P M E T → GameView R P M E T → Bool

@@ -23,11 +23,13 @@ pub record Meeting : Type 0 where
   pub pair : Pair
   pub score : OwnScore
 
+-- First's own result in a game with this score
 abbrev pub own_first : Score → OwnScore
 own_first score.FirstWins = Won
 own_first score.Draw = Drew
 own_first score.SecondWins = Lost
 
+-- Second's own result in a game with this score
 abbrev pub own_second : Score → OwnScore
 own_second score.FirstWins = Lost
 own_second score.Draw = Drew
@@ -47,35 +49,43 @@ meetings_if event first second (Some score) = meetings event first second score
 
 -- ---- the sums of a member's results
 
+-- the member won
 abbrev pub is_win : OwnScore → Bool
 is_win Won = true
 is_win Drew = false
 is_win Lost = false
 
+-- the member drew
 abbrev pub is_draw : OwnScore → Bool
 is_draw Won = false
 is_draw Drew = true
 is_draw Lost = false
 
+-- the member lost
 abbrev pub is_loss : OwnScore → Bool
 is_loss Won = false
 is_loss Drew = false
 is_loss Lost = true
 
+-- the number of wins
 abbrev pub wins : List OwnScore → ℕ
 wins scores = count_by is_win scores
 
+-- the number of draws
 abbrev pub draws : List OwnScore → ℕ
 draws scores = count_by is_draw scores
 
+-- the number of losses
 abbrev pub losses : List OwnScore → ℕ
 losses scores = count_by is_loss scores
 
+-- the points of these results, 2 for a win and 1 for a draw
 abbrev pub points : List OwnScore → ℕ
 points scores = 2 * wins scores + draws scores
 
 -- ---- the rows
 
+-- the same member against the same opponent in the same event
 abbrev pub same_pair : Pair → Pair → Bool
 same_pair one other = int_eq one.event other.event &&
     (int_eq one.member other.member && int_eq one.opponent other.opponent)
@@ -89,9 +99,11 @@ abbrev pub once_each : List Pair → List Pair
 once_each [] = []
 once_each (pair ∷ pairs) = pair ∷ filter (λ other. not (same_pair other pair)) (once_each pairs)
 
+-- a count as an SQL integer
 abbrev pub amount : ℕ → Value
 amount n = Int (pos n)
 
+-- the row of `scores` of a pair, with the sums of these results
 abbrev pub score_row : Pair → List OwnScore → Row
 score_row pair scores =
     Int pair.event
@@ -109,10 +121,12 @@ score_rows ms = map (λ pair. score_row pair (scores_of pair ms)) (once_each (ma
 
 -- ---- a club
 
+-- the game from both sides if it has ended; nothing while it is running
 abbrev pub meetings_of : {P M E T : Type 0} → GameRules P M E T → Game M → List Meeting
 meetings_of rules game = meetings_if (pos game.event) (pos game.first) (pos game.second) (result_of rules game)
 
 module _ {DP DM DE DT SP SM SE ST : Type 0} (rules : ClubRules DP DM DE DT SP SM SE ST) where
+  -- the same for a draughts or a shogi game of a club
   abbrev pub meetings_in : AnyGame DM SM → List Meeting
   meetings_in (draughts g) = meetings_of rules.draughts g
   meetings_in (shogi g) = meetings_of rules.shogi g

@@ -31,13 +31,16 @@ use Rattle.store_tables.specs.declared.names.Table.TheVariants.{Games, Seen, Sco
 use Rattle.club_rows.specs.Seen.{seen_rows}
 use Rattle.club_rows.specs.Scores.{scores_in}
 
+-- a number as an SQL integer
 abbrev pub number : ℕ → Value
 number n = Int (pos n)
 
+-- 0 for First, 1 for Second
 abbrev pub side_number : Side → ℕ
 side_number First = 0
 side_number Second = 1
 
+-- 0 for draughts, 1 for shogi
 abbrev pub kind_number : GameKind → ℕ
 kind_number Draughts = 0
 kind_number Shogi = 1
@@ -115,9 +118,11 @@ module _ {P M E T : Type 0} (rules : GameRules P M E T) (terms : Terms) (id : �
 
 -- ---- a club
 
+-- the row of `members` with this id
 abbrev pub member_row : ℕ → Member → Row
 member_row id m = number id ∷ Text m.name ∷ Text m.key ∷ []
 
+-- the row of `events` with this id
 abbrev pub event_row : ℕ → Event → Row
 event_row id e = number id ∷ Text e.name ∷ number (kind_number e.game) ∷ number e.terms.budget
     ∷ number e.terms.increment ∷ []
@@ -127,6 +132,7 @@ abbrev pub declares_number : Bool → ℕ
 declares_number true = 1
 declares_number false = 0
 
+-- the row of `event_rules` of the event with this id
 abbrev pub rule_row : ℕ → Event → Row
 rule_row id e = number id ∷ number (declares_number e.terms.declares) ∷ []
 
@@ -141,6 +147,7 @@ game_started Withdrawn = None
 game_started Refused = None
 game_started (Accepted game) = Some game
 
+-- the row of `challenges` of a challenge
 abbrev pub challenge_row : Challenge → Row
 challenge_row c =
     number c.member
@@ -163,15 +170,18 @@ gathered_from rows id [] = []
 gathered_from rows id (x ∷ xs) = rows id x ++ gathered_from rows (suc id) xs
 
 module _ {DP DM DE DT SP SM SE ST : Type 0} (rules : ClubRules DP DM DE DT SP SM SE ST) where
+  -- the rows of `seen` of the game with this id
   abbrev pub rows_of_seen : ℕ → AnyGame DM SM → List Row
   rows_of_seen id (draughts g) = seen_rows rules.draughts id g
   rows_of_seen id (shogi g) = seen_rows rules.shogi id g
 
   module _ (events : List Event) where
+    -- the row of `games` of the game with this id
     abbrev pub row_of_game : ℕ → AnyGame DM SM → Row
     row_of_game id (draughts g) = game_row rules.draughts (terms_at (place events g.event)) id g
     row_of_game id (shogi g) = game_row rules.shogi (terms_at (place events g.event)) id g
 
+    -- the rows of `moves` of the game with this id
     abbrev pub rows_of_moves : ℕ → AnyGame DM SM → List Row
     rows_of_moves id (draughts g) = move_rows rules.draughts (terms_at (place events g.event)) id g
     rows_of_moves id (shogi g) = move_rows rules.shogi (terms_at (place events g.event)) id g

@@ -1,16 +1,12 @@
 //! Ends, sides and scores as values of the table of games.
 
-ghost use Rattle.std.specs.Prelude.{◌≡◌, Option, Some, IfSome, pos};
+ghost use Rattle.std.specs.Prelude.{◌≡◌, Some, IfSome, pos};
 ghost use Rattle.squares.specs.declared.sides.Side.{Side};
 ghost use Rattle.squares.specs.declared.sides.Score.{Score};
 ghost use Rattle.squares.specs.Sides.{score_text};
-ghost use Rattle.club_requests.specs.declared.outside_end.OutsideEnd.{OutsideEnd};
-ghost use Rattle.club_requests.specs.declared.outside_end.OutsideEnd.TheVariants.{Recorded};
-ghost use Rattle.club_requests.specs.OutsideEnd.{outside_text};
 ghost use Rattle.club_rows.specs.Tables.{side_number, end_name_text};
 
 use club_core::GameEnd;
-use club_requests::OutsideEnd;
 use club_rules::Rules;
 use squares::{Score, Side};
 
@@ -55,27 +51,6 @@ pub fn score_of(text: &str) -> Option<Score>
         "2-0" => Some(Score::FirstWins),
         "1-1" => Some(Score::Draw),
         "0-2" => Some(Score::SecondWins),
-        _ => None,
-    }
-}
-
-/// Parses an end that the rules do not decide (resignation, agreement, time, declaration, record). None if it is no
-/// such name, or a recorded end has no score.
-pub fn parse_outside_end(name: &str, score: Option<Score>) -> Option<OutsideEnd>
-    ensures found { (end : OutsideEnd) → name.now ≡ outside_text end → ((s : Score) → end ≡ Recorded s →
-        score ≡ Some s) → result ≡ Some end }
-    ensures only { IfSome result (λ end. (name.now ≡ outside_text end) ×
-        ((s : Score) → end ≡ Recorded s → score ≡ Some s)) }
-{
-    match name {
-        "Resigned" => Some(OutsideEnd::Resigned),
-        "Agreed" => Some(OutsideEnd::Agreed),
-        "Time" => Some(OutsideEnd::Time),
-        "Declared" => Some(OutsideEnd::Declared),
-        "Recorded" => match score {
-            Some(score) => Some(OutsideEnd::Recorded(score)),
-            None => None,
-        },
         _ => None,
     }
 }

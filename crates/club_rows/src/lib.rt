@@ -1,4 +1,23 @@
 //! Converts a club's state to the rows of its tables and back, and checks a game's rows by replaying its moves.
+//!
+//! # Guarantees
+//!
+//! - `view_of` (`sound`, `complete`, `wrong`): a game is shown from its rows if and only if they are the rows of a
+//!   legal game. Rows that are reported wrong are no legal game's.
+//! - `stored_game`: a game's row is parsed to the values, each in its range, that have this row.
+//! - `view_of_row` (`shows`, `found`), `with_ply` (`shows`, `ply`): the row alone shows the game without its moves;
+//!   with the rows of a ply, also what was played there.
+//! - `PositionCounts::add` (`stood`, `adds`), `occurrences_after`, `occurrences_in`: the repetition count and first
+//!   ply of each position, by its text.
+//! - `legal_texts`: the legal moves of the game that a view shows, in the order of the rules.
+//! - `record_of`, `move_row`, `made_row_is_last`: the rows made of a game and of a move are those of the club's state.
+//!   A move adds its row as the last.
+//! - `seen_after`, `first_seen`: each distinct position of a game has one row, and a move changes exactly the row of
+//!   its position.
+//! - `score_after` (`some`): the rows of scores after a game are those of the ended games with this one more.
+//! - `challenge_row`, `challenge_of` (`some`, `read`): a challenge is read from its row if and only if the row is a
+//!   challenge's.
+//! - `tables_tell_the_club`: two legal states with the same tables are one.
 #![tactic(auto)]
 
 pub mod challenges;

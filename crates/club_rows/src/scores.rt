@@ -7,6 +7,7 @@ ghost use Rattle.club_rows.specs.NextScores.{gains_of, pair_of, plus_sums, sums_
 ghost use Rattle.club_rows.specs.Pairs.{firsts_pair, pair_in, seconds_pair};
 ghost use Rattle.club_rows.specs.Scores.{Meeting, own_first, own_second};
 
+use club_core::Pairing;
 use squares::Score;
 use store_tables::{GameTableRow, ScoreRow};
 
@@ -189,23 +190,21 @@ pub fn pair_of(event: u32, member: u32, opponent: u32) -> Pair
 ///
 /// `none`: a sum overflows only after at least 2^61 results.
 pub fn score_after(
-    event: u32,
-    first: u32,
-    second: u32,
+    pairing: Pairing,
     score: Score,
     firsts: Option<&ScoreRow>,
     seconds: Option<&ScoreRow>,
 ) -> Option<ScoreRows>
-    ensures some { IfSome result (λ rows. first ≢ second →
-        AreNext event first second score (option_map (λ r. r.now) firsts.entry)
+    ensures some { IfSome result (λ rows. pairing.first ≢ pairing.second →
+        AreNext pairing.event pairing.first pairing.second score (option_map (λ r. r.now) firsts.entry)
         (option_map (λ r. r.now) seconds.entry) rows) }
     ensures none { result ≡ None → (ms : List Meeting) →
-        AreFound event first second (option_map (λ r. r.now) firsts.entry) (option_map (λ r. r.now) seconds.entry) ms →
-        2 ^ 61 ≤ length ms }
+        AreFound pairing.event pairing.first pairing.second (option_map (λ r. r.now) firsts.entry)
+        (option_map (λ r. r.now) seconds.entry) ms → 2 ^ 61 ≤ length ms }
 {
-    let firsts_pair = pair_of(event, first, second);
+    let firsts_pair = pair_of(pairing.event, pairing.first, pairing.second);
     let first_row = row_after(firsts_pair, firsts, OwnScore::of_first(score))?;
-    let seconds_pair = pair_of(event, second, first);
+    let seconds_pair = pair_of(pairing.event, pairing.second, pairing.first);
     let second_row = row_after(seconds_pair, seconds, OwnScore::of_second(score))?;
     Some(ScoreRows {
         first: first_row,

@@ -1,7 +1,7 @@
 //! Checks all rows of a game by replay, and builds its view.
 
 ghost use Rattle.std.specs.Prelude.{◌≡◌, ◌≤◌, ◌^◌, ℕ, List, Option, None, Some, true, IfOk, IsTrue, length};
-ghost use Rattle.std.specs.Prelude.{string_bytes, is_some};
+ghost use Rattle.std.specs.Prelude.{string_bytes, is_some, not, ◌&&◌, ◌==◌};
 ghost use Rattle.std.specs.Option.{option_map};
 ghost use Rattle.club_rules.specs.Line.{IsPlayedLine, position_after};
 ghost use Rattle.club_requests.specs.declared.outside_end.OutsideEnd.{OutsideEnd};
@@ -17,7 +17,7 @@ ghost use Rattle.club_rows.specs.LegalRows.{IsWrongAsTold, ShowsGame, StandsAs};
 ghost use Rattle.club_rows.specs.MayStand.{may_have_key, may_have_offer, may_have_end, may_declare, may_stand};
 
 use crate::columns::{GameColumns, stored_game};
-use crate::ends::{end_name, parse_outside_end};
+use crate::ends::end_name;
 use crate::numbers::{id, to_moment};
 use crate::records::to_owned_text;
 use crate::replay::{Replayed, Terms, end_of, replay};
@@ -34,7 +34,7 @@ fn outside_in(stored: &GameColumns<'_>) -> Option<OutsideEnd>
     ensures { IsNamedIn (columns_in stored.now) result }
 {
     match stored.end {
-        Some(name) => parse_outside_end(name, stored.result),
+        Some(name) => OutsideEnd::parse(name, stored.result),
         None => None,
     }
 }
@@ -61,11 +61,7 @@ pub(crate) fn score_of_end<R: Rules>(end: &Option<GameEnd<R::End>>, turn: Side) 
 {
     match end {
         Some(GameEnd::Rule(end)) => Some(R::outcome(end, turn)),
-        Some(GameEnd::Outside(OutsideEnd::Agreed)) => Some(Score::Draw),
-        Some(GameEnd::Outside(OutsideEnd::Recorded(score))) => Some(*score),
-        Some(GameEnd::Outside(OutsideEnd::Resigned)) => Some(Score::lost_by(turn)),
-        Some(GameEnd::Outside(OutsideEnd::Time)) => Some(Score::lost_by(turn)),
-        Some(GameEnd::Outside(OutsideEnd::Declared)) => Some(Score::lost_by(turn.other())),
+        Some(GameEnd::Outside(end)) => Some(end.score(turn)),
         None => None,
     }
 }
@@ -198,20 +194,22 @@ fn may_have_offer<R: Rules>(row: &GameRow<R::End>) -> bool
     }
 }
 
-// Whether an end that the rules do not decide is possible. Agreement needs an offer, a declaration the right to
-// declare. A record needs a key, no offer, and all moves at the start.
+// Whether the row has a key, no offer, and all moves at the start, as that of an imported game.
+fn may_be_imported<E: Copy + Drop>(row: &GameRow<E>) -> bool
+    ensures { result ≡ (is_some row.now.key && not (is_some row.now.offer) && row.now.since == row.now.start) }
+{
+    row.key.is_some() && !row.offer.is_some() && row.since.seconds() == row.start.seconds()
+}
+
+// Whether an end that the rules do not decide is possible.
 fn may_have_end<E: Copy + Drop>(row: &GameRow<E>, declares: bool) -> bool
     ensures { result ≡ may_have_end (is_some row.now.key) (is_some row.now.offer) declares row.now.start
         row.now.since row.now.end }
 {
     match &row.end {
-        Some(GameEnd::Outside(OutsideEnd::Agreed)) => row.offer.is_some(),
-        Some(GameEnd::Outside(OutsideEnd::Recorded(_))) => {
-            row.key.is_some() && !row.offer.is_some() && row.since.seconds() == row.start.seconds()
+        Some(GameEnd::Outside(end)) => {
+            end.is_allowed(row.offer.is_some(), declares, may_be_imported(row))
         }
-        Some(GameEnd::Outside(OutsideEnd::Resigned)) => true,
-        Some(GameEnd::Outside(OutsideEnd::Time)) => true,
-        Some(GameEnd::Outside(OutsideEnd::Declared)) => declares,
         Some(GameEnd::Rule(_)) => true,
         None => true,
     }

@@ -4,6 +4,7 @@ use Rattle.club_rules.specs.declared.names.EndName.{EndName}
 use Rattle.club_rules.specs.declared.names.EndName.TheVariants.{NoMove, Repetition, KingMoves, ThreeToOne, TwoToOne}
 use Rattle.club_rules.specs.declared.names.EndName.TheVariants.{PlyLimit, PerpetualCheck, Fourfold}
 
+-- the name of an end
 abbrev pub end_text : EndName → List ℕ
 end_text NoMove = codes "NoMove"
 end_text Repetition = codes "Repetition"

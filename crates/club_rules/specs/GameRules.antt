@@ -10,6 +10,7 @@ use Rattle.club_rules.specs.declared.refusals.MoveRefusal.{MoveRefusal}
 abbrev pub ply_limit : ℕ
 ply_limit = 600
 
+-- the rules of a game, with the texts of its moves and positions
 pub record GameRules (P M E T : Type 0) : Type 0 where
   pub start : P
   pub turn : P → Side

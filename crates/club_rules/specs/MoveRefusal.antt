@@ -13,14 +13,17 @@ abbrev pub refused_by : {Cause : Type 0} →
 refused_by refusal_of (Ok u) = Ok u
 refused_by refusal_of (Err cause) = Err (refusal_of cause)
 
+-- the number of the refusal `NoSuchMove` in each game
 abbrev pub no_such_move_number : GameKind → ℕ
 no_such_move_number Draughts = 10
 no_such_move_number Shogi = 13
 
+-- the number of the refusal `BadText` in each game
 abbrev pub bad_text_number : GameKind → ℕ
 bad_text_number Draughts = 20
 bad_text_number Shogi = 30
 
+-- the number of a move's refusal
 abbrev pub move_refusal_number : MoveRefusal → ℕ
 move_refusal_number (NoSuchMove game) = no_such_move_number game
 move_refusal_number MustCapture = 11
@@ -34,6 +37,7 @@ move_refusal_number DropMate = 19
 move_refusal_number (BadText game offset) = bad_text_number game
 move_refusal_number Ambiguous = 21
 
+-- the name of a move's refusal
 abbrev pub move_refusal_name : MoveRefusal → List ℕ
 move_refusal_name (NoSuchMove game) = codes "NoSuchMove"
 move_refusal_name MustCapture = codes "MustCapture"

@@ -13,6 +13,7 @@ abbrev pub by_format : RecordFormat → ℕ → ℕ → ℕ
 by_format Pdn pdn csa = pdn
 by_format Csa pdn csa = csa
 
+-- the number of a record's refusal
 abbrev pub record_refusal_number : RecordRefusal → ℕ
 record_refusal_number (BadText format place) = by_format format 20 40
 record_refusal_number Version = 41
@@ -24,6 +25,7 @@ record_refusal_number (AfterEnd format ply) = by_format format 26 45
 record_refusal_number (Unfinished format) = by_format format 25 44
 record_refusal_number (ResultDiffers format) = by_format format 27 46
 
+-- the name of a record's refusal
 abbrev pub record_refusal_name : RecordRefusal → List ℕ
 record_refusal_name (BadText format place) = codes "BadText"
 record_refusal_name Version = codes "Version"

@@ -47,5 +47,6 @@ pub record IsGameByRules {P M E T : Type 0} (rules : GameRules P M E T) (r : Rec
 
 -- every game that is read is such a game
 module _ {P M E T : Type 0} (rules : GameRules P M E T) (records : GameRecords M) where
+  -- every game that is read from a text is played and scored by the rules
   abbrev pub ReadsGames : Type 0
   ReadsGames = (text : List ℕ) (part : ℕ) (r : Recorded M) → records.read text part ≡ game r → IsGameByRules rules r

@@ -1,4 +1,11 @@
 //! The interface between the club and a game: the traits `Rules` and `Records`, and the refusals of moves and records.
+//!
+//! # Guarantees
+//!
+//! - `Rules`, `Records`: an implementation computes the functions of its game: checking, listing, playing, reading,
+//!   writing and judging.
+//! - `MoveRefusal::number`, `name`, `RecordRefusal::number`, `name`: a refusal has the number, name and text of its
+//!   game or format.
 #![tactic(auto)]
 
 pub mod game;

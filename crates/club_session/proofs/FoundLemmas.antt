@@ -10,6 +10,7 @@ use Rattle.sqlite.specs.State.{State, IsLive, Opens}
 use Rattle.sqlite.specs.Start.{FindsIn}
 use Rattle.store_tables.specs.Over.{Neighbours}
 use Rattle.store_tables.specs.Placed.{HasClubTables}
+use Rattle.store_tables.specs.declared.names.Version.{Version}
 use Rattle.store_tables.specs.declared.names.Version.TheVariants.{First, Current}
 use Rattle.store_sql.proofs.Proved.{schema_once}
 use Rattle.schema_match.specs.Shapes.{is_of_club}
@@ -24,8 +25,8 @@ use Rattle.club_orders.specs.Report.{IsUpgradeResult}
 use Rattle.club_orders.specs.Refused.{IsUpgradeRefusal}
 use Rattle.http_desk.specs.declared.faults.ClubFault.{ClubFault}
 use Rattle.club_session.specs.ToldFault.{IfOpened, IsReportedFault}
-use Rattle.club_session.specs.Found.{AnswerAsClub, AreCarriedOver, AreKept, AreNotUpgraded, AreRefused, AreSound}
-use Rattle.club_session.specs.Found.{IsSessionFault, database_of}
+use Rattle.club_session.specs.Found.{AnswerAs, AnswerAsClub, AreCarriedOver, AreKept, AreNotUpgraded}
+use Rattle.club_session.specs.Found.{AreRefused, AreSound, HaveClubTables, IsSessionFault, database_of}
 use Rattle.club_session.proofs.TaskLemmas.{if_taken, taken_under}
 
 -- the trees list one schema: that of the connection
@@ -55,14 +56,24 @@ module _ (files : Image) (old : State) (here : FindsIn files old) where
         legal = λ schema (has, sound). legal (subst HasClubTables (sym (listed old opens live schema sound)) has);
       }
 
+  -- the connection has the tables of a club if the files have
+  pub club_tables : Opens old → IsLive old → HaveClubTables files → HasClubTables old.now.schema
+  club_tables opens live have =
+      let (schema, (has, sound)) = have old.committed.trees found_there in
+      subst HasClubTables (sym (listed old opens live schema sound)) has
+
   -- the trees list one schema, which answers as that of a club
-  pub shaped_files : Opens old → IsLive old → is_of_club Current old.now.schema ≡ true → AnswerAsClub files
-  shaped_files opens live shape =
+  pub shaped_as : (version : Version) → Opens old → IsLive old → is_of_club version old.now.schema ≡ true
+      → AnswerAs version files
+  shaped_as version opens live shape =
       record {
         found = old.committed.trees;
         is_found = found_there;
-        shape = λ schema sound. ap (is_of_club Current) (sym (listed old opens live schema sound)) ∙ shape;
+        shape = λ schema sound. ap (is_of_club version) (sym (listed old opens live schema sound)) ∙ shape;
       }
+
+  abbrev pub shaped_files : Opens old → IsLive old → is_of_club Current old.now.schema ≡ true → AnswerAsClub files
+  shaped_files = shaped_as Current
 
   pub taken_files : Opens old → IsLive old → (told : Option ClubFault)
       → (HasClubTables old.now.schema → IfOpened told (HoldClub old.committed.trees))

@@ -1,3 +1,4 @@
+pub mod AcknowledgedLemmas
 pub mod AskLemmas
 pub mod CopyLemmas
 pub mod FoundLemmas

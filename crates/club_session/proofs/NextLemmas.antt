@@ -6,9 +6,10 @@ use Rattle.club_core.specs.State.{Command, Request, key_holder, withdraw_challen
 use Rattle.club_core.specs.Step.{GameCommand}
 use Rattle.http_head.specs.Request as head
 use Rattle.http_head.specs.Request.{ParseState, unfinished, refused, whole}
-use Rattle.http_desk.specs.Routes.{Endpoint, members_page, question, on_game, challenge, withdraw}
-use Rattle.http_desk.specs.Routes.{answer, match_route}
-use Rattle.http_desk.specs.Desk.{ExpectedReply, serve, serve_asked, serve_known, serve_page, serve_command, command_given}
+use Rattle.http_desk.specs.declared.table.Topic.{Topic}
+use Rattle.http_desk.specs.declared.table.Topic.TheVariants as topic
+use Rattle.http_desk.specs.Routes.{Endpoint, match_route}
+use Rattle.http_desk.specs.Desk.{ExpectedReply, serve, serve_asked, serve_known, serve_topic, serve_command, command_given}
 use Rattle.http_desk.specs.Desk.{next_state}
 use Rattle.http_bodies.specs.Bodies.{json_of, challenge_with, challenge_in, challenge_of, answer_with, answer_in}
 use Rattle.http_bodies.specs.Bodies.{answer_of}
@@ -66,23 +67,27 @@ module _ (s : DeskState) (moment : ℕ) (within : moment ≤ last_moment) where
         refl,
       )
 
-  page_next : (key body : List ℕ) (asked : Endpoint) → IsNext (serve_page served s moment key body asked).0
-  page_next key body members_page = inl refl
-  page_next key body (question asking) = inl refl
-  page_next key body (on_game id turn) = command_next key id _ (turn_members id (command_given turn body))
-  page_next key body (challenge n) = command_next key n _ (opening_members n body)
-  page_next key body (withdraw n) = command_next key n (Some (withdraw_challenge n)) tt
-  page_next key body (answer member n) = command_next key n _ (answer_members member n body)
+  topic_next : (key body : List ℕ) (asked : Endpoint) (about : Topic)
+      → IsNext (serve_topic served s moment key body asked about).0
+  topic_next key body asked topic.MembersPage = inl refl
+  topic_next key body asked (topic.Question about kind) = inl refl
+  topic_next key body asked (topic.OnGame action) =
+      command_next key asked.id _ (turn_members asked.id (command_given action asked.ply body))
+  topic_next key body asked topic.Challenge = command_next key asked.number _ (opening_members asked.number body)
+  topic_next key body asked topic.Withdraw =
+      command_next key asked.number (Some (withdraw_challenge asked.number)) tt
+  topic_next key body asked topic.Answer =
+      command_next key asked.number _ (answer_members asked.member asked.number body)
 
   known_next : (key : Option (List ℕ)) (body : List ℕ) (asked : Endpoint)
       → IsNext (serve_known served s moment key body asked).0
   known_next None body asked = inl refl
-  known_next (Some key) body asked = if_next _ _ _ (page_next key body asked) (inl refl)
+  known_next (Some key) body asked = if_next _ _ _ (topic_next key body asked asked.route.topic) (inl refl)
 
   asked_next : (request : head.HttpRequest) (asked : Option Endpoint) → IsNext (serve_asked served s moment request asked).0
   asked_next request None = inl refl
   asked_next request (Some asked) =
-      if_next _ _ _ (if_next _ _ _ (inl refl) (known_next request.key request.body asked)) (inl refl)
+      if_next _ _ _ (if_next _ _ _ (known_next request.key request.body asked) (inl refl)) (inl refl)
 
   pub seen_next : (seen : ParseState) → IsNext (next_state served s moment seen)
   unfolding serve

@@ -1,5 +1,5 @@
 -- An accepted request that comes again after further sessions is answered alike.
-use Rattle.std.proofs.Common.{◌≡◌, ℕ, List, [], ◌∷◌, ◌++◌, true, Option, Some, None, refl, sym, subst, ap}
+use Rattle.std.proofs.Common.{◌≡◌, ◌≤◌, arith, ℕ, List, [], ◌∷◌, ◌++◌, true, Option, Some, None, refl, sym, subst, ap}
 use Rattle.std.proofs.Common.{◌∙◌, ap₂, inl, inr}
 use Rattle.std.specs.Prelude.{take, is_some}
 use Rattle.club_requests.specs.declared.requests.Caller.{Caller}
@@ -10,10 +10,14 @@ use Rattle.club_core.specs.State.{Command, Request, key_holder, caller_of, state
 use Rattle.club_rows.specs.Club.{both_games, ClubState}
 use Rattle.club_laws.specs.Laws.{IsIdempotent, StillRepeats}
 use Rattle.club_changes.specs.Steps.{club_next, club_step}
-use Rattle.store.specs.Runs.{club_fold, club_accepted}
+use Rattle.store.specs.Runs.{club_fold}
+use Rattle.store.specs.SchemaRuns.{accepted_in}
+use Rattle.store.proofs.Proved.{fold_same}
 use Rattle.store.specs.Histories as history
-use Rattle.store.specs.Histories.{HistoryStep, Place, SessionLeads, SessionReaches, HistoryLeadsTo}
-use Rattle.store_tables.specs.declared.names.Version.TheVariants.{Current}
+use Rattle.store.specs.Histories.{HistoryStep, Place, SessionReaches, HistoryLeadsTo}
+use Rattle.store_tables.specs.Tables.{schema_number}
+use Rattle.store_tables.specs.declared.names.Version.{Version}
+use Rattle.store_tables.specs.declared.names.Version.TheVariants.{First, Current}
 use Rattle.http_desk.specs.Desk.{this, outcome_answer, serve}
 use Rattle.club_reads.specs.Keys.{member_by_key}
 use Rattle.club_reads.proofs.Proved.{holder_named}
@@ -30,22 +34,28 @@ pub record IsFolded (before after : ClubState) : Type 0 where
   pub requests : List Request
   pub is : after ≡ club_fold before requests
 
+none_after : (to : Version) → schema_number Current ≤ schema_number to → to ≡ Current
+none_after First later = let no : 2 ≤ 1 = later in absurd (omega (arith, no))
+none_after Current later = refl
+
 reached : (before after : Place) (chapters : List HistoryStep) → before.version ≡ Current → HistoryLeadsTo before chapters after
     → IsFolded before.state after.state
 reached before after [] last is = record { requests = []; is = ap (λ (p : Place). p.state) is }
 reached before after (history.served session ∷ chapters) last (between, (version, leads), rest) =
-    let one : SessionReaches before.state session between.state =
-    subst (λ v. SessionLeads v before.state session between.state) last leads in
-    let first = take one.k (club_accepted before.state session.requests) in
+    let one : SessionReaches Current before.state session between.state =
+    subst (λ v. SessionReaches v before.state session between.state) last leads in
+    let first = take one.k (accepted_in Current before.state session.requests) in
     let later = reached between after chapters (version ∙ last) rest in
     record {
       requests = first ++ later.requests;
-      is = later.is ∙ (ap (λ s. club_fold s later.requests) one.is ∙ fold_more before.state first later.requests);
+      is = later.is ∙ (ap (λ s. club_fold s later.requests) (one.is ∙ fold_same before.state first)
+          ∙ fold_more before.state first later.requests);
     }
-reached before after (history.upgraded answered ∷ chapters) last (between, (same, version), rest) =
-    let current : between.version ≡ Current = elim version [ inl is ↦ is | inr stays ↦ stays.1 ∙ last ] in
+reached before after (history.upgraded to answered ∷ chapters) last (between, led, rest) =
+    let to_last : to ≡ Current = none_after to (subst (λ v. schema_number v ≤ schema_number to) last led.later) in
+    let current : between.version ≡ Current = elim led.version [ inl is ↦ is ∙ to_last | inr stays ↦ stays.1 ∙ last ] in
     let later = reached between after chapters current rest in
-    record { requests = later.requests; is = later.is ∙ ap (λ s. club_fold s later.requests) same }
+    record { requests = later.requests; is = later.is ∙ ap (λ s. club_fold s later.requests) led.same }
 
 -- what is not refused for its key is of a member
 some_caller : (s : ClubState) (moment : ℕ) (command : Command) (caller : Option Caller) (outcome : Outcome ClubState)

@@ -13,7 +13,7 @@ use Rattle.store.specs.declared.fault.StoreFault.{StoreFault}
 use Rattle.store.specs.declared.fault.StoreFault.TheVariants as club
 use Rattle.club_changes.specs.Steps.{KeepsClub, club_next}
 use Rattle.http_desk.specs.declared.faults.ClubFault.{ClubFault}
-use Rattle.http_desk.specs.declared.faults.ClubFault.TheVariants.{Memory, Reopen}
+use Rattle.http_desk.specs.declared.faults.ClubFault.TheVariants.{Reopen}
 use Rattle.http_desk.specs.Served.{IsOfCall, Serves}
 use Rattle.club_session.specs.Faults.{fault_of_store, club_fault}
 use Rattle.club_session.specs.Served.{DeskState, next_of}

@@ -4,10 +4,12 @@ use Rattle.cli.specs.declared.words.Task.{Task}
 use Rattle.cli.specs.declared.words.Task.TheVariants as task
 use Rattle.club_check.specs.declared.fault.OpenFault.{OpenFault}
 use Rattle.club_orders.specs.declared.report.Report.{Report}
-use Rattle.club_orders.specs.declared.report.Report.TheVariants.{Sound, Unopened}
+use Rattle.club_orders.specs.declared.report.Report.TheVariants.{AlreadyUpgraded, Sound, Unopened, Upgraded}
 use Rattle.club_orders.specs.Report as of_report
-use Rattle.club_orders.specs.Report.{IfUnopened, IfVerify, IsOfCopy, IsPassed}
-use Rattle.club_orders.specs.Refused.{IfOpensClub, IfUpgrade}
+use Rattle.club_orders.specs.Report.{IfUnopened, IfUpgradeOf, IfVerify, IsOfCopy, IsPassed}
+use Rattle.club_orders.specs.Refused.{IfAccepted, IfOpensClub, IfUpgrade}
+use Rattle.store_tables.specs.declared.names.Version.{Version}
+use Rattle.store_tables.specs.declared.names.Version.TheVariants.{First, Current}
 use Rattle.http_desk.specs.declared.faults.ClubFault.{ClubFault}
 use Rattle.http_desk.specs.declared.faults.ClubFault.TheVariants.{Reopen}
 use Rattle.club_session.specs.ToldFault.{IfOpened}
@@ -26,6 +28,24 @@ if_takes_over task.Init goes is = tt
 if_takes_over task.Upgrade goes is = tt
 if_takes_over _ goes is = goes is
 
+pub if_taken_over : {P Q : Type 0} (report : Report) → (P → Q) → of_report.IfTaken report P
+    → of_report.IfTaken report Q
+if_taken_over (Unopened fault) goes is = tt
+if_taken_over _ goes is = goes is
+
+if_upgrade_of : {P Q : Version → Type 0} (report : Report) → ((version : Version) → P version → Q version)
+    → IfUpgradeOf report P → IfUpgradeOf report Q
+if_upgrade_of Upgraded goes is = goes First is
+if_upgrade_of AlreadyUpgraded goes is = goes Current is
+if_upgrade_of (Unopened fault) goes is = tt
+if_upgrade_of _ goes is = absurd is
+
+pub if_accepted : {P Q : Version → Type 0} (t : Task) (report : Report) → ((version : Version) → P version → Q version)
+    → IfAccepted t report P → IfAccepted t report Q
+if_accepted task.Init report goes is = tt
+if_accepted task.Upgrade report goes is = if_upgrade_of report goes is
+if_accepted _ report goes is = if_taken_over report (goes Current) is
+
 pub if_upgrade : {P Q : Type 0} (t : Task) → (P → Q) → IfUpgrade t P → IfUpgrade t Q
 if_upgrade task.Upgrade goes is = goes is
 if_upgrade _ goes is = tt
@@ -34,11 +54,6 @@ pub if_unopened : (P Q : OpenFault → Type 0) (report : Report) → ((fault : O
     → IfUnopened report P → IfUnopened report Q
 if_unopened P Q (Unopened fault) goes is = goes fault is
 if_unopened P Q _ goes is = tt
-
-pub if_taken_over : {P Q : Type 0} (report : Report) → (P → Q) → of_report.IfTaken report P
-    → of_report.IfTaken report Q
-if_taken_over (Unopened fault) goes is = tt
-if_taken_over _ goes is = goes is
 
 -- what is reported of a copy is not that the club was not opened
 pub of_copy_opened : (P : OpenFault → Type 0) (report : Report) → IsOfCopy report → IfUnopened report P

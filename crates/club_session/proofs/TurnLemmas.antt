@@ -1,11 +1,13 @@
 -- What stands, and what a stop leaves, where members and the officer made requests in turn.
-use Rattle.std.proofs.Common.{◌≡◌, ◌⊎◌, ◌≤◌, ℕ, List, [], ◌∷◌, ◌++◌, Bool, false, refl, sym, subst, inl}
+use Rattle.std.proofs.Common.{◌≡◌, ◌⊎◌, ◌≤◌, ℕ, List, [], ◌∷◌, ◌++◌, Bool, false, Option, refl, sym, subst, inl}
 use Rattle.std.proofs.Common.{inr}
 use Rattle.std.proofs.Common.{append_assoc}
 use Rattle.std.proofs.lemmas.List.{append-nil}
 use Rattle.sqlite.specs.State.{State, HasCleanDisk}
 use Rattle.sqlite.specs.Tree.{Trees}
 use Rattle.store_tables.specs.Over.{Neighbours}
+use Rattle.store_tables.specs.declared.names.Version.{Version}
+use Rattle.store_tables.specs.declared.names.Version.TheVariants.{Current}
 use Rattle.store_tables.specs.Reading.{OnlyReads}
 use Rattle.store_tables.proofs.Proved.{leaves_beside}
 use Rattle.club_requests.specs.Limits.{last_moment}
@@ -17,12 +19,13 @@ use Rattle.club_changes.specs.Steps.{KeepsClub, club_next}
 use Rattle.store.proofs.Proved.{taken_session, one_leads, one_cut}
 use Rattle.club_session.specs.Served.{DeskState, beside_them, next_of, served}
 use Rattle.club_session.specs.ServedStates.{IsServed, IsLeft, MayLeave}
-use Rattle.club_session.specs.Repeats.{stands_at}
 use Rattle.club_session.specs.Turns.{IsTurn, IsOrder, IsTurnOf, AreTurns, IsWhole, AreWhole, IsHistoryOn, IsReachableOn}
 use Rattle.control_socket.specs.declared.orders.Operation.{Operation}
 use Rattle.control_socket.specs.declared.orders.Operation.TheVariants as errand
 use Rattle.control_socket.specs.Orders.{HasRunOperation, order, state_after}
-use Rattle.server.specs.Visits.{HasActed, HasServed}
+use Rattle.server.proofs.Proved.{was_served}
+use Rattle.server.specs.Visits.{HasActed, IsNextServed}
+use Rattle.server.specs.declared.connections.Served.{Served}
 use Rattle.http_head.specs.Request.{ParseState}
 use Rattle.http_desk.specs.Desk.{next_state}
 use Rattle.club_session.proofs.NextLemmas.{seen_next}
@@ -46,27 +49,26 @@ whole_more [] chapter whole is = (is, tt)
 whole_more (one ∷ turns) chapter whole is = (whole.0, whole_more turns chapter whole.1 is)
 
 -- where it began
-pub stands_first : (them : Neighbours) (sessions : List HistoryStep) (now : State) → IsHistory them sessions now
-    → IsHistoryOn them sessions now
-stands_first them sessions now stands =
+pub stands_first : (from : Version) (them : Neighbours) (sessions : List HistoryStep) (now : State)
+    → IsHistory from Current them sessions now → IsHistoryOn from Current them sessions now
+stands_first from them sessions now stands =
     record {
       turns = [];
       are_turns = tt;
       whole = tt;
-      stands = let P : List HistoryStep → Type 0 = λ xs. IsHistory them xs now in
+      stands = let P : List HistoryStep → Type 0 = λ xs. IsHistory from Current them xs now in
           subst P (sym (append-nil sessions)) stands;
     }
 
-pub stands_led : (them : Neighbours) (sessions : List HistoryStep) (now : State) → IsHistoryOn them sessions now
-    → IsReachableOn them sessions now
-stands_led them sessions now on =
+pub stands_led : (from : Version) (them : Neighbours) (sessions : List HistoryStep) (now : State)
+    → IsHistoryOn from Current them sessions now → IsReachableOn from Current them sessions now
+stands_led from them sessions now on =
     record {
       turns = on.turns;
       are_turns = on.are_turns;
       led =
           λ db may. record {
-            from = on.stands.from;
-            after = stands_at on.stands.after;
+            after = on.stands.after;
             legal = on.stands.legal;
             leads = on.stands.leads;
             leaves =
@@ -75,29 +77,30 @@ stands_led them sessions now on =
     }
 
 -- a call that only read leaves nothing else
-pub reads_led : (them : Neighbours) (sessions : List HistoryStep) (old new : State) → OnlyReads old new → HasCleanDisk new
-    → ((db : Trees) → old.may_leave db → IsReachable them sessions db) → IsReachableOn them sessions new
-reads_led them sessions old new reads clean led = record {
+pub reads_led : (from version : Version) (them : Neighbours) (sessions : List HistoryStep) (old new : State)
+    → OnlyReads old new → HasCleanDisk new
+    → ((db : Trees) → old.may_leave db → IsReachable from version them sessions db)
+    → IsReachableOn from version them sessions new
+reads_led from version them sessions old new reads clean led = record {
   turns = [];
   are_turns = tt;
   led = λ db may.
-      let P : List HistoryStep → Type 0 = λ xs. IsReachable them xs db in
+      let P : List HistoryStep → Type 0 = λ xs. IsReachable from version them xs db in
       subst P (sym (append-nil sessions)) (led db (reads.may clean db may));
 }
 
-module _ (keeps : KeepsClub) (them : Neighbours) (sessions : List HistoryStep) (old : State)
-    (on : IsHistoryOn them sessions old) where
+module _ (keeps : KeepsClub) (from : Version) (them : Neighbours) (sessions : List HistoryStep) (old : State)
+    (on : IsHistoryOn from Current them sessions old) where
   abbrev before : DeskState
   before = beside_them them on.stands.after
 
-  stays : (shut : Bool) (now : State) → IsServed shut now before → IsHistoryOn them sessions now
+  stays : (shut : Bool) (now : State) → IsServed shut now before → IsHistoryOn from Current them sessions now
   stays shut now is =
       record {
         turns = on.turns;
         are_turns = on.are_turns;
         whole = on.whole;
         stands = record {
-          from = on.stands.from;
           after = on.stands.after;
           legal = is.legal;
           leads = on.stands.leads;
@@ -107,26 +110,25 @@ module _ (keeps : KeepsClub) (them : Neighbours) (sessions : List HistoryStep) (
       }
 
   goes : (shut : Bool) (now : State) (request : Request) → IsAsked request
-      → IsServed shut now (next_of before request) → IsHistoryOn them sessions now
+      → IsServed shut now (next_of before request) → IsHistoryOn from Current them sessions now
   goes shut now request turn is =
       let one = taken_session on.stands.after request in
-      let P : List HistoryStep → Type 0 = λ xs. IsHistory them xs now in
+      let P : List HistoryStep → Type 0 = λ xs. IsHistory from Current them xs now in
       record {
         turns = on.turns ++ one ∷ [];
         are_turns = turns_more on.turns one on.are_turns (request, turn, refl);
         whole = whole_more on.turns one on.whole refl;
         stands = subst P (append_assoc sessions on.turns (one ∷ [])) (record {
-          from = on.stands.from;
           after = club_next on.stands.after request;
           legal = is.legal;
-          leads = one_leads on.stands.from on.stands.after (sessions ++ on.turns) request on.stands.leads;
+          leads = one_leads from on.stands.after (sessions ++ on.turns) request on.stands.leads;
           exactly = is.exactly;
         });
       }
 
   next_stands : (shut : Bool) (now : State) (t : DeskState) → (t ≡ before)
       ⊎ ((request : Request) × IsAsked request × (t ≡ next_of before request)) → IsServed shut now t
-      → IsHistoryOn them sessions now
+      → IsHistoryOn from Current them sessions now
   next_stands shut now t (inl same) is = stays shut now (let P : DeskState → Type 0 = λ u. IsServed shut now u in
       subst P same is)
   next_stands shut now t (inr done) is = goes shut now done.0 done.1
@@ -155,7 +157,7 @@ module _ (keeps : KeepsClub) (them : Neighbours) (sessions : List HistoryStep) (
 
   -- no call has failed so far
   pub acted_stands : (shut : Bool) (now : State) (moment : ℕ) (bytes : List ℕ) → moment ≤ last_moment → shut ≡ false
-      → HasActed served (IsServed shut now) (IsLeft shut now) before moment bytes → IsHistoryOn them sessions now
+      → HasActed served (IsServed shut now) (IsLeft shut now) before moment bytes → IsHistoryOn from Current them sessions now
   acted_stands shut now moment bytes within ready (inl is) = stays shut now is
   acted_stands shut now moment bytes within ready (inr done) = elim done.2 [
     | inl is ↦ next_stands shut now _ (behind_seen moment within done.0) is
@@ -166,7 +168,7 @@ module _ (keeps : KeepsClub) (them : Neighbours) (sessions : List HistoryStep) (
   ]
 
   pub obeyed_stands : (shut : Bool) (now : State) (moment : ℕ) (given : Operation) → moment ≤ last_moment → shut ≡ false
-      → HasRunOperation served (IsServed shut now) (IsLeft shut now) before moment given → IsHistoryOn them sessions now
+      → HasRunOperation served (IsServed shut now) (IsLeft shut now) before moment given → IsHistoryOn from Current them sessions now
   obeyed_stands shut now moment given within ready (inl is) = stays shut now is
   obeyed_stands shut now moment given within ready (inr (inl is)) =
       next_stands shut now _ (behind_errand moment within given) is
@@ -175,14 +177,13 @@ module _ (keeps : KeepsClub) (them : Neighbours) (sessions : List HistoryStep) (
     | inr is ↦ next_stands shut now _ (behind_errand moment within given) is
   ]
 
-  stays_led : (now : State) → MayLeave now before before → IsReachableOn them sessions now
+  stays_led : (now : State) → MayLeave now before before → IsReachableOn from Current them sessions now
   stays_led now left =
       record {
         turns = on.turns;
         are_turns = on.are_turns;
         led = λ db may. record {
-          from = on.stands.from;
-          after = stands_at on.stands.after;
+          after = on.stands.after;
           legal = on.stands.legal;
           leads = on.stands.leads;
           leaves = elim (left db may) [ inl it ↦ it | inr it ↦ it ];
@@ -190,22 +191,22 @@ module _ (keeps : KeepsClub) (them : Neighbours) (sessions : List HistoryStep) (
       }
 
   cut_led : (now : State) (request : Request) → IsAsked request → MayLeave now before (next_of before request)
-      → IsReachableOn them sessions now
+      → IsReachableOn from Current them sessions now
   cut_led now request turn left =
       let one = cut_session request in
       record {
         turns = on.turns ++ one ∷ [];
         are_turns = turns_more on.turns one on.are_turns (request, turn, refl);
         led = λ db may.
-            let P : List HistoryStep → Type 0 = λ xs. IsReachable them xs db in
+            let P : List HistoryStep → Type 0 = λ xs. IsReachable from Current them xs db in
             subst P (append_assoc sessions on.turns (one ∷ []))
-            (one_cut on.stands.from them on.stands.after (sessions ++ on.turns) request db on.stands.leads
+            (one_cut from them on.stands.after (sessions ++ on.turns) request db on.stands.leads
             on.stands.legal (keeps on.stands.after request (asked_within request turn) on.stands.legal) (left db may));
       }
 
   next_led : (now : State) (t : DeskState) → (t ≡ before)
       ⊎ ((request : Request) × IsAsked request × (t ≡ next_of before request)) → MayLeave now before t
-      → IsReachableOn them sessions now
+      → IsReachableOn from Current them sessions now
   next_led now t (inl same) left = stays_led now (let P : DeskState → Type 0 = λ u. MayLeave now before u in
       subst P same left)
   next_led now t (inr done) left = cut_led now done.0 done.1 (let P : DeskState → Type 0 = λ u. MayLeave now before u in
@@ -213,44 +214,48 @@ module _ (keeps : KeepsClub) (them : Neighbours) (sessions : List HistoryStep) (
 
   -- whether a call has failed or not
   pub acted_led : (shut : Bool) (now : State) (moment : ℕ) (bytes : List ℕ) → moment ≤ last_moment
-      → HasActed served (IsServed shut now) (IsLeft shut now) before moment bytes → IsReachableOn them sessions now
-  acted_led shut now moment bytes within (inl is) = stands_led them sessions now (stays shut now is)
+      → HasActed served (IsServed shut now) (IsLeft shut now) before moment bytes → IsReachableOn from Current them sessions now
+  acted_led shut now moment bytes within (inl is) = stands_led from them sessions now (stays shut now is)
   acted_led shut now moment bytes within (inr done) = elim done.2 [
-    | inl is ↦ stands_led them sessions now (next_stands shut now _ (behind_seen moment within done.0) is)
+    | inl is ↦ stands_led from them sessions now (next_stands shut now _ (behind_seen moment within done.0) is)
     | inr left ↦ next_led now _ (behind_seen moment within done.0) left.leaves
   ]
 
   pub obeyed_led : (shut : Bool) (now : State) (moment : ℕ) (given : Operation) → moment ≤ last_moment
-      → HasRunOperation served (IsServed shut now) (IsLeft shut now) before moment given → IsReachableOn them sessions now
-  obeyed_led shut now moment given within (inl is) = stands_led them sessions now (stays shut now is)
+      → HasRunOperation served (IsServed shut now) (IsLeft shut now) before moment given → IsReachableOn from Current them sessions now
+  obeyed_led shut now moment given within (inl is) = stands_led from them sessions now (stays shut now is)
   obeyed_led shut now moment given within (inr (inl is)) =
-      stands_led them sessions now (next_stands shut now _ (behind_errand moment within given) is)
+      stands_led from them sessions now (next_stands shut now _ (behind_errand moment within given) is)
   obeyed_led shut now moment given within (inr (inr left)) =
       next_led now _ (behind_errand moment within given) left.leaves
 
--- a connection over the desk, or an order of the officer's, of whatever moment
-abbrev pub Acted : Bool → State → DeskState → Type 0
-Acted shut now s = HasServed served (IsServed shut now) (IsLeft shut now) s
+-- what a call of `serve_next` served, over the club
+abbrev pub Acted : Bool → State → Option Served → DeskState → Type 0
+Acted shut now next s = IsNextServed served (IsServed shut now) (IsLeft shut now) s next
 
-module _ (keeps : KeepsClub) (them : Neighbours) (sessions : List HistoryStep) (old_shut : Bool) (old : State)
-    (ready : old_shut ≡ false) (on : IsHistoryOn them sessions old) where
+module _ (keeps : KeepsClub) (from : Version) (them : Neighbours) (sessions : List HistoryStep) (old_shut : Bool)
+    (old : State) (ready : old_shut ≡ false) (on : IsHistoryOn from Current them sessions old) where
   abbrev served_before : IsServed old_shut old (beside_them them on.stands.after)
   served_before = record { ready = ready; legal = on.stands.legal; exactly = on.stands.exactly }
 
-  pub turn_stands : (shut : Bool) (now : State) → shut ≡ false
-      → ((s : DeskState) → IsServed old_shut old s → Acted shut now s) → IsHistoryOn them sessions now
-  turn_stands shut now is_open acts =
-      let (moment, within, done) = acts (beside_them them on.stands.after) served_before in
+  pub turn_stands : (shut : Bool) (now : State) (next : Option Served) → shut ≡ false
+      → ((s : DeskState) → IsServed old_shut old s → Acted shut now next s) → IsHistoryOn from Current them sessions now
+  turn_stands shut now next is_open acts =
+      let before = beside_them them on.stands.after in
+      let (moment, within, done) =
+      was_served served (IsServed shut now) (IsLeft shut now) before next (acts before served_before) in
       elim done [
-        | inl acted ↦ acted_stands keeps them sessions old on shut now moment acted.0 within is_open acted.1
-        | inr obeyed ↦ obeyed_stands keeps them sessions old on shut now moment obeyed.0 within is_open obeyed.1
+        | inl acted ↦ acted_stands keeps from them sessions old on shut now moment acted.0 within is_open acted.1
+        | inr obeyed ↦ obeyed_stands keeps from them sessions old on shut now moment obeyed.0 within is_open obeyed.1
       ]
 
-  pub turn_led : (shut : Bool) (now : State) → ((s : DeskState) → IsServed old_shut old s → Acted shut now s)
-      → IsReachableOn them sessions now
-  turn_led shut now acts =
-      let (moment, within, done) = acts (beside_them them on.stands.after) served_before in
+  pub turn_led : (shut : Bool) (now : State) (next : Option Served)
+      → ((s : DeskState) → IsServed old_shut old s → Acted shut now next s) → IsReachableOn from Current them sessions now
+  turn_led shut now next acts =
+      let before = beside_them them on.stands.after in
+      let (moment, within, done) =
+      was_served served (IsServed shut now) (IsLeft shut now) before next (acts before served_before) in
       elim done [
-        | inl acted ↦ acted_led keeps them sessions old on shut now moment acted.0 within acted.1
-        | inr obeyed ↦ obeyed_led keeps them sessions old on shut now moment obeyed.0 within obeyed.1
+        | inl acted ↦ acted_led keeps from them sessions old on shut now moment acted.0 within acted.1
+        | inr obeyed ↦ obeyed_led keeps from them sessions old on shut now moment obeyed.0 within obeyed.1
       ]

@@ -23,6 +23,7 @@ abbrev pub fault_of_question : AskFault → ClubFault
 fault_of_question (asking.Club fault) = fault_of_store fault
 fault_of_question asking.Output = Memory
 
+-- the fault of an opening, without the schema number or the damaged table
 abbrev pub fault_of_opening : OpenFault → ClubFault
 fault_of_opening opening.Foreign = Foreign
 fault_of_opening (opening.Schema number) = Schema

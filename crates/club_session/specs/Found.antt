@@ -4,9 +4,10 @@ use Rattle.sqlite_wal.specs.Recovery.{Image}
 use Rattle.sqlite.specs.Tree.{Trees}
 use Rattle.sqlite.specs.Effect.{Database}
 use Rattle.store_tables.specs.Placed.{HasClubTables}
-use Rattle.store_tables.specs.Over.{Neighbours}
+use Rattle.store_tables.specs.Over.{LeavesBeside, Neighbours}
+use Rattle.store_tables.specs.declared.names.Version.{Version}
 use Rattle.store_tables.specs.declared.names.Version.TheVariants.{First, Current}
-use Rattle.club_rows.specs.Club.{ClubState, IsClub}
+use Rattle.club_rows.specs.Club.{ClubState, IsClub, tables}
 use Rattle.club_check.specs.ReasonIsRight.{IsRightFault}
 use Rattle.club_check.specs.RightTables.{NamesFirstDamaged}
 use Rattle.club_check.specs.declared.fault.OpenFault.{OpenFault}
@@ -31,6 +32,12 @@ pub record AreFilesOf (s : ClubState) (files : Image) : Type 0 where
   pub legal : IsClub s
   pub finds : (found : Trees) → IsFoundIn files found → HasState s found
 
+-- The same beside these foreign tables.
+pub record AreFilesBeside (them : Neighbours) (s : ClubState) (files : Image) : Type 0 where
+  pub legal : IsClub s
+  pub shape : is_of_club Current them.schema ≡ true
+  pub finds : (found : Trees) → IsFoundIn files found → LeavesBeside them (tables s) found
+
 -- The files hold this legal state in schema 1, alone or beside foreign tables.
 pub record AreFirstFilesOf (them : Neighbours) (s : ClubState) (files : Image) : Type 0 where
   pub finds : (found : Trees) → IsFoundIn files found → HasFirst them s found
@@ -39,6 +46,7 @@ pub record AreFirstFilesOf (them : Neighbours) (s : ClubState) (files : Image) :
 abbrev pub ListClub : Schema → Trees → Type 0
 ListClub schema trees = HasClubTables schema × IsSound schema trees
 
+-- a database with this schema and these trees
 abbrev pub database_of : Schema → Trees → Database
 database_of schema trees = record { schema = schema; trees = trees }
 
@@ -48,11 +56,18 @@ pub record AreSound (files : Image) : Type 0 where
   pub is_found : IsFoundIn files found
   pub legal : (schema : Schema) → ListClub schema found → HoldClub found
 
--- The schema that an opening found is equivalent to a club's, whatever `CREATE` statements made it.
-pub record AnswerAsClub (files : Image) : Type 0 where
+-- Whatever an opening finds has the tables of a club of either version, whatever their rows.
+abbrev pub HaveClubTables : Image → Type 0
+HaveClubTables files = (found : Trees) → IsFoundIn files found → (schema : Schema) × ListClub schema found
+
+-- The schema that an opening found is equivalent to that of a club of this version, whatever `CREATE` statements made it.
+pub record AnswerAs (version : Version) (files : Image) : Type 0 where
   pub found : Trees
   pub is_found : IsFoundIn files found
-  pub shape : (schema : Schema) → IsSound schema found → is_of_club Current schema ≡ true
+  pub shape : (schema : Schema) → IsSound schema found → is_of_club version schema ≡ true
+
+abbrev pub AnswerAsClub : Image → Type 0
+AnswerAsClub = AnswerAs Current
 
 -- Later openings find what this one found, whatever a crash leaves.
 pub record AreKept (files : Image) (MayLeave : Image → Type 0) : Type 0 where

@@ -1,3 +1,5 @@
+pub mod Acknowledged
+pub mod CacheSize
 pub mod Copied
 pub mod Faults
 pub mod Found

@@ -20,6 +20,7 @@ pub record DeskState : Type 0 where
   pub them : Neighbours
   pub state : ClubState
 
+-- the state of the club, with these foreign tables in its file
 abbrev pub beside_them : Neighbours → ClubState → DeskState
 beside_them them s = record { them = them; state = s }
 
@@ -27,6 +28,7 @@ beside_them them s = record { them = them; state = s }
 abbrev pub next_of : DeskState → Request → DeskState
 next_of s request = beside_them s.them (club_next s.state request)
 
+-- the club of the store as the HTTP application queries and changes it
 abbrev pub served : Club DeskState
 served =
     record {

@@ -4,6 +4,7 @@ use Rattle.std.specs.Prelude.{◌≡◌, ◌≤◌, ◌⊎◌, ℕ, true, List, 
 use Rattle.sqlite.specs.Tree.{Trees}
 use Rattle.sqlite.specs.State.{State}
 use Rattle.store_tables.specs.Over.{Neighbours}
+use Rattle.store_tables.specs.declared.names.Version.{Version}
 use Rattle.club_requests.specs.Limits.{last_moment}
 use Rattle.club_core.specs.State.{Command, add_member, add_event, seat, import_record, on_game, sweep}
 use Rattle.club_core.specs.State.{open_challenge, withdraw_challenge, answer_challenge, Request, key_holder, officer}
@@ -40,30 +41,34 @@ pub record IsOrder (request : Request) : Type 0 where
 abbrev pub IsTurnOf : HistoryStep → Type 0
 IsTurnOf (history.served session) =
     (request : Request) × (IsTurn request ⊎ IsOrder request) × (session.requests ≡ request ∷ [])
-IsTurnOf (history.upgraded answered) = ⊥
+IsTurnOf (history.upgraded to answered) = ⊥
 
+-- each step is a session with one command of a member or of the officer
 abbrev pub AreTurns : List HistoryStep → Type 0
 AreTurns [] = ⊤
 AreTurns (chapter ∷ chapters) = IsTurnOf chapter × AreTurns chapters
 
--- a session that no crash cut off
+-- a session that neither a crash nor a fault ended
 abbrev pub IsWhole : HistoryStep → Type 0
 IsWhole (history.served session) = session.is_whole ≡ true
-IsWhole (history.upgraded answered) = ⊥
+IsWhole (history.upgraded to answered) = ⊥
 
+-- each step is a session that neither a crash nor a fault ended
 abbrev pub AreWhole : List HistoryStep → Type 0
 AreWhole [] = ⊤
 AreWhole (chapter ∷ chapters) = IsWhole chapter × AreWhole chapters
 
--- the history, with uncut commands added, leads to the present state
-pub record IsHistoryOn (them : Neighbours) (sessions : List HistoryStep) (now : State) : Type 0 where
-  pub turns : List HistoryStep
-  pub are_turns : AreTurns turns
-  pub whole : AreWhole turns
-  pub stands : IsHistory them (sessions ++ turns) now
+-- the history, with uncut commands added, leads to the present state, in this schema
+pub record IsHistoryOn (from version : Version) (them : Neighbours) (sessions : List HistoryStep) (now : State) : Type 0
+  where
+    pub turns : List HistoryStep
+    pub are_turns : AreTurns turns
+    pub whole : AreWhole turns
+    pub stands : IsHistory from version them (sessions ++ turns) now
 
--- the history, with commands added, leads to any state that a crash can leave
-pub record IsReachableOn (them : Neighbours) (sessions : List HistoryStep) (now : State) : Type 0 where
-  pub turns : List HistoryStep
-  pub are_turns : AreTurns turns
-  pub led : (db : Trees) → now.may_leave db → IsReachable them (sessions ++ turns) db
+-- the history, with commands added, leads to any state that a crash can leave, in this schema
+pub record IsReachableOn (from version : Version) (them : Neighbours) (sessions : List HistoryStep) (now : State) : Type 0
+  where
+    pub turns : List HistoryStep
+    pub are_turns : AreTurns turns
+    pub led : (db : Trees) → now.may_leave db → IsReachable from version them (sessions ++ turns) db

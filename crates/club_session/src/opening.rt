@@ -10,6 +10,7 @@ ghost use Rattle.club_check.specs.declared.fault.OpenFault.TheVariants.{Foreign}
 ghost use Rattle.club_orders.specs.declared.report.Report.TheVariants.{InUse, NotOpened, BackupFailed, Unopened};
 ghost use Rattle.club_session.specs.declared.preflight.OpenMode.TheVariants.{Making};
 
+use crate::cache_size::cache_pages;
 use crate::preflight::{OpenMode, make_new, prepare};
 use club_orders::Report;
 use sqlite::{Connection, FileFrom, FileStore, Options};
@@ -27,11 +28,11 @@ const TURNS_OF_A_STRETCH: u8 = 0;
 
 const PAUSE_MILLISECONDS: u64 = 100;
 
-// The checkpoint threshold of an order, in frames of the log: every commit checkpoints.
+// The checkpoint threshold of an order, in frames of the log: its commit checkpoints.
 const FRAMES_OF_AN_ORDER: usize = 1;
 
-// The checkpoint threshold of a serving session, in frames of the log: not every commit checkpoints.
-const FRAMES_OF_A_STRETCH: usize = 1000;
+// The checkpoint threshold of a batch and of a serving session, in frames of the log: not every commit checkpoints.
+const FRAMES_OF_MANY: usize = 1000;
 
 /// The assumption on what the files hold at first, for several attempts to open them.
 pub trait RepeatableStart: Start + Sized {
@@ -50,7 +51,8 @@ fn frames_for(purpose: OpenMode) -> usize {
     match purpose {
         OpenMode::Making => FRAMES_OF_AN_ORDER,
         OpenMode::Ordering => FRAMES_OF_AN_ORDER,
-        OpenMode::Serving => FRAMES_OF_A_STRETCH,
+        OpenMode::Batching => FRAMES_OF_MANY,
+        OpenMode::Serving => FRAMES_OF_MANY,
     }
 }
 
@@ -59,18 +61,20 @@ fn turns_for(purpose: OpenMode) -> u8 {
     match purpose {
         OpenMode::Making => TURNS_OF_AN_ORDER,
         OpenMode::Ordering => TURNS_OF_AN_ORDER,
+        OpenMode::Batching => TURNS_OF_AN_ORDER,
         OpenMode::Serving => TURNS_OF_A_STRETCH,
     }
 }
 
 // The options of the connection.
-fn options(rt: &HostRuntime, purpose: OpenMode) -> Result<Options, Report>
+fn options(rt: &HostRuntime, file: &str, purpose: OpenMode) -> Result<Options, Report>
     ensures { IfErr result (λ report. (report ≡ InUse) ⊎ (report ≡ NotOpened)) }
 {
     match RandomState::new(rt) {
         Ok(state) => {
             let mut options = Options::new(state.hash_one(&0u8));
             options.checkpoint_frames = frames_for(purpose);
+            options.cache_pages = cache_pages(rt, file, purpose);
             Ok(options)
         }
         Err(_) => Err(Report::NotOpened),
@@ -94,7 +98,7 @@ fn open_once<S: Start>(
         Err(OpenError::Busy) => return Err(Report::InUse),
         Err(_) => return Err(Report::NotOpened),
     };
-    let options = match options(rt, purpose) {
+    let options = match options(rt, file, purpose) {
         Ok(options) => options,
         Err(report) => return Err(report),
     };

@@ -1,11 +1,15 @@
 //! One order over a club's files, from opening to closing.
 
-ghost use Rattle.std.specs.Prelude.{◌≡◌, ◌≢◌, ◌⊎◌, ◌++◌, false, None, IfSome};
+ghost use Rattle.std.specs.Prelude.{◌≡◌, ◌≢◌, ◌⊎◌, ◌++◌, false, None, IfErr, IfOk, IfSome, IsSome};
 ghost use Rattle.sqlite_wal.specs.Files.{image_at};
 ghost use Rattle.sqlite_wal.specs.Recovery.{Image};
 ghost use Rattle.sqlite_store.specs.FileStore.{state as store_state, view as store_view};
 ghost use Rattle.sqlite_trees.specs.View.{IsClean};
 ghost use Rattle.sqlite.specs.Tree.{Trees};
+ghost use Rattle.sqlite.specs.State.{HasCleanDisk};
+ghost use Rattle.sqlite.specs.Held.{IsNew};
+ghost use Rattle.sqlite.specs.Start.{FindsIn};
+ghost use Rattle.sqlite.specs.Files.{file_state, IsOpened};
 ghost use Rattle.club_core.specs.Answer.{answered, outcome_of};
 ghost use Rattle.club_rows.specs.Club.{ClubState};
 ghost use Rattle.club_changes.specs.Steps.{club_step};
@@ -17,17 +21,21 @@ ghost use Rattle.club_session.specs.declared.preflight.OpenMode.TheVariants.{Mak
 ghost use Rattle.club_orders.specs.Batches.{AnswersBatch};
 ghost use Rattle.club_orders.specs.Report.{given, Answers, IfRequest, IfAsk, IfBatch, IfVerify};
 ghost use Rattle.club_orders.specs.Report.{Shows, IsPassed, IsBegun, IsBegunBehind, task_sessions};
-ghost use Rattle.club_orders.specs.Report.{IfTaken, IfUnopened, IsRepeated, OnlyUnopened, writes};
-ghost use Rattle.club_orders.specs.Refused.{IfOpensClub, IfUpgrade, IsOlder};
+ghost use Rattle.club_orders.specs.Report.{IfUnopened, IsCreated, IsCreation, IsExisting, IsRepeated, OnlyUnopened};
+ghost use Rattle.club_orders.specs.Report.{schemas_after, writes};
+ghost use Rattle.club_orders.specs.NextStates.{LeavesTask};
+ghost use Rattle.club_orders.specs.Refused.{IfAccepted, IfOpensClub, IfUpgrade, IsOlder};
 ghost use Rattle.club_session.specs.Found.{AreCarriedOver, AreFilesOf, AreFirstFilesOf, AreKept, AreNotUpgraded};
-ghost use Rattle.club_session.specs.Found.{AnswerAsClub, AreRefused, AreSound};
+ghost use Rattle.club_session.specs.Found.{AnswerAs, AreFilesBeside, AreRefused, AreSound, HaveClubTables};
 
 use crate::opening::{RepeatableStart, open_with_retries};
 use crate::preflight::OpenMode;
 use cli::{Order, Task};
 use clocks::Moment;
 use club_orders::{Report, act};
-use sqlite::{FileFrom, FileStore};
+use sqlite::{Connection, FileFrom, FileStore};
+use sqlite_disk::Start;
+use std::alloc::Global;
 use std::io::Write;
 use store_files::close;
 
@@ -37,19 +45,49 @@ fn purpose_of(task: &Task) -> OpenMode
 {
     match task {
         Task::Init => OpenMode::Making,
+        Task::Batch(_) => OpenMode::Batching,
         _ => OpenMode::Ordering,
     }
 }
 
-/// Runs one order over the club's files: waits up to 5 s for the lock, opens, checks, executes, closes.
-/// `S` is the assumption on their initial contents. A backup is only verified here; `back_up` makes it. Returns the
-/// report, and the store if it was opened.
+/// Opens the files of an order, and waits up to 5 s for their lock. `S` is the assumption on their initial contents.
+///
+/// # Errors
+///
+/// - `Report::InUse`: another program has locked the file.
+/// - `Report::Unopened(OpenFault::Foreign)`: there is no club; never if one is to be created. Nothing was touched.
+/// - `Report::NotOpened`: the path names no database file, or opening failed.
+pub fn open_files<S: RepeatableStart>(
+    rt: &HostRuntime,
+    order: &Order,
+    start: S,
+) -> Result<Connection<FileStore<FileFrom<S>>>, Report>
+    ensures opened { IfOk result (λ c. HasCleanDisk (file_state c) → IsOpened c) }
+    ensures found { IfOk result (λ c. HasCleanDisk (file_state c) → FindsIn (image_at S.Start) (file_state c)) }
+    ensures fresh { IfOk result IsNew }
+    ensures unopened { IfErr result (λ report. ((report ≡ InUse) ⊎ (report ≡ NotOpened)) ⊎
+        ((report ≡ Unopened Foreign) × (order.entry.now.task ≢ Init))) }
+{
+    match open_with_retries(rt, order.file.as_str(), purpose_of(&order.task), start) {
+        Ok(conn) => Ok(conn),
+        Err(report) => Err(report),
+    }
+}
+
+/// Executes a task over files that were just opened: checks, executes, closes. It can open no files itself. A backup is
+/// only verified here; `back_up` makes it. Returns the report, and the store if the files were opened.
 ///
 /// # Guarantees
 ///
+/// - `given_back`, `unopened`: the store is returned if the files were opened. Otherwise the report is that of the
+///   opening, and nothing was done.
 /// - `history`: whatever a crash leaves, the next opening finds a state that the earlier history and this order lead to,
-///   beside the same foreign tables.
-/// - `begun`, `behind`: after the creation of a club, or a crash in it, there is an empty club or no club.
+///   beside the same foreign tables. Only an upgrade changes the schema.
+/// - `next_state`: from a legal state, whatever a crash leaves is that state or the next one; the next one after success.
+/// - `begun`, `behind`: after the creation of a club, or a crash in it, there is an empty club of schema 2 or no club.
+/// - `creation`, `empty`, `existing`: a club is created, or the report says that there is one or that a call failed. An
+///   existing club is unchanged.
+/// - `shape`: a file is accepted only with the schema of a club; by an upgrade, of either version.
 /// - `answer`, `given`, `asked`: the reported outcomes and the text written to `out` are those of the club's
 ///   specification.
 /// - `refuses`, `withheld`: the reason why a file was rejected is true, and the file is unchanged. Only an upgrade in
@@ -57,72 +95,90 @@ fn purpose_of(task: &Task) -> OpenMode
 /// - `passes`, `sound`: `verify` reports a legal club as sound, unless a call fails or memory runs out, and nothing
 ///   else.
 /// - `silent`: only a query writes to `out`.
-pub fn execute_order<S: RepeatableStart, W: Write>(
-    rt: &HostRuntime,
-    order: &Order,
+pub fn execute_order<S: Start, W: Write>(
+    alloc: Global,
+    opened: Result<Connection<FileStore<FileFrom<S>>>, Report>,
+    task: &Task,
     moment: Moment,
-    start: S,
     out: &mut W,
 ) -> (Report, Option<FileStore<FileFrom<S>>>)
-    ensures unopened { result.1 ≡ None → (((result.0 ≡ InUse) ⊎ (result.0 ≡ NotOpened)) ⊎
-        ((result.0 ≡ Unopened Foreign) × (order.entry.now.task ≢ Init))) × (out.new ≡ out.old) }
+    requires opened { IfOk opened (λ c. HasCleanDisk (file_state c) → IsOpened c) }
+    requires found { IfOk opened (λ c. HasCleanDisk (file_state c) → FindsIn (image_at S.Start) (file_state c)) }
+    requires fresh { IfOk opened IsNew }
+    ensures given_back { IfOk opened (λ c. IsSome result.1) }
+    ensures unopened { IfErr opened (λ report. (result.0 ≡ report) × (result.1 ≡ None) × (out.new ≡ out.old)) }
     ensures begun { IfSome result.1 (λ store. IsClean (store_view store) →
-        order.entry.now.task ≡ Init → HaveNoTables (image_at S.Start) →
+        task.now ≡ Init → HaveNoTables (image_at S.Start) →
         (left : Image) → (store_state store).may_leave left →
         (found : Trees) → IsFoundIn left found → ∥ IsBegun result.0 found ∥₁) }
     // Beside foreign tables, too, which keep their rows.
     ensures behind { IfSome result.1 (λ store. IsClean (store_view store) →
-        order.entry.now.task ≡ Init → (them : _) → AreWithoutClub them (image_at S.Start) →
-        (left : Image) → (store_state store).may_leave left →
-        (found : Trees) → IsFoundIn left found → ∥ IsBegunBehind them result.0 found ∥₁) }
+        task.now ≡ Init → (them : _) → AreWithoutClub them (image_at S.Start) → IsCreated result.0
+        × ((left : Image) → (store_state store).may_leave left →
+        (found : Trees) → IsFoundIn left found → ∥ IsBegunBehind them result.0 found ∥₁)) }
+    ensures creation { IfSome result.1 (λ store. task.now ≡ Init → IsCreation result.0) }
+    // In files without tables the creation fails only if a call fails.
+    ensures empty { IfSome result.1 (λ store. IsClean (store_view store) →
+        task.now ≡ Init → HaveNoTables (image_at S.Start) → IsCreated result.0) }
+    // No club is created where there is one, sound or damaged.
+    ensures existing { IfSome result.1 (λ store. IsClean (store_view store) →
+        task.now ≡ Init → HaveClubTables (image_at S.Start) →
+        OnlyUnopened result.0 IsExisting × AreKept (image_at S.Start) (store_state store).may_leave) }
     ensures answer { IfSome result.1 (λ store. IsClean (store_view store) →
         (s : ClubState) → AreFilesOf s (image_at S.Start) →
-        IfRequest order.entry.now.task (λ command. Answers result.0 (λ outcome.
+        IfRequest task.now (λ command. Answers result.0 (λ outcome.
         outcome_of outcome ≡ answered (club_step s (given command moment))))) }
     ensures given { IfSome result.1 (λ store. IsClean (store_view store) →
         (s : ClubState) → AreFilesOf s (image_at S.Start) →
-        IfBatch order.entry.now.task (λ batch. AnswersBatch s moment batch result.0)) }
+        IfBatch task.now (λ batch. AnswersBatch s moment batch result.0)) }
     ensures asked { IfSome result.1 (λ store. IsClean (store_view store) →
         (s : ClubState) → AreFilesOf s (image_at S.Start) →
-        IfAsk order.entry.now.task (λ question.
+        IfAsk task.now (λ question.
         Shows s moment question (W.contents out.old) (W.contents out.new) result.0)) }
     ensures passes { IfSome result.1 (λ store. IsClean (store_view store) →
         (s : ClubState) → AreFilesOf s (image_at S.Start) →
-        IfVerify order.entry.now.task (IsPassed result.0)) }
+        IfVerify task.now (IsPassed result.0)) }
     ensures sound { IfSome result.1 (λ store. IsClean (store_view store) →
-        IfVerify order.entry.now.task (result.0 ≡ Sound → AreSound (image_at S.Start))) }
+        IfVerify task.now (result.0 ≡ Sound → AreSound (image_at S.Start))) }
     // The schema of an accepted file is equivalent to a club's, whatever `CREATE` statements made it.
     ensures shape { IfSome result.1 (λ store. IsClean (store_view store) →
-        IfOpensClub order.entry.now.task (IfTaken result.0 (AnswerAsClub (image_at S.Start)))) }
+        IfAccepted task.now result.0 (λ version. AnswerAs version (image_at S.Start))) }
     ensures refuses { IfSome result.1 (λ store. IsClean (store_view store) →
-        IfOpensClub order.entry.now.task (IfUnopened result.0
+        IfOpensClub task.now (IfUnopened result.0
         (AreRefused (image_at S.Start) (store_state store).may_leave))) }
     ensures older { IfSome result.1 (λ store. IsClean (store_view store) →
         (them : _) (s : ClubState) → AreFirstFilesOf them s (image_at S.Start) →
-        IfOpensClub order.entry.now.task (OnlyUnopened result.0 IsOlder)) }
+        IfOpensClub task.now (OnlyUnopened result.0 IsOlder)) }
     ensures carries { IfSome result.1 (λ store. IsClean (store_view store) →
         (them : _) (s : ClubState) → AreFirstFilesOf them s (image_at S.Start) →
-        IfUpgrade order.entry.now.task (AreCarriedOver them s result.0 (store_state store).may_leave)) }
+        IfUpgrade task.now (AreCarriedOver them s result.0 (store_state store).may_leave)) }
     ensures repeats { IfSome result.1 (λ store. IsClean (store_view store) →
         (s : ClubState) → AreFilesOf s (image_at S.Start) →
-        IfUpgrade order.entry.now.task (IsRepeated result.0 ×
+        IfUpgrade task.now (IsRepeated result.0 ×
         AreKept (image_at S.Start) (store_state store).may_leave)) }
     ensures withheld { IfSome result.1 (λ store. IsClean (store_view store) →
-        IfUpgrade order.entry.now.task (IfUnopened result.0
+        IfUpgrade task.now (IfUnopened result.0
         (AreNotUpgraded (image_at S.Start) (store_state store).may_leave))) }
     ensures spares { IfSome result.1 (λ store. IsClean (store_view store) →
-        order.entry.now.task ≡ Init → result.0 ≡ Unopened Foreign →
+        task.now ≡ Init → result.0 ≡ Unopened Foreign →
         AreKept (image_at S.Start) (store_state store).may_leave) }
-    ensures silent { writes order.entry.now.task ≡ false → out.new ≡ out.old }
-    ensures history { IfSome result.1 (λ store. IsClean (store_view store) →
-        (them : _) (sessions : _) → AreReachable them sessions (image_at S.Start) →
+    ensures silent { writes task.now ≡ false → out.new ≡ out.old }
+    // From any legal state, whatever history led to it.
+    ensures next_state { IfSome result.1 (λ store. IsClean (store_view store) →
+        (them : _) (s : ClubState) → AreFilesBeside them s (image_at S.Start) →
         (left : Image) → (store_state store).may_leave left →
-        AreReachable them (sessions ++ task_sessions order.entry.now.task moment result.0) left) }
+        (found : Trees) → IsFoundIn left found → ∥ LeavesTask them s task.now moment result.0 found ∥₁) }
+    ensures history { IfSome result.1 (λ store. IsClean (store_view store) →
+        (from : _) (versions : _) (them : _) (sessions : _) →
+        AreReachable from versions them sessions (image_at S.Start) →
+        (left : Image) → (store_state store).may_leave left →
+        AreReachable from (schemas_after task.now result.0 versions) them
+        (sessions ++ task_sessions task.now moment result.0) left) }
 {
-    let conn = match open_with_retries(rt, order.file.as_str(), purpose_of(&order.task), start) {
+    let conn = match opened {
         Ok(conn) => conn,
         Err(report) => return (report, None),
     };
-    let (report, conn) = act(rt.alloc(), conn, &order.task, moment, out);
+    let (report, conn) = act(alloc, conn, task, moment, out);
     (report, Some(close(conn)))
 }

@@ -1,7 +1,7 @@
 //! Checks on a path before a file is opened there.
 //! Only the creation of a club or of a backup creates a file; nothing else touches what is not a club's file.
 
-ghost use Rattle.std.specs.Prelude.{◌≡◌, ◌≢◌, ◌⊎◌, IfErr};
+ghost use Rattle.std.specs.Prelude.{◌≡◌, ◌≢◌, ◌⊎◌, ◌<◌, IfErr, IfSome};
 ghost use Rattle.club_check.specs.declared.fault.OpenFault.TheVariants.{Foreign};
 ghost use Rattle.club_orders.specs.declared.report.Report.TheVariants.{NotOpened, Unopened};
 ghost use Rattle.club_session.specs.declared.preflight.OpenMode.TheVariants.{Making};
@@ -19,6 +19,8 @@ pub(crate) enum OpenMode {
     Making,
     /// For one order.
     Ordering,
+    /// For the orders of a batch.
+    Batching,
     /// For a serving session.
     Serving,
 }
@@ -39,9 +41,15 @@ enum PathKind {
 const BEGINNING: [u8; 16] = *b"SQLite format 3\0";
 
 // The minimum and maximum page size in bytes (file format, section 1.3.2).
-const LEAST_PAGE: usize = 512;
+const LEAST_PAGE: u64 = 512;
 
 const LARGEST_PAGE: u64 = 65_536;
+
+// The page size of a file that is not readable as a database, in bytes: SQLite's default.
+const USUAL_PAGE: u64 = 4_096;
+
+// The length of the magic header and the page size, in bytes.
+const BYTES_TO_PAGE_SIZE: u64 = 18;
 
 // The type byte of a table leaf page (file format, section 1.6). If page 1 is one, it is the whole schema table; its
 // header follows the database header of 100 bytes.
@@ -91,30 +99,49 @@ fn is_at_rest(rt: &HostRuntime, file: &str) -> bool {
     !sidecar_exists(rt, file, "-wal") && !sidecar_exists(rt, file, "-journal")
 }
 
-// The first bytes of a file, which include its first page; empty if it cannot be read.
-fn beginning_of(rt: &HostRuntime, file: &str) -> Vec<u8> {
+// The first bytes of a file, at most so many; empty if it cannot be read.
+fn beginning_of(rt: &HostRuntime, file: &str, most: u64) -> Vec<u8> {
     let mut bytes = Vec::new(rt.alloc());
     match File::open(rt, file) {
         Ok(opened) => {
-            let _read = opened.take(LARGEST_PAGE).read_to_end(&mut bytes);
+            let _read = opened.take(most).read_to_end(&mut bytes);
             bytes
         }
         Err(_) => bytes,
     }
 }
 
-// The first page, if all of it is there. Its size is a big-endian number at offset 16, where 1 means 65536 (file
-// format, section 1.3.2).
-fn first_page(bytes: &[u8]) -> Option<&[u8]> {
+// The page size in bytes, if the header has one: a big-endian number at offset 16, where 1 means 65536 (file format,
+// section 1.3.2).
+fn page_size(bytes: &[u8]) -> Option<u64>
+    ensures { IfSome result (λ size. 0 < size) }
+{
     let size = match bytes.get(16..18) {
-        Some([0, 1]) => LARGEST_PAGE as usize,
-        Some([high, low]) => usize::from(*high) * 256 + usize::from(*low),
+        Some([0, 1]) => LARGEST_PAGE,
+        Some([high, low]) => u64::from(*high) * 256 + u64::from(*low),
         _ => return None,
     };
     if size < LEAST_PAGE {
         return None;
     }
-    bytes.get(..size)
+    Some(size)
+}
+
+/// The page size of a file, in bytes; SQLite's default if the file has none.
+pub(crate) fn page_bytes(rt: &HostRuntime, file: &str) -> u64
+    ensures { 0 < result }
+{
+    let bytes = beginning_of(rt, file, BYTES_TO_PAGE_SIZE);
+    match page_size(bytes.as_slice()) {
+        Some(size) => size,
+        None => USUAL_PAGE,
+    }
+}
+
+// The first page, if all of it is there.
+fn first_page(bytes: &[u8]) -> Option<&[u8]> {
+    let size = page_size(bytes)?;
+    bytes.get(..size as usize)
 }
 
 // Whether page 1 is the whole schema table and does not name a club's table.
@@ -128,7 +155,7 @@ fn lists_no_club(page: &[u8]) -> bool {
 // The kind of a file that is not empty. If it has a write-ahead log, the log decides what the database holds: a torn
 // write may have left anything in the file.
 fn kind_of(rt: &HostRuntime, file: &str) -> PathKind {
-    let bytes = beginning_of(rt, file);
+    let bytes = beginning_of(rt, file, LARGEST_PAGE);
     if !bytes.starts_with(&BEGINNING) {
         return if sidecar_exists(rt, file, "-wal") {
             PathKind::Database

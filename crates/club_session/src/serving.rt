@@ -1,14 +1,19 @@
 //! A serving session: open the club, serve it, release it.
 
-ghost use Rattle.std.specs.Prelude.{◌≡◌, false, true, None, IfSome};
+ghost use Rattle.std.specs.Prelude.{◌≡◌, ◌++◌, false, true, List, None, IfSome};
 ghost use Rattle.sqlite.specs.State.{HasCleanDisk, Opens, IsLive};
 ghost use Rattle.sqlite.specs.Held.{state};
+ghost use Rattle.sqlite.specs.Tree.{Trees};
 ghost use Rattle.store.specs.Histories.{HasState, IsReachable, IsHistory};
 ghost use Rattle.store_tables.specs.Placed.{HasClubTables};
 ghost use Rattle.store_tables.specs.declared.names.Version.TheVariants.{Current};
 ghost use Rattle.schema_match.specs.Shapes.{is_of_club};
 ghost use Rattle.club_rows.specs.Club.{ClubState, IsClub};
 ghost use Rattle.club_check.specs.Refused.{HoldClub};
+ghost use Rattle.server.specs.declared.connections.Served.{Served};
+ghost use Rattle.club_session.specs.Acknowledged.{IsAfter, IsLedTo, IsSettled};
+ghost use Rattle.club_session.specs.Served.{DeskState};
+ghost use Rattle.club_session.specs.ServedStates.{IsServed};
 ghost use Rattle.club_session.specs.ToldFault.{IfOpened, IsOfClub, IsReportedFault, fault_after};
 ghost use Rattle.club_session.specs.Turns.{IsHistoryOn, IsReachableOn};
 
@@ -32,19 +37,24 @@ fn serve_open<S: Alter, V: Connections>(
         HasCleanDisk (state S.Store club.old.club.connection) }
     ensures told { result ≡ club.new.club.needs_reopening }
     ensures stands { result ≡ false → HasCleanDisk (state S.Store club.new.club.connection) →
-        (them : _) (sessions : _) → IsHistory them sessions (state S.Store club.old.club.connection) →
-        IsHistoryOn them sessions (state S.Store club.new.club.connection) }
-    ensures history { HasCleanDisk (state S.Store club.new.club.connection) → (them : _) (sessions : _) →
-        IsHistory them sessions (state S.Store club.old.club.connection) →
-        IsReachableOn them sessions (state S.Store club.new.club.connection) }
+        (from : _) (them : _) (sessions : _) →
+        IsHistory from Current them sessions (state S.Store club.old.club.connection) →
+        IsHistoryOn from Current them sessions (state S.Store club.new.club.connection) }
+    ensures history { HasCleanDisk (state S.Store club.new.club.connection) → (from : _) (them : _) (sessions : _) →
+        IsHistory from Current them sessions (state S.Store club.old.club.connection) →
+        IsReachableOn from Current them sessions (state S.Store club.new.club.connection) }
+    ensures acknowledged { (before : List Served) → V.HasServed visits.old before → (items : List Served) ×
+        V.HasServed visits.new (before ++ items) × (HasCleanDisk (state S.Store club.new.club.connection) →
+        (s : DeskState) → IsServed false (state S.Store club.old.club.connection) s →
+        IsAfter club.new.club.needs_reopening (state S.Store club.new.club.connection) s items) }
 {
     requests_keep_clubs();
     for _ in 0..u64::MAX {
-        let goes_on = visits.serve_next(alloc, club);
+        let item = visits.serve_next(alloc, club);
         if club.club.needs_reopening() {
             return true;
         }
-        if !goes_on {
+        if item.is_none() {
             return false;
         }
     }
@@ -69,8 +79,12 @@ fn fault_after(has_failed: bool) -> Option<ClubFault>
 ///
 /// # Guarantees
 ///
-/// - `history`: any crash leaves a state that the history leads to, with commands of members and of the officer added.
-/// - `stands`: without a fault none of these commands was cut off.
+/// - `history`: any crash leaves a state that the history leads to, with commands of members and of the officer added, in
+///   the schema that was there.
+/// - `stands`: without a fault none of these commands was cut off, and the club is of schema 2.
+/// - `acknowledged`: any crash leaves a state to which the requests and orders lead that `visits` served, in order. Each
+///   reply that was sent is the one that the state before it determines, and its effect is in.
+/// - `answered`: without a fault this state is the same, whatever a crash leaves.
 /// - `told`: the reported fault is a right one; an unopened file stays as it was.
 /// - `accepts_sound`: for a sound club file the fault is `Reopen`, `Store` or `Memory`.
 pub fn serve_club<S: Alter, V: Connections>(
@@ -82,14 +96,29 @@ pub fn serve_club<S: Alter, V: Connections>(
     ensures idle { result.1.in_transaction ≡ false }
     ensures clean { HasCleanDisk (state S.Store result.1) → HasCleanDisk (state S.Store conn) }
     ensures history { HasCleanDisk (state S.Store result.1) → Opens (state S.Store conn) → IsLive (state S.Store conn) →
-        (them : _) (sessions : _) → IsReachable them sessions (state S.Store conn).committed.trees →
-        IsReachableOn them sessions (state S.Store result.1) }
+        (from version : _) (them : _) (sessions : _) →
+        IsReachable from version them sessions (state S.Store conn).committed.trees →
+        IsReachableOn from version them sessions (state S.Store result.1) }
     ensures stands { HasCleanDisk (state S.Store result.1) → Opens (state S.Store conn) →
         IsLive (state S.Store conn) → result.0 ≡ None →
-        (them : _) (sessions : _) → IsReachable them sessions (state S.Store conn).committed.trees →
-        IsHistoryOn them sessions (state S.Store result.1) }
+        (from version : _) (them : _) (sessions : _) →
+        IsReachable from version them sessions (state S.Store conn).committed.trees →
+        (version ≡ Current) × IsHistoryOn from Current them sessions (state S.Store result.1) }
     ensures told { HasCleanDisk (state S.Store result.1) →
         IsReportedFault (state S.Store conn) (state S.Store result.1) result.0 }
+    // Whatever a crash leaves is a state to which the items lead that were served, in order. So it has the effect of each
+    // acknowledged one.
+    ensures acknowledged { (before : List Served) → V.HasServed visits.old before → (items : List Served) ×
+        V.HasServed visits.new (before ++ items) × (HasCleanDisk (state S.Store result.1) →
+        Opens (state S.Store conn) → IsLive (state S.Store conn) →
+        (s : ClubState) → IsClub s → HasState s (state S.Store conn).committed.trees →
+        (db : Trees) → (state S.Store result.1).may_leave db → IsLedTo s items db) }
+    ensures answered { result.0 ≡ None →
+        (before : List Served) → V.HasServed visits.old before → (items : List Served) ×
+        V.HasServed visits.new (before ++ items) × (HasCleanDisk (state S.Store result.1) →
+        Opens (state S.Store conn) → IsLive (state S.Store conn) →
+        (s : ClubState) → IsClub s → HasState s (state S.Store conn).committed.trees →
+        IsSettled s items (state S.Store result.1).may_leave) }
     ensures taken { HasCleanDisk (state S.Store result.1) → Opens (state S.Store conn) → IsLive (state S.Store conn) →
         HasClubTables (state S.Store conn).now.schema →
         IfOpened result.0 (HoldClub (state S.Store conn).committed.trees) }

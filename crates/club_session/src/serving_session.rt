@@ -1,15 +1,18 @@
 //! One serving session over a club's files, from opening to closing.
 
-ghost use Rattle.std.specs.Prelude.{◌≡◌, ◌⊎◌, Option, None, Ok, Err, IfSome, IfOk};
+ghost use Rattle.std.specs.Prelude.{◌≡◌, ◌⊎◌, ◌∷◌, ◌++◌, [], List, Option, None, Ok, Err, IfSome, IfOk};
 ghost use Rattle.sqlite_wal.specs.Files.{image_at};
 ghost use Rattle.sqlite_wal.specs.Recovery.{Image};
 ghost use Rattle.sqlite_store.specs.FileStore.{state as store_state, view as store_view};
 ghost use Rattle.sqlite_trees.specs.View.{IsClean};
+ghost use Rattle.store_tables.specs.declared.names.Version.TheVariants.{Current};
 ghost use Rattle.store_files.specs.Finds.{AreReachable};
 ghost use Rattle.club_check.specs.declared.fault.OpenFault.TheVariants.{Foreign};
 ghost use Rattle.club_orders.specs.declared.report.Report.TheVariants.{InUse, NotOpened, Unopened};
 ghost use Rattle.club_rows.specs.Club.{ClubState};
 ghost use Rattle.http_desk.specs.declared.faults.ClubFault as desk_fault;
+ghost use Rattle.server.specs.declared.connections.Served.{Served};
+ghost use Rattle.club_session.specs.Acknowledged.{AreLedTo, AreSettled};
 ghost use Rattle.club_session.specs.ToldFault.{IfOpened, IsOfClub};
 ghost use Rattle.club_session.specs.Found.{AnswerAsClub, AreFilesOf, AreSound, IsSessionFault};
 ghost use Rattle.club_session.specs.ReachableOn.{AreReachableOn, AreReachableWhole};
@@ -31,8 +34,12 @@ use store_files::close;
 /// # Guarantees
 ///
 /// - `history`: whatever a crash leaves, the next opening finds a state that the earlier history and commands of members
-///   and of the officer lead to.
-/// - `whole`: without a fault none of these commands was cut off.
+///   and of the officer lead to, in the schema that was there.
+/// - `whole`: without a fault none of these commands was cut off, and the club is of schema 2.
+/// - `acknowledged`: whatever a crash leaves, the next opening finds a state to which the requests and orders lead that
+///   `visits` served, in order. Each reply that was sent is the one that the state before it determines, and its effect
+///   is in. Without an opened file nothing is served (`unserved`).
+/// - `answered`: without a fault this state is the same, whatever a crash leaves.
 /// - `told`, `taken`: a rejected file is unchanged and the reason is true; an accepted file holds a legal club.
 /// - `accepts_sound`: over a legal club, only a failed call or lack of memory is a fault.
 pub fn serve_files<S: RepeatableStart, V: Connections>(
@@ -47,11 +54,27 @@ pub fn serve_files<S: RepeatableStart, V: Connections>(
     ensures unopened { result.1 ≡ None →
         ((result.0 ≡ Err InUse) ⊎ (result.0 ≡ Err NotOpened)) ⊎ (result.0 ≡ Err (Unopened Foreign)) }
     ensures history { IfSome result.1 (λ store. IsClean (store_view store) →
-        (them : _) (sessions : _) → AreReachable them sessions (image_at S.Start) →
-        (left : Image) → (store_state store).may_leave left → AreReachableOn them sessions left) }
+        (from : _) (versions : _) (them : _) (sessions : _) →
+        AreReachable from versions them sessions (image_at S.Start) →
+        (left : Image) → (store_state store).may_leave left → AreReachableOn from versions them sessions left) }
     ensures whole { IfSome result.1 (λ store. IsClean (store_view store) → result.0 ≡ Ok None →
-        (them : _) (sessions : _) → AreReachable them sessions (image_at S.Start) →
-        (left : Image) → (store_state store).may_leave left → AreReachableWhole them sessions left) }
+        (from : _) (versions : _) (them : _) (sessions : _) →
+        AreReachable from versions them sessions (image_at S.Start) →
+        (left : Image) → (store_state store).may_leave left →
+        AreReachableWhole from (Current ∷ []) them sessions left) }
+    // Whatever a crash leaves, the next opening finds a state to which the items lead that were served, in order. So it
+    // has the effect of each acknowledged one.
+    ensures acknowledged { IfSome result.1 (λ store.
+        (before : List Served) → V.HasServed visits.old before → (items : List Served) ×
+        V.HasServed visits.new (before ++ items) × (IsClean (store_view store) →
+        (s : ClubState) → AreFilesOf s (image_at S.Start) →
+        (left : Image) → (store_state store).may_leave left → AreLedTo s items left)) }
+    ensures answered { IfSome result.1 (λ store. result.0 ≡ Ok None →
+        (before : List Served) → V.HasServed visits.old before → (items : List Served) ×
+        V.HasServed visits.new (before ++ items) × (IsClean (store_view store) →
+        (s : ClubState) → AreFilesOf s (image_at S.Start) →
+        AreSettled s items (store_state store).may_leave)) }
+    ensures unserved { result.1 ≡ None → visits.new ≡ visits.old }
     ensures told { IfSome result.1 (λ store. IsClean (store_view store) →
         (told : Option desk_fault.ClubFault) × (result.0 ≡ Ok told) ×
         IsSessionFault (image_at S.Start) (store_state store).may_leave told) }

@@ -8,7 +8,7 @@ use club_requests::{
 use http_desk::{
     AttributedReply, ClubFault, ClubService, DeskFault, Routes, UnavailableClub, answer,
 };
-use server::{Countdown, Deadline, serve_one};
+use server::{Connection, Countdown, Deadline, serve_one};
 use squares::Score;
 use std::alloc::{AllocError, Global};
 use std::io;
@@ -415,29 +415,30 @@ fn a_slow_peer_is_given_up(rt: HostRuntime) -> Result<(), Fail> {
     };
     let bytes = request(alloc, "POST /games/8/moves/1", "{\"move\":\"7g7f\"}")?;
     let mut club = new_club();
-    let mut reply = Vec::new(alloc);
-    let slow = Dripping { bytes: &bytes };
-    let mut reader = Deadline::new(slow, Calls { left: 50 });
+    let mut slow = Connection {
+        reader: Deadline::new(Dripping { bytes: &bytes }, Calls { left: 50 }),
+        writer: Vec::new(alloc),
+    };
     let done = serve_one(
         alloc,
         &routes,
         Vec::new(alloc),
-        &mut reader,
-        &mut reply,
+        &mut slow,
         &mut club,
         moment,
     );
     assert!(rt; done.err() == Some(DeskFault::Read));
-    assert!(rt; reply.is_empty());
+    assert!(rt; slow.writer.is_empty());
     assert!(rt; !club.played);
-    let mut in_time = Deadline::new(bytes.as_slice(), Calls { left: 50 });
-    let mut writer = Deadline::new(&mut reply, Calls { left: 1 });
+    let mut in_time = Connection {
+        reader: Deadline::new(bytes.as_slice(), Calls { left: 50 }),
+        writer: Deadline::new(slow.writer, Calls { left: 1 }),
+    };
     let done = serve_one(
         alloc,
         &routes,
         Vec::new(alloc),
         &mut in_time,
-        &mut writer,
         &mut club,
         moment,
     );
@@ -454,49 +455,47 @@ fn a_reply_that_is_lost_is_given_again(rt: HostRuntime) -> Result<(), Fail> {
         return Ok(());
     };
     let bytes = request(alloc, "POST /games/8/moves/1", "{\"move\":\"7g7f\"}")?;
-    let mut undisturbed = Vec::new(alloc);
-    let mut reader = bytes.as_slice();
+    let mut undisturbed = Connection {
+        reader: bytes.as_slice(),
+        writer: Vec::new(alloc),
+    };
     let done = serve_one(
         alloc,
         &routes,
         Vec::new(alloc),
-        &mut reader,
         &mut undisturbed,
         &mut new_club(),
         moment,
     );
     assert!(rt; done.is_ok());
+    let undisturbed = undisturbed.writer;
     let mut club = new_club();
     for n in 0..undisturbed.len() {
         let mut room = [0_u8; 256];
-        let Some(mut part) = room.get_mut(..n) else {
+        let Some(part) = room.get_mut(..n) else {
             return Ok(());
         };
-        let mut reader = bytes.as_slice();
-        let done = serve_one(
-            alloc,
-            &routes,
-            Vec::new(alloc),
-            &mut reader,
-            &mut part,
-            &mut club,
-            moment,
-        );
+        let mut cut = Connection {
+            reader: bytes.as_slice(),
+            writer: part,
+        };
+        let done = serve_one(alloc, &routes, Vec::new(alloc), &mut cut, &mut club, moment);
         assert!(rt; done.err() == Some(DeskFault::Write));
         assert!(rt; undisturbed.starts_with(&room[..n]));
-        let mut again = Vec::new(alloc);
-        let mut reader = bytes.as_slice();
+        let mut again = Connection {
+            reader: bytes.as_slice(),
+            writer: Vec::new(alloc),
+        };
         let done = serve_one(
             alloc,
             &routes,
             Vec::new(alloc),
-            &mut reader,
             &mut again,
             &mut club,
             moment,
         );
         assert!(rt; done.is_ok());
-        assert!(rt; again.as_slice() == undisturbed.as_slice());
+        assert!(rt; again.writer.as_slice() == undisturbed.as_slice());
     }
     Ok(())
 }

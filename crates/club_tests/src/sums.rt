@@ -1,6 +1,7 @@
 //! Sums of scores at the limits of their range.
 
 use crate::words::text_of;
+use club_core::Pairing;
 use club_rows::score_after;
 use cross_tables::{OpponentScore, ScoreTotals, Standing, Standings, StandingsFault};
 use squares::Score;
@@ -49,5 +50,10 @@ fn sums_that_do_not_fit_give_no_rows(rt: HostRuntime) {
         draws: 0,
         losses: 0,
     };
-    assert!(rt; score_after(1, 1, 2, Score::FirstWins, Some(&full), None) == None);
+    let pairing = Pairing {
+        event: 1,
+        first: 1,
+        second: 2,
+    };
+    assert!(rt; score_after(pairing, Score::FirstWins, Some(&full), None) == None);
 }

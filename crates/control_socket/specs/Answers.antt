@@ -3,6 +3,7 @@ use Rattle.std.specs.Prelude.{◌≡◌, ◌≢◌, ◌<◌, ◌++◌, ◌^◌, 
 use Rattle.std.specs.Prelude.{length, if◌then◌else◌}
 use Rattle.control_socket.specs.declared.answers.OrderAnswer.{OrderAnswer}
 
+-- exit status 0 if the order was done, now or before; 1 if it was refused
 abbrev pub status_text : Bool → List ℕ
 status_text done = if done then codes "0 " else codes "1 "
 

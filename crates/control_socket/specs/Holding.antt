@@ -1,10 +1,5 @@
 -- The policy for releasing the file.
-use Rattle.std.specs.Prelude.{ℕ, Bool, ◌&&◌, ◌||◌, ◌==◌, ◌*◌, max, min}
-use Rattle.std.specs.Duration.{max_nanos}
-
--- The idle time in nanoseconds: ten times that of the opening, and at least a second.
-abbrev pub idle_timeout : ℕ → ℕ
-idle_timeout opening = max 1_000_000_000 (min (opening * 10) max_nanos)
+use Rattle.std.specs.Prelude.{ℕ, Bool, ◌&&◌, ◌||◌, ◌==◌}
 
 -- The file is released to a waiting process once the requests that were queued during the opening are served.
 abbrev pub should_release : Bool → ℕ → ℕ → Bool

@@ -9,7 +9,7 @@ ghost use Rattle.control_socket.specs.Said.{encode_order};
 
 use crate::answers::{OrderAnswer, hear_answer};
 use crate::frames::encode_order;
-use crate::listener::socket_path;
+use crate::peers::connect;
 use crate::writing::write_reply;
 use clocks::Moment;
 use std::alloc::{AllocError, Global};
@@ -103,8 +103,7 @@ pub fn order(
     moment: Moment,
     text: &[u8],
 ) -> Option<OrderAnswer> {
-    let path = socket_path(rt.alloc(), file).ok()?;
-    let stream = UnixStream::connect(rt, path.as_str()).ok()?;
+    let stream = connect(rt, file)?;
     limited(&stream).ok()?;
     send_order(rt.alloc(), &mut &stream, words, moment, text)?;
     hear_answer(rt.alloc(), &mut &stream).ok()?

@@ -1,6 +1,22 @@
-//! The control socket of the server: command lines send it commands and queries, or lease the database file from it.
+//! The control socket of the server: command lines send it commands and queries, or have it release the database file.
 //!
 //! It is a Unix domain socket beside the file, for the file's owner alone.
+//!
+//! # Guarantees
+//!
+//! - `encode_order`, `send_order`, `decode_frame` (`is`, `whole`, `part`), `joined` (`joined`, `parted`): an order is
+//!   decoded as it was encoded: timestamp, words and record. A part of an order is waited for.
+//! - `encode_answer`, `hear_answer`: an answer is decoded as it was encoded, its status and its text.
+//! - `PendingPeer::hear`, `PendingPeer::wish` (`received`): what is added to a message is what was read, in order.
+//! - `operation_in`, `parse_request`: only a command or a query is an operation; an order that needs the file for
+//!   itself is none.
+//! - `serve_order` (`obeys`, `tells`): an order is executed once or not at all, and nothing is answered before. The
+//!   answer is the print of the club's answer, or a prefix if writing fails.
+//! - `print_answered` (`printed`, `small`): the command line prints exactly that, with its status, or a prefix if its
+//!   stream fails.
+//! - `should_release`: the file is released on request as soon as no request is queued from its opening.
+//! - `owner_alone`, `is_trusted`: the socket has mode 0600. A socket is trusted only if it belongs to the file's owner
+//!   or to root.
 #![tactic(auto)]
 
 mod answers;
@@ -10,12 +26,13 @@ mod frames;
 mod hold;
 mod listener;
 mod orders;
+mod peers;
 mod reading;
 mod writing;
 
 pub use answers::OrderAnswer;
 pub use client::{order, print_answered};
-pub use hold::{idle_timeout, should_release};
+pub use hold::should_release;
 pub use listener::{CONTROL_TOKEN, ControlListener, FileLease, PendingOrder, request_lease};
 pub use orders::{Operation, OrderFault, serve_order};
 pub use writing::write_reply;

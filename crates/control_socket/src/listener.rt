@@ -2,27 +2,27 @@
 //!
 //! A lease lasts until its holder disconnects.
 
-ghost use Rattle.std.specs.Prelude.{◌≡◌, ◌++◌, ℕ, List, None, IfOk, codes, string_bytes};
+ghost use Rattle.std.specs.Prelude.{◌≡◌, ◌≢◌, ◌++◌, None, IfOk, codes, string_bytes, true};
 ghost use Rattle.std.specs.Fs.{permissions_mode};
+ghost use Rattle.control_socket.specs.Received.{HasReceived};
 ghost use Rattle.control_socket.specs.Wishes.{IsHeard};
+ghost use Rattle.control_socket.specs.declared.control_requests.ControlRequest.TheVariants as wish_is;
 
 use crate::control_requests::{ControlRequest, parse_request};
 use crate::frames::{FILE, MOST_SAID};
 use crate::orders::Operation;
+use crate::peers::connect;
 use clocks::Moment;
 use mio::unix::SourceFd;
 use mio::{Interest, Poll, Token};
 use std::alloc::{AllocError, Global};
-use std::fs::{Permissions, metadata};
+use std::fs::{DirBuilder, Permissions, metadata};
 use std::io::{ErrorKind, Read, Write};
 use std::os::fd::AsRawFd;
-use std::os::unix::fs::{FileTypeExt, MetadataExt, PermissionsExt};
+use std::os::unix::fs::{DirBuilderExt, FileTypeExt, MetadataExt, PermissionsExt};
 use std::os::unix::net::{UnixListener, UnixStream};
 use std::time::Duration;
 use std::{fs, io};
-
-// The most connections closed unread when the socket is opened: they may predate its permissions.
-const MOST_EARLY: usize = 256;
 
 // The longest wait for a lease.
 const ASKING_SECONDS: u64 = 5;
@@ -50,6 +50,14 @@ pub(crate) fn socket_path(alloc: Global, file: &str) -> Result<String, AllocErro
     format!(in alloc; "{file}-desk")
 }
 
+// The path of a folder beside a file, for a socket without its permissions. A socket in it has a path as long as the
+// control socket's, since the system limits that length.
+fn private_folder(alloc: Global, file: &str) -> Result<String, AllocError>
+    ensures { IfOk result (λ path. string_bytes path ≡ file.now ++ codes "-sk") }
+{
+    format!(in alloc; "{file}-sk")
+}
+
 /// A lease of a file that a server has released; it ends when dropped.
 #[derive(Drop)]
 pub struct FileLease {
@@ -68,31 +76,27 @@ fn hear_answer(guest: &UnixStream) -> io::Result<()> {
 /// Leases a file from the server that holds it; `None` if no server does. After at most five seconds it returns
 /// `Some` also without a grant.
 pub fn request_lease(rt: &HostRuntime, file: &str) -> Option<FileLease> {
-    let Ok(path) = socket_path(rt.alloc(), file) else {
-        return None;
-    };
-    let Ok(guest) = UnixStream::connect(rt, path.as_str()) else {
-        return None;
-    };
+    let guest = connect(rt, file)?;
     let _answered = hear_answer(&guest);
     Some(FileLease { _guest: guest })
 }
 
-// A connection with an incomplete message.
+// A connection with an incomplete message, over a stream of any type: its code cannot make bytes of its own.
 #[derive(Drop)]
-struct PendingPeer {
-    stream: UnixStream,
+struct PendingPeer<T> {
+    stream: T,
     said: Vec<u8>,
 }
 
-impl PendingPeer {
+impl<T: Read> PendingPeer<T> {
     // Reads the available bytes; `false` at the end of input, at a fault or if the message is too long.
     fn hear(&mut self) -> bool
-        ensures { (more : List ℕ) × (self.new.said.items ≡ self.old.said.items ++ more) }
+        ensures { HasReceived (result ≡ true) self.old.said.items self.new.said.items
+            (T.remaining self.old.stream) (T.remaining self.new.stream) }
     {
         let mut piece = [0_u8; PIECE_BYTES];
         for _ in 0..u64::MAX {
-            match (&self.stream).read(&mut piece) {
+            match self.stream.read(&mut piece) {
                 Ok(n) => {
                     if n == 0 || self.said.len() > MOST_SAID {
                         return false;
@@ -113,7 +117,9 @@ impl PendingPeer {
 
     // Reads and parses the message; `Nothing` if reading ends or out of memory.
     fn wish(&mut self, alloc: Global) -> ControlRequest
-        ensures { IsHeard self.new.said.items result }
+        ensures heard { IsHeard self.new.said.items result }
+        ensures received { HasReceived (result ≢ wish_is.Nothing) self.old.said.items self.new.said.items
+            (T.remaining self.old.stream) (T.remaining self.new.stream) }
     {
         if !self.hear() {
             return ControlRequest::Nothing;
@@ -145,7 +151,7 @@ pub struct ControlListener<'a> {
     number: Option<u64>,
     listener: UnixListener,
     // Connections with an incomplete message.
-    hearing: Vec<PendingPeer>,
+    hearing: Vec<PendingPeer<UnixStream>>,
     // Orders, and connections that wait for a lease; oldest first.
     orders: Vec<PendingOrder>,
     asking: Vec<UnixStream>,
@@ -157,6 +163,54 @@ fn owner_alone() -> Permissions
     ensures { permissions_mode result ≡ 0o600 }
 {
     Permissions::from_mode(0o600)
+}
+
+// Makes a folder that only its owner can enter, in place of one that a server which was killed left with its socket.
+fn make_private(rt: &HostRuntime, folder: &str, socket: &str) -> io::Result<()> {
+    let mut builder = DirBuilder::new();
+    builder.mode(0o700);
+    match builder.create(rt, folder) {
+        Err(error) if error.kind() == ErrorKind::AlreadyExists => {
+            let _cleared = fs::remove_file(rt, socket);
+            fs::remove_dir(rt, folder)?;
+            builder.create(rt, folder)
+        }
+        made => made,
+    }
+}
+
+// Listens at a path, and gives the socket its permissions (mode 600) and then a second path.
+fn listen_at(rt: &HostRuntime, socket: &str, path: &str) -> io::Result<UnixListener> {
+    let listener = UnixListener::bind(rt, socket)?;
+    fs::set_permissions(rt, socket, owner_alone())?;
+    listener.set_nonblocking(true)?;
+    fs::hard_link(rt, socket, path)?;
+    Ok(listener)
+}
+
+// Listens at the path of the control socket of a file, where nothing stands. Nobody but the owner can connect at any
+// time: the socket is made in a folder that only its owner can enter.
+fn listen_alone(rt: &HostRuntime, file: &str, path: &str) -> io::Result<UnixListener> {
+    let folder = private_folder(rt.alloc(), file)?;
+    let socket = format!(in rt.alloc(); "{folder}/s")?;
+    make_private(rt, folder.as_str(), socket.as_str())?;
+    let listener = listen_at(rt, socket.as_str(), path);
+    let _cleared = fs::remove_file(rt, socket.as_str());
+    let _cleared = fs::remove_dir(rt, folder.as_str());
+    listener
+}
+
+// Makes way for a new socket at a path: the socket of a server that has ended is removed.
+fn remove_stale(rt: &HostRuntime, path: &str) -> io::Result<()> {
+    match UnixStream::connect(rt, path) {
+        Ok(_) => Err(io::Error::from(ErrorKind::AddrInUse)),
+        Err(error) if error.kind() == ErrorKind::NotFound => Ok(()),
+        Err(error) if error.kind() == ErrorKind::ConnectionRefused => match socket_at(rt, path) {
+            Some(_) => fs::remove_file(rt, path),
+            None => Ok(()),
+        },
+        Err(error) => Err(error),
+    }
 }
 
 // The inode of the socket at a path, if one exists.
@@ -175,16 +229,12 @@ impl<'a> ControlListener<'a> {
     /// # Errors
     ///
     /// - `AddrInUse` if another server listens on it.
-    /// - An `io::Error` if the socket cannot be made or registered, or if out of memory.
+    /// - An `io::Error` if a socket that stands there cannot be asked, or if the socket cannot be made or registered, or
+    ///   if out of memory.
     pub fn open(rt: &'a HostRuntime, file: &str, poll: &Poll) -> io::Result<ControlListener<'a>> {
         let path = socket_path(rt.alloc(), file)?;
-        if UnixStream::connect(rt, path.as_str()).is_ok() {
-            return Err(io::Error::from(ErrorKind::AddrInUse));
-        }
-        if socket_at(rt, path.as_str()).is_some() {
-            fs::remove_file(rt, path.as_str())?;
-        }
-        let listener = UnixListener::bind(rt, path.as_str())?;
+        remove_stale(rt, path.as_str())?;
+        let listener = listen_alone(rt, file, path.as_str())?;
         let number = socket_at(rt, path.as_str());
         let door = ControlListener {
             rt,
@@ -196,19 +246,12 @@ impl<'a> ControlListener<'a> {
             asking: Vec::new(rt.alloc()),
             lease_holder: None,
         };
-        door.guard(poll)?;
+        door.register(poll)?;
         Ok(door)
     }
 
-    // Restricts the socket to its owner (mode 600), and registers it with the poll.
-    fn guard(&self, poll: &Poll) -> io::Result<()> {
-        fs::set_permissions(self.rt, self.path.as_str(), owner_alone())?;
-        self.listener.set_nonblocking(true)?;
-        for _ in 0..MOST_EARLY {
-            if self.listener.accept().is_err() {
-                break;
-            }
-        }
+    // Registers the socket with the poll.
+    fn register(&self, poll: &Poll) -> io::Result<()> {
         let descriptor = self.listener.as_raw_fd();
         poll.registry().register(
             &mut SourceFd(&descriptor),
@@ -271,7 +314,7 @@ impl<'a> ControlListener<'a> {
     }
 
     // Queues a connection by its message, or closes it.
-    fn place(&mut self, asker: PendingPeer, wish: ControlRequest) {
+    fn place(&mut self, asker: PendingPeer<UnixStream>, wish: ControlRequest) {
         let PendingPeer { stream, .. } = asker;
         match wish {
             ControlRequest::File => {

@@ -1,12 +1,14 @@
 //! Execution of orders on the server.
 
-ghost use Rattle.std.specs.Prelude.{◌≡◌, ◌++◌, ℕ, List, IfOk, codes};
+ghost use Rattle.std.specs.Prelude.{◌≡◌, ◌++◌, ℕ, List, Err, IfOk, codes};
 ghost use Rattle.club_requests.specs.AnswerText.{outcome_text};
+ghost use Rattle.http_desk.specs.declared.faults.ClubFault.{ClubFault};
 ghost use Rattle.http_desk.specs.Served.{IsOfCall, Serves};
 ghost use Rattle.http_bodies.specs.ShownViews.{shown_view};
 ghost use Rattle.control_socket.specs.Orders.{HasRunOperation, HasSentAnswer, IsPrinted, state_after};
 ghost use Rattle.control_socket.specs.Printed.{print_of, printed, shown_printed};
 ghost use Rattle.control_socket.specs.declared.orders.Operation.TheVariants as errand_is;
+ghost use Rattle.control_socket.specs.declared.orders.OrderFault.TheVariants.{NotDone};
 
 use crate::answers::{OrderAnswer, encode_answer};
 use crate::writing::write_reply;
@@ -81,6 +83,7 @@ fn give<C: ClubService>(
     moment: Moment,
 ) -> Result<OrderAnswer, ClubFault>
     ensures clean { C.IsClean club.new → C.IsClean club.old }
+    ensures shut { (fault : ClubFault) → C.IsShut club.old fault → (result ≡ Err fault) × C.IsShut club.new fault }
     ensures serves { C.IsClean club.new → (s : C.State) → C.Stands club.old s →
         Serves (C.Stands club.new) (C.Leaves club.new) s
         (state_after C.club s moment (errand_is.Command command.now)) (λ printed.
@@ -104,6 +107,7 @@ fn ask<C: ClubService>(
     moment: Moment,
 ) -> Result<OrderAnswer, ClubFault>
     ensures clean { C.IsClean club.new → C.IsClean club.old }
+    ensures shut { (fault : ClubFault) → C.IsShut club.old fault → (result ≡ Err fault) × C.IsShut club.new fault }
     ensures serves { C.IsClean club.new → (s : C.State) → C.Stands club.old s →
         Serves (C.Stands club.new) (C.Leaves club.new) s s (λ printed.
         IsPrinted C.club s moment (errand_is.Question question.now) (print_of printed.is_done printed.text.items))
@@ -126,6 +130,7 @@ fn obey<C: ClubService>(
     moment: Moment,
 ) -> Result<OrderAnswer, ClubFault>
     ensures clean { C.IsClean club.new → C.IsClean club.old }
+    ensures shut { (fault : ClubFault) → C.IsShut club.old fault → (result ≡ Err fault) × C.IsShut club.new fault }
     ensures serves { C.IsClean club.new → (s : C.State) → C.Stands club.old s →
         Serves (C.Stands club.new) (C.Leaves club.new) s (state_after C.club s moment errand.now)
         (λ printed. IsPrinted C.club s moment errand.now (print_of printed.is_done printed.text.items))
@@ -149,6 +154,7 @@ fn obey<C: ClubService>(
 ///
 /// - `obeys`: the operation takes effect once or not at all.
 /// - `tells`: nothing is sent before it has taken effect.
+/// - `shut`: nothing is sent for a club that is unavailable, so that the sender executes its order itself.
 pub fn serve_order<W: Write, C: ClubService>(
     alloc: Global,
     writer: &mut W,
@@ -161,6 +167,8 @@ pub fn serve_order<W: Write, C: ClubService>(
         HasRunOperation C.club (C.Stands club.new) (C.Leaves club.new) s moment errand.now }
     ensures tells { C.IsClean club.new → (s : C.State) → C.Stands club.old s →
         HasSentAnswer C.club (C.Stands club.new) s moment errand.now (W.contents writer.old) (W.contents writer.new) result }
+    ensures shut { (fault : ClubFault) → C.IsShut club.old fault → (result ≡ Err NotDone) ×
+        (W.contents writer.new ≡ W.contents writer.old) × C.IsShut club.new fault }
 {
     let printed = match obey(alloc, club, errand, moment) {
         Ok(printed) => printed,

@@ -15,9 +15,11 @@ points_cell (Some row) = Points row.sums.points
 abbrev pub row_of : List OpponentScore → ℕ → ℕ → Option OpponentScore
 row_of rows member other = find (λ row. row.member == member && row.opponent == other) rows
 
+-- The cell of a member against another member, or against himself.
 abbrev pub cell_of : List OpponentScore → ℕ → ℕ → Cell
 cell_of rows member other = if member == other then Oneself else points_cell (row_of rows member other)
 
+-- The points, `-` against oneself, or `.` if no game against the opponent has ended.
 abbrev pub cell_text : Cell → List ℕ
 cell_text Oneself = codes "-"
 cell_text Unplayed = codes "."

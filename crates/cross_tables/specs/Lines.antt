@@ -11,12 +11,15 @@ use Rattle.cross_tables.specs.Cells.{cell_text}
 unfoldable pub filler : ℕ → List ℕ → List ℕ
 filler width text = repeat (width - length text) (codes " ")
 
+-- The text, aligned to the right in a column of this width.
 abbrev pub right_in : ℕ → List ℕ → List ℕ
 right_in width text = filler width text ++ text
 
+-- The text, aligned to the left in a column of this width.
 abbrev pub left_in : ℕ → List ℕ → List ℕ
 left_in width text = text ++ filler width text
 
+-- The number, aligned to the right in a column of this width.
 abbrev pub number_in : ℕ → ℕ → List ℕ
 number_in width number = right_in width (decimal number)
 
@@ -26,9 +29,11 @@ sums_text sums =
     number_in 6 sums.points
     ++ (number_in 6 (games sums) ++ (number_in 6 sums.wins ++ (number_in 6 sums.draws ++ number_in 6 sums.losses)))
 
+-- The cells of a line, each in a column of width 6.
 abbrev pub cells_text : List Cell → List ℕ
 cells_text cells = flat_map (λ cell. right_in 6 (cell_text cell)) cells
 
+-- The first line of the cross table of an event.
 abbrev pub header_text : List ℕ → List ℕ
 header_text event = codes "Event " ++ event
 

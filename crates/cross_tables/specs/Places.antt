@@ -10,5 +10,6 @@ precedes a b =
     || (a.sums.points == b.sums.points
     && (nat_lt b.sums.wins a.sums.wins || (a.sums.wins == b.sums.wins && nat_lt a.member b.member)))
 
+-- The standings are in the order of places.
 abbrev pub AreRanked : List Standing → Type 0
 AreRanked standings = IsSortedBy precedes standings

@@ -20,6 +20,7 @@ pub record Fit (sums : ScoreTotals) : Type 0 where
   pub draws : sums.draws < 2 ^ 32
   pub losses : sums.losses < 2 ^ 32
 
+-- The number of ended games.
 abbrev pub games : ScoreTotals → ℕ
 games sums = sums.wins + sums.draws + sums.losses
 
@@ -49,6 +50,7 @@ rows_of member rows = count_by (λ row. row.member == member) rows
 abbrev pub times : ℕ → List Standing → ℕ
 times member standings = count_by (λ s. s.member == member) standings
 
+-- No member is in the standings twice.
 abbrev pub IsEachOnce : List Standing → Type 0
 IsEachOnce standings = (member : ℕ) → times member standings ≤ 1
 

@@ -1,4 +1,11 @@
 //! The cross table of an event: each member's total score, place and line.
+//!
+//! # Guarantees
+//!
+//! - `Standings::add` (`adds`), `rank` (`ranked`, `totals`), `of_rows` (`totals`, `ranked`, `only`): one total for
+//!   each member, ordered by points, wins and id. No other order is right.
+//! - `header`, `line`, `cells_of` (`cells`, `own`): the lines of a cross table are these bytes exactly. A member's own
+//!   rows are enough for their cells.
 #![tactic(auto)]
 
 pub mod cells;

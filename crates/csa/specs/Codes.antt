@@ -40,6 +40,7 @@ role_of a b =
     else if a == 84 && b == 79 then Some role.PromotedPawn
     else None
 
+-- a decimal digit
 abbrev pub is_digit : ℕ → Bool
 is_digit c = nat_le 48 c && nat_le c 57
 

@@ -4,6 +4,7 @@ use Rattle.std.specs.Str.{bytes_eq}
 use Rattle.csa.specs.declared.end_words.EndWord.{EndWord}
 use Rattle.csa.specs.declared.end_words.EndWord.TheVariants as word
 
+-- the text of a `%` statement
 abbrev pub word_text : EndWord → List ℕ
 word_text word.Resigned = codes "%TORYO"
 word_text word.TimeUp = codes "%TIME_UP"
@@ -17,6 +18,7 @@ word_text word.BlackIllegal = codes "%+ILLEGAL_ACTION"
 word_text word.WhiteIllegal = codes "%-ILLEGAL_ACTION"
 word_text word.Interrupted = codes "%CHUDAN"
 
+-- the ends whose `%` statements are known
 abbrev pub end_words : List EndWord
 end_words = word.Resigned ∷ word.TimeUp ∷ word.IllegalMove ∷ word.Mate ∷ word.Declared ∷ word.Repetition
     ∷ word.Impasse ∷ word.Draw ∷ word.BlackIllegal ∷ word.WhiteIllegal ∷ word.Interrupted ∷ []

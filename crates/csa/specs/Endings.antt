@@ -44,9 +44,11 @@ abbrev pub agrees : Score → Side → Option SEnd → Bool
 agrees claim turn None = true
 agrees claim turn (Some end) = same_score claim (outcome_of end turn)
 
+-- the claimed score, if it and the stated end agree with the rules, otherwise a fault
 abbrev pub settled : EndWord → Score → ShogiPosition → Option SEnd → Result Score CsaFault
 settled w claim p end = if fits_rules w p end && agrees claim p.turn end then Ok claim else Err fault.ResultDiffers
 
+-- the score that the stated end claims, or a fault if there is none or the rules differ
 abbrev pub claim_settled : EndWord → Option Score → ShogiPosition → Option SEnd → Result Score CsaFault
 claim_settled w None p end = Err fault.Unfinished
 claim_settled w (Some claim) p end = settled w claim p end

@@ -23,6 +23,7 @@ abbrev pub placed_of : ℕ → List ℕ → List NumberedStatement
 placed_of line [] = []
 placed_of line (c ∷ part) = record { line = line; statement = statement_of (c ∷ part) } ∷ []
 
+-- the statements of the parts of a line, all with its number
 abbrev pub placed_all : ℕ → List (List ℕ) → List NumberedStatement
 placed_all line [] = []
 placed_all line (part ∷ parts) = placed_of line part ++ placed_all line parts

@@ -16,6 +16,7 @@ are_cells (a ∷ []) = false
 are_cells (a ∷ b ∷ []) = a == 32 && b == 42
 are_cells (a ∷ b ∷ c ∷ more) = is_cell a b c && are_cells more
 
+-- nothing but spaces
 abbrev pub are_blanks : List ℕ → Bool
 are_blanks text = list_all (λ c. c == 32) text
 

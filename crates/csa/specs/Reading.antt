@@ -13,10 +13,12 @@ use Rattle.csa.specs.Lines.{text_statements}
 use Rattle.csa.specs.Order.{first_stray}
 use Rattle.csa.specs.Records.{IsRecordOf, RecordFails}
 
+-- whether a statement is the `/` that separates records
 abbrev pub is_parting : Statement → Bool
 is_parting statement.Parting = true
 is_parting _ = false
 
+-- whether a statement is a header
 abbrev pub is_header_statement : Statement → Bool
 is_header_statement statement.Header = true
 is_header_statement _ = false

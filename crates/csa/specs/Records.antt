@@ -27,6 +27,7 @@ is_even (statement.Turn First) = true
 is_even (statement.Turn Second) = false
 is_even _ = true
 
+-- whether all statements of a record agree with the even initial position
 abbrev pub begins_even : List NumberedStatement → Bool
 begins_even record_is = list_all (λ placed. is_even placed.statement) record_is
 

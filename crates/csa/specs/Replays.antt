@@ -18,6 +18,7 @@ use Rattle.csa.specs.declared.statements.Statement.TheVariants as statement
 use Rattle.csa.specs.declared.lines.NumberedStatement.{NumberedStatement}
 use Rattle.csa.specs.Moves.{Means, MeanAll}
 
+-- the written move of a statement, if it is a move
 abbrev pub written_in : Statement → List WrittenMove
 written_in (statement.Move w) = w ∷ []
 written_in _ = []

@@ -11,6 +11,7 @@ use Rattle.csa.specs.Codes.{is_digit, is_place, role_of, square_of}
 use Rattle.csa.specs.EndWords.{end_word}
 use Rattle.csa.specs.Openings.{are_pieces, is_row, is_even_row}
 
+-- the origin of a move from a square on the board, if its digits are valid
 abbrev pub board_source : Option ℕ → Option (Option ℕ)
 board_source None = None
 board_source (Some square) = Some (Some square)

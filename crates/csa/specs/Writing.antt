@@ -49,10 +49,12 @@ head_text event black white at =
     ++ (line_of (codes "N+") black ++ (line_of (codes "N-") white ++ (line_of (codes "$EVENT:") event ++
     (line_of (codes "$START_TIME:") (date_text at) ++ (line_of (codes "PI") [] ++ line_of (codes "+") [])))))
 
+-- the sign of a side, `+` for First (Black) and `-` for Second (White)
 abbrev pub side_sign : Side → ℕ
 side_sign First = 43
 side_sign Second = 45
 
+-- a square: its file and its rank as digits
 abbrev pub square_text : ℕ → List ℕ
 square_text n = (48 + file_of n) ∷ (48 + rank_of n) ∷ []
 
@@ -67,6 +69,7 @@ target_text p (Step from to promote) = square_text to ++ option_map_or (λ piece
     (map.get p.board from) []
 target_text p (Drop kind to) = square_text to ++ code_of (dropped_role kind)
 
+-- a move: the sign of the side to move, the origin, the destination and the piece's code
 abbrev pub move_text : ShogiPosition → SMove → List ℕ
 move_text p m = side_sign p.turn ∷ [] ++ (source_text m ++ target_text p m)
 
@@ -74,6 +77,7 @@ move_text p m = side_sign p.turn ∷ [] ++ (source_text m ++ target_text p m)
 abbrev pub entry_text : ShogiPosition → SMove → ℕ → List ℕ
 entry_text p m seconds = line_of (move_text p m) [] ++ line_of (codes "T") (decimal seconds)
 
+-- the moves from this position on, each with its time
 abbrev pub entries_text : ShogiPosition → List (SMove × ℕ) → List ℕ
 entries_text p [] = []
 entries_text p (e ∷ more) = entry_text p e.0 e.1 ++ entries_text (play p e.0) more
@@ -86,6 +90,7 @@ recorded_word score.SecondWins Second = word.BlackIllegal
 recorded_word score.FirstWins Second = word.Resigned
 recorded_word score.FirstWins First = word.WhiteIllegal
 
+-- the `%` statement of an end by the rules
 abbrev pub rule_word : SEnd → EndWord
 rule_word by_rule.NoMove = word.Mate
 rule_word (by_rule.PerpetualCheck First) = word.BlackIllegal
@@ -102,5 +107,6 @@ word_of (Some csa_end.Time) turn = word.TimeUp
 word_of (Some csa_end.Declared) turn = word.Declared
 word_of (Some (csa_end.Recorded claim)) turn = recorded_word claim turn
 
+-- the line with the `%` statement of an end; `turn` is the side to move
 abbrev pub end_text : Option CsaEnd → Side → List ℕ
 end_text end turn = line_of (word_text (word_of end turn)) []

@@ -33,6 +33,7 @@ heading = encodes (codes "  ９ ８ ７ ６ ５ ４ ３ ２ １\n")
 unfoldable pub border : List ℕ
 border = codes "+---------------------------+\n"
 
+-- The lines of the board: the numbers of the files, and nine ranks between two edges.
 unfoldable pub board_text : ShogiBoard → List ℕ
 board_text board = heading ++ (border ++ (ranks_text board 1 9 ++ border))
 
@@ -45,13 +46,15 @@ held_text kind (suc n) = role_name (demoted (on_board kind)) ++ (count_name (suc
 abbrev pub kinds_text : Hand → List HandKind → List ℕ
 kinds_text = lines.kinds_text held_text
 
--- The text of an empty hand.
+-- this text of a hand, or the one of an empty hand if it is empty
 abbrev pub or_none : List ℕ → List ℕ
 or_none = lines.or_else nothing
 
+-- The pieces in a hand, or the words for an empty one.
 unfoldable pub hand_text : Hand → List ℕ
 hand_text hand = or_none (kinds_text hand hand_kinds)
 
+-- The words before a side's hand: the pieces in hand of Black (sente) or White (gote).
 abbrev pub hand_name : Side → List ℕ
 hand_name First = encodes (codes "先手の持駒：")
 hand_name Second = encodes (codes "後手の持駒：")
@@ -65,6 +68,7 @@ abbrev pub turn_line : Side → List ℕ
 turn_line First = []
 turn_line Second = encodes (codes "後手番\n")
 
+-- The BOD diagram of a position.
 unfoldable pub bod_text : ShogiPosition → List ℕ
 bod_text p =
     hand_line Second p.hands.second

@@ -7,23 +7,28 @@ use Rattle.squares.specs.declared.shogi.piece.Role.{Role}
 use Rattle.squares.specs.declared.shogi.piece.Role.TheVariants as role
 use Rattle.squares.specs.declared.shogi.piece.SPiece.{SPiece}
 
--- An empty square, the numeral ten, the wide space (U+3000), and the text of an empty hand.
+-- an empty square
 unfoldable pub empty_square : List ℕ
 empty_square = encodes (codes " ・")
 
+-- The numeral ten.
 unfoldable pub ten : List ℕ
 ten = encodes (codes "十")
 
+-- The wide space (U+3000).
 unfoldable pub wide_blank : List ℕ
 wide_blank = encodes (12288 ∷ [])
 
+-- The text of an empty hand.
 unfoldable pub nothing : List ℕ
 nothing = encodes (codes "なし")
 
+-- The mark before a piece, a `v` for White's pieces and a space for Black's.
 abbrev pub side_mark : Side → List ℕ
 side_mark First = codes " "
 side_mark Second = codes "v"
 
+-- The character of a piece on the board, by its role.
 abbrev pub role_name : Role → List ℕ
 role_name role.King = encodes (codes "玉")
 role_name role.Rook = encodes (codes "飛")

@@ -31,6 +31,7 @@ ranks_text board = lines.ranks_text (rank_text board)
 unfoldable pub heading : List ℕ
 heading = codes "  9  8  7  6  5  4  3  2  1\n"
 
+-- The lines of the board: the numbers of the files, and nine ranks.
 unfoldable pub board_text : ShogiBoard → List ℕ
 board_text board = heading ++ ranks_text board 1 9
 
@@ -44,10 +45,11 @@ held_text letter (suc (suc n)) = 32 ∷ letter ∷ decimal (suc (suc n))
 abbrev pub kinds_text : Hand → List HandKind → List ℕ
 kinds_text = lines.kinds_text (λ kind n. held_text (capital (on_board kind)) n)
 
--- A hyphen for an empty hand.
+-- this text of a hand, or a hyphen if it is empty
 abbrev pub or_hyphen : List ℕ → List ℕ
 or_hyphen = lines.or_else (32 ∷ 45 ∷ [])
 
+-- The pieces in a hand, or a hyphen for an empty one.
 unfoldable pub hand_text : Hand → List ℕ
 hand_text hand = or_hyphen (kinds_text hand hand_kinds)
 
@@ -55,6 +57,7 @@ hand_text hand = or_hyphen (kinds_text hand hand_kinds)
 abbrev pub hand_line : List ℕ → Hand → List ℕ
 hand_line name hand = name ++ (hand_text hand ++ (10 ∷ []))
 
+-- The diagram of a position.
 unfoldable pub shogi_text : ShogiPosition → List ℕ
 shogi_text p =
     hand_line (codes "White:") p.hands.second ++ (board_text p.board ++ hand_line (codes "Black:") p.hands.first)

@@ -18,6 +18,7 @@ capital kind.Knight = 78
 capital kind.Lance = 76
 capital kind.Pawn = 80
 
+-- The letter of a side's piece of this kind.
 abbrev pub piece_letter : Side → Kind → ℕ
 piece_letter First kind = capital kind
 piece_letter Second kind = capital kind + 32

@@ -23,6 +23,7 @@ use Rattle.draughts_draws.specs.Line.{last_position, positions}
 unfoldable pub stands_thrice : Position → List Position → Bool
 stands_thrice last ps = nat_le 3 (count_by (λ p. same_position p last) ps)
 
+-- Whether the cell holds a king.
 abbrev pub is_king : Option DPiece → Bool
 is_king None = false
 is_king (Some piece) = piece.king
@@ -36,10 +37,12 @@ unfoldable pub are_king_moves : List Position → List DMove → Bool
 are_king_moves ps ms = nat_le 50 (length ms) && list_all (λ e. is_king_move e.0 e.1)
     (zip (drop (length ms - 50) ps) (drop (length ms - 50) ms))
 
+-- Whether the cell holds a piece of the side.
 abbrev pub is_piece_of : Side → Option DPiece → Bool
 is_piece_of side None = false
 is_piece_of side (Some piece) = same_side piece.side side
 
+-- Whether the cell holds a king of the side.
 abbrev pub is_king_of : Side → Option DPiece → Bool
 is_king_of side None = false
 is_king_of side (Some piece) = same_side piece.side side && piece.king

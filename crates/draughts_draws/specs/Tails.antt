@@ -17,10 +17,12 @@ use Rattle.draughts_draws.specs.declared.tails.Tail.{Tail}
 use Rattle.draughts_draws.specs.Line.{last_position, positions}
 use Rattle.draughts_draws.specs.Ends.{is_king_move, is_three_to_one, is_two_to_one, end_of}
 
+-- Whether the position has the material of this class of endings.
 abbrev pub in_class : Class → Position → Bool
 in_class class.ThreeToOne p = is_three_to_one p
 in_class class.TwoToOne p = is_two_to_one p
 
+-- The class of endings to which a position's material belongs, if any.
 abbrev pub class_of : Position → Option Class
 class_of p = if is_three_to_one p then Some class.ThreeToOne else if is_two_to_one p then Some class.TwoToOne else None
 
@@ -40,20 +42,25 @@ tail_of start ms =
 
 -- The tail, ply by ply.
 
+-- The number of positions in the class at the start of a history: 1 if there is a class, otherwise 0.
 abbrev pub first_count : Option Class → ℕ
 first_count None = 0
 first_count (Some c) = 1
 
+-- The tail of a history without moves.
 abbrev pub first_tail : Position → Tail
 first_tail p = record { king_plies = 0; class_positions = first_count (class_of p) }
 
+-- The number of consecutive last positions in this class after a move; `before` is the position before it.
 abbrev pub count_on : Position → ℕ → Option Class → ℕ
 count_on before count None = 0
 count_on before count (Some c) = if in_class c before then count + 1 else 1
 
+-- The number of consecutive last positions in the class of `after`, from the count for the position `before`.
 abbrev pub class_count : Position → Position → ℕ → ℕ
 class_count before after count = count_on before count (class_of after)
 
+-- The tail after one more move, between the positions `before` and `after`.
 abbrev pub next_tail : Tail → Position → DMove → Position → Tail
 next_tail tail before m after =
     record {

@@ -2,6 +2,15 @@
 //!
 //! The draws by repetition, king moves and few pieces follow the FMJD rules (https://www.fmjd.org/). The limit of 600
 //! plies is our own.
+//!
+//! # Guarantees
+//!
+//! - `judge` (`played`, `end`, `fault`): returns the end that the rules give, or the fault of the first ply against
+//!   the rules.
+//! - `DrawCounts::start` (`follows`), `push` (`follows`, `fault`, `kept`), `end`: judged ply by ply, with the same
+//!   result. A refused move changes nothing.
+//! - `tails_tell_ends` (`begin`, `go_on`, `ends`): `Tail` determines the end, with the last position, its repetition
+//!   count and the number of plies.
 #![tactic(auto)]
 
 mod classes;

@@ -18,6 +18,7 @@ Cells = ℕ → Option DPiece
 abbrev pub without : Board → ℕ → Cells
 without board x n = if n == x then None else map.get board n
 
+-- Whether the cell holds an enemy of the piece.
 abbrev pub is_enemy : DPiece → Option DPiece → Bool
 is_enemy p None = false
 is_enemy p (Some q) = not (same_side p.side q.side)

@@ -12,6 +12,7 @@ use Rattle.draughts_moves.specs.Capture.{without, HasCapture}
 use Rattle.draughts_moves.specs.Legal.{IsQuiet, IsShortCapture, Legal}
 use Rattle.draughts_moves.specs.Search.{own_at, routes_of, most, is_step}
 
+-- The answer of a move check: the move is legal, or the reason why it is not.
 abbrev pub Answer : Type 0
 Answer = Result (Unit {0}) Illegal
 
@@ -29,9 +30,11 @@ is_capture p m =
     (λ q. list_any (λ e. same_squares e.0 m.taken && e.1 == m.to)
     (routes_of (without p.board m.from) q (set.len m.taken) set.empty m.from)) (own_at p m.from) false
 
+-- The answer for a quiet move, which is illegal while a capture exists.
 abbrev pub check_quiet : Position → DMove → Answer
 check_quiet p m = if is_step p m.from m.to then if nat_lt 0 (most p) then Err MustCapture else Ok tt else Err NoSuchMove
 
+-- The answer for a capture, which is illegal if another one takes more pieces.
 abbrev pub check_capture : Position → DMove → Answer
 check_capture p m = if is_capture p m then if nat_lt (set.len m.taken) (most p) then Err NotLongest else Ok tt else Err
     NoSuchMove

@@ -70,6 +70,7 @@ far_row Second = 9
 abbrev pub crowned : DPiece → ℕ → DPiece
 crowned q to = record q { king = q.king || row_of to == far_row q.side }
 
+-- The position after a move of this piece; the same position if there is no piece.
 abbrev pub moved : Position → DMove → Option DPiece → Position
 moved p m None = p
 moved p m (Some q) = record {

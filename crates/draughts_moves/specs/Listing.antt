@@ -17,9 +17,11 @@ use Rattle.draughts_moves.specs.Search.{own_at, routes_of, steps, is_step}
 abbrev pub key_of : DMove → List ℕ
 key_of m = m.from ∷ m.to ∷ ascending m.taken
 
+-- The order of two moves in the list.
 abbrev pub move_cmp : DMove → DMove → Ordering
 move_cmp a b = slice_cmp nat_cmp (key_of a) (key_of b)
 
+-- The capture from x with these captured pieces and this end.
 abbrev pub move_to : ℕ → Squares × ℕ → DMove
 move_to x e = record { from = x; to = e.1; taken = e.0 }
 
@@ -27,6 +29,7 @@ move_to x e = record { from = x; to = e.1; taken = e.0 }
 unfoldable pub captures_at : Position → ℕ → ℕ → List DMove
 captures_at p n x = option_map_or (λ q. map (move_to x) (routes_of (without p.board x) q n set.empty x)) (own_at p x) []
 
+-- The quiet move from x to y.
 abbrev pub step_to : ℕ → ℕ → DMove
 step_to x y = record { from = x; to = y; taken = set.empty }
 

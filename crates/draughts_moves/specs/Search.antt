@@ -25,6 +25,7 @@ abbrev pub clear_front : Cells → List ℕ → List ℕ
 clear_front b [] = []
 clear_front b (n ∷ ns) = cond (is_none (b n)) (n ∷ clear_front b ns) []
 
+-- Whether an enemy that is not captured yet is on the square.
 abbrev pub is_prey : Cells → DPiece → Squares → ℕ → Bool
 is_prey b p taken n = is_enemy p (b n) && not (set.contains taken n)
 
@@ -46,14 +47,17 @@ king_jumps b p taken [] = []
 king_jumps b p taken (n ∷ ns) = cond (is_none (b n)) (king_jumps b p taken ns)
     (cond (is_prey b p taken n) (map (λ l. (n, l)) (clear_front b ns)) [])
 
+-- The jump of a man along a line, if it has one: the square jumped over, and the landing.
 abbrev pub man_jumps : Cells → DPiece → Squares → List ℕ → List (ℕ × ℕ)
 man_jumps b p taken [] = []
 man_jumps b p taken (n ∷ []) = []
 man_jumps b p taken (n ∷ l ∷ ns) = cond (is_prey b p taken n && is_none (b l)) ((n, l) ∷ []) []
 
+-- The jumps of a piece along a line: the square jumped over, and the landing.
 abbrev pub line_jumps : Cells → DPiece → Squares → List ℕ → List (ℕ × ℕ)
 line_jumps b p taken ns = cond p.king (king_jumps b p taken ns) (man_jumps b p taken ns)
 
+-- The jumps of a piece from a square in the four directions: the square jumped over, and the landing.
 unfoldable pub jumps : Cells → DPiece → Squares → ℕ → List (ℕ × ℕ)
 jumps b p taken s =
     line_jumps b p taken (ray UpLeft s)

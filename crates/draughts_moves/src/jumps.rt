@@ -1,15 +1,15 @@
 //! The jumps of a piece from a square.
-ghost use Rattle.std.specs.Prelude.{◌≡◌, ◌+◌, ◌<◌, ◌≤◌, ℕ, [], ◌∷◌, ◌++◌, is_some, length, map, not};
+ghost use Rattle.std.specs.Prelude.{◌≡◌, ◌+◌, ◌<◌, ◌≤◌, ℕ, [], ◌∷◌, ◌++◌, is_some, length, map};
 ghost use Rattle.std.specs.FinSet as set;
 ghost use Rattle.draughts_moves.specs.Capture.{without, Cells};
 ghost use Rattle.squares.specs.DraughtsSets.{Squares};
 ghost use Rattle.squares.specs.declared.draughts.piece.DPiece.{DPiece};
 ghost use Rattle.squares.specs.DraughtsGeometry.{ray};
-ghost use Rattle.draughts_moves.specs.Search.{clear_front, is_prey, king_jumps, man_jumps, line_jumps, jumps};
+ghost use Rattle.draughts_moves.specs.Search.{clear_front, king_jumps, man_jumps, line_jumps, jumps};
 ghost use Rattle.draughts_moves.specs.Search.{AreStanding, Meets};
 
 use crate::mover::Mover;
-use squares::{DPiece, DPos, DSet, Direction, Dsq, Side};
+use squares::{DPos, DSet, Direction, Dsq, Side};
 use std::marker::Model;
 
 /// A list of at most 36 jumps, each with the square jumped over and the landing square.
@@ -62,29 +62,8 @@ impl Jumps {
     }
 }
 
-// The piece on a square once the piece on `origin` has left.
-pub(crate) fn stands(position: &DPos, origin: Dsq, square: Dsq) -> Option<DPiece>
-    ensures { result ≡ without position.now.board origin square }
-{
-    if square == origin {
-        return None;
-    }
-    position.piece_at(square)
-}
-
-// Whether the square holds an enemy that is not yet captured.
-pub(crate) fn is_prey(position: &DPos, mover: &Mover, square: Dsq) -> bool
-    ensures { result
-        ≡ is_prey (without position.now.board mover.now.origin) mover.now.piece mover.now.taken square }
-{
-    match stands(position, mover.origin, square) {
-        Some(other) => mover.piece.side != other.side && !mover.taken.contains(square),
-        None => false,
-    }
-}
-
 // The squares of all pieces except the one on `origin`.
-pub(crate) fn others(position: &DPos, origin: Dsq) -> DSet
+fn others(position: &DPos, origin: Dsq) -> DSet
     ensures { (n : ℕ) → set.contains result n
         ≡ is_some (without position.now.board origin n) }
 {
@@ -95,13 +74,13 @@ pub(crate) fn others(position: &DPos, origin: Dsq) -> DSet
 
 // The pieces that a capturing piece can meet: enemies that are not yet captured, and all pieces except itself.
 #[derive(Drop)]
-struct Met {
-    prey: DSet,
-    pieces: DSet,
+pub(crate) struct Met {
+    pub(crate) prey: DSet,
+    pub(crate) pieces: DSet,
 }
 
 // The pieces that a capturing piece can meet.
-fn look(position: &DPos, mover: &Mover) -> Met
+pub(crate) fn look(position: &DPos, mover: &Mover) -> Met
     ensures { Meets (without position.now.board mover.now.origin) mover.now.piece mover.now.taken
         result.prey result.pieces }
 {

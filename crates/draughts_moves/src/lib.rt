@@ -1,6 +1,17 @@
 //! The rules of international draughts: legal moves, and the position after a move.
 //!
 //! Follows the FMJD rules of international draughts (https://www.fmjd.org/).
+//!
+//! # Guarantees
+//!
+//! - `legal` (`in_order`, `members`): the list is the legal moves of the rules, each once, in order.
+//! - `legal_move_count`: the length of that list, without the list.
+//! - `check` (`legal`, `must_capture`, `not_longest`): `Ok` exactly for legal moves, otherwise the refusal by its
+//!   case.
+//! - `has_move` (`legal`), `play`, `routes` (`in_order`, `members`): whether there is a legal move, the position after
+//!   a move, all routes of a capture in order.
+//! - `check_is`, `has_move_is`, `routes_grow`: what the code computes is what the relations of the rules say.
+//! - `turn_passes`: a legal move passes the turn.
 #![tactic(auto)]
 
 pub mod checking;

@@ -8,6 +8,7 @@ ghost use Rattle.draughts_moves.specs.Search.{greatest, greatest_at, most};
 ghost use Rattle.draughts_moves.specs.Listing.{move_cmp, moves};
 ghost use Rattle.draughts_moves.specs.Found.{kept, ends_of, captured};
 
+use crate::first_jumps::can_jump;
 use crate::found::LongestCaptures;
 use crate::jumps::jumps_from;
 use crate::most::{may_take, own_at};
@@ -27,8 +28,7 @@ fn seek(position: &DPos, mover: &mut Mover, found: &mut LongestCaptures) -> Resu
         (ends_of (without position.now.board mover.old.origin) mover.old found.new.size)
         (kept found.old.size found.new.size found.old.moves.items)) }
 {
-    let jumps = jumps_from(position, mover);
-    if jumps.len() == 0 {
+    if !can_jump(position, mover) {
         found.offer(DMove {
             from: mover.origin,
             to: mover.at,
@@ -37,6 +37,7 @@ fn seek(position: &DPos, mover: &mut Mover, found: &mut LongestCaptures) -> Resu
         return Ok(());
     }
     let from = mover.at;
+    let jumps = jumps_from(position, mover);
     for (over, to) in jumps.items() {
         mover.jump(*over, *to);
         seek(position, mover, found)?;

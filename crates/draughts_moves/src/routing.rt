@@ -70,33 +70,45 @@ fn put_end(
     put_route(alloc, path, routes)
 }
 
-// Inserts the routes that extend `path` by `left` more jumps.
+// The landings of the jumps made so far, and the routes found so far, in lexicographic order.
+#[derive(Drop)]
+struct RouteSearch {
+    path: Vec<Dsq>,
+    routes: Vec<Vec<Dsq>>,
+}
+
+// Inserts the routes that extend the path by `left` more jumps.
 fn collect_routes(
     alloc: Global,
     position: &DPos,
     played: &DMove,
     mover: &Mover,
     left: usize,
-    path: &mut Vec<Dsq>,
-    routes: &mut Vec<Vec<Dsq>>,
+    search: &mut RouteSearch,
 ) -> Result<(), AllocError>
-    ensures found { OnOk result (lists_in routes.new.items ≡ put_all route_cmp
-        (map (λ ls. path.old.items ++ ls)
+    ensures found { OnOk result (lists_in search.new.routes.items ≡ put_all route_cmp
+        (map (λ ls. search.old.path.items ++ ls)
         (landings_of (without position.now.board mover.now.origin) mover.now.piece
         played.now.taken played.now.to left mover.now.taken mover.now.at))
-        (lists_in routes.old.items)) }
-    ensures path { OnOk result (path.new.items ≡ path.old.items) }
+        (lists_in search.old.routes.items)) }
+    ensures path { OnOk result (search.new.path.items ≡ search.old.path.items) }
 {
     if left == 0 {
-        put_end(alloc, played, mover, path.as_slice(), routes)?;
+        put_end(
+            alloc,
+            played,
+            mover,
+            search.path.as_slice(),
+            &mut search.routes,
+        )?;
         return Ok(());
     }
     let jumps = jumps_from(position, mover);
     for (over, to) in jumps.items() {
-        path.push(*to)?;
+        search.path.push(*to)?;
         let next = mover.after_jump(*over, *to);
-        collect_routes(alloc, position, played, &next, left - 1, path, routes)?;
-        path.pop();
+        collect_routes(alloc, position, played, &next, left - 1, search)?;
+        search.path.pop();
     }
     Ok(())
 }
@@ -115,23 +127,17 @@ pub fn routes(alloc: Global, position: &DPos, played: &DMove) -> Result<Vec<Vec<
         → Contains (lists_in routes.items) landings
         ↔ Capture position.now played.now.from landings played.now.taken played.now.to) }
 {
-    let mut routes = Vec::new(alloc);
-    let mut path = Vec::new(alloc);
+    let mut search = RouteSearch {
+        path: Vec::new(alloc),
+        routes: Vec::new(alloc),
+    };
     match own_at(position, played.from) {
         Some(piece) => {
             let size = played.taken.len();
             let mover = Mover::new(piece, played.from);
-            collect_routes(
-                alloc,
-                position,
-                played,
-                &mover,
-                size,
-                &mut path,
-                &mut routes,
-            )?;
-            Ok(routes)
+            collect_routes(alloc, position, played, &mover, size, &mut search)?;
+            Ok(search.routes)
         }
-        None => Ok(routes),
+        None => Ok(search.routes),
     }
 }

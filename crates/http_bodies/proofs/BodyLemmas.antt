@@ -10,7 +10,7 @@ use Rattle.club_requests.specs.Outcome.{MoveReply, Reply, member_added, event_ad
 use Rattle.club_requests.specs.Outcome.{game_ended, games_swept, challenge_opened, challenge_withdrawn}
 use Rattle.club_requests.specs.Outcome.{challenge_refused}
 use Rattle.club_requests.specs.Outcome.{challenge_accepted}
-use Rattle.club_lists.proofs.Proved.{null_float}
+use Rattle.club_lists.proofs.Proved.{text_float}
 use Rattle.http_bodies.specs.Bodies.{moved_data, reply_data, json_of}
 
 -- a body that is no JSON
@@ -27,7 +27,7 @@ some_read body value u h = let e : is_utf8 body ≡ true = is_utf8-from_IsUtf8 b
 -- ---- none of the bodies holds a float
 
 moved_float : (id : ℕ) (m : MoveReply) → has_float (moved_data id m) ≡ false
-moved_float id m = rw (null_float (option_map end_text m.end)) refl
+moved_float id m = rw (text_float (option_map end_text m.end)) refl
 
 pub reply_float : (id : ℕ) (reply : Reply) → has_float (reply_data id reply) ≡ false
 reply_float id (moved m) = moved_float id m

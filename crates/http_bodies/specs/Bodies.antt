@@ -13,10 +13,11 @@ use Rattle.club_requests.specs.Outcome.{game_ended, games_swept, challenge_opene
 use Rattle.club_requests.specs.Outcome.{challenge_refused}
 use Rattle.club_requests.specs.Outcome.{challenge_accepted}
 use Rattle.club_core.specs.State.{Command, open_challenge, answer_challenge}
-use Rattle.club_lists.specs.Bodies.{text_or_null, number_data}
+use Rattle.club_lists.specs.Values.{text_or_null, number_data}
 
 -- ---- replies: the keys of an object are in byte order
 
+-- the move that was made, the position after it, the mover's remaining seconds, and the end if it ended the game
 abbrev pub moved_data : ℕ → MoveReply → Data
 moved_data id m = object
     (member (codes "end") (text_or_null (option_map end_text m.end))
@@ -26,12 +27,14 @@ moved_data id m = object
     (member (codes "ply") (number_data m.ply)
     (member (codes "position") (string m.position) no_members))))))
 
+-- the ply at which a draw was offered
 abbrev pub offered_data : ℕ → ℕ → Data
 offered_data id ply = object
     (member (codes "draw") (string (codes "offered"))
     (member (codes "game") (number_data id)
     (member (codes "ply") (number_data ply) no_members)))
 
+-- the end of the game and its result
 abbrev pub ended_data : ℕ → List ℕ → List ℕ → Data
 ended_data id end result = object
     (member (codes "end") (string end)
@@ -46,11 +49,12 @@ added_data kind id = object (member kind (number_data id) no_members)
 abbrev pub swept_data : ℕ → Data
 swept_data count = object (member (codes "swept") (number_data count) no_members)
 
--- the state of a challenge, and the game that it started
+-- the state of a challenge
 abbrev pub challenge_data : ℕ → List ℕ → Data
 challenge_data n state =
     object (member (codes "challenge") (number_data n) (member (codes "state") (string state) no_members))
 
+-- an accepted challenge with the id of the game that it started
 abbrev pub started_data : ℕ → ℕ → Data
 started_data n id = object
     (member (codes "challenge") (number_data n)
@@ -81,6 +85,7 @@ json_of body = if is_utf8 body then read body else None
 abbrev pub text_in : List ℕ → Data → Option (List ℕ)
 text_in key data_read = option_and_then as_str (get key data_read)
 
+-- the boolean under a key
 abbrev pub bool_in : List ℕ → Data → Option Bool
 bool_in key data_read = option_and_then as_bool (get key data_read)
 
@@ -88,12 +93,14 @@ bool_in key data_read = option_and_then as_bool (get key data_read)
 unfoldable pub move_text : List ℕ → Option (List ℕ)
 move_text body = option_and_then (text_in (codes "move")) (json_of body)
 
+-- the challenge with this number, if the event, the opponent and the side are given
 abbrev pub challenge_with : ℕ → Option (List ℕ) → Option (List ℕ) → Option Bool → Option Command
 challenge_with n None other first = None
 challenge_with n (Some event) None first = None
 challenge_with n (Some event) (Some other) None = None
 challenge_with n (Some event) (Some other) (Some first) = Some (open_challenge n event other first)
 
+-- the challenge with this number that a JSON object states, if it is complete
 abbrev pub challenge_in : ℕ → Data → Option Command
 challenge_in n d = challenge_with n (text_in (codes "event") d) (text_in (codes "other") d) (bool_in (codes "first") d)
 
@@ -101,10 +108,12 @@ challenge_in n d = challenge_with n (text_in (codes "event") d) (text_in (codes 
 unfoldable pub challenge_of : ℕ → List ℕ → Option Command
 challenge_of n body = option_and_then (challenge_in n) (json_of body)
 
+-- the answer to the challenge of this member with this number, if it is given
 abbrev pub answer_with : List ℕ → ℕ → Option Bool → Option Command
 answer_with challenger n None = None
 answer_with challenger n (Some accept) = Some (answer_challenge challenger n accept)
 
+-- the answer to the challenge of this member that a JSON object states, if it has one
 abbrev pub answer_in : List ℕ → ℕ → Data → Option Command
 answer_in challenger n d = answer_with challenger n (bool_in (codes "accept") d)
 

@@ -7,6 +7,7 @@ use Rattle.club_requests.specs.Refusal as core
 use Rattle.http_bodies.specs.declared.refusals.HttpRefusal.{HttpRefusal}
 use Rattle.http_bodies.specs.declared.refusals.HttpRefusal.TheVariants.{Head, NoRoute, WrongMethod, BadBody, Club}
 
+-- the HTTP status of a refusal by the club
 abbrev pub club_status : of_club.Refusal → ℕ
 club_status club.UnknownKey = 401
 club_status club.NotAllowed = 403
@@ -29,6 +30,7 @@ club_status club.BadValue = 422
 club_status (club.Play ply refusal) = 422
 club_status (club.Record refusal) = 422
 
+-- the error number in the reply
 abbrev pub refusal_number : HttpRefusal → ℕ
 refusal_number (Head refusal) = head_number refusal
 refusal_number NoRoute = 82
@@ -36,6 +38,7 @@ refusal_number (WrongMethod method) = 83
 refusal_number BadBody = 81
 refusal_number (Club refusal) = core.refusal_number refusal
 
+-- the name of the error in the reply
 abbrev pub refusal_name : HttpRefusal → List ℕ
 refusal_name (Head refusal) = head_name refusal
 refusal_name NoRoute = codes "NoRoute"
@@ -43,6 +46,7 @@ refusal_name (WrongMethod method) = codes "WrongMethod"
 refusal_name BadBody = codes "BadBody"
 refusal_name (Club refusal) = core.refusal_name refusal
 
+-- the HTTP status of the reply
 abbrev pub refusal_status : HttpRefusal → ℕ
 refusal_status (Head refusal) = head_status refusal
 refusal_status NoRoute = 404

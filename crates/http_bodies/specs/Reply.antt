@@ -18,12 +18,15 @@ use Rattle.http_bodies.specs.Refusals.{refusal_number, refusal_name, refusal_sta
 abbrev pub line_end : List ℕ
 line_end = 13 ∷ 10 ∷ []
 
+-- the status line of an HTTP/1.1 reply
 abbrev pub status_line : ℕ → List ℕ → List ℕ
 status_line status phrase = codes "HTTP/1.1 " ++ decimal status ++ codes " " ++ phrase ++ codes "\r\n"
 
+-- the header line Content-Type
 abbrev pub type_line : List ℕ → List ℕ
 type_line kind = codes "Content-Type: " ++ kind ++ codes "\r\n"
 
+-- the header line Content-Length
 abbrev pub length_line : ℕ → List ℕ
 length_line n = codes "Content-Length: " ++ decimal n ++ codes "\r\n"
 
@@ -46,7 +49,7 @@ reply_bytes status kind further body without_body =
     reply_head status (unwrap_or (reason_phrase status) []) kind (length body) further
     ++ (if without_body then [] else body)
 
--- the header lines of a refusal: the authentication scheme, or the method that the route has
+-- the header line of a refusal that names the authentication scheme, if the key is not known
 abbrev pub key_lines : of_club.Refusal → List ℕ
 key_lines club.UnknownKey = codes "WWW-Authenticate: Member-Key\r\n"
 key_lines club.NotAllowed = []
@@ -69,6 +72,7 @@ key_lines club.NotDeclarable = []
 key_lines (club.Play ply refusal) = []
 key_lines (club.Record refusal) = []
 
+-- the header lines that a refusal adds, such as Allow for a wrong method
 abbrev pub further_lines : HttpRefusal → List ℕ
 further_lines (Head refusal) = []
 further_lines NoRoute = []
@@ -82,6 +86,7 @@ abbrev pub error_data : ℕ → List ℕ → Data
 error_data n name =
     object (member (codes "error") (number (unsigned n)) (member (codes "name") (string name) no_members))
 
+-- the reply that reports a refusal, with a JSON body unless it is left out
 abbrev pub refusal_reply : HttpRefusal → Bool → List ℕ
 refusal_reply refusal without_body = reply_bytes (refusal_status refusal) Json (further_lines refusal)
     (compact_text (error_data (refusal_number refusal) (refusal_name refusal))) without_body

@@ -6,12 +6,11 @@ ghost use Rattle.squares.specs.Sides.{score_text};
 ghost use Rattle.club_rules.specs.EndName.{end_text};
 ghost use Rattle.club_requests.specs.OutsideEnd.{outside_text};
 ghost use Rattle.club_core.specs.Answer.{move_reply_of, reply_of};
-ghost use Rattle.club_lists.specs.Bodies.{text_or_null};
+ghost use Rattle.club_lists.specs.Values.{text_or_null};
 ghost use Rattle.http_bodies.specs.Bodies.{moved_data, offered_data, ended_data, added_data};
 ghost use Rattle.http_bodies.specs.Bodies.{swept_data, reply_data, challenge_data, started_data};
 
 use crate::reply::text_of;
-use club_lists::text_value;
 use club_requests::{Answer, MoveAnswer, OutsideEnd};
 use club_rules::EndName;
 use serde_json::{Value, json};
@@ -23,7 +22,7 @@ fn rule_end_or_null(alloc: Global, end: Option<EndName>) -> Result<Value, AllocE
 {
     match end {
         None => Ok(Value::Null),
-        Some(end) => text_value(alloc, end.name()),
+        Some(end) => Value::try_from_str(alloc, end.name()),
     }
 }
 

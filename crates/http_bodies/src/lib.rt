@@ -2,6 +2,12 @@
 //!
 //! It follows RFC 9112 (https://www.rfc-editor.org/rfc/rfc9112) and RFC 8259
 //! (https://www.rfc-editor.org/rfc/rfc8259).
+//!
+//! # Guarantees
+//!
+//! - `move_text`, `challenge_of`, `answer_of`: a body is parsed to what its JSON says, or to nothing.
+//! - `answer_text`, `refusal_reply`, `fault_reply`, `shown_reply`, `page_reply`, `status_of`: each reply is its
+//!   status, its fields and the one compact text of its data.
 #![tactic(auto)]
 
 mod asks;

@@ -1,36 +1,43 @@
 -- What the parts that a route of the desk takes ask for is what its path asks for.
-use Rattle.std.proofs.Common.{◌≡◌, ◌∙◌, ℕ, zero, suc, ◌<◌, ◌≤◌, List, [], ◌∷◌, ◌++◌, length, Bool, true}
-use Rattle.std.proofs.Common.{false, ◌&&◌, ◌==◌, leb, if◌then◌else◌, Option, Some, None, option_map, refl}
-use Rattle.std.proofs.Common.{subst, arith, inl, inr}
+use Rattle.std.proofs.Common.{◌≡◌, ◌∙◌, ℕ, zero, suc, ◌<◌, ◌≤◌, List, [], ◌∷◌, length, Bool, true, false, ◌&&◌, leb}
+use Rattle.std.proofs.Common.{if◌then◌else◌, Option, Some, None, codes, map, refl, subst, arith, inl, inr}
 use Rattle.std.proofs.lemmas.Bool.{and_parts}
 use Rattle.std.proofs.lemmas.Bool.Decides.{nat_tests}
-use Rattle.std.proofs.lemmas.Str.{IsUtf8-from_is_utf8, is_utf8-from_IsUtf8}
+use Rattle.std.proofs.lemmas.Str.{IsUtf8-from_is_utf8}
 use Rattle.std.specs.Str.{IsUtf8, is_utf8, chars}
 use lib.Utf8.{encode}
 use Rattle.matchit.specs.Rows.{RowsOf}
 use Rattle.matchit.specs.Router.{RouteOf}
 use Rattle.matchit.specs.Route.{scan}
-use Rattle.matchit.specs.Params.{walk, part_of, AllText}
-use Rattle.matchit.specs.Seek.{has_slash, first}
-use Rattle.http_desk.specs.declared.routes.Route.{Route}
-use Rattle.http_desk.specs.declared.questions.GameTopic.TheVariants.{View, Moves, Record, Clock}
-use Rattle.http_desk.specs.declared.questions.EventTopic.TheVariants as of_events
-use Rattle.http_desk.specs.Routes.{routes, slash, before, behind, endpoint_of_route, asked_of_path, text_of}
-use Rattle.http_desk.specs.Routes.{Endpoint, about_game, about_event, challenge, withdraw}
-use Rattle.http_desk.specs.Routes.{action_endpoint, ply_asked, answer_asked}
-use Rattle.http_desk.specs.Routes.{GameAction, make_move, offer_draw, accept_draw, resign, claim_time, declare}
-use Rattle.http_head.specs.Head.{number_of}
-use Rattle.http_desk.specs.Taken.{Parts, asked_by}
-use Rattle.http_desk.proofs.FilledPaths.{filled, later, is_plain, cond_none, HaveNoSlash}
+use Rattle.matchit.specs.Params.{walk, part_of, named, AllText}
+use Rattle.matchit.specs.Seek.{first}
+use Rattle.http_desk.specs.declared.table.Route.{Route}
+use Rattle.http_desk.specs.Paths.{segments, text_of}
+use Rattle.http_desk.specs.Routes.{routes, endpoint_by, parameter_of, endpoint_of, endpoint_of_path}
+use Rattle.http_desk.specs.Taken.{Parts, endpoint_taken}
+use Rattle.http_desk.proofs.FilledPaths.{filled, later, is_plain, HaveNoSlash}
 use Rattle.http_desk.proofs.FoundPaths.{Among, IsFound, sought}
 use Rattle.http_desk.proofs.PartTexts.{AreTexts, parameters, parts_text}
+use Rattle.http_desk.proofs.SegmentLemmas.{segments_filled, filled_segments}
 use Rattle.http_desk.proofs.WalkedPaths.{named_parts, walked}
+
+-- two ways to look up parameters agree on the names of the routes
+record AreAlike (one other : List ℕ → Option (List ℕ)) : Type 0 where
+  id : one (codes "id") ≡ other (codes "id")
+  ply : one (codes "ply") ≡ other (codes "ply")
+  number : one (codes "number") ≡ other (codes "number")
+  name : one (codes "name") ≡ other (codes "name")
+  member : one (codes "member") ≡ other (codes "member")
+
+same_endpoint : (route : Route) (one other : List ℕ → Option (List ℕ)) → AreAlike one other
+    → endpoint_by route one ≡ endpoint_by route other
+same_endpoint route one other a = rw (a.id, a.ply, a.number, a.name, a.member) refl
 
 -- the parts that a route took are text, and ask for what the path asks for
 pub record IsAsked (route : RouteOf Route) (path : List ℕ) : Type 0 where
   pub texts : AllText (walk route.pattern route.text path route.names 0 0)
-  pub same : asked_by route.value (walk route.pattern route.text path route.names 0 0)
-      ≡ endpoint_of_route (Some route.value) path
+  pub same : endpoint_taken route.value (walk route.pattern route.text path route.names 0 0)
+      ≡ endpoint_of (Some route) path
 
 -- a route whose parts are so for each path that fills it
 record IsGood (pattern : List ℕ) (route : RouteOf Route) : Type 0 where
@@ -66,143 +73,106 @@ texts_of text (name ∷ names) parts (suc n) good few all = (
   texts_of text names (later parts) n (and_parts _ _ good).1 (omega arith) (λ i is. all (suc i) (omega arith)),
 )
 
-is_good : List ℕ → List ℕ → List (ℕ × ℕ) → Bool
-is_good pattern text names =
-    is_plain pattern && (are_texts text names && (leb (length names) (parameters pattern)
+is_good : List ℕ → RouteOf Route → Bool
+is_good pattern route =
+    is_plain pattern && (are_texts route.text route.names && (leb (length route.names) (parameters pattern)
     && leb (length pattern) 18446744073709551615))
 
-good : (pattern text : List ℕ) (names : List (ℕ × ℕ)) (page : Route) → is_good pattern text names ≡ true
-    → ((parts : ℕ → List ℕ) → HaveNoSlash parts → AreTexts pattern parts
-    → asked_by page (named_parts text names parts) ≡ endpoint_of_route (Some page) (filled pattern parts))
-    → IsGood pattern (record { pattern = pattern; text = text; names = names; value = page })
-unfolding is_good
-good pattern text names page fine asks =
+-- the names of a route are in its path where its pattern has parameters
+HasNames : List ℕ → RouteOf Route → Type 0
+HasNames pattern route = (parts : ℕ → List ℕ) → AreAlike (λ name. named name (named_parts route.text route.names parts))
+    (parameter_of (segments route.text) (segments_filled (segments pattern) parts))
+
+good : (pattern : List ℕ) (route : RouteOf Route) → route.pattern ≡ pattern → is_good pattern route ≡ true
+    → HasNames pattern route → IsGood pattern route
+unfolding is_good HasNames
+good pattern route own fine has =
     let plain = and_parts (is_plain pattern) _ fine in
-    let texts = and_parts (are_texts text names) _ plain.1 in
-    let few : length names ≤ parameters pattern = grind (arith, nat_tests) in
+    let texts = and_parts (are_texts route.text route.names) _ plain.1 in
+    let few : length route.names ≤ parameters pattern = grind (arith, nat_tests) in
     let short : length pattern ≤ 18446744073709551615 = grind (arith, nat_tests) in
     record {
       plain = plain.0;
       asked = λ parts none text_of_path.
           let all = parts_text pattern parts plain.0 text_of_path in
           let walk_is =
-          walked pattern text pattern (filled pattern parts) 0 plain.0 refl short names 0 parts none refl (omega arith)
-          few in
+          walked pattern route.text pattern (filled pattern parts) 0 plain.0 refl short route.names 0 parts none refl
+          (omega arith) few in
           record {
-            texts = rw walk_is (texts_of text names parts (parameters pattern) texts.0 few all);
-            same = rw walk_is (asks parts none all);
+            texts = rw (own, walk_is) (texts_of route.text route.names parts (parameters pattern) texts.0 few all);
+            same = rw (own, walk_is, filled_segments pattern parts none)
+                (same_endpoint route.value _ _ (has parts));
           };
     }
 
--- what stands before and behind the slash after a part
-before_slash : (part rest : List ℕ) → has_slash part ≡ false → before slash rest ≡ []
-    → before slash (part ++ rest) ≡ part
-before_slash [] rest none end = end
-before_slash (b ∷ part) rest none end =
-    let e = cond_none (b == slash) _ none in
-    rw (e.0, before_slash part rest e.1 end) refl
+-- the names of the parameters
+all_names : List (List ℕ)
+all_names = codes "id" ∷ codes "ply" ∷ codes "number" ∷ codes "name" ∷ codes "member" ∷ []
 
-behind_slash : (part rest : List ℕ) → has_slash part ≡ false → behind slash (part ++ slash ∷ rest) ≡ rest
-behind_slash [] rest none = refl
-behind_slash (b ∷ part) rest none =
-    let e = cond_none (b == slash) _ none in
-    rw e.0 (behind_slash part rest e.1)
+-- ---- the rows of a table at once
 
--- the first part as a number, before a slash or the last
-number_at : (ask : Option ℕ → Option Endpoint) (rest : List ℕ) (parts : ℕ → List ℕ) → HaveNoSlash parts
-    → before slash rest ≡ [] → ask (number_of (parts 0)) ≡ ask (number_of (before slash (parts 0 ++ rest)))
-number_at ask rest parts none end = rw (before_slash (parts 0) rest (none 0) end) refl
+module _ {A : Type 0} where
+  first_same : (x y : A) (xs ys : List A) → x ∷ xs ≡ y ∷ ys → x ≡ y
+  first_same x y xs ys is = cc
 
--- the first part as text, before a slash
-text_at : (ask : Option (List ℕ) → Option Endpoint) (rest : List ℕ) (parts : ℕ → List ℕ) → HaveNoSlash parts
-    → IsUtf8 (parts 0) → ask (Some (parts 0)) ≡ ask (text_of (before slash (parts 0 ++ slash ∷ rest)))
-text_at ask rest parts none text =
-    rw (before_slash (parts 0) (slash ∷ rest) (none 0) refl, is_utf8-from_IsUtf8 (parts 0) text) refl
+  rest_same : (x y : A) (xs ys : List A) → x ∷ xs ≡ y ∷ ys → xs ≡ ys
+  rest_same x y xs ys is = cc
 
--- the second part two slashes behind the first one, before a slash or the last
-ply_at : (turn : ℕ → GameAction) (rest last : List ℕ) (parts : ℕ → List ℕ) → HaveNoSlash parts
-    → behind slash rest ≡ parts 1 ++ last → before slash last ≡ []
-    → ply_asked turn (number_of (parts 0)) (number_of (parts 1))
-    ≡ ply_asked turn (number_of (before slash (parts 0 ++ slash ∷ rest)))
-    (number_of (before slash (behind slash (behind slash (parts 0 ++ slash ∷ rest)))))
-ply_at turn rest last parts none is end =
-    rw (
-      before_slash (parts 0) (slash ∷ rest) (none 0) refl,
-      behind_slash (parts 0) rest (none 0),
-      is,
-      before_slash (parts 1) last (none 1) end,
-    ) refl
+alike_from : (one other : List ℕ → Option (List ℕ)) → map one all_names ≡ map other all_names → AreAlike one other
+unfolding all_names
+alike_from one other is = record { id = cc; ply = cc; number = cc; name = cc; member = cc }
 
--- the first part as a name, and the one right behind it as a number
-member_and_number : (parts : ℕ → List ℕ) → HaveNoSlash parts → IsUtf8 (parts 0)
-    → answer_asked (Some (parts 0)) (number_of (parts 1))
-    ≡ answer_asked (text_of (before slash (parts 0 ++ slash ∷ (parts 1 ++ []))))
-    (number_of (before slash (behind slash (parts 0 ++ slash ∷ (parts 1 ++ [])))))
-member_and_number parts none text =
-    rw (
-      before_slash (parts 0) (slash ∷ (parts 1 ++ [])) (none 0) refl,
-      behind_slash (parts 0) (parts 1 ++ []) (none 0),
-      before_slash (parts 1) [] (none 1) refl,
-      is_utf8-from_IsUtf8 (parts 0) text,
-    ) refl
+-- the pattern of each row, and the one that its route has
+row_patterns : RowsOf (RouteOf Route) → List (List ℕ)
+row_patterns [] = []
+row_patterns ((pattern, route) ∷ rows) = pattern ∷ row_patterns rows
 
-infixr 30 ◌&◌
-◌&◌ : {A B : Type 0} → A → B → A × B
-one & more = (one, more)
+route_patterns : RowsOf (RouteOf Route) → List (List ℕ)
+route_patterns [] = []
+route_patterns ((pattern, route) ∷ rows) = route.pattern ∷ route_patterns rows
 
--- the routes in the order of their rows
+are_good : RowsOf (RouteOf Route) → Bool
+are_good [] = true
+are_good ((pattern, route) ∷ rows) = is_good pattern route && are_good rows
+
+-- the parameters of each row by the names of its route, and by the segments of its path
+parts_by_names : RowsOf (RouteOf Route) → (ℕ → List ℕ) → List (List (Option (List ℕ)))
+parts_by_names [] parts = []
+parts_by_names ((pattern, route) ∷ rows) parts =
+    map (λ name. named name (named_parts route.text route.names parts)) all_names ∷ parts_by_names rows parts
+
+parts_by_segments : RowsOf (RouteOf Route) → (ℕ → List ℕ) → List (List (Option (List ℕ)))
+parts_by_segments [] parts = []
+parts_by_segments ((pattern, route) ∷ rows) parts =
+    map (parameter_of (segments route.text) (segments_filled (segments pattern) parts)) all_names
+    ∷ parts_by_segments rows parts
+
+rows_good : (rows : RowsOf (RouteOf Route)) → route_patterns rows ≡ row_patterns rows → are_good rows ≡ true
+    → ((parts : ℕ → List ℕ) → parts_by_names rows parts ≡ parts_by_segments rows parts) → AllGood rows
+unfolding AllGood HasNames route_patterns row_patterns are_good parts_by_names parts_by_segments
+rows_good [] own fine has = tt
+rows_good ((pattern, route) ∷ rows) own fine has =
+    let both = and_parts (is_good pattern route) (are_good rows) fine in (
+      good pattern route (first_same _ _ _ _ own) both.0
+          (λ parts. alike_from _ _ (first_same _ _ _ _ (has parts))),
+      rows_good rows (rest_same _ _ _ _ own) both.1 (λ parts. rest_same _ _ _ _ (has parts)),
+    )
+
+-- all routes of the table
 all_good : AllGood routes
-unfolding AllGood routes scan is_good are_texts is_utf8 chars encode
-all_good =
-    -- /answers/{member}/{number}
-    good _ _ _ _ refl (λ parts none texts. member_and_number parts none (texts 0 (omega arith)))
-    -- /challenges/{number}/withdraw
-    & good _ _ _ _ refl (λ parts none texts. number_at (option_map withdraw) _ parts none refl)
-    -- /challenges/{number}
-    & good _ _ _ _ refl (λ parts none texts. number_at (option_map challenge) _ parts none refl)
-    -- /events/{name}/games
-    & good _ _ _ _ refl (λ parts none texts.
-    text_at (option_map (about_event of_events.Games)) _ parts none (texts 0 (omega arith)))
-    -- /events/{name}/table
-    & good _ _ _ _ refl (λ parts none texts.
-    text_at (option_map (about_event of_events.Table)) _ parts none (texts 0 (omega arith)))
-    -- /games/{id}/claim-time
-    & good _ _ _ _ refl (λ parts none texts. number_at (action_endpoint claim_time) _ parts none refl)
-    -- /games/{id}/clock
-    & good _ _ _ _ refl (λ parts none texts. number_at (option_map (about_game Clock)) _ parts none refl)
-    -- /games/{id}/declare/{ply}
-    & good _ _ _ _ refl (λ parts none texts. ply_at declare _ _ parts none refl refl)
-    -- /games/{id}/draw/{ply}/accept
-    & good _ _ _ _ refl (λ parts none texts. ply_at accept_draw _ _ parts none refl refl)
-    -- /games/{id}/draw/{ply}/offer
-    & good _ _ _ _ refl (λ parts none texts. ply_at offer_draw _ _ parts none refl refl)
-    -- /games/{id}/legal
-    & good _ _ _ _ refl (λ parts none texts. number_at (option_map (about_game Moves)) _ parts none refl)
-    -- /games/{id}/moves/{ply}
-    & good _ _ _ _ refl (λ parts none texts. ply_at make_move _ _ parts none refl refl)
-    -- /games/{id}/record
-    & good _ _ _ _ refl (λ parts none texts. number_at (option_map (about_game Record)) _ parts none refl)
-    -- /games/{id}/resign
-    & good _ _ _ _ refl (λ parts none texts. number_at (action_endpoint resign) _ parts none refl)
-    -- /games/{id}
-    & good _ _ _ _ refl (λ parts none texts. number_at (option_map (about_game View)) _ parts none refl)
-    -- /me/events
-    & good _ _ _ _ refl (λ parts none texts. refl)
-    -- /me
-    & good _ _ _ _ refl (λ parts none texts. refl)
-    -- /play
-    & good _ _ _ _ refl (λ parts none texts. refl)
-    & tt
+unfolding routes scan route_patterns row_patterns are_good is_good are_texts parts_by_names parts_by_segments all_names
+    is_utf8 chars encode
+all_good = rows_good routes refl refl (λ parts. refl)
 
 -- what a path asks for whose route was found, by the parts that were taken
-pub record IsAskedBy (page : Route) (parts : Parts) (path : List ℕ) : Type 0 where
+pub record IsAskedBy (route : Route) (parts : Parts) (path : List ℕ) : Type 0 where
   pub texts : AllText parts
-  pub asks : asked_by page parts ≡ asked_of_path (Some path)
+  pub asks : endpoint_taken route parts ≡ endpoint_of_path (Some path)
 
-pub asked_by_parts : (rows : RowsOf (RouteOf Route)) (given path seen : List ℕ) (route : RouteOf Route) → rows ≡ routes
-    → Some path ≡ text_of given → first rows path ≡ Some route → seen ≡ path
+pub endpoint_by_parts : (rows : RowsOf (RouteOf Route)) (given path seen : List ℕ) (route : RouteOf Route)
+    → rows ≡ routes → Some path ≡ text_of given → first rows path ≡ Some route → seen ≡ path
     → IsAskedBy route.value (walk route.pattern route.text seen route.names 0 0) given
-asked_by_parts rows given path seen route all is found same = by (is_utf8 given) refl is
+endpoint_by_parts rows given path seen route all is found same = by (is_utf8 given) refl is
   where
     by : (v : Bool) → is_utf8 given ≡ v → Some path ≡ (if v then Some given else None)
         → IsAskedBy route.value (walk route.pattern route.text seen route.names 0 0) given

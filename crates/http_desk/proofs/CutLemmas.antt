@@ -4,7 +4,7 @@ use Rattle.std.proofs.Common.{◌==◌}
 use Rattle.std.proofs.Common.{Option, Some, None, if◌then◌else◌, refl, sym, ap, arith, one-add, take_all}
 use Rattle.std.proofs.lemmas.Bool.Decides.{nat_tests}
 use Rattle.std.specs.List.{position_or_len, prefix_len}
-use Rattle.http_desk.specs.Routes.{before}
+use Rattle.http_desk.specs.Paths.{before}
 
 before_place : (b : ℕ) (bytes : List ℕ) → take (position_or_len (λ x. x == b) bytes) bytes ≡ before b bytes
 before_place b [] = refl

@@ -4,4 +4,6 @@ pub mod FilledPaths
 pub mod FoundPaths
 pub mod PartTexts
 pub mod WalkedPaths
+pub mod SegmentLemmas
 pub mod AskedRoutes
+pub mod EachRow

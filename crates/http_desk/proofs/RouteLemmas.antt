@@ -6,7 +6,7 @@ use Rattle.matchit.specs.Rows.{RowsOf}
 use Rattle.matchit.specs.Router.{RouteOf, InsertsRead}
 use Rattle.matchit.specs.Route.{Scan, parse_route}
 use Rattle.matchit.specs.declared.error.InsertError.{InsertError}
-use Rattle.http_desk.specs.declared.routes.Route.{Route}
+use Rattle.http_desk.specs.declared.table.Route.{Route}
 use Rattle.http_desk.specs.Routes.{with_route, with_routes}
 
 pub inserted : (read : Result Scan InsertError) (page : Route) (old new : RowsOf (RouteOf Route)) (u : Unit {0})

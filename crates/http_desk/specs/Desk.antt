@@ -1,6 +1,6 @@
 -- The reply that the club's state and a request determine.
 use Rattle.std.specs.Prelude.{◌≡◌, ◌⊎◌, ℕ, Bool, ◌&&◌, List, [], Option, Some, None, Result, Ok, Err, option_map, codes}
-use Rattle.std.specs.Prelude.{if◌then◌else◌, is_some, ⊤}
+use Rattle.std.specs.Prelude.{if◌then◌else◌, is_some, true, false, ⊤}
 use Rattle.std.specs.Str.{bytes_eq, is_utf8}
 use Rattle.serde_json.specs.Written.{compact_text}
 use Rattle.club_requests.specs.declared.refusals.Refusal as of_club
@@ -15,9 +15,14 @@ use Rattle.http_bodies.specs.declared.refusals.HttpRefusal.{HttpRefusal}
 use Rattle.http_bodies.specs.declared.refusals.HttpRefusal.TheVariants.{Head, NoRoute, WrongMethod, BadBody, Club as OfClub}
 use Rattle.http_desk.specs.declared.faults.ClubFault.{ClubFault}
 use Rattle.http_desk.specs.Faults.{club_fault_number, club_fault_name}
-use Rattle.http_desk.specs.Routes.{GameAction, make_move, offer_draw, accept_draw, resign, claim_time, declare}
-use Rattle.http_desk.specs.Routes.{QuestionPath, Endpoint, members_page, question, on_game, challenge}
-use Rattle.http_desk.specs.Routes.{withdraw, answer, match_route, method_of, is_public}
+use Rattle.http_desk.specs.declared.table.Access.{Access}
+use Rattle.http_desk.specs.declared.table.Access.TheVariants.{Public, Members}
+use Rattle.http_desk.specs.declared.table.GameAction.{GameAction}
+use Rattle.http_desk.specs.declared.table.GameAction.TheVariants as action
+use Rattle.http_desk.specs.declared.table.QuestionTopic.{QuestionTopic}
+use Rattle.http_desk.specs.declared.table.Topic.{Topic}
+use Rattle.http_desk.specs.declared.table.Topic.TheVariants as topic
+use Rattle.http_desk.specs.Routes.{Endpoint, match_route}
 use Rattle.http_desk.specs.Questions.{Asks}
 use Rattle.club_requests.specs.declared.questions.Question.{Question}
 use Rattle.http_bodies.specs.declared.reply.ContentType.{ContentType}
@@ -34,6 +39,7 @@ pub data Answer : Type 0 where
   shows : ContentType → List ℕ → Answer
   shows_page : Answer
 
+-- the bytes of a reply with this content; its body may be left out
 abbrev pub answer_reply : Answer → Bool → List ℕ
 answer_reply (refusal r) without_body = refusal_reply r without_body
 answer_reply (shows kind bytes) without_body = shown_reply kind bytes without_body
@@ -42,10 +48,11 @@ answer_reply shows_page without_body = page_reply without_body
 -- the expected answer: this one, or the club's answer to a query of a member at a timestamp
 pub data ExpectedReply : Type 0 where
   this : Answer → ExpectedReply
-  question_page : (moment : ℕ) → QuestionPath → (key : List ℕ) → ExpectedReply
+  question_page : (moment : ℕ) → QuestionTopic → ContentType → Endpoint → (key : List ℕ) → ExpectedReply
 
 -- ---- queries
 
+-- the content of the reply to a query: the club's answer, or its refusal
 abbrev pub question_answer : ContentType → Result (List ℕ) of_club.Refusal → Answer
 question_answer kind (Ok bytes) = shows kind bytes
 question_answer kind (Err r) = refusal (OfClub r)
@@ -53,24 +60,25 @@ question_answer kind (Err r) = refusal (OfClub r)
 -- the answer is the expected one in a state
 abbrev pub IsExpectedReply : {S : Type 0} → Club S → S → ExpectedReply → Answer → Type 0
 IsExpectedReply club s (this expected) given = given ≡ expected
-IsExpectedReply club s (question_page moment asking key) given = (about : Question × ContentType) × Asks asking key about
-    × (shown : Result (List ℕ) of_club.Refusal) × club.IsShown s moment about.0 shown
-    × (given ≡ question_answer about.1 shown)
+IsExpectedReply club s (question_page moment about kind asked key) given = (question : Question)
+    × Asks about asked key question × (shown : Result (List ℕ) of_club.Refusal) × club.IsShown s moment question shown
+    × (given ≡ question_answer kind shown)
 
 -- ---- commands
 
--- the command on a game that a path and a body give
+-- the move that a path and a body give
 abbrev pub move_given : ℕ → Option (List ℕ) → Option play.GameCommand
 move_given ply None = None
 move_given ply (Some text) = Some (play.move ply text)
 
-abbrev pub command_given : GameAction → List ℕ → Option play.GameCommand
-command_given (make_move ply) body = move_given ply (move_text body)
-command_given (offer_draw ply) body = Some (play.offer_draw ply)
-command_given (accept_draw ply) body = Some (play.accept_draw ply)
-command_given resign body = Some play.resign
-command_given claim_time body = Some play.claim_time
-command_given (declare ply) body = Some (play.declare ply)
+-- the command on a game that the route, the ply and the body state, if the body is valid where it is needed
+abbrev pub command_given : GameAction → ℕ → List ℕ → Option play.GameCommand
+command_given action.MakeMove ply body = move_given ply (move_text body)
+command_given action.OfferDraw ply body = Some (play.offer_draw ply)
+command_given action.AcceptDraw ply body = Some (play.accept_draw ply)
+command_given action.Resign ply body = Some play.resign
+command_given action.ClaimTime ply body = Some play.claim_time
+command_given action.Declare ply body = Some (play.declare ply)
 
 -- a repeated command has the same answer as the accepted one
 abbrev pub outcome_answer : ℕ → Outcome (Unit {0}) → Answer
@@ -78,6 +86,7 @@ outcome_answer id (accepted after reply) = shows Json (compact_text (reply_data 
 outcome_answer id (repeated reply) = shows Json (compact_text (reply_data id reply))
 outcome_answer id (declined r) = refusal (OfClub r)
 
+-- the state after a command, and the answer to the command's outcome
 abbrev pub told_outcome : {S : Type 0} → ℕ → S × Outcome (Unit {0}) → S × ExpectedReply
 told_outcome id told = (told.0, this (outcome_answer id told.1))
 
@@ -89,37 +98,52 @@ serve_command club s moment key id (Some command) =
 
 -- ---- endpoints
 
+-- the bytes are the name of this method
 abbrev pub is_method : List ℕ → Method → Bool
 is_method bytes Get = bytes_eq bytes (codes "GET")
 is_method bytes Post = bytes_eq bytes (codes "POST")
 
+-- what an endpoint serves, for a member
+abbrev pub serve_topic : {S : Type 0} → Club S → S → ℕ → List ℕ → List ℕ → Endpoint → Topic → S × ExpectedReply
+serve_topic club s moment key body asked topic.MembersPage = (s, this shows_page)
+serve_topic club s moment key body asked (topic.Question about kind) = (s, question_page moment about kind asked key)
+serve_topic club s moment key body asked (topic.OnGame given) =
+    serve_command club s moment key asked.id (option_map (game_command asked.id) (command_given given asked.ply body))
+serve_topic club s moment key body asked topic.Challenge =
+    serve_command club s moment key asked.number (challenge_of asked.number body)
+serve_topic club s moment key body asked topic.Withdraw =
+    serve_command club s moment key asked.number (Some (withdraw_challenge asked.number))
+serve_topic club s moment key body asked topic.Answer =
+    serve_command club s moment key asked.number (answer_of asked.member asked.number body)
+
 -- an endpoint, for a member
 abbrev pub serve_page : {S : Type 0} → Club S → S → ℕ → List ℕ → List ℕ → Endpoint → S × ExpectedReply
-serve_page club s moment key body members_page = (s, this shows_page)
-serve_page club s moment key body (question asking) = (s, question_page moment asking key)
-serve_page club s moment key body (on_game id turn) =
-    serve_command club s moment key id (option_map (game_command id) (command_given turn body))
-serve_page club s moment key body (challenge n) = serve_command club s moment key n (challenge_of n body)
-serve_page club s moment key body (withdraw n) = serve_command club s moment key n (Some (withdraw_challenge n))
-serve_page club s moment key body (answer member n) = serve_command club s moment key n (answer_of member n body)
+serve_page club s moment key body asked = serve_topic club s moment key body asked asked.route.topic
 
+-- the next state and the expected answer for an endpoint that needs a key; without a member's key it is refused
 abbrev pub serve_known : {S : Type 0} → Club S → S → ℕ → Option (List ℕ) → List ℕ → Endpoint → S × ExpectedReply
 serve_known club s moment None body asked = (s, this (refusal (OfClub UnknownKey)))
 serve_known club s moment (Some key) body asked =
     if is_utf8 key && is_some (club.member_by_key s key) then serve_page club s moment key body
     asked else (s, this (refusal (OfClub UnknownKey)))
 
+-- a key is needed
+abbrev pub needs_key : Access → Bool
+needs_key Public = false
+needs_key Members = true
+
 -- a public endpoint, or one for the holder of a key
 abbrev pub serve_caller : {S : Type 0} → Club S → S → ℕ → Option (List ℕ) → List ℕ → Endpoint → S × ExpectedReply
 serve_caller club s moment key body asked =
-    if is_public asked then (s, this shows_page) else serve_known club s moment key body asked
+    if needs_key asked.route.access then serve_known club s moment key body asked else (s, this shows_page)
 
+-- the next state and the expected answer, given the path's endpoint; an unknown path or another method is refused
 abbrev pub serve_asked : {S : Type 0} → Club S → S → ℕ → HttpRequest → Option Endpoint → S × ExpectedReply
 serve_asked club s moment request None = (s, this (refusal NoRoute))
 serve_asked club s moment request (Some asked) =
-    if is_method request.method (method_of asked)
+    if is_method request.method asked.route.method
     then serve_caller club s moment request.key request.body asked
-    else (s, this (refusal (WrongMethod (method_of asked))))
+    else (s, this (refusal (WrongMethod asked.route.method)))
 
 -- the next state and the expected answer, for a complete request
 unfoldable pub serve : {S : Type 0} → Club S → S → ℕ → HttpRequest → S × ExpectedReply
@@ -134,12 +158,13 @@ known_caller club s (Some key) = if is_utf8 key then club.member_by_key s key el
 
 -- a public endpoint identifies nobody
 abbrev pub caller_for : {S : Type 0} → Club S → S → Option (List ℕ) → Endpoint → Option (List ℕ)
-caller_for club s key asked = if is_public asked then None else known_caller club s key
+caller_for club s key asked = if needs_key asked.route.access then known_caller club s key else None
 
+-- the name of the member who sends a request, if its endpoint needs a key and has its method
 abbrev pub asked_caller : {S : Type 0} → Club S → S → HttpRequest → Option Endpoint → Option (List ℕ)
 asked_caller club s request None = None
 asked_caller club s request (Some asked) =
-    if is_method request.method (method_of asked) then caller_for club s request.key asked else None
+    if is_method request.method asked.route.method then caller_for club s request.key asked else None
 
 -- the name of the member who sends a complete request, if its endpoint needs a key
 unfoldable pub caller : {S : Type 0} → Club S → S → HttpRequest → Option (List ℕ)
@@ -217,17 +242,20 @@ shut_known fault (Some key) = if is_utf8 key then Err fault else Ok (refusal (Of
 
 -- the members' page needs no club
 abbrev pub shut_caller : ClubFault → Option (List ℕ) → Endpoint → Result Answer ClubFault
-shut_caller fault key asked = if is_public asked then Ok shows_page else shut_known fault key
+shut_caller fault key asked = if needs_key asked.route.access then shut_known fault key else Ok shows_page
 
+-- the answer to a request for this endpoint if that needs no club, otherwise the club's fault
 abbrev pub shut_asked : ClubFault → HttpRequest → Option Endpoint → Result Answer ClubFault
 shut_asked fault request None = Ok (refusal NoRoute)
 shut_asked fault request (Some asked) =
-    if is_method request.method (method_of asked) then shut_caller fault request.key asked else Ok
-    (refusal (WrongMethod (method_of asked)))
+    if is_method request.method asked.route.method then shut_caller fault request.key asked else Ok
+    (refusal (WrongMethod asked.route.method))
 
+-- the answer to a complete request if that needs no club, otherwise the club's fault
 unfoldable pub shut_serve : ClubFault → HttpRequest → Result Answer ClubFault
 shut_serve fault request = shut_asked fault request (match_route request.target)
 
+-- the bytes of the reply with this answer, or of the reply that reports the fault
 abbrev pub shut_text : Result Answer ClubFault → Bool → List ℕ
 shut_text (Ok given) without_body = answer_reply given without_body
 shut_text (Err fault) without_body = fault_reply (club_fault_number fault) (club_fault_name fault) without_body

@@ -1,4 +1,4 @@
--- The mathematical values of the code's answers and commands.
+-- The mathematical values of the code's endpoints, answers and commands.
 use Rattle.std.specs.Prelude.{◌≡◌, Option, Result, Ok, Err, option_map}
 use Rattle.club_requests.specs.declared.requests.GameCommand as given
 use Rattle.club_core.specs.Answer.{game_command_of}
@@ -9,6 +9,18 @@ use Rattle.http_desk.specs.declared.desk.AnswerFault.{AnswerFault}
 use Rattle.http_desk.specs.declared.desk.AnswerFault.TheVariants as faults
 use Rattle.http_desk.specs.declared.faults.ClubFault.{ClubFault}
 use Rattle.http_desk.specs.Desk.{Answer, refusal, shows, shows_page}
+use Rattle.http_desk.specs.declared.routes.Endpoint as given_endpoint
+use Rattle.http_desk.specs.Routes.{Endpoint}
+
+abbrev pub endpoint_view : given_endpoint.Endpoint → Endpoint
+endpoint_view e = record {
+  route = e.route;
+  id = e.id;
+  ply = e.ply;
+  number = e.number;
+  name = e.name.now;
+  member = e.member.now;
+}
 
 abbrev pub answer_view : code.Response → Answer
 answer_view (variants.Refused r) = refusal r

@@ -3,6 +3,7 @@ use Rattle.std.specs.Prelude.{ℕ, List, codes}
 use Rattle.http_desk.specs.declared.faults.ClubFault.{ClubFault}
 use Rattle.http_desk.specs.declared.faults.ClubFault.TheVariants.{Foreign, Schema, Damaged, Store, Reopen, Memory}
 
+-- the error number in the reply
 abbrev pub club_fault_number : ClubFault → ℕ
 club_fault_number Foreign = 70
 club_fault_number Schema = 71
@@ -11,6 +12,7 @@ club_fault_number Store = 73
 club_fault_number Reopen = 74
 club_fault_number Memory = 75
 
+-- the name of the fault in the reply
 abbrev pub club_fault_name : ClubFault → List ℕ
 club_fault_name Foreign = codes "Foreign"
 club_fault_name Schema = codes "Schema"

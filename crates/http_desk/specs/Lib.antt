@@ -1,6 +1,6 @@
 pub mod Faults
+pub mod Paths
 pub mod Routes
-pub mod RouteViews
 pub mod Taken
 pub mod Questions
 pub mod Served

@@ -1,39 +1,25 @@
--- The query of a path and a key.
+-- The query of an endpoint and a key.
 use Rattle.std.specs.Prelude.{◌≡◌, ℕ, List, String, string_bytes}
 use Rattle.std.specs.declared.alloc.Global.{Global}
 use Rattle.club_requests.specs.declared.questions.Question.{Question}
 use Rattle.club_requests.specs.declared.questions.Question.TheVariants as asked
-use Rattle.http_bodies.specs.declared.reply.ContentType.{ContentType}
-use Rattle.http_bodies.specs.declared.reply.ContentType.TheVariants.{Json, Plain}
-use Rattle.http_desk.specs.declared.questions.GameTopic.{GameTopic}
-use Rattle.http_desk.specs.declared.questions.GameTopic.TheVariants.{View, Moves, Record, Clock}
-use Rattle.http_desk.specs.declared.questions.EventTopic.{EventTopic}
-use Rattle.http_desk.specs.declared.questions.EventTopic.TheVariants as of_events
-use Rattle.http_desk.specs.declared.questions.MemberTopic.{MemberTopic}
-use Rattle.http_desk.specs.declared.questions.MemberTopic.TheVariants as of_members
-use Rattle.http_desk.specs.Routes.{QuestionPath, of_game, of_event, of_member}
+use Rattle.http_desk.specs.declared.table.QuestionTopic.{QuestionTopic}
+use Rattle.http_desk.specs.declared.table.QuestionTopic.TheVariants as topic
+use Rattle.http_desk.specs.Routes.{Endpoint}
 
--- a query about a game, and the content type of its answer
-abbrev pub game_question : GameTopic → ℕ → Question × ContentType
-game_question View game = (asked.GameJson game, Json)
-game_question Moves game = (asked.LegalMovesJson game, Json)
-game_question Record game = (asked.Record game, Plain)
-game_question Clock game = (asked.GameClock game, Json)
+-- the query has these bytes as its text
+abbrev pub HasText : List ℕ → (String Global → Question) → Question → Type 0
+HasText bytes of_text question = (text : String Global) × (string_bytes text ≡ bytes) × (question ≡ of_text text)
 
--- a query about an event
-abbrev pub event_question : EventTopic → String Global → Question × ContentType
-event_question of_events.Table event = (asked.CrossTable event, Plain)
-event_question of_events.Games event = (asked.EventGames event, Json)
-
--- a query of the member who has the key
-abbrev pub member_question : MemberTopic → String Global → Question × ContentType
-member_question of_members.Games key = (asked.MyGames key, Json)
-member_question of_members.Events key = (asked.ChallengeChoices key, Json)
-
--- the query of a path and a key; the text in it has the bytes of the event's name or of the key
-abbrev pub Asks : QuestionPath → (key : List ℕ) → Question × ContentType → Type 0
-Asks (of_game topic game) key about = about ≡ game_question topic game
-Asks (of_event topic event) key about = (name : String Global) × (string_bytes name ≡ event)
-    × (about ≡ event_question topic name)
-Asks (of_member topic) key about = (shown : String Global) × (string_bytes shown ≡ key)
-    × (about ≡ member_question topic shown)
+-- the query of an endpoint on a topic: about the path's game or event, or of the holder of the key
+abbrev pub Asks : QuestionTopic → Endpoint → (key : List ℕ) → Question → Type 0
+Asks topic.GameView endpoint key question = question ≡ asked.GameJson endpoint.id
+Asks topic.LegalMoves endpoint key question = question ≡ asked.LegalMovesJson endpoint.id
+Asks topic.GameRecord endpoint key question = question ≡ asked.Record endpoint.id
+Asks topic.GameClock endpoint key question = question ≡ asked.GameClock endpoint.id
+Asks topic.GamePage endpoint key question = question ≡ asked.GamePage endpoint.id
+Asks topic.EventTable endpoint key question = HasText endpoint.name (λ text. asked.CrossTable text) question
+Asks topic.EventGames endpoint key question = HasText endpoint.name (λ text. asked.EventGames text) question
+Asks topic.MyGames endpoint key question = HasText key (λ text. asked.MyGames text) question
+Asks topic.MyEndedGames endpoint key question = HasText key (λ text. asked.EndedGames text) question
+Asks topic.MyEvents endpoint key question = HasText key (λ text. asked.ChallengeChoices text) question

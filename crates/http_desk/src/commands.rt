@@ -3,47 +3,40 @@ ghost use Rattle.std.specs.Prelude.{◌≡◌, IfOk, option_map};
 ghost use Rattle.serde_json.specs.Written.{compact_text};
 ghost use Rattle.club_core.specs.Answer.{command_of, game_command_of, outcome_of, reply_of, who_of};
 ghost use Rattle.club_core.specs.State.{key_holder, on_game, withdraw_challenge};
-ghost use Rattle.http_desk.specs.RouteViews.{action_view};
 ghost use Rattle.http_bodies.specs.Bodies.{reply_data};
 ghost use Rattle.http_bodies.specs.declared.reply.ContentType.TheVariants.{Json};
 ghost use Rattle.http_desk.specs.Desk.{shows, command_given, outcome_answer, serve_command, ServesDue};
 ghost use Rattle.http_desk.specs.DeskViews.{answer_view, command_view};
 
 use crate::desk::{AnswerFault, Response};
-use crate::routes::GameAction;
+use crate::routes::Endpoint;
 use crate::served::ClubService;
+use crate::table::GameAction;
 use clocks::Moment;
 use club_requests::{Answer, Command, GameCommand, OnGame, Outcome, Who, Withdraw};
 use http_bodies::{ContentType, HttpRefusal, answer_text, move_text};
 use std::alloc::{AllocError, Global};
 
-// The command on a game that a path and a body give; `None` if the body is malformed.
+// The command on a game that a route, the ply of its path and a body give; `None` if the body is malformed.
 fn command_given(
     alloc: Global,
-    turn: GameAction,
+    action: GameAction,
+    ply: u32,
     body: &[u8],
 ) -> Result<Option<GameCommand>, AllocError>
-    ensures { IfOk result (λ command. command_view command ≡ command_given (action_view turn) body.now) }
+    ensures { IfOk result (λ command. command_view command ≡ command_given action ply body.now) }
 {
-    match turn {
-        GameAction::MakeMove(ply) => match move_text(alloc, body)? {
+    let ply = u64::from(ply);
+    match action {
+        GameAction::MakeMove => match move_text(alloc, body)? {
             None => Ok(None),
-            Some(text) => Ok(Some(GameCommand::Move {
-                ply: u64::from(ply),
-                text,
-            })),
+            Some(text) => Ok(Some(GameCommand::Move { ply, text })),
         },
-        GameAction::OfferDraw(ply) => Ok(Some(GameCommand::OfferDraw {
-            ply: u64::from(ply),
-        })),
-        GameAction::AcceptDraw(ply) => Ok(Some(GameCommand::AcceptDraw {
-            ply: u64::from(ply),
-        })),
+        GameAction::OfferDraw => Ok(Some(GameCommand::OfferDraw { ply })),
+        GameAction::AcceptDraw => Ok(Some(GameCommand::AcceptDraw { ply })),
         GameAction::Resign => Ok(Some(GameCommand::Resign)),
         GameAction::ClaimTime => Ok(Some(GameCommand::ClaimTime)),
-        GameAction::Declare(ply) => Ok(Some(GameCommand::Declare {
-            ply: u64::from(ply),
-        })),
+        GameAction::Declare => Ok(Some(GameCommand::Declare { ply })),
     }
 }
 
@@ -82,18 +75,18 @@ fn on_game(game: u32, command: GameCommand) -> Command
     })
 }
 
-// The command on game `game` that a path and a body give; `None` if the body is malformed.
+// The command on the game of an endpoint that its route and a body give; `None` if the body is malformed.
 pub(crate) fn turn_given(
     alloc: Global,
-    game: u32,
-    turn: GameAction,
+    action: GameAction,
+    asked: Endpoint<'_>,
     body: &[u8],
 ) -> Result<Option<Command>, AllocError>
-    ensures { IfOk result (λ command.
-        option_map command_of command ≡ option_map (on_game game) (command_given (action_view turn) body.now)) }
+    ensures { IfOk result (λ command. option_map command_of command ≡
+        option_map (on_game asked.entry.id) (command_given action asked.entry.ply body.now)) }
 {
-    match command_given(alloc, turn, body)? {
-        Some(command) => Ok(Some(on_game(game, command))),
+    match command_given(alloc, action, asked.ply, body)? {
+        Some(command) => Ok(Some(on_game(asked.id, command))),
         None => Ok(None),
     }
 }

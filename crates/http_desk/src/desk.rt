@@ -2,21 +2,21 @@
 ghost use Rattle.std.specs.Prelude.{◌≡◌, None, IfOk, IfErr, option_map, option_and_then, string_bytes};
 ghost use Rattle.http_head.specs.Request.{whole};
 ghost use Rattle.http_head.specs.RequestViews.{request_view, seen_view};
-ghost use Rattle.http_desk.specs.RouteViews.{asked_view};
-ghost use Rattle.http_desk.specs.Routes.{text_of};
+ghost use Rattle.http_desk.specs.Paths.{text_of};
 ghost use Rattle.http_desk.specs.Desk.{is_method, answer_reply, serve_page, serve_known, serve_caller, serve_asked};
 ghost use Rattle.http_desk.specs.Desk.{serve};
 ghost use Rattle.http_desk.specs.Desk.{ServesDue, RepliesTo, Answers, shut_known, shut_caller, shut_asked, shut_serve};
 ghost use Rattle.http_desk.specs.Desk.{shut_text, shut_reply, IsShutReply};
 ghost use Rattle.http_desk.specs.Desk.{known_caller, caller_for, asked_caller, caller, NamesExpectedCaller};
 ghost use Rattle.http_desk.specs.Desk.{NamesCaller, NamesCallerOf};
-ghost use Rattle.http_desk.specs.DeskViews.{answer_view, IsShutBy};
+ghost use Rattle.http_desk.specs.DeskViews.{answer_view, endpoint_view, IsShutBy};
 
 use crate::commands::{serve_command, turn_given, withdrawal};
 use crate::faults::{ClubFault, DeskFault};
 use crate::pages::serve_question;
 use crate::routes::{Endpoint, Routes, text_of};
 use crate::served::ClubService;
+use crate::table::{Access, Topic};
 use clocks::Moment;
 use club_requests::Refusal;
 use http_bodies::{
@@ -92,26 +92,28 @@ fn serve_page<C: ClubService>(
     ensures clean { C.IsClean club.new → C.IsClean club.old }
     ensures serves { C.IsClean club.new → (s : C.State) → C.Stands club.old s →
         ServesDue C.club (C.Stands club.new) (C.Leaves club.new) answer_view s
-        (serve_page C.club s moment key.now body.now (asked_view asked.entry)) result }
+        (serve_page C.club s moment key.now body.now (endpoint_view asked.entry)) result }
 {
-    match asked {
-        Endpoint::MembersPage => Ok(Response::Page),
-        Endpoint::Question(asking) => serve_question(alloc, club, key, asking, moment),
-        Endpoint::OnGame(game, turn) => {
-            let command = turn_given(alloc, game, turn, body)?;
-            serve_command(alloc, club, key, game, command, moment)
+    match asked.route.topic {
+        Topic::MembersPage => Ok(Response::Page),
+        Topic::Question(topic, kind) => {
+            serve_question(alloc, club, key, (topic, kind), asked, moment)
         }
-        Endpoint::Challenge(number) => {
-            let command = challenge_of(alloc, number, body)?;
-            serve_command(alloc, club, key, number, command, moment)
+        Topic::OnGame(action) => {
+            let command = turn_given(alloc, action, asked, body)?;
+            serve_command(alloc, club, key, asked.id, command, moment)
         }
-        Endpoint::Withdraw(number) => {
-            let command = Some(withdrawal(number));
-            serve_command(alloc, club, key, number, command, moment)
+        Topic::Challenge => {
+            let command = challenge_of(alloc, asked.number, body)?;
+            serve_command(alloc, club, key, asked.number, command, moment)
         }
-        Endpoint::Answer(member, number) => {
-            let command = answer_of(alloc, member, number, body)?;
-            serve_command(alloc, club, key, number, command, moment)
+        Topic::Withdraw => {
+            let command = Some(withdrawal(asked.number));
+            serve_command(alloc, club, key, asked.number, command, moment)
+        }
+        Topic::Answer => {
+            let command = answer_of(alloc, asked.member, asked.number, body)?;
+            serve_command(alloc, club, key, asked.number, command, moment)
         }
     }
 }
@@ -150,7 +152,7 @@ fn serve_known<C: ClubService>(
     ensures nobody { (fault : ClubFault) → C.IsShut club.old fault → result.caller ≡ None }
     ensures serves { C.IsClean club.new → (s : C.State) → C.Stands club.old s →
         ServesDue C.club (C.Stands club.new) (C.Leaves club.new) answer_view s
-        (serve_known C.club s moment (option_map (λ k. k.now) key.entry) body.now (asked_view asked.entry))
+        (serve_known C.club s moment (option_map (λ k. k.now) key.entry) body.now (endpoint_view asked.entry))
         result.shown }
     ensures caller { C.IsClean club.new → (s : C.State) → C.Stands club.old s →
         NamesExpectedCaller (known_caller C.club s (option_map (λ k. k.now) key.entry))
@@ -188,23 +190,22 @@ fn serve_caller<C: ClubService>(
 ) -> Served
     ensures clean { C.IsClean club.new → C.IsClean club.old }
     ensures shut { (fault : ClubFault) → C.IsShut club.old fault → C.IsShut club.new fault ×
-        IsShutBy (shut_caller fault (request_view request.now).key (asked_view asked.entry)) result.shown }
+        IsShutBy (shut_caller fault (request_view request.now).key (endpoint_view asked.entry)) result.shown }
     ensures nobody { (fault : ClubFault) → C.IsShut club.old fault → result.caller ≡ None }
     ensures serves { C.IsClean club.new → (s : C.State) → C.Stands club.old s →
         ServesDue C.club (C.Stands club.new) (C.Leaves club.new) answer_view s
         (serve_caller C.club s moment (request_view request.now).key (request_view request.now).body
-        (asked_view asked.entry)) result.shown }
+        (endpoint_view asked.entry)) result.shown }
     ensures caller { C.IsClean club.new → (s : C.State) → C.Stands club.old s →
-        NamesExpectedCaller (caller_for C.club s (request_view request.now).key (asked_view asked.entry))
+        NamesExpectedCaller (caller_for C.club s (request_view request.now).key (endpoint_view asked.entry))
         (option_map string_bytes result.caller) result.shown }
 {
-    if asked.is_public() {
-        Served {
+    match asked.route.access {
+        Access::Public => Served {
             shown: Ok(Response::Page),
             caller: None,
-        }
-    } else {
-        serve_known(alloc, club, request.key, request.body, asked, moment)
+        },
+        Access::Members => serve_known(alloc, club, request.key, request.body, asked, moment),
     }
 }
 
@@ -218,13 +219,13 @@ fn serve_asked<C: ClubService>(
 ) -> Served
     ensures clean { C.IsClean club.new → C.IsClean club.old }
     ensures shut { (fault : ClubFault) → C.IsShut club.old fault → C.IsShut club.new fault ×
-        IsShutBy (shut_asked fault (request_view request.now) (option_map asked_view asked.entry)) result.shown }
+        IsShutBy (shut_asked fault (request_view request.now) (option_map endpoint_view asked.entry)) result.shown }
     ensures nobody { (fault : ClubFault) → C.IsShut club.old fault → result.caller ≡ None }
     ensures serves { C.IsClean club.new → (s : C.State) → C.Stands club.old s →
         ServesDue C.club (C.Stands club.new) (C.Leaves club.new) answer_view s
-        (serve_asked C.club s moment (request_view request.now) (option_map asked_view asked.entry)) result.shown }
+        (serve_asked C.club s moment (request_view request.now) (option_map endpoint_view asked.entry)) result.shown }
     ensures caller { C.IsClean club.new → (s : C.State) → C.Stands club.old s →
-        NamesExpectedCaller (asked_caller C.club s (request_view request.now) (option_map asked_view asked.entry))
+        NamesExpectedCaller (asked_caller C.club s (request_view request.now) (option_map endpoint_view asked.entry))
         (option_map string_bytes result.caller) result.shown }
 {
     match asked {
@@ -233,7 +234,7 @@ fn serve_asked<C: ClubService>(
             caller: None,
         },
         Some(asked) => {
-            let method = asked.method();
+            let method = asked.route.method;
             if is_method(request.method, method) {
                 serve_caller(alloc, club, request, asked, moment)
             } else {

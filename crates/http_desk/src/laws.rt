@@ -14,12 +14,12 @@ pub fn repeats_are_answered_alike()
         outcome_answer game (accepted tt reply) ≡ outcome_answer game (repeated reply) }
 {}
 
-/// Every route parses and leads to its `Route`, and the table has no other routes.
+/// Every route of the table parses and is in the router, and the router has no other routes.
 pub fn routes_are_there()
     ensures { AreAllRoutes }
 {}
 
-/// An example path of each route is matched to its `Route`.
+/// An example path of each route is matched to this route.
 pub fn paths_are_found()
     ensures { AreFound }
 {}

@@ -1,117 +1,37 @@
-//! The router: from a request target to an endpoint and its parameters.
-ghost use Rattle.std.specs.Prelude.{◌≡◌, [], IfOk, Ok, codes, length, map, option_map};
+//! The router: from a request target to an endpoint, a route with the parameters of a path.
+ghost use Rattle.std.specs.Prelude.{◌≡◌, [], IfOk, Ok, length, map, option_map};
 ghost use Rattle.matchit.specs.Params.{AllText, named};
-ghost use Rattle.http_desk.specs.Routes.{before, starts_with, path_after_authority, path_of, with_routes};
-ghost use Rattle.http_desk.specs.Routes.{make_move, offer_draw, accept_draw, declare, text_of};
-ghost use Rattle.http_desk.specs.Routes.{action_endpoint, ply_asked, answer_asked, about_game, about_event};
-ghost use Rattle.http_desk.specs.Routes.{match_route, method_of, is_public};
-ghost use Rattle.http_desk.specs.RouteViews.{action_view, asked_view};
-ghost use Rattle.http_desk.specs.Taken.{parts_taken, number_named, asked_by};
+ghost use Rattle.http_desk.specs.Paths.{before, starts_with, path_after_authority, path_of, text_of};
+ghost use Rattle.http_desk.specs.Routes.{route_with, with_routes, number_given, text_given, match_route};
+ghost use Rattle.http_desk.specs.Taken.{parts_taken, endpoint_taken};
+ghost use Rattle.http_desk.specs.DeskViews.{endpoint_view};
 
-use crate::questions::{EventTopic, GameTopic, MemberTopic, QuestionPath};
+use crate::table::{Access, Route, TABLE, Topic};
 use http_bodies::Method;
 use http_head::number_of;
 use matchit::{InsertError, Params, Router};
 use std::alloc::Global;
 use std::marker::Model;
 
-/// A route, without its parameters.
-#[derive(Clone, Copy, Debug, PartialEq, Eq)]
-pub enum Route {
-    /// The members' page.
-    Members,
-    /// A query about a game.
-    AskGame(GameTopic),
-    /// A query about an event.
-    AskEvent(EventTopic),
-    /// A query about the member who has the key.
-    AskMember(MemberTopic),
-    /// A move.
-    MakeMove,
-    /// An offer of a draw.
-    OfferDraw,
-    /// The acceptance of a draw.
-    AcceptDraw,
-    /// A resignation.
-    Resign,
-    /// A claim that the opponent is out of time.
-    ClaimTime,
-    /// A declaration.
-    Declare,
-    /// A new challenge.
-    Challenge,
-    /// The withdrawal of a challenge.
-    Withdraw,
-    /// An answer to a challenge.
-    Answer,
-}
-
-/// A command on a game, by its path. The number is the ply, from 1.
-#[derive(Clone, Copy, Debug, PartialEq, Eq)]
-pub enum GameAction {
-    /// A move; the body has its text.
-    MakeMove(u32),
-    /// An offer of a draw.
-    OfferDraw(u32),
-    /// The acceptance of a draw.
-    AcceptDraw(u32),
-    /// A resignation.
-    Resign,
-    /// A claim that the opponent is out of time.
-    ClaimTime,
-    /// A declaration.
-    Declare(u32),
-}
-
-/// An endpoint: a route with its parameters.
+/// A route, and the parameters of a path by their names in the route table: 0 or empty if there is none of this name.
 #[derive(Clone, Copy)]
-pub enum Endpoint<'p> {
-    /// The members' page.
-    MembersPage,
-    /// A query.
-    Question(QuestionPath<'p>),
-    /// A command on the game with this number.
-    OnGame(u32, GameAction),
-    /// A new challenge with this number.
-    Challenge(u32),
-    /// The withdrawal of the challenge with this number.
-    Withdraw(u32),
-    /// An answer to a challenge: the challenger and the challenge's number.
-    Answer(&'p str, u32),
+pub struct Endpoint<'p> {
+    /// The route.
+    pub route: Route,
+    /// `{id}`: the number of a game.
+    pub id: u32,
+    /// `{ply}`: a ply, counted from 1.
+    pub ply: u32,
+    /// `{number}`: the number of a challenge.
+    pub number: u32,
+    /// `{name}`: the name of an event.
+    pub name: &'p str,
+    /// `{member}`: the name of a member.
+    pub member: &'p str,
 }
 
-impl<'p> Endpoint<'p> {
-    /// The one method of the endpoint.
-    pub fn method(self) -> Method
-        ensures { result ≡ method_of (asked_view self.entry) }
-    {
-        match self {
-            Endpoint::MembersPage => Method::Get,
-            Endpoint::Question(_) => Method::Get,
-            Endpoint::OnGame(_, _) => Method::Post,
-            Endpoint::Challenge(_) => Method::Post,
-            Endpoint::Withdraw(_) => Method::Post,
-            Endpoint::Answer(_, _) => Method::Post,
-        }
-    }
-
-    /// Whether the endpoint needs no key; only the members' page is so.
-    pub fn is_public(self) -> bool
-        ensures { result ≡ is_public (asked_view self.entry) }
-    {
-        match self {
-            Endpoint::MembersPage => true,
-            Endpoint::Question(_) => false,
-            Endpoint::OnGame(_, _) => false,
-            Endpoint::Challenge(_) => false,
-            Endpoint::Withdraw(_) => false,
-            Endpoint::Answer(_, _) => false,
-        }
-    }
-}
-
-// The bytes before the first `byte`; all of them if there is none.
-fn front(bytes: &[u8], byte: u8) -> &[u8]
+/// The bytes before the first `byte`; all of them if there is none.
+pub fn front(bytes: &[u8], byte: u8) -> &[u8]
     ensures { result.now ≡ before byte bytes.now }
 {
     match bytes.iter().position(|other| *other == byte) {
@@ -156,34 +76,21 @@ pub fn path_of(target: &[u8]) -> Option<&[u8]>
     None
 }
 
-// The route table.
-const TABLE: [(&str, Route); 18] = [
-    ("/games/{id}", Route::AskGame(GameTopic::View)),
-    ("/games/{id}/legal", Route::AskGame(GameTopic::Moves)),
-    ("/games/{id}/record", Route::AskGame(GameTopic::Record)),
-    ("/games/{id}/clock", Route::AskGame(GameTopic::Clock)),
-    ("/events/{name}/table", Route::AskEvent(EventTopic::Table)),
-    ("/events/{name}/games", Route::AskEvent(EventTopic::Games)),
-    ("/me", Route::AskMember(MemberTopic::Games)),
-    ("/me/events", Route::AskMember(MemberTopic::Events)),
-    ("/games/{id}/moves/{ply}", Route::MakeMove),
-    ("/games/{id}/draw/{ply}/offer", Route::OfferDraw),
-    ("/games/{id}/draw/{ply}/accept", Route::AcceptDraw),
-    ("/games/{id}/resign", Route::Resign),
-    ("/games/{id}/claim-time", Route::ClaimTime),
-    ("/games/{id}/declare/{ply}", Route::Declare),
-    ("/challenges/{number}", Route::Challenge),
-    ("/challenges/{number}/withdraw", Route::Withdraw),
-    ("/answers/{member}/{number}", Route::Answer),
-    ("/play", Route::Members),
-];
-
-fn router_of(alloc: Global, routes: &[(&str, Route)]) -> Result<Router<Route>, InsertError>
-    ensures { IfOk result (λ router. router ≡ with_routes (map (λ (route, page). (route.now, page)) routes.now) []) }
+fn router_of(
+    alloc: Global,
+    rows: &[(&str, Method, Access, Topic)],
+) -> Result<Router<Route>, InsertError>
+    ensures { IfOk result (λ router. router ≡
+        with_routes (map (λ row. (row.0.now, route_with row.1 row.2 row.3)) rows.now) []) }
 {
     let mut router = Router::new(alloc);
-    for (route, page) in routes {
-        router.insert(route, *page)?;
+    for (path, method, access, topic) in rows {
+        let route = Route {
+            method: *method,
+            access: *access,
+            topic: *topic,
+        };
+        router.insert(path, route)?;
     }
     Ok(router)
 }
@@ -198,7 +105,7 @@ impl Model for Routes {
     ghost use Rattle.std.specs.Prelude.{◌≡◌};
     ghost use Rattle.matchit.specs.Rows.{RowsOf};
     ghost use Rattle.matchit.specs.Router.{RouteOf};
-    ghost use Rattle.http_desk.specs.declared.routes.Route.{Route};
+    ghost use Rattle.http_desk.specs.declared.table.Route.{Route};
     ghost use Rattle.http_desk.specs.Routes.{routes};
 
     ghost Value = { RowsOf (RouteOf Route) };
@@ -219,9 +126,9 @@ impl Routes {
         Ok(Routes { router })
     }
 
-    /// The endpoint of a request target, if a route matches.
+    /// The endpoint of a request target, if a route matches and its numbers are valid.
     pub fn match_route<'t>(&self, target: &'t [u8]) -> Option<Endpoint<'t>>
-        ensures { option_map asked_view result ≡ match_route target.now }
+        ensures { option_map endpoint_view result ≡ match_route target.now }
     {
         let Some(path) = path_of(target) else {
             return None;
@@ -246,145 +153,42 @@ pub fn text_of(bytes: &[u8]) -> Option<&str>
     }
 }
 
-// A path parameter as a number.
+// A path parameter as a number, 0 if there is none; `None` if it is malformed.
 fn number_named(params: &Params<'_, '_>, name: &str) -> Option<u32>
     requires { AllText (parts_taken params.now) }
-    ensures { result ≡ number_named name.now (parts_taken params.now) }
+    ensures { result ≡ number_given (named name.now (parts_taken params.now)) }
 {
     match params.get(name) {
-        None => None,
+        None => Some(0),
         Some(part) => number_of(part.as_bytes()),
     }
 }
 
-// A command on a game without a ply.
-fn action_endpoint<'p>(turn: GameAction, params: &Params<'_, 'p>) -> Option<Endpoint<'p>>
+// A path parameter as text, empty if there is none.
+fn text_named<'p>(params: &Params<'_, 'p>, name: &str) -> &'p str
     requires { AllText (parts_taken params.now) }
-    ensures { option_map asked_view result ≡
-        action_endpoint (action_view turn) (number_named (codes "id") (parts_taken params.now)) }
+    ensures { result.now ≡ text_given (named name.now (parts_taken params.now)) }
 {
-    match number_named(params, "id") {
-        None => None,
-        Some(game) => Some(Endpoint::OnGame(game, turn)),
-    }
-}
-
-fn move_asked<'p>(params: &Params<'_, 'p>) -> Option<Endpoint<'p>>
-    requires { AllText (parts_taken params.now) }
-    ensures { option_map asked_view result ≡ ply_asked make_move (number_named (codes "id") (parts_taken params.now))
-        (number_named (codes "ply") (parts_taken params.now)) }
-{
-    match number_named(params, "id") {
-        None => None,
-        Some(game) => match number_named(params, "ply") {
-            None => None,
-            Some(ply) => Some(Endpoint::OnGame(game, GameAction::MakeMove(ply))),
-        },
-    }
-}
-
-fn offer_asked<'p>(params: &Params<'_, 'p>) -> Option<Endpoint<'p>>
-    requires { AllText (parts_taken params.now) }
-    ensures { option_map asked_view result ≡ ply_asked offer_draw (number_named (codes "id") (parts_taken params.now))
-        (number_named (codes "ply") (parts_taken params.now)) }
-{
-    match number_named(params, "id") {
-        None => None,
-        Some(game) => match number_named(params, "ply") {
-            None => None,
-            Some(ply) => Some(Endpoint::OnGame(game, GameAction::OfferDraw(ply))),
-        },
-    }
-}
-
-fn accept_asked<'p>(params: &Params<'_, 'p>) -> Option<Endpoint<'p>>
-    requires { AllText (parts_taken params.now) }
-    ensures { option_map asked_view result ≡ ply_asked accept_draw (number_named (codes "id") (parts_taken params.now))
-        (number_named (codes "ply") (parts_taken params.now)) }
-{
-    match number_named(params, "id") {
-        None => None,
-        Some(game) => match number_named(params, "ply") {
-            None => None,
-            Some(ply) => Some(Endpoint::OnGame(game, GameAction::AcceptDraw(ply))),
-        },
-    }
-}
-
-fn declare_asked<'p>(params: &Params<'_, 'p>) -> Option<Endpoint<'p>>
-    requires { AllText (parts_taken params.now) }
-    ensures { option_map asked_view result ≡ ply_asked declare (number_named (codes "id") (parts_taken params.now))
-        (number_named (codes "ply") (parts_taken params.now)) }
-{
-    match number_named(params, "id") {
-        None => None,
-        Some(game) => match number_named(params, "ply") {
-            None => None,
-            Some(ply) => Some(Endpoint::OnGame(game, GameAction::Declare(ply))),
-        },
-    }
-}
-
-fn answer_asked<'p>(params: &Params<'_, 'p>) -> Option<Endpoint<'p>>
-    requires { AllText (parts_taken params.now) }
-    ensures { option_map asked_view result ≡ answer_asked (named (codes "member") (parts_taken params.now))
-        (number_named (codes "number") (parts_taken params.now)) }
-{
-    match params.get("member") {
-        None => None,
-        Some(member) => match number_named(params, "number") {
-            None => None,
-            Some(number) => Some(Endpoint::Answer(member, number)),
-        },
-    }
-}
-
-fn game_asked<'p>(topic: GameTopic, params: &Params<'_, 'p>) -> Option<Endpoint<'p>>
-    requires { AllText (parts_taken params.now) }
-    ensures { option_map asked_view result ≡
-        option_map (about_game topic) (number_named (codes "id") (parts_taken params.now)) }
-{
-    match number_named(params, "id") {
-        None => None,
-        Some(game) => Some(Endpoint::Question(QuestionPath::OfGame(topic, game))),
-    }
-}
-
-fn event_asked<'p>(topic: EventTopic, params: &Params<'_, 'p>) -> Option<Endpoint<'p>>
-    requires { AllText (parts_taken params.now) }
-    ensures { option_map asked_view result ≡
-        option_map (about_event topic) (named (codes "name") (parts_taken params.now)) }
-{
-    match params.get("name") {
-        None => None,
-        Some(event) => Some(Endpoint::Question(QuestionPath::OfEvent(topic, event))),
+    match params.get(name) {
+        None => "",
+        Some(part) => part,
     }
 }
 
 // The endpoint of a route and its parameters; `None` if a number is malformed.
-fn endpoint_of_route<'p>(page: Route, params: &Params<'_, 'p>) -> Option<Endpoint<'p>>
+fn endpoint_of_route<'p>(route: Route, params: &Params<'_, 'p>) -> Option<Endpoint<'p>>
     requires { AllText (parts_taken params.now) }
-    ensures { option_map asked_view result ≡ asked_by page (parts_taken params.now) }
+    ensures { option_map endpoint_view result ≡ endpoint_taken route (parts_taken params.now) }
 {
-    match page {
-        Route::Members => Some(Endpoint::MembersPage),
-        Route::AskGame(topic) => game_asked(topic, params),
-        Route::AskEvent(topic) => event_asked(topic, params),
-        Route::AskMember(topic) => Some(Endpoint::Question(QuestionPath::OfMember(topic))),
-        Route::MakeMove => move_asked(params),
-        Route::OfferDraw => offer_asked(params),
-        Route::AcceptDraw => accept_asked(params),
-        Route::Resign => action_endpoint(GameAction::Resign, params),
-        Route::ClaimTime => action_endpoint(GameAction::ClaimTime, params),
-        Route::Declare => declare_asked(params),
-        Route::Challenge => match number_named(params, "number") {
-            None => None,
-            Some(number) => Some(Endpoint::Challenge(number)),
-        },
-        Route::Withdraw => match number_named(params, "number") {
-            None => None,
-            Some(number) => Some(Endpoint::Withdraw(number)),
-        },
-        Route::Answer => answer_asked(params),
-    }
+    let id = number_named(params, "id")?;
+    let ply = number_named(params, "ply")?;
+    let number = number_named(params, "number")?;
+    Some(Endpoint {
+        route,
+        id,
+        ply,
+        number,
+        name: text_named(params, "name"),
+        member: text_named(params, "member"),
+    })
 }

@@ -9,6 +9,7 @@ use Rattle.http_head.specs.declared.framing.Scan.{Scan}
 abbrev pub line_feed : ℕ
 line_feed = 10
 
+-- the byte CR, which may precede the LF of a line
 abbrev pub carriage_return : ℕ
 carriage_return = 13
 

@@ -32,11 +32,13 @@ pub data Occurrence : Type 0 where
   once : List ℕ → Occurrence
   twice : Occurrence
 
+-- the occurrences of a field with these values: none, one or several
 abbrev pub occurrence_among : List (List ℕ) → Occurrence
 occurrence_among [] = absent
 occurrence_among (value ∷ []) = once value
 occurrence_among (value ∷ other ∷ values) = twice
 
+-- the occurrences of the field with this name
 abbrev pub field_occurrence : List ℕ → Fields → Occurrence
 field_occurrence name fields = occurrence_among (values name fields)
 
@@ -63,6 +65,7 @@ pub record ParsedHead : Type 0 where
   pub key : Option (List ℕ)
   pub length : ℕ
 
+-- the number, or a refusal if the text was not a number
 abbrev pub named_number : Option ℕ → Result (Option ℕ) HeadRefusal
 named_number None = Err BadHead
 named_number (Some n) = Ok (Some n)
@@ -79,6 +82,7 @@ has_good_host minor absent = minor == 0
 has_good_host minor (once value) = true
 has_good_host minor twice = false
 
+-- the field does not occur
 abbrev pub is_absent : Occurrence → Bool
 is_absent absent = true
 is_absent (once value) = false
@@ -118,6 +122,7 @@ outline_behind method target minor fields (Ok named) =
     outline_with method target fields (body_length method named)
     else Err NotImplemented) else Err BadHost
 
+-- the parts of a head, or its first refusal, beginning with that of Content-Length
 abbrev pub outline_from : List ℕ → List ℕ → ℕ → Fields → Result ParsedHead HeadRefusal
 outline_from method target minor fields =
     outline_behind method target minor fields (named_length (field_occurrence (codes "Content-Length") fields))

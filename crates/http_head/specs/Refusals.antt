@@ -4,6 +4,7 @@ use Rattle.http_head.specs.declared.refusals.HeadRefusal.{HeadRefusal}
 use Rattle.http_head.specs.declared.refusals.HeadRefusal.TheVariants.{HeadTooLong, BadHead, BadHost, NotImplemented}
 use Rattle.http_head.specs.declared.refusals.HeadRefusal.TheVariants.{NoLength, TooLong}
 
+-- the error number in the reply
 abbrev pub head_number : HeadRefusal → ℕ
 head_number HeadTooLong = 86
 head_number BadHead = 80
@@ -12,6 +13,7 @@ head_number NotImplemented = 87
 head_number NoLength = 84
 head_number TooLong = 85
 
+-- the name of the error in the reply
 abbrev pub head_name : HeadRefusal → List ℕ
 head_name HeadTooLong = codes "HeadTooLong"
 head_name BadHead = codes "BadHead"
@@ -20,6 +22,7 @@ head_name NotImplemented = codes "NotImplemented"
 head_name NoLength = codes "NoLength"
 head_name TooLong = codes "TooLong"
 
+-- the HTTP status of the reply
 abbrev pub head_status : HeadRefusal → ℕ
 head_status HeadTooLong = 431
 head_status BadHead = 400

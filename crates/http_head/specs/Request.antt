@@ -27,6 +27,7 @@ body_seen behind (Err refusal) = refused refusal
 body_seen behind (Ok o) = if nat_lt (length behind) o.length then unfinished else whole
     (record { method = o.method; target = o.target; key = o.key; body = take o.length behind })
 
+-- the result of parsing, given the end of the head, if found, and the parsed head
 abbrev pub seen_after : List ℕ → Option (ℕ × ℕ) → Option RequestHead → ParseState
 seen_after bytes None read = if nat_lt head_limit (length bytes) then refused HeadTooLong else unfinished
 seen_after bytes (Some end) read = body_seen (drop end.0 bytes) (outline_of end.1 read)
@@ -51,6 +52,7 @@ skip_line_breaks (b ∷ bytes) = if b == 13 || b == 10 then skip_line_breaks byt
 abbrev pub begin_with_head : List ℕ → Bool
 begin_with_head bytes = bytes_eq (take 5 (skip_line_breaks bytes)) (codes "HEAD ")
 
+-- the method is HEAD, in the head if it ends here, or else in the least prefix that is refused
 abbrev pub asks_head_by : List ℕ → Option (ℕ × ℕ) → Bool
 asks_head_by bytes None = begin_with_head (take past_limit bytes)
 asks_head_by bytes (Some end) = begin_with_head (take end.0 bytes)

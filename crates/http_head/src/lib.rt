@@ -1,6 +1,14 @@
 //! Parser of HTTP requests: framing, head and body, for any prefix of the bytes.
 //!
 //! It follows RFC 9112 (https://www.rfc-editor.org/rfc/rfc9112), with limits of its own; `httparse` reads the head.
+//!
+//! # Guarantees
+//!
+//! - `read_request` (`seen`, `asks_head`): the bytes are an incomplete request, a rejected head by the first error in
+//!   order, or a complete request.
+//! - `decided_stays`, `one_reading`: once decided, no further bytes change it.
+//! - `read_request_bytes` (`taken`, `enough`): a reader's bytes are read until then, after those that were received
+//!   before.
 #![tactic(auto)]
 
 pub mod framing;

@@ -11,6 +11,7 @@ use Rattle.std.proofs.Math.Nat.{mod-eq_of_lt}
 use Rattle.std.proofs.lemmas.Nat.{mod-pow-add}
 use Rattle.std.proofs.lemmas.Nat.Bits.{bit_at-lt, bit_at_above}
 
+-- A set of numbers.
 abbrev pub Numbers : Type 0
 Numbers = set.FinSet nat_cmp
 

@@ -1,4 +1,9 @@
 //! Bitboards: sets of squares of the draughts and shogi boards, one machine word each.
+//!
+//! # Guarantees
+//!
+//! - `Bitboard50`, `Bitboard81`: each method is the operation of a finite set, and the word has exactly the bits of
+//!   the set's squares.
 #![tactic(auto)]
 
 mod word50;

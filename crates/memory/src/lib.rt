@@ -1,4 +1,8 @@
 //! The out-of-memory error shared by the crates above.
+//!
+//! # Guarantees
+//!
+//! - `Display` for `Memory`: the text is `out of memory`.
 #![tactic(auto)]
 
 use std::alloc::{AllocError, AllocFailed};

@@ -9,6 +9,7 @@ pub record Pair : Type 0 where
   pub lower : ℕ
   pub higher : ℕ
 
+-- The number of seats: the number of players, plus the bye if it is odd.
 abbrev pub seats : ℕ → ℕ
 seats players = cond (nat_eq (players % 2) 0) players (players + 1)
 
@@ -41,6 +42,7 @@ abbrev pub is_lower_first : ℕ → ℕ → Pair → Bool
 is_lower_first players round pair =
     cond (nat_le round (rounds_once players)) (begins players pair) (not (begins players pair))
 
+-- The game of a pair in a round on a board, in which `first` is the player who plays First.
 abbrev pub game_of : ℕ → ℕ → ℕ → Pair → BoardPairing
 game_of players round board pair =
     cond (is_lower_first players round pair)
@@ -53,6 +55,7 @@ numbered players round board [] = []
 numbered players round board (pair ∷ rest) =
     game_of players round board pair ∷ numbered players round (suc board) rest
 
+-- A player and another one with a higher number.
 abbrev pub pair_of : ℕ → ℕ → Pair
 pair_of lower higher = record { lower = lower; higher = higher }
 

@@ -6,6 +6,7 @@ use Rattle.squares.specs.In.{In}
 use Rattle.pdn.specs.declared.faults.MoveFault.{MoveFault}
 use Rattle.pdn.specs.declared.faults.MoveFault.TheVariants as fault
 
+-- whether two moves have the same origin, the same destination and the same captured pieces
 abbrev pub same_move : DMove → DMove → Bool
 same_move a b = (a.from == b.from) && ((a.to == b.to) && same_squares a.taken b.taken)
 

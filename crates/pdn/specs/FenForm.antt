@@ -13,6 +13,7 @@ pub record SideFront : Type 0 where
   pub side : Side
   pub rest : List ℕ
 
+-- the side that the letter at the front of a text names, `W` for White or `B` for Black
 abbrev pub read_side : List ℕ → Option SideFront
 read_side [] = None
 read_side (c ∷ rest) = if c == 87 then Some (record { side = First; rest = rest }) else if c == 66 then Some
@@ -24,24 +25,30 @@ pub record Header : Type 0 where
   pub first : Side
   pub rest : List ℕ
 
+-- The result of reading a header: the header, or the length of the longest prefix that can begin one.
 abbrev pub HeaderReading : Type 0
 HeaderReading = Result Header ℕ
 
+-- the letter of the first list, which ends the header
 abbrev pub header_first : Side → Option SideFront → HeaderReading
 header_first turn None = Err 2
 header_first turn (Some front) = Ok (record { turn = turn; first = front.side; rest = front.rest })
 
+-- the rest of a header after the colon that follows the side to move
 abbrev pub header_colon : Side → Option (List ℕ) → HeaderReading
 header_colon turn None = Err 1
 header_colon turn (Some rest) = header_first turn (read_side rest)
 
+-- the rest of a header after the letter of the side to move
 abbrev pub header_turn : Option SideFront → HeaderReading
 header_turn None = Err 0
 header_turn (Some front) = header_colon front.side (past_byte 58 front.rest)
 
+-- the header of a text: the side to move, a colon, and the letter of the first list
 abbrev pub read_header : List ℕ → HeaderReading
 read_header text = header_turn (read_side text)
 
+-- The result of reading a part of a text: the text after it, or the offset of the first error.
 abbrev pub RestReading : Type 0
 RestReading = Result (List ℕ) ℕ
 
@@ -50,6 +57,7 @@ abbrev pub other_list : ℕ → Side → Option SideFront → RestReading
 other_list before listed None = Err before
 other_list before listed (Some front) = if same_side front.side listed then Err before else Ok front.rest
 
+-- the letter of the second list after a colon, which must be present
 abbrev pub after_colon : ℕ → Side → List ℕ → Option (List ℕ) → RestReading
 after_colon total listed text None = Err (total - length text)
 after_colon total listed text (Some rest) = other_list (total - length rest) listed (read_side rest)
@@ -63,6 +71,7 @@ abbrev pub left_over : ℕ → List ℕ → Option ℕ
 left_over total [] = None
 left_over total (c ∷ rest) = Some (total - length (c ∷ rest))
 
+-- the offset of what follows an optional dot, if anything does
 abbrev pub after_dot : ℕ → List ℕ → Option (List ℕ) → Option ℕ
 after_dot total text None = left_over total text
 after_dot total text (Some rest) = left_over total rest

@@ -25,6 +25,7 @@ read_end_second low first (c ∷ rest) =
 abbrev pub can_begin : ℕ → ℕ → Bool
 can_begin low digit = nat_le low digit || (nat_le digit 5 && nat_le low (10 * digit + 9))
 
+-- the last square of a range from `low`, as a number without a leading 0
 abbrev pub read_end_number : ℕ → List ℕ → FrontReading
 read_end_number low [] = Err 0
 read_end_number low (c ∷ rest) = if (nat_le 49 c && nat_le c 57) && can_begin low (c - 48) then read_end_second low
@@ -45,9 +46,11 @@ pub record ItemFront : Type 0 where
 abbrev pub ItemReading : Type 0
 ItemReading = Result ItemFront ℕ
 
+-- a man of the side
 abbrev pub man : Side → DPiece
 man side = record { side = side; king = false }
 
+-- a king of the side
 abbrev pub king : Side → DPiece
 king side = record { side = side; king = true }
 
@@ -72,14 +75,17 @@ after_man total at side front None =
 after_man total at side front (Some rest) =
     range_of at (total - length rest) side front.square (read_end front.square rest)
 
+-- a man, or a range of men, after its first square; `at` is the offset of that square
 abbrev pub men_of : ℕ → ℕ → Side → FrontReading → ItemReading
 men_of total at side (Err bytes) = Err (at + bytes)
 men_of total at side (Ok front) = after_man total at side front (past_byte 45 front.rest)
 
+-- the item at the front of a text: a king after `K`, otherwise a man or a range of men
 abbrev pub read_kind : ℕ → Side → List ℕ → Option (List ℕ) → ItemReading
 read_kind total side text (Some rest) = king_of (total - length text) (total - length rest) side (read_square rest)
 read_kind total side text None = men_of total (total - length text) side (read_square text)
 
+-- the item at the front of a text; `total` is the length of the whole text
 unfoldable pub read_item : ℕ → Side → List ℕ → ItemReading
 read_item total side text = read_kind total side text (past_byte 75 text)
 
@@ -88,6 +94,7 @@ pub record Items : Type 0 where
   pub items : List Item
   pub rest : List ℕ
 
+-- The result of reading a list: its items, or the offset of the first error.
 abbrev pub ItemsReading : Type 0
 ItemsReading = Result Items ℕ
 

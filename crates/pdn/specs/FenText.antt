@@ -10,6 +10,7 @@ use Rattle.squares.specs.Sides.{same_side}
 use Rattle.squares.specs.DraughtsBoard.{Board, Position}
 use Rattle.pdn.specs.SquareText.{square_text}
 
+-- the letter of a side, W for First (White) and B for Second (Black)
 abbrev pub side_letter : Side → List ℕ
 side_letter First = codes "W"
 side_letter Second = codes "B"
@@ -37,9 +38,11 @@ pieces_on side board squares = join_with_byte 44
 unfoldable pub all_squares : List ℕ
 all_squares = range_with_len 1 50
 
+-- the pieces of a side, separated by commas
 abbrev pub pieces_text : Side → Board → List ℕ
 pieces_text side board = pieces_on side board all_squares
 
+-- the FEN text of a position
 unfoldable pub fen_text : Position → List ℕ
 fen_text p =
     side_letter p.turn ++ codes ":W" ++ pieces_text First p.board ++ codes ":B" ++ pieces_text Second p.board

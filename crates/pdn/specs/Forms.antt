@@ -20,9 +20,11 @@ pub record Landings : Type 0 where
   pub middle : List ℕ
   pub to : ℕ
 
+-- The result of reading landing squares: the squares, or the length of the longest prefix that can begin them.
 abbrev pub LandingsReading : Type 0
 LandingsReading = Result Landings ℕ
 
+-- `x` or `:`, the mark of a capture
 abbrev pub is_cross : ℕ → Bool
 is_cross c = (c == 120) || (c == 58)
 
@@ -48,6 +50,7 @@ at_cross more total square (c ∷ rest) =
     if is_cross c then after_squares (square ∷ []) (total - length rest) (more rest) else Err
     (total - (length rest + 1))
 
+-- a landing square, and what follows it; `more` reads further landing squares
 abbrev pub after_landing : (List ℕ → LandingsReading) → ℕ → FrontReading → LandingsReading
 after_landing more total (Err bytes) = Err bytes
 after_landing more total (Ok front) = at_cross more total front.square front.rest
@@ -81,9 +84,11 @@ at_mark from total (c ∷ rest) =
     else if is_cross c then capture_of from (total - length rest) (read_landings rest) else Err
     (total - (length rest + 1))
 
+-- the form of a move after its first square
 abbrev pub read_from : ℕ → FrontReading → FormReading
 read_from total (Err bytes) = Err bytes
 read_from total (Ok front) = at_mark front.square total front.rest
 
+-- the form of a move's text
 unfoldable pub read_form : List ℕ → FormReading
 read_form text = read_from (length text) (read_square text)

@@ -11,6 +11,7 @@ use Rattle.draughts_moves.specs.Legal.{Legal}
 use Rattle.draughts_moves.specs.Routes.{route_cmp}
 use Rattle.pdn.specs.SquareText.{square_text}
 
+-- the text of a quiet move: two squares with a hyphen between them
 abbrev pub quiet_text : ℕ → ℕ → List ℕ
 quiet_text from to = square_text from ++ 45 ∷ square_text to
 
@@ -18,10 +19,12 @@ quiet_text from to = square_text from ++ 45 ∷ square_text to
 abbrev pub landing_text : ℕ → List ℕ
 landing_text n = 120 ∷ square_text n
 
+-- landing squares, each after an `x`
 abbrev pub landings_text : List ℕ → List ℕ
 landings_text [] = []
 landings_text (n ∷ ns) = landing_text n ++ landings_text ns
 
+-- the text of a capture: its origin and landing squares
 abbrev pub capture_text : ℕ → List ℕ → List ℕ
 capture_text from landings = square_text from ++ landings_text landings
 

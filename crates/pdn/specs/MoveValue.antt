@@ -31,6 +31,7 @@ routes_in p m =
     option_map_or (λ q. landings_of (without p.board m.from) q m.taken m.to (set.len m.taken) set.empty m.from)
     (own_at p m.from) []
 
+-- the first route, or `none` if there is no route
 abbrev pub first_of : List (List ℕ) → List ℕ → List ℕ
 first_of [] none = none
 first_of (route ∷ routes) none = route
@@ -40,6 +41,7 @@ abbrev pub named : Position → DMove → List ℕ
 named p m = if list_any (is_like m) (legal_moves p) then first_of (put_all route_cmp (routes_in p m) [])
     (m.to ∷ []) else m.to ∷ []
 
+-- the text of a move in a position
 unfoldable pub move_text : Position → DMove → List ℕ
 move_text p m = if set.len m.taken == 0 then quiet_text m.from m.to else capture_text m.from (named p m)
 
@@ -47,6 +49,7 @@ move_text p m = if set.len m.taken == 0 then quiet_text m.from m.to else capture
 unfoldable pub does_fit : Position → ℕ → List ℕ → ℕ → DMove → Bool
 does_fit p from middle to m = (m.from == from) && ((m.to == to) && list_any (passes middle) (routes_in p m))
 
+-- The result of a choice: the only matching move, no move, or the fault that several moves match.
 abbrev pub Choosing : Type 0
 Choosing = Result (Option DMove) MoveFault
 
@@ -62,26 +65,32 @@ unfoldable pub some_fit : Position → ℕ → List ℕ → ℕ → Bool
 some_fit p from middle to = list_any (λ n. list_any (does_fit p from middle to) (captures_at p n from))
     (range_with_len 0 51)
 
+-- the fault of a text that denotes an illegal move
 abbrev pub illegal : Illegal → MoveFault
 illegal cause = fault.Illegal cause
 
+-- The result of reading a move: the move, or the fault of its text.
 abbrev pub Reading : Type 0
 Reading = Result DMove MoveFault
 
+-- the move that was chosen; if none was, `some` says whether a capture that is not the longest matches
 abbrev pub chosen : Bool → Choosing → Reading
 chosen some (Err e) = Err e
 chosen some (Ok (Some m)) = Ok m
 chosen some (Ok None) = Err (illegal (if some then NotLongest else NoSuchMove))
 
+-- the move, if its check finds it legal
 abbrev pub checked : DMove → Answer → Reading
 checked m (Ok u) = Ok m
 checked m (Err cause) = Err (illegal cause)
 
+-- the move that a form denotes in a position, or its fault
 abbrev pub form_reading : Position → Form → Reading
 form_reading p (quiet from to) = checked (step_to from to) (check_of p (step_to from to))
 form_reading p (capture from middle to) =
     chosen (some_fit p from middle to) (choose (does_fit p from middle to) (legal_moves p))
 
+-- the move that a parsed text denotes in a position, or its fault
 abbrev pub with_form : Position → FormReading → Reading
 with_form p (Err offset) = Err (fault.BadText offset)
 with_form p (Ok form) = form_reading p form

@@ -19,6 +19,7 @@ repeated_after before [] = None
 repeated_after before (i ∷ items) = if list_any (shares i) before then Some i.at else repeated_after (before ++ i ∷ [])
     items
 
+-- the offset of the first item that names a square of an earlier item, if there is one
 abbrev pub repeated : List Item → Option ℕ
 repeated items = repeated_after [] items
 
@@ -30,6 +31,7 @@ put_on i board n = if nat_le i.from n && nat_le n i.to then map.insert board n i
 unfoldable pub put_item : Board → Item → Board
 put_item board i = fold (put_on i) board (range_with_len 1 50)
 
+-- the position that a form denotes
 abbrev pub position_of : FenForm → Position
 position_of form = record { board = fold put_item map.empty form.items; turn = form.turn }
 

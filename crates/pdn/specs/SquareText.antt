@@ -2,9 +2,11 @@
 use Rattle.std.specs.Prelude.{ℕ, ◌+◌, ◌-◌, ◌*◌, ◌/◌, ◌%◌, ◌==◌, ◌&&◌, nat_lt, nat_le, List, [], ◌∷◌, Bool, Result, Ok}
 use Rattle.std.specs.Prelude.{Err, if◌then◌else◌}
 
+-- the text of a square
 abbrev pub square_text : ℕ → List ℕ
 square_text n = if nat_lt n 10 then (48 + n) ∷ [] else (48 + n / 10) ∷ (48 + n % 10) ∷ []
 
+-- a decimal digit
 abbrev pub is_digit : ℕ → Bool
 is_digit c = nat_le 48 c && nat_le c 57
 
@@ -36,6 +38,7 @@ abbrev pub after_zero : FrontReading → FrontReading
 after_zero (Ok front) = Ok front
 after_zero (Err bytes) = Err (bytes + 1)
 
+-- the square at the front of a text
 abbrev pub read_square : List ℕ → FrontReading
 read_square [] = Err 0
 read_square (c ∷ rest) = if c == 48 then after_zero (read_number rest) else read_number (c ∷ rest)

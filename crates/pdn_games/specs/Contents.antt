@@ -8,12 +8,14 @@ use Rattle.pdn.specs.ReadFen.{IsFen}
 use Rattle.pdn_games.specs.declared.results.ResultWord.{ResultWord}
 use Rattle.pdn_games.specs.Tokens.{Token, tag, number, move_by, result, PlacedToken}
 
+-- the value of a token that is a tag of this name
 abbrev pub value_in : List ℕ → Token → Option (List ℕ)
 value_in name (tag n v) = if bytes_eq n name then Some v else None
 value_in name number = None
 value_in name (move_by text) = None
 value_in name (result w) = None
 
+-- the first of two values that is present
 abbrev pub value_or : Option (List ℕ) → Option (List ℕ) → Option (List ℕ)
 value_or (Some value) other = Some value
 value_or None other = other
@@ -23,6 +25,7 @@ abbrev pub first_tag : List ℕ → List PlacedToken → Option (List ℕ)
 first_tag name [] = None
 first_tag name (placed ∷ more) = value_or (value_in name placed.token) (first_tag name more)
 
+-- the texts of moves from a token on; `more` are those after the token
 abbrev pub texts_in : Token → List (List ℕ) → List (List ℕ)
 texts_in (tag n v) more = more
 texts_in number more = more
@@ -34,6 +37,7 @@ abbrev pub move_texts : List PlacedToken → List (List ℕ)
 move_texts [] = []
 move_texts (placed ∷ more) = texts_in placed.token (move_texts more)
 
+-- the result of a token, or else the first one after it
 abbrev pub word_or : Token → Option ResultWord → Option ResultWord
 word_or (tag n v) more = more
 word_or number more = more
@@ -50,6 +54,7 @@ abbrev pub is_other : Option (List ℕ) → Bool
 is_other None = false
 is_other (Some kind) = not (bytes_eq kind (codes "20") || starts_with nat_eq kind (codes "20,"))
 
+-- whether the `GameType` tag names a kind of draughts other than the international one
 abbrev pub is_other_type : List PlacedToken → Bool
 is_other_type tokens = is_other (first_tag (codes "GameType") tokens)
 

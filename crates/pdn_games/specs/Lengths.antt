@@ -56,12 +56,15 @@ tail_len text = either (step_len text) (landings_len text)
 unfoldable pub move_len : List ℕ → ℕ
 move_len text = both (square_len text) (tail_len (drop (square_len text) text))
 
+-- a dot
 abbrev pub is_dot : ℕ → Bool
 is_dot c = c == 46
 
+-- the digits at the front of a text
 abbrev pub digits_len : List ℕ → ℕ
 digits_len text = prefix_len is_digit text
 
+-- the dots at the front of a text
 abbrev pub dots_len : List ℕ → ℕ
 dots_len text = prefix_len is_dot text
 

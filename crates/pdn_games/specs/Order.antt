@@ -35,6 +35,7 @@ abbrev pub first_stray : GameStage → List PlacedToken → Option ℕ
 first_stray p [] = None
 first_stray p (placed ∷ more) = option_map_or (λ q. first_stray q more) (next p placed.token) (Some placed.at)
 
+-- the first of two offsets that is present
 abbrev pub or_else : Option ℕ → Option ℕ → Option ℕ
 or_else (Some n) other = Some n
 or_else None other = other

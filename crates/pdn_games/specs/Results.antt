@@ -7,6 +7,7 @@ use Rattle.squares.specs.declared.sides.Score.TheVariants.{FirstWins, Draw, Seco
 use Rattle.pdn_games.specs.declared.results.ResultWord.{ResultWord}
 use Rattle.pdn_games.specs.declared.results.ResultWord.TheVariants as word
 
+-- the text of a result
 abbrev pub word_text : ResultWord → List ℕ
 word_text word.TwoNil = codes "2-0"
 word_text word.OneOne = codes "1-1"
@@ -26,9 +27,11 @@ score_of word.Halves = Some Draw
 score_of word.NilOne = Some SecondWins
 score_of word.Star = None
 
+-- the results that a text of a game can have
 abbrev pub words : List ResultWord
 words = word.TwoNil ∷ word.OneOne ∷ word.NilTwo ∷ word.OneNil ∷ word.Halves ∷ word.NilOne ∷ word.Star ∷ []
 
+-- whether a text begins with this result
 abbrev pub begins_with : List ℕ → ResultWord → Bool
 begins_with text w = starts_with nat_eq text (word_text w)
 

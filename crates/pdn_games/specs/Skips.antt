@@ -41,6 +41,7 @@ past_brackets n (c ∷ rest) = option_map_or (λ next. past_brackets next rest) 
 abbrev pub past_digits : List ℕ → Option (List ℕ)
 past_digits text = if digits_len text == 0 then None else Some (drop (digits_len text) text)
 
+-- the rest of the text after the marks `!` and `?` at its front
 abbrev pub past_marks : List ℕ → List ℕ
 past_marks text = drop (prefix_len is_mark text) text
 

@@ -10,9 +10,11 @@ use Rattle.pdn.specs.SquareText.{is_digit}
 abbrev pub is_name_byte : ℕ → Bool
 is_name_byte c = (is_digit c || (nat_le 65 c && nat_le c 90)) || ((nat_le 97 c && nat_le c 122) || c == 95)
 
+-- a space
 abbrev pub is_space : ℕ → Bool
 is_space c = c == 32
 
+-- the rest of the text after the spaces at its front
 abbrev pub past_spaces : List ℕ → List ℕ
 past_spaces text = drop (prefix_len is_space text) text
 
@@ -37,6 +39,7 @@ abbrev pub quote_at : ℕ → Bool → List ℕ → Option ℕ
 quote_at at escaped [] = None
 quote_at at escaped (c ∷ rest) = option_map_or (λ next. quote_at (at + 1) next rest) (quote_step escaped c) (Some at)
 
+-- the value before the closing quote at this index, and the rest of the text after the quote
 abbrev pub up_to_quote : List ℕ → Option ℕ → Option Part
 up_to_quote text None = None
 up_to_quote text (Some n) = Some (record { value = take n text; rest = drop (n + 1) text })
@@ -51,6 +54,7 @@ pub record TagFront : Type 0 where
   pub value : List ℕ
   pub rest : List ℕ
 
+-- a tag with this name and value, if its closing bracket was found
 abbrev pub with_end : List ℕ → List ℕ → Option (List ℕ) → Option TagFront
 with_end name value None = None
 with_end name value (Some rest) = Some (record { name = name; value = value; rest = rest })

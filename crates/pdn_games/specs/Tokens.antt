@@ -19,14 +19,17 @@ pub record TokenFront : Type 0 where
   pub token : Token
   pub rest : List ℕ
 
+-- a tag as a token
 abbrev pub tag_token : Option TagFront → Option TokenFront
 tag_token None = None
 tag_token (Some t) = Some (record { token = tag t.name t.value; rest = t.rest })
 
+-- the length of a result's text; 0 if there is no result
 abbrev pub word_len : Option ResultWord → ℕ
 word_len None = 0
 word_len (Some w) = length (word_text w)
 
+-- a result at the front of a text as a token
 abbrev pub result_token : List ℕ → Option ResultWord → Option TokenFront
 result_token text None = None
 result_token text (Some w) = Some (record { token = result w; rest = drop (length (word_text w)) text })
@@ -54,10 +57,12 @@ pub data LexStep : Type 0 where
   found : Token → List ℕ → LexStep
   stuck : LexStep
 
+-- a token at the front of a text, or a syntax error if there is none
 abbrev pub found_front : Option TokenFront → LexStep
 found_front None = stuck
 found_front (Some t) = found t.token t.rest
 
+-- the front of a text, which is a skipped part if there is one, otherwise a token if `free` allows one
 abbrev pub front_with : Bool → List ℕ → Option (List ℕ) → LexStep
 front_with free text (Some rest) = skipped rest
 front_with free text None = if free then found_front (token_front text) else stuck

@@ -15,10 +15,12 @@ use Rattle.sqlite_schema.specs.Names.{same_name}
 
 -- ---- names
 
+-- the name of a column; empty if there is none
 abbrev pub name_of : Option Column → List ℕ
 name_of None = []
 name_of (Some column) = column.name
 
+-- the name of the column at this index; empty if there is none
 abbrev pub name_under : List Column → Option ℕ → List ℕ
 name_under columns None = []
 name_under columns (Some at) = name_of (slice_get columns at)
@@ -31,14 +33,17 @@ key_name table = name_under table.columns table.key
 abbrev pub name_at : Table → ℕ → List ℕ
 name_at table place = if place == 0 then key_name table else name_of (slice_get table.columns (place - 1))
 
+-- the column has this name
 abbrev pub is_named : List ℕ → Column → Bool
 is_named name column = same_name column.name name
 
+-- the table has a column with this name
 abbrev pub has_name : Table → List ℕ → Bool
 has_name table name = list_any (is_named name) table.columns
 
 -- ---- types
 
+-- the type is INTEGER, or the affinity is INTEGER or NUMERIC
 abbrev pub is_integer : Kind → Bool
 is_integer Integer = true
 is_integer Real = false
@@ -46,6 +51,7 @@ is_integer Text = false
 is_integer Blob = false
 is_integer Any = false
 
+-- the type or affinity is TEXT
 abbrev pub is_text : Kind → Bool
 is_text Integer = false
 is_text Real = false
@@ -61,6 +67,7 @@ keeps_values ours Text = is_text ours
 keeps_values ours Blob = false
 keeps_values ours Any = true
 
+-- the collation is BINARY, which compares texts byte by byte
 abbrev pub compares_bytes : Collation → Bool
 compares_bytes Binary = true
 compares_bytes NoCase = false
@@ -107,12 +114,15 @@ is_computed_in ours theirs place = has_name ours (name_at theirs place)
 
 -- ---- all columns
 
+-- the table has each column of ours, or an equivalent one
 abbrev pub has_each_column : (ours theirs : Table) → Bool
 has_each_column ours theirs = list_all (has_column ours theirs) ours.columns
 
+-- an INSERT may omit each column that ours does not have, and no default of such a column is an expression
 abbrev pub wants_no_other : (ours theirs : Table) → Bool
 wants_no_other ours theirs =
     list_all (may_be_left_out ours) theirs.columns && list_all (is_computed_in ours theirs) theirs.computed
 
+-- the table has the columns of ours, and all others may be omitted
 abbrev pub has_columns_as : (ours theirs : Table) → Bool
 has_columns_as ours theirs = has_each_column ours theirs && wants_no_other ours theirs

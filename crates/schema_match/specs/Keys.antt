@@ -10,6 +10,7 @@ use Rattle.schema_match.specs.Columns.{name_at}
 
 -- ---- the columns of a key
 
+-- the column at this place of their table has this name
 abbrev pub is_at : Table → List ℕ → ℕ → Bool
 is_at theirs name place = same_name name (name_at theirs place)
 
@@ -17,6 +18,7 @@ is_at theirs name place = same_name name (name_at theirs place)
 abbrev pub is_in_key : Table → (key name : List ℕ) → Bool
 is_in_key theirs key name = list_any (is_at theirs name) key
 
+-- the column at this place of ours has the name of a column of the other key
 abbrev pub is_place_of : (ours theirs : Table) → (other : List ℕ) → ℕ → Bool
 is_place_of ours theirs other place = is_in_key theirs other (name_at ours place)
 
@@ -42,6 +44,7 @@ is_by_bytes index = (undirected index.order).digits == 0
 abbrev pub is_index_for : (ours theirs : Table) → List ℕ → Index → Bool
 is_index_for ours theirs mine index = is_unique_on theirs index && is_key_as ours mine theirs index.columns
 
+-- a unique index of their table has exactly the columns of this key of ours
 abbrev pub has_key : Schema → (ours theirs : Table) → List ℕ → Bool
 has_key schema ours theirs mine = list_any (is_index_for ours theirs mine) schema.indexes
 
@@ -55,16 +58,20 @@ is_own_key ours theirs index =
     is_by_bytes index
     && (is_within ours theirs index ours.primary || list_any (is_within ours theirs index) ours.uniques)
 
+-- the index rejects no row of their table that the keys of ours accept
 abbrev pub refuses_no_more : (ours theirs : Table) → Index → Bool
 refuses_no_more ours theirs index = not (is_unique_on theirs index) || is_own_key ours theirs index
 
 -- ---- all keys
 
+-- each UNIQUE key of ours has a unique index on the same columns of their table
 abbrev pub has_each_key : Schema → (ours theirs : Table) → Bool
 has_each_key schema ours theirs = list_all (has_key schema ours theirs) ours.uniques
 
+-- no unique index of their table rejects a row that the keys of ours accept
 abbrev pub has_no_other_key : Schema → (ours theirs : Table) → Bool
 has_no_other_key schema ours theirs = list_all (refuses_no_more ours theirs) schema.indexes
 
+-- their table rejects the same duplicates as ours
 abbrev pub has_keys_as : Schema → (ours theirs : Table) → Bool
 has_keys_as schema ours theirs = has_each_key schema ours theirs && has_no_other_key schema ours theirs

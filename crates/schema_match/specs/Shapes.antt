@@ -25,6 +25,7 @@ answers_as schema ours theirs =
     same_name ours.name theirs.name && is_plain_as ours theirs && has_columns_as ours theirs
     && has_keys_as schema ours theirs
 
+-- some table of the schema can be used in place of this one of ours
 abbrev pub has_table : Schema → Table → Bool
 has_table schema ours = list_any (answers_as schema ours) schema.tables
 

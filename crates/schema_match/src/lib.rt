@@ -4,6 +4,11 @@
 //! - [type affinity](https://www.sqlite.org/datatype3.html)
 //! - [STRICT tables](https://www.sqlite.org/stricttables.html)
 //! - [CREATE TABLE](https://www.sqlite.org/lang_createtable.html)
+//!
+//! # Guarantees
+//!
+//! - `versions_of`, `Versions::has`: exactly the schema versions that a database's tables match, by `is_of_club`.
+//! - `club_is_of_club`: the club's own tables match.
 #![tactic(auto)]
 
 mod columns;

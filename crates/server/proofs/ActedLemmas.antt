@@ -21,7 +21,7 @@ module _ {S A : Type 0} (club : Club S) (stands : S → Type 0) (leaves : S → 
       inr (whole request, sees, inr tells.3)
   replied_acted bytes without_body seen (Err fault) sees left = inr (seen, sees, inr left)
 
-  answered_acted : (bytes : List ℕ) (result : Result A DeskFault)
+  pub answered_acted : (bytes : List ℕ) (result : Result A DeskFault)
       → Answers club stands leaves view s moment bytes result → HasActed club stands leaves s moment bytes
   answered_acted bytes result answers = replied_acted bytes _ answers.0 result answers.1 answers.2
 

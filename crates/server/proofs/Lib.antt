@@ -1,2 +1,6 @@
 pub mod ActedLemmas
+pub mod Proved
+pub mod ServedLemmas
 pub mod ServingLemmas
+pub mod TakenLemmas
+pub mod ShutLemmas

@@ -1,3 +1,4 @@
+pub mod Acknowledged
 pub mod LogLine
 pub mod Serving
 pub mod Visits

@@ -8,7 +8,7 @@ use Rattle.std.specs.Io.KnownBytes.{Appends}
 use Rattle.std.specs.List.{list_all}
 use Rattle.http_head.specs.Request.{ParseState, unfinished, refused, whole, Sees}
 use Rattle.http_bodies.specs.Reply.{status_in}
-use Rattle.http_desk.specs.Routes.{path_of, text_of}
+use Rattle.http_desk.specs.Paths.{path_of, text_of}
 use Rattle.http_desk.specs.declared.faults.DeskFault.{DeskFault}
 use Rattle.http_desk.specs.declared.faults.DeskFault.TheVariants.{Memory, Read, Write}
 use Rattle.club_requests.specs.declared.requests.Command.{Command as Given}

@@ -1,20 +1,21 @@
--- The effect of connections and of control socket orders on a club, whatever bytes the clients send.
-use Rattle.std.specs.Prelude.{◌⊎◌, ◌≤◌, ◌++◌, ℕ, List, Result, Ok, Err}
+-- The effect of connections and of control socket orders on a club, and their replies, whatever bytes the clients send.
+use Rattle.std.specs.Prelude.{◌≡◌, ◌⊎◌, ◌≤◌, ◌++◌, ⊤, ℕ, Bool, List, [], ◌∷◌, Option, Some, None, Result, Ok, Err}
 use Rattle.club_requests.specs.Limits.{last_moment}
 use Rattle.http_desk.specs.declared.faults.DeskFault.{DeskFault}
-use Rattle.http_desk.specs.Desk.{Answers, next_state}
+use Rattle.http_desk.specs.declared.faults.DeskFault.TheVariants.{Write}
+use Rattle.http_desk.specs.declared.faults.ClubFault.{ClubFault}
+use Rattle.http_desk.specs.Desk.{next_state, IsShutReply}
 use Rattle.http_desk.specs.Served.{Club}
 use Rattle.http_head.specs.Request.{ParseState, Sees}
+use Rattle.server.specs.declared.connections.Served.{Served}
+use Rattle.server.specs.declared.connections.Served.TheVariants.{Request, Order, Dropped}
 use Rattle.server.specs.declared.serve.Exchange.{Exchange}
+use Rattle.server.specs.Serving.{IsReplyTo}
 use Rattle.control_socket.specs.declared.orders.Operation.{Operation}
-use Rattle.control_socket.specs.Orders.{HasRunOperation}
-
--- the reply is the one to the received bytes
-abbrev pub IsAnswered : {S : Type 0} → Club S → (S → Type 0) → (S → S → Type 0) → S → ℕ → Result Exchange DeskFault
-    → Type 0
-IsAnswered club stands leaves s moment (Ok done) =
-    Answers {F = DeskFault} club stands leaves (λ bytes. bytes) s moment done.bytes.items (Ok done.reply.items)
-IsAnswered club stands leaves s moment (Err fault) = Unit {0}
+use Rattle.control_socket.specs.declared.orders.OrderFault.{OrderFault}
+use Rattle.control_socket.specs.declared.orders.OrderFault.TheVariants.{NotDone, ReplyLost}
+use Rattle.control_socket.specs.Orders.{HasRunOperation, IsPrinted, state_after}
+use Rattle.control_socket.specs.Printed.{print_of}
 
 -- The request in these bytes was not executed, or once: the club is in the next state, or a crash leaves that one or
 -- the one before.
@@ -29,9 +30,61 @@ abbrev pub HasActedOn : {S : Type 0} → Club S → (S → Type 0) → (S → S 
 HasActedOn club stands leaves s moment heard =
     (further : List ℕ) × HasActed club stands leaves s moment (heard ++ further)
 
--- one connection was served or one order executed, at a valid timestamp
-abbrev pub HasServed : {S : Type 0} → Club S → (S → Type 0) → (S → S → Type 0) → S → Type 0
-HasServed club stands leaves s =
-    (moment : ℕ) × (moment ≤ last_moment)
-    × (((bytes : List ℕ) × HasActed club stands leaves s moment bytes)
-    ⊎ ((errand : Operation) × HasRunOperation club stands leaves s moment errand))
+-- The reply is the one to the received bytes, also if only a prefix of it was sent; if nothing was sent, the request
+-- was executed once or not at all.
+abbrev pub IsAnswered : {S : Type 0} → Club S → (S → Type 0) → (S → S → Type 0) → S → ℕ → Result Exchange DeskFault
+    → Type 0
+IsAnswered club stands leaves s moment (Ok done) =
+    IsReplyTo club stands leaves s moment done.bytes.items done.reply.items
+IsAnswered club stands leaves s moment (Err Write) =
+    (bytes : List ℕ) × (reply : List ℕ) × IsReplyTo club stands leaves s moment bytes reply
+IsAnswered club stands leaves s moment (Err _) = (bytes : List ℕ) × HasActed club stands leaves s moment bytes
+
+-- The answer to an order is its outcome in the state `s`, and the club is in the next state, also if only a prefix of
+-- the answer was sent; if nothing was sent, the order was executed once or not at all.
+abbrev pub IsOrderAnswered : {S : Type 0} → Club S → (S → Type 0) → (S → S → Type 0) → S → ℕ → Operation
+    → Result Bool OrderFault → Type 0
+IsOrderAnswered club stands leaves s moment operation (Ok done) = stands (state_after club s moment operation)
+    × ((text : List ℕ) × IsPrinted club s moment operation (print_of done text))
+IsOrderAnswered club stands leaves s moment operation (Err ReplyLost) = stands (state_after club s moment operation)
+    × ((done : Bool) × (text : List ℕ) × IsPrinted club s moment operation (print_of done text))
+IsOrderAnswered club stands leaves s moment operation (Err NotDone) =
+    HasRunOperation club stands leaves s moment operation
+
+-- the effect of one connection or order, at a valid timestamp, and its reply
+abbrev pub IsServedBy : {S : Type 0} → Club S → (S → Type 0) → (S → S → Type 0) → S → Served → Type 0
+IsServedBy club stands leaves s (Request moment done) =
+    (moment ≤ last_moment) × IsAnswered club stands leaves s moment done
+IsServedBy club stands leaves s (Order moment operation done) =
+    (moment ≤ last_moment) × IsOrderAnswered club stands leaves s moment operation done
+IsServedBy club stands leaves s Dropped = stands s
+
+-- the same if there may be none
+abbrev pub IsNextServed : {S : Type 0} → Club S → (S → Type 0) → (S → S → Type 0) → S → Option Served → Type 0
+IsNextServed club stands leaves s None = stands s
+IsNextServed club stands leaves s (Some item) = IsServedBy club stands leaves s item
+
+-- ---- an unavailable club
+
+-- the reply to a request, if there is one, needs no club or reports the fault
+abbrev pub HasShutReply : ClubFault → Result Exchange DeskFault → Type 0
+HasShutReply fault (Ok done) = IsShutReply fault done.bytes.items done.reply.items
+HasShutReply fault (Err _) = ⊤
+
+-- a request got such a reply or none, and an order no answer
+abbrev pub IsShutServed : ClubFault → Served → Type 0
+IsShutServed fault (Request moment done) = HasShutReply fault done
+IsShutServed fault (Order moment operation done) = done ≡ Err NotDone
+IsShutServed fault Dropped = ⊤
+
+-- each of these was served so
+abbrev pub AreShutServed : ClubFault → List Served → Type 0
+AreShutServed fault [] = ⊤
+AreShutServed fault (item ∷ items) = IsShutServed fault item × AreShutServed fault items
+
+-- ---- the list
+
+-- what one call adds to the list of what was served
+abbrev pub listed : Option Served → List Served
+listed None = []
+listed (Some item) = item ∷ []

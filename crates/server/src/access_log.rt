@@ -6,7 +6,7 @@ ghost use Rattle.std.specs.Prelude.{◌≡◌, ◌⊎◌, ◌++◌, ℕ, List, I
 ghost use Rattle.std.specs.Char.{is_ascii_graphic};
 ghost use Rattle.std.specs.List.{list_all};
 ghost use Rattle.http_head.specs.Request.{ParseState as SeenIn, Sees};
-ghost use Rattle.http_desk.specs.Routes.{path_of};
+ghost use Rattle.http_desk.specs.Paths.{path_of};
 ghost use Rattle.server.specs.LogLine.{IsCallLine, IsLineOf, fault_line_written, fault_written, line_written};
 ghost use Rattle.server.specs.LogLine.{IsLeftOut, IsLogged, IsNoted};
 ghost use Rattle.server.specs.LogLine.{caller_written, method_limit, method_written, or_mark, path_written, shown};

@@ -1,11 +1,13 @@
 //! A client: its socket, and the part of its request that was received.
 
-ghost use Rattle.std.specs.Prelude.{◌≤◌, length, IfOk};
+ghost use Rattle.std.specs.Prelude.{◌≤◌, ◌≢◌, length, IfOk};
+ghost use Rattle.control_socket.specs.Received.{HasReceived};
+ghost use Rattle.server.specs.declared.request_buffer.ReadProgress.TheVariants as progress_is;
 
 use crate::deadline::{Countdown, Deadline};
 use crate::request_buffer::{ReadProgress, RequestBuffer};
 use std::io;
-use std::io::{ErrorKind, Write};
+use std::io::{ErrorKind, Read, Write};
 use std::net::TcpStream;
 use std::time::{Duration, Instant};
 
@@ -104,14 +106,14 @@ impl Write for ReplyWriter<'_> {
     }
 }
 
-/// A client, and the bytes that were received from it.
+/// A client over a stream of any type, and the bytes that were received from it.
 #[derive(Drop)]
-pub(crate) struct Client {
-    pub(crate) stream: TcpStream,
+pub(crate) struct Client<T> {
+    pub(crate) stream: T,
     pub(crate) heard: RequestBuffer,
     /// Its token in the poll registry.
     pub(crate) token: usize,
-    /// The value of `Server::heard_for` at which its time is over.
+    /// The value of `PollClock::polled` at which its time is over.
     pub(crate) until: Duration,
     /// Whether the poll reported it readable since the last read.
     pub(crate) is_readable: bool,
@@ -119,18 +121,28 @@ pub(crate) struct Client {
     pub(crate) has_unread_input: bool,
 }
 
-impl Client {
+/// A client on the HTTP port.
+pub(crate) type TcpClient = Client<TcpStream>;
+
+impl<T: Read> Client<T> {
     /// Reads the available bytes.
-    pub(crate) fn receive(&mut self) -> ReadProgress {
+    ///
+    /// # Guarantees
+    ///
+    /// What is added to the received bytes is what was read, in order.
+    pub(crate) fn receive(&mut self) -> ReadProgress
+        ensures { HasReceived (result ≢ progress_is.Failed) self.old.heard.bytes.items self.new.heard.bytes.items
+            (T.remaining self.old.stream) (T.remaining self.new.stream) }
+    {
         self.is_readable = false;
-        let come = self.heard.take(&mut &self.stream);
+        let come = self.heard.take(&mut self.stream);
         self.has_unread_input = come == ReadProgress::Rejected;
         come
     }
 }
 
 /// Removes and returns the client at an index, if there is one.
-pub(crate) fn take_out(callers: &mut Vec<Client>, at: usize) -> Option<Client> {
+pub(crate) fn take_out(callers: &mut Vec<TcpClient>, at: usize) -> Option<TcpClient> {
     if at < callers.len() {
         Some(callers.remove(at))
     } else {
@@ -139,7 +151,7 @@ pub(crate) fn take_out(callers: &mut Vec<Client>, at: usize) -> Option<Client> {
 }
 
 /// Reads from the client at an index, if it is readable.
-pub(crate) fn receive_at(callers: &mut Vec<Client>, at: usize) -> ReadProgress {
+pub(crate) fn receive_at(callers: &mut Vec<TcpClient>, at: usize) -> ReadProgress {
     match callers.get_mut(at) {
         Some(caller) => {
             if caller.is_readable {
@@ -153,7 +165,7 @@ pub(crate) fn receive_at(callers: &mut Vec<Client>, at: usize) -> ReadProgress {
 }
 
 /// The index of the oldest client that has sent nothing and whose time is over at `moment`.
-pub(crate) fn longest_idle(callers: &[Client], moment: Duration) -> Option<usize> {
+pub(crate) fn longest_idle(callers: &[TcpClient], moment: Duration) -> Option<usize> {
     callers
         .iter()
         .position(|caller| caller.heard.is_empty() && caller.until <= moment)

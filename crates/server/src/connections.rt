@@ -1,28 +1,65 @@
 //! A source of connections, served one after another.
 
-ghost use Rattle.server.specs.Visits.{HasServed};
+ghost use Rattle.std.specs.Prelude.{◌++◌, List};
+ghost use Rattle.server.specs.Visits.{AreShutServed, IsNextServed, listed};
+ghost use Rattle.server.specs.declared.connections.Served.{Served};
 
-use http_desk::{ClubFault, ClubService, UnavailableClub};
+use crate::serve::Exchange;
+use clocks::Moment;
+use control_socket::{Operation, OrderFault};
+use http_desk::{ClubFault, ClubService, DeskFault, UnavailableClub};
 use std::alloc::Global;
+
+/// A connection or an order that was served, at a timestamp, and what was returned to its client.
+#[derive(Drop)]
+pub enum Served {
+    /// A request of a member: the exchange, or why there is no reply.
+    Request(Moment, Result<Exchange, DeskFault>),
+    /// An order of the officer: whether the club accepted it, or why there is no answer.
+    Order(Moment, Operation, Result<bool, OrderFault>),
+    /// A connection that was closed unread, since the system clock failed.
+    Dropped,
+}
 
 /// A source of connections and of control socket orders.
 pub trait Connections {
-    /// Serves the next connection or order; `false` if none is left or the server must release the file first.
+    ghost use Rattle.std.specs.Prelude.{List};
+    ghost use Rattle.server.specs.declared.connections.Served.{Served};
+
+    /// The connections and orders that were served so far, in order. Of sockets nothing is known.
+    ghost HasServed: { Self → List Served → Type 0 };
+
+    /// Serves the next connection or order; `None` if none is left or the server must release the file first.
     ///
     /// # Guarantees
     ///
-    /// `acts`: whatever a client sends, the club executes one request or one order once, or nothing.
-    fn serve_next<C: ClubService>(&mut self, alloc: Global, club: &mut C) -> bool
+    /// - `acts`: the reply is the one that the club's state and the request determine, and the club executes the
+    ///   request once. Without a reply it executes the request once or not at all.
+    /// - `unavailable`: a club that is unavailable replies with its fault, and executes no order.
+    /// - `acknowledged`: the result is what was served, after all that was served before.
+    fn serve_next<C: ClubService>(&mut self, alloc: Global, club: &mut C) -> Option<Served>
         ensures clean { C.IsClean club.new → C.IsClean club.old }
         ensures acts { C.IsClean club.new → (s : C.State) → C.Stands club.old s →
-            HasServed C.club (C.Stands club.new) (C.Leaves club.new) s };
+            IsNextServed C.club (C.Stands club.new) (C.Leaves club.new) s result }
+        ensures unavailable { (fault : ClubFault) → C.IsShut club.old fault →
+            C.IsShut club.new fault × AreShutServed fault (listed result) }
+        ensures acknowledged { (before : List Served) → HasServed self.old before →
+            HasServed self.new (before ++ listed result) };
 }
 
-/// Answers every connection with the fault of an unavailable club, until `serve_next` returns `false`.
-pub fn serve_unavailable<V: Connections>(alloc: Global, visits: &mut V, fault: ClubFault) {
+/// Answers every connection with the fault of an unavailable club, until `serve_next` returns `None`.
+///
+/// # Guarantees
+///
+/// `unavailable`: each reply of this time is one that needs no club or reports the fault, and no order is executed.
+pub fn serve_unavailable<V: Connections>(alloc: Global, visits: &mut V, fault: ClubFault)
+    ensures unavailable { (before : List Served) → V.HasServed visits.old before →
+        (more : List Served) × V.HasServed visits.new (before ++ more) × AreShutServed fault more }
+{
     let mut closed = UnavailableClub { fault };
     for _ in 0..u64::MAX {
-        if !visits.serve_next(alloc, &mut closed) {
+        let item = visits.serve_next(alloc, &mut closed);
+        if item.is_none() {
             return;
         }
     }

@@ -2,21 +2,45 @@
 //!
 //! It serves HTTP/1.1 by RFC 9112 (https://www.rfc-editor.org/rfc/rfc9112), one request per connection. TCP sockets and
 //! the system clock are used here alone.
+//!
+//! # Guarantees
+//!
+//! - `Connections::serve_next` (`acts`, `acknowledged`): what it returns as served has the effect and the reply that
+//!   the club's state determines. Without a reply the club acts once at some timestamp, or not.
+//! - `serve_one` (`acts`, `answers`, `caller`, `written`): whatever the reader returns, the club does once what the
+//!   received bytes ask for, or nothing. On `Ok` the writer has the reply to them.
+//! - `serve_one` (`serves`, `begins`): over known bytes the reply to all of the input is written, or a prefix if
+//!   writing fails.
+//! - `serve_one` (`shut`, `nobody`, `unavailable`): an unavailable club returns its fault.
+//! - `serve_unavailable` (`unavailable`): each reply needs no club or reports the fault, and no order is executed.
+//! - `RequestBuffer::take` (`received`), `Client::receive`: what is added to the received bytes is what was read, in
+//!   order.
+//! - `line_of`: a log line is its timestamp, method, path, status and the member's name, or `-`. It is printable
+//!   ASCII, without a key.
+//! - `Log::write_entry`: a line is appended whole, after the number of lines that were left out, or it is left out and
+//!   counted.
 #![tactic(auto)]
 
-mod accept_loop;
 mod access_log;
 mod client;
+mod client_queues;
+mod clients;
 mod connections;
 mod deadline;
+mod file_hold;
 mod lingering_close;
+mod listener;
 mod nonblocking_stderr;
+mod poll_clock;
+mod poll_loop;
 mod request_buffer;
+mod responder;
 mod serve;
 mod times;
 
-pub use accept_loop::{Server, ServerOptions};
-pub use connections::{Connections, serve_unavailable};
+pub use connections::{Connections, Served, serve_unavailable};
 pub use deadline::{Countdown, Deadline};
-pub use serve::{Exchange, serve_one};
+pub use poll_loop::Server;
+pub use responder::ServerOptions;
+pub use serve::{Connection, Exchange, serve_one};
 pub use times::clock;

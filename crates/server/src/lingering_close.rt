@@ -30,7 +30,7 @@ pub(crate) const LEAVING_SECONDS: u64 = 2;
 #[derive(Drop)]
 struct LingeringClient {
     stream: TcpStream,
-    // The value of `Server::heard_for` at which its time is over.
+    // The value of `PollClock::polled` at which its time is over.
     until: Duration,
     // The most bytes still to drain.
     left: usize,
@@ -95,7 +95,7 @@ impl LingeringClose {
         self.leavers.is_empty()
     }
 
-    /// The value of `Server::heard_for` at which the oldest client's time is over.
+    /// The value of `PollClock::polled` at which the oldest client's time is over.
     pub(crate) fn first_until(&self) -> Option<Duration> {
         self.leavers.first().map(|leaver| leaver.until)
     }

@@ -1,6 +1,8 @@
 //! The bytes of a request that were received so far.
 
-ghost use Rattle.std.specs.Prelude.{◌≡◌};
+ghost use Rattle.std.specs.Prelude.{◌≡◌, ◌≢◌, []};
+ghost use Rattle.control_socket.specs.Received.{HasReceived};
+ghost use Rattle.server.specs.declared.request_buffer.ReadProgress.TheVariants as progress_is;
 
 use http_head::{ParseState, is_interrupted, read_request};
 use std::alloc::Global;
@@ -32,7 +34,9 @@ pub(crate) struct RequestBuffer {
 
 impl RequestBuffer {
     /// An empty buffer.
-    pub(crate) fn new(alloc: Global) -> RequestBuffer {
+    pub(crate) fn new(alloc: Global) -> RequestBuffer
+        ensures { result.bytes.items ≡ [] }
+    {
         RequestBuffer {
             bytes: Vec::new(alloc),
         }
@@ -60,7 +64,14 @@ impl RequestBuffer {
     }
 
     /// Reads the available bytes from a non-blocking reader.
-    pub(crate) fn take<R: Read>(&mut self, reader: &mut R) -> ReadProgress {
+    ///
+    /// # Guarantees
+    ///
+    /// `received`: what is added to the buffer is what was read, in order; at `Failed` the last bytes may be lost.
+    pub(crate) fn take<R: Read>(&mut self, reader: &mut R) -> ReadProgress
+        ensures received { HasReceived (result ≢ progress_is.Failed) self.old.bytes.items self.new.bytes.items
+            (R.remaining reader.old) (R.remaining reader.new) }
+    {
         let mut piece = [0_u8; PIECE_BYTES];
         for _ in 0..u64::MAX {
             match reader.read(&mut piece) {

@@ -5,7 +5,7 @@ ghost use Rattle.std.specs.Io.KnownBytes.{Appends};
 ghost use Rattle.http_desk.specs.declared.faults.ClubFault.{ClubFault};
 ghost use Rattle.http_desk.specs.Desk.{NamesCallerOf};
 ghost use Rattle.server.specs.Serving.{Serving, ShutServing};
-ghost use Rattle.server.specs.Visits.{HasActedOn, IsAnswered};
+ghost use Rattle.server.specs.Visits.{HasActedOn, HasShutReply, IsAnswered};
 
 use clocks::Moment;
 use control_socket::write_reply;
@@ -13,6 +13,15 @@ use http_desk::{AttributedReply, ClubService, DeskFault, Routes, answer};
 use http_head::{RequestReadFault, read_request_bytes};
 use std::alloc::Global;
 use std::io::{Read, Write};
+
+/// A connection to a client: its bytes are read from one half, and the reply is written to the other.
+#[derive(Drop)]
+pub struct Connection<R, W> {
+    /// What the client sends.
+    pub reader: R,
+    /// What the client receives.
+    pub writer: W,
+}
 
 /// The request bytes of a connection, the reply to them, and the member who sent them.
 #[derive(Drop)]
@@ -28,7 +37,7 @@ pub struct Exchange {
 /// Serves one connection at a timestamp: reads until the request is complete, rejected or at its end, executes it,
 /// and writes the reply.
 ///
-/// `heard` holds the bytes that were received before; `reader` gives the rest.
+/// `heard` holds the bytes that were received before; the connection's reader gives the rest.
 ///
 /// # Errors
 ///
@@ -40,15 +49,14 @@ pub struct Exchange {
 ///
 /// - `acts`: whatever is received, the request is executed once or not at all.
 /// - `serves`, `answers`: the reply is the one that the club's state and the request determine, or reports a fault of
-///   the club.
+///   the club; also if only a prefix of it could be written.
 /// - `caller`, `nobody`: no member is named but the holder of the key.
-/// - `shut`: a failed club answers with its fault.
+/// - `shut`, `unavailable`: a failed club answers with its fault.
 pub fn serve_one<R: Read, W: Write, C: ClubService>(
     alloc: Global,
     routes: &Routes,
     heard: Vec<u8>,
-    reader: &mut R,
-    writer: &mut W,
+    connection: &mut Connection<R, W>,
     club: &mut C,
     moment: Moment,
 ) -> Result<Exchange, DeskFault>
@@ -62,17 +70,19 @@ pub fn serve_one<R: Read, W: Write, C: ClubService>(
     ensures nobody { (fault : ClubFault) → C.IsShut club.old fault → IfOk result (λ done. done.caller ≡ None) }
     ensures begins { IfOk result (λ done. (further : List ℕ) × (done.bytes.items ≡ heard.items ++ further)) }
     ensures written { IfOk result (λ done.
-        Appends (W.contents writer.old) (W.contents writer.new) done.reply.items) }
+        Appends (W.contents connection.old.writer) (W.contents connection.new.writer) done.reply.items) }
     ensures serves { C.IsClean club.new → (s : C.State) (input before : List ℕ) → C.Stands club.old s →
-        R.remaining reader.old ≡ Some input → W.contents writer.old ≡ Some before →
+        R.remaining connection.old.reader ≡ Some input → W.contents connection.old.writer ≡ Some before →
         Serving C.club (C.Stands club.new) (C.Leaves club.new) s moment (heard.items ++ input) before
-        (R.remaining reader.new) (W.contents writer.new) result }
+        (R.remaining connection.new.reader) (W.contents connection.new.writer) result }
     ensures shut { (fault : ClubFault) → C.IsShut club.old fault → C.IsShut club.new fault ×
-        ((input before : List ℕ) → R.remaining reader.old ≡ Some input →
-        W.contents writer.old ≡ Some before →
-        ShutServing fault (heard.items ++ input) before (W.contents writer.new) result) }
+        ((input before : List ℕ) → R.remaining connection.old.reader ≡ Some input →
+        W.contents connection.old.writer ≡ Some before →
+        ShutServing fault (heard.items ++ input) before (W.contents connection.new.writer) result) }
+    ensures unavailable { (fault : ClubFault) → C.IsShut club.old fault →
+        C.IsShut club.new fault × HasShutReply fault result }
 {
-    let bytes = match read_request_bytes(heard, reader) {
+    let bytes = match read_request_bytes(heard, &mut connection.reader) {
         Ok(bytes) => bytes,
         Err(RequestReadFault::Memory) => return Err(DeskFault::Memory),
         Err(RequestReadFault::Read) => return Err(DeskFault::Read),
@@ -81,7 +91,7 @@ pub fn serve_one<R: Read, W: Write, C: ClubService>(
         Ok(replied) => replied,
         Err(fault) => return Err(fault),
     };
-    match write_reply(writer, &reply) {
+    match write_reply(&mut connection.writer, &reply) {
         Ok(()) => Ok(Exchange {
             bytes,
             reply,

@@ -18,6 +18,7 @@ capital kind.Knight = 78
 capital kind.Lance = 76
 capital kind.Pawn = 80
 
+-- the letter of a side's piece of this kind
 abbrev pub letter : Side → Kind → ℕ
 letter First kind = capital kind
 letter Second kind = capital kind + 32

@@ -10,9 +10,11 @@ use Rattle.squares.specs.ShogiGeometry.{shogi_number}
 use Rattle.sfen.specs.declared.usi_reading.UsiField.{UsiField}
 use Rattle.sfen.specs.declared.usi_reading.UsiField.TheVariants as place
 
+-- a digit from 1 to 9, for a file
 abbrev pub is_file : ℕ → Bool
 is_file c = nat_le 49 c && nat_le c 57
 
+-- a letter from a to i, for a rank
 abbrev pub is_rank : ℕ → Bool
 is_rank c = nat_le 97 c && nat_le c 105
 
@@ -32,11 +34,13 @@ kind_reading c =
     else if c == 80 then Some in_hand.Pawn
     else None
 
+-- the step between two squares, if both were read
 abbrev pub step_of : Option ℕ → Option ℕ → Bool → Option SMove
 step_of (Some from) (Some to) promote = Some (Step from to promote)
 step_of (Some from) None promote = None
 step_of None to promote = None
 
+-- the drop of a kind on a square, if both were read
 abbrev pub drop_of : Option HandKind → Option ℕ → Option SMove
 drop_of (Some kind) (Some to) = Some (Drop kind to)
 drop_of (Some kind) None = None
@@ -65,10 +69,11 @@ reach [] text = 0
 reach (p ∷ places) [] = 0
 reach (p ∷ places) (c ∷ text) = if fits p c then suc (reach places text) else 0
 
--- the places of a board move's text and of a drop's text
+-- the places of a board move's text
 unfoldable pub step_places : List UsiField
 step_places = place.File ∷ place.Rank ∷ place.File ∷ place.Rank ∷ place.Plus ∷ []
 
+-- the places of a drop's text: the piece, a `*`, and the file and rank of the square
 unfoldable pub drop_places : List UsiField
 drop_places = place.Piece ∷ place.Star ∷ place.File ∷ place.Rank ∷ []
 

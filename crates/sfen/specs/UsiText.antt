@@ -18,6 +18,7 @@ abbrev pub promotion_text : Bool → List ℕ
 promotion_text true = 43 ∷ []
 promotion_text false = []
 
+-- the text of a move
 abbrev pub usi_text : SMove → List ℕ
 usi_text (Step from to promote) = square_text from ++ (square_text to ++ promotion_text promote)
 usi_text (Drop kind to) = capital (on_board kind) ∷ 42 ∷ square_text to

@@ -17,10 +17,9 @@ use Rattle.shogi_moves.proofs.ReachLemmas.{piece_reaches-sound, piece_reaches-co
 use Rattle.shogi_moves.proofs.TruthLemmas.{standing-is, some_square-is, and-is}
 use Rattle.std.specs.FinMap as map
 use Rattle.squares.specs.declared.sides.Side.TheVariants.{First, Second}
-use Rattle.squares.specs.declared.shogi.moves.SMove.{SMove}
-use Rattle.squares.specs.declared.shogi.moves.SMove.TheVariants.{Step, Drop}
+use Rattle.squares.specs.declared.shogi.moves.SMove.TheVariants.{Drop}
+use Rattle.squares.specs.declared.shogi.piece.HandKind.{HandKind}
 use Rattle.shogi_moves.specs.Rules.{board_after, dropped_role}
-use Rattle.shogi_moves.specs.Computed.{is_drop}
 use Rattle.shogi_moves.proofs.PlayLemmas.{get-put, get-put_other, dropped-no_king}
 
 -- a piece of a side stands on x and reaches y
@@ -144,17 +143,16 @@ module _ (board : ShogiBoard) (side : Side) (to : ℕ) (r : Role) (common : is_k
       let is : true ≡ false = sym (ap (λ (p : SPiece). is_king p.role) same) ∙ common in
       cc
 
-  king_attacked_before : KingAttacked (map.insert board to dropped) side → KingAttacked board side
+  pub king_attacked_before : KingAttacked (map.insert board to dropped) side → KingAttacked board side
   king_attacked_before k = record {
     square = k.square;
     stands = put_at board to k.square dropped (Some (king side)) k.stands no_king;
     attacked = attacked_before k.square k.attacked;
   }
 
-pub drop-safe : (p : ShogiPosition) (m : SMove) → is_drop m ≡ true → king_attacked p.board p.turn ≡ false
-    → king_attacked (board_after p m) p.turn ≡ false
-drop-safe p (Step from to promote) e safe = cc
-drop-safe p (Drop kind to) e safe =
+pub drop-safe : (p : ShogiPosition) (kind : HandKind) (to : ℕ) → king_attacked p.board p.turn ≡ false
+    → king_attacked (board_after p (Drop kind to)) p.turn ≡ false
+drop-safe p kind to safe =
     false_from_ne_true (king_attacked (board_after p (Drop kind to)) p.turn)
     (λ t.
     both_ways (king_attacked p.board p.turn) safe

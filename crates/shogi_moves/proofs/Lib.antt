@@ -6,6 +6,7 @@ pub mod KingLemmas
 pub mod LineLemmas
 pub mod ListingLemmas
 pub mod MateLemmas
+pub mod PinLemmas
 pub mod PlayLemmas
 pub mod Proved
 pub mod ReachLemmas

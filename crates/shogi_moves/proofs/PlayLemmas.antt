@@ -77,10 +77,10 @@ module _ (f g : ℕ → Bool) (k : ℕ) (others : (n : ℕ) → n ≢ k → f n 
             )
       ]
 
-tied_same : (n : ℕ) → eq_by_cmp nat_cmp n n ≡ true
+pub tied_same : (n : ℕ) → eq_by_cmp nat_cmp n n ≡ true
 tied_same n = let same : nat_eq n n ≡ true = grind (arith, common_steps) in unsigned_tied n n ∙ same
 
-tied_other : (q n : ℕ) → q ≢ n → eq_by_cmp nat_cmp q n ≡ false
+pub tied_other : (q n : ℕ) → q ≢ n → eq_by_cmp nat_cmp q n ≡ false
 tied_other q n e = let differs : nat_eq q n ≡ false = grind (arith, common_steps) in unsigned_tied q n ∙ differs
 
 module _ (board : ShogiBoard) (k : ℕ) where
@@ -92,7 +92,7 @@ module _ (board : ShogiBoard) (k : ℕ) where
   get-put_other piece n h = map.get-insert nat_cmp_total board k piece n
       ∙ ap (λ b. cond b (Some piece) (map.get board n)) (tied_other n k h)
 
-  get-cleared : map.get (map.remove board k) k ≡ None
+  pub get-cleared : map.get (map.remove board k) k ≡ None
   get-cleared = map.get-remove nat_cmp_total board k k ∙ ap (λ b. cond b None (map.get board k)) (tied_same k)
 
   pub get-cleared_other : (n : ℕ) → n ≢ k → map.get (map.remove board k) n ≡ map.get board n

@@ -33,25 +33,31 @@ goes p from to promote =
 unfoldable pub is_free : ShogiBoard → ℕ → Bool
 is_free board square = nat_lt square 81 && is_none (map.get board square)
 
+-- Whether the step is possible for the piece on its start, or the drop ends on an empty square.
 abbrev pub is_movement : ShogiPosition → SMove → Bool
 is_movement p (Step from to promote) = goes p from to promote
 is_movement p (Drop kind to) = is_free p.board to
 
+-- Whether the move drops a piece that is not in the hand of the side to move.
 abbrev pub drops_unheld : ShogiPosition → SMove → Bool
 drops_unheld p (Step from to promote) = false
 drops_unheld p (Drop kind to) = held p.hands p.turn kind == 0
 
+-- Whether the piece on `from`, without promotion, could never move again from `to`.
 unfoldable pub stuck_after : ShogiPosition → ℕ → ℕ → Bool
 stuck_after p from to = option_map_or (λ piece. is_stuck piece.side piece.role to) (map.get p.board from) false
 
+-- Whether the move is a step without promotion after which the piece could never move again.
 abbrev pub fails_to_promote : ShogiPosition → SMove → Bool
 fails_to_promote p (Step from to promote) = not promote && stuck_after p from to
 fails_to_promote p (Drop kind to) = false
 
+-- Whether the move drops a piece on a rank from which it could never move.
 abbrev pub drops_dead : ShogiPosition → SMove → Bool
 drops_dead p (Step from to promote) = false
 drops_dead p (Drop kind to) = is_stuck p.turn (dropped_role kind) to
 
+-- Whether the role is that of an unpromoted pawn.
 abbrev pub is_pawn : Role → Bool
 is_pawn role.Pawn = true
 is_pawn _ = false
@@ -61,29 +67,30 @@ abbrev pub holds_pawn : Side → Option SPiece → Bool
 holds_pawn side None = false
 holds_pawn side (Some piece) = is_pawn piece.role && same_side piece.side side
 
+-- Whether the side has an unpromoted pawn on `there`, and this square is on the file of `square`.
 unfoldable pub pawn_on_file_at : ShogiBoard → Side → ℕ → ℕ → Bool
 pawn_on_file_at board side square there = holds_pawn side (map.get board there) && file_of there == file_of square
 
+-- Whether the side has an unpromoted pawn on the file of the square.
 unfoldable pub pawn_on_file : ShogiBoard → Side → ℕ → Bool
 pawn_on_file board side square = list_any (pawn_on_file_at board side square) all_squares
 
+-- Whether the move drops a pawn.
 abbrev pub drops_pawn : SMove → Bool
 drops_pawn (Step from to promote) = false
 drops_pawn (Drop in_hand.Pawn to) = true
 drops_pawn (Drop kind to) = false
 
+-- Whether the move drops a pawn on a file with another unpromoted pawn of its side (nifu).
 unfoldable pub drops_second_pawn : ShogiPosition → SMove → Bool
 drops_second_pawn p m = drops_pawn m && pawn_on_file p.board p.turn (target m)
 
+-- Whether the move is legal, apart from the rules on the safety of its own king and on mate by a dropped pawn.
 unfoldable pub is_pseudo : ShogiPosition → SMove → Bool
 is_pseudo p m = is_movement p m && not (drops_unheld p m) && not (fails_to_promote p m) && not (drops_dead p m) && not
     (drops_second_pawn p m)
 
--- Whether the move is a drop.
-abbrev pub is_drop : SMove → Bool
-is_drop (Step from to promote) = false
-is_drop (Drop kind to) = true
-
+-- Whether the king of the side that moves is in check after the move.
 unfoldable pub leaves_king : ShogiPosition → SMove → Bool
 leaves_king p m = king_attacked (board_after p m) p.turn
 
@@ -91,38 +98,48 @@ leaves_king p m = king_attacked (board_after p m) p.turn
 unfoldable pub escapes : ShogiPosition → SMove → Bool
 escapes p m = is_pseudo p m && not (leaves_king p m)
 
+-- The kinds of pieces that can be in a hand.
 abbrev pub all_kinds : List HandKind
 all_kinds = in_hand.Rook ∷ in_hand.Bishop ∷ in_hand.Gold ∷ in_hand.Silver ∷ in_hand.Knight ∷ in_hand.Lance
     ∷ in_hand.Pawn ∷ []
 
--- Whether some step or drop passes the test.
+-- whether the step between these two squares passes the test, with or without promotion
 abbrev pub some_step_between : (SMove → Bool) → ℕ → ℕ → Bool
 some_step_between test from to = test (Step from to false) || test (Step from to true)
 
+-- Whether some step from the square passes the test.
 abbrev pub some_step_from : (SMove → Bool) → ℕ → Bool
 some_step_from test from = list_any (some_step_between test from) all_squares
 
+-- Whether some step passes the test.
 abbrev pub some_step : (SMove → Bool) → Bool
 some_step test = list_any (some_step_from test) all_squares
 
+-- Whether some drop of the kind passes the test.
 abbrev pub some_drop_of : (SMove → Bool) → HandKind → Bool
 some_drop_of test kind = list_any (λ to. test (Drop kind to)) all_squares
 
+-- Whether some drop passes the test.
 abbrev pub some_drop : (SMove → Bool) → Bool
 some_drop test = list_any (some_drop_of test) all_kinds
 
+-- Whether some step or drop passes the test.
 unfoldable pub some_move : (SMove → Bool) → Bool
 some_move test = some_step test || some_drop test
 
+-- Whether the side to move is checkmated: it is in check, and no move leaves its king safe.
 unfoldable pub is_mate : ShogiPosition → Bool
 is_mate p = king_attacked p.board p.turn && not (some_move (escapes p))
 
+-- Whether the move gives mate by dropping a pawn (uchifuzume).
 unfoldable pub mates_by_pawn : ShogiPosition → SMove → Bool
 mates_by_pawn p m = drops_pawn m && is_mate (play p m)
 
+-- Whether the move is legal.
 unfoldable pub is_legal : ShogiPosition → SMove → Bool
 is_legal p m = escapes p m && not (mates_by_pawn p m)
 
+-- Whether the side to move has a legal move.
 unfoldable pub has_move : ShogiPosition → Bool
 has_move p = some_move (is_legal p)
 
@@ -136,6 +153,7 @@ broken p m illegal.TwoPawns = drops_second_pawn p m
 broken p m illegal.KingAttacked = leaves_king p m
 broken p m illegal.DropMate = mates_by_pawn p m
 
+-- The answer of a move check: the move is legal, or the reason why it is not.
 abbrev pub Answer : Type 0
 Answer = Result (Unit {0}) Illegal
 

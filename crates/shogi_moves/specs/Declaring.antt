@@ -57,10 +57,12 @@ hand_points hand = sum_by (λ k. worth (on_board k) * count_of k hand) all_kinds
 abbrev pub points : ShogiPosition → ℕ
 points p = camp_points p.board p.turn + hand_points (hand_of p.turn p.hands)
 
+-- The number of points that a side needs for a declaration.
 abbrev pub points_needed : Side → ℕ
 points_needed First = 28
 points_needed Second = 27
 
+-- The number of pieces, without the king, that a declaration needs in the enemy's camp.
 abbrev pub pieces_needed : ℕ
 pieces_needed = 10
 
@@ -79,18 +81,21 @@ pub record CanDeclare (p : ShogiPosition) : Type 0 where
   pub pieces : pieces_needed ≤ entered p.board p.turn
   pub enough : points_needed p.turn ≤ points p
 
--- The computed test.
+-- whether the side's king is on this square, in the enemy's camp
 abbrev pub king_entered_at : ShogiBoard → Side → ℕ → Bool
 king_entered_at board side square = holds_king side (map.get board square) && in_camp side square
 
+-- Whether the side's king is in the enemy's camp.
 unfoldable pub king_entered : ShogiBoard → Side → Bool
 king_entered board side = list_any (king_entered_at board side) all_squares
 
+-- Whether the side has enough pieces in the enemy's camp, and enough points with its hand, for a declaration.
 abbrev pub has_enough : ShogiBoard → Hand → Side → Bool
 has_enough board hand side =
     nat_le pieces_needed (entered board side)
     && nat_le (points_needed side) (camp_points board side + hand_points hand)
 
+-- Whether the side to move may declare a win.
 unfoldable pub can_declare : ShogiPosition → Bool
 can_declare p =
     (king_entered p.board p.turn && not (king_attacked p.board p.turn))

@@ -5,6 +5,7 @@ pub mod Kings
 pub mod Laws
 pub mod Layouts
 pub mod Listing
+pub mod Pins
 pub mod Reach
 pub mod RuleTexts
 pub mod Rules

@@ -26,6 +26,7 @@ abbrev pub key_of : SMove → List ℕ
 key_of (Step from to promote) = 0 ∷ from ∷ to ∷ (if promote then 1 else 0) ∷ []
 key_of (Drop kind to) = 1 ∷ place kind ∷ to ∷ []
 
+-- The order of two moves in the list.
 abbrev pub move_cmp : SMove → SMove → Ordering
 move_cmp a b = slice_cmp nat_cmp (key_of a) (key_of b)
 

@@ -34,6 +34,7 @@ abbrev pub ranks_forward : Side → ℕ → ℕ → ℕ
 ranks_forward First ranks rank = rank - ranks
 ranks_forward Second ranks rank = rank + ranks
 
+-- The rank that a piece of the side reaches from a rank by one step or jump in a direction.
 abbrev pub next_rank : Side → MoveDirection → ℕ → ℕ
 next_rank side Forward rank = ranks_forward side 1 rank
 next_rank side ForwardLeft rank = ranks_forward side 1 rank
@@ -61,6 +62,7 @@ unfoldable pub line : ℕ → Side → MoveDirection → ℕ → List ℕ
 line zero side heading n = []
 line (suc k) side heading n = option_map_or (λ m. m ∷ line k side heading m) (step side heading n) []
 
+-- A range of k squares forward, backward and sideways, and 0 along other headings.
 abbrev pub straight : ℕ → MoveDirection → ℕ
 straight k Forward = k
 straight k Left = k
@@ -68,6 +70,7 @@ straight k Right = k
 straight k Back = k
 straight k _ = 0
 
+-- A range of k squares along the diagonals, and 0 along other headings.
 abbrev pub diagonal : ℕ → MoveDirection → ℕ
 diagonal k ForwardLeft = k
 diagonal k ForwardRight = k
@@ -75,20 +78,24 @@ diagonal k BackLeft = k
 diagonal k BackRight = k
 diagonal k _ = 0
 
+-- The range of a gold along a heading.
 abbrev pub gold : MoveDirection → ℕ
 gold ForwardLeft = 1
 gold ForwardRight = 1
 gold heading = straight 1 heading
 
+-- The range of a silver along a heading.
 abbrev pub silver : MoveDirection → ℕ
 silver Forward = 1
 silver heading = diagonal 1 heading
 
+-- The range of a knight along a heading: one jump.
 abbrev pub knight : MoveDirection → ℕ
 knight JumpLeft = 1
 knight JumpRight = 1
 knight _ = 0
 
+-- A range of k squares forward, and 0 along other headings.
 abbrev pub ahead : ℕ → MoveDirection → ℕ
 ahead k Forward = k
 ahead k _ = 0

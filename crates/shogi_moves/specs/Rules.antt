@@ -28,6 +28,7 @@ abbrev pub far_rank : Side → ℕ → ℕ
 far_rank First square = rank_of square
 far_rank Second square = 10 - rank_of square
 
+-- Whether a piece with this role has a promoted role.
 abbrev pub can_promote : Role → Bool
 can_promote role.Rook = true
 can_promote role.Bishop = true
@@ -49,6 +50,7 @@ last_ranks role.Lance = 1
 last_ranks role.Knight = 2
 last_ranks _ = 0
 
+-- Whether a piece of the side with this role could never move from the square.
 abbrev pub is_stuck : Side → Role → ℕ → Bool
 is_stuck side r square = nat_le (far_rank side square) (last_ranks r)
 
@@ -137,6 +139,7 @@ arrived piece promote =
           piece.role else piece.role;
     }
 
+-- The board after a move.
 abbrev pub board_after : ShogiPosition → SMove → ShogiBoard
 board_after p (Step from to promote) = option_map_or
     (λ piece. map.insert (map.remove p.board from) to (arrived piece promote)) (map.get p.board from) p.board
@@ -146,6 +149,7 @@ board_after p (Drop kind to) = map.insert p.board to (record { side = p.turn; ro
 abbrev pub taken_kind : Option SPiece → Option HandKind
 taken_kind cell = option_and_then (λ piece. hand_kind (kind_of piece.role)) cell
 
+-- The hands after a move: a captured piece comes into the mover's hand, a dropped piece leaves it.
 abbrev pub hands_after : ShogiPosition → SMove → Hands
 hands_after p (Step from to promote) = option_map_or
     (λ kind. with_held p.hands p.turn kind (held p.hands p.turn kind + 1)) (taken_kind (map.get p.board to)) p.hands

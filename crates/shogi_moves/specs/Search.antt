@@ -17,6 +17,7 @@ use Rattle.shogi_moves.specs.Reach.{line, range}
 unfoldable pub all_squares : List ℕ
 all_squares = range_with_len 0 81
 
+-- The directions in which pieces move, with the two jumps of a knight.
 abbrev pub all_headings : List MoveDirection
 all_headings = Forward ∷ ForwardLeft ∷ ForwardRight ∷ Left ∷ Right ∷ Back ∷ BackLeft ∷ BackRight ∷ JumpLeft ∷ JumpRight
     ∷ []
@@ -36,11 +37,14 @@ unfoldable pub side_reaches : ShogiBoard → Side → ℕ → ℕ → Bool
 side_reaches board side y x = option_map_or (λ piece. same_side piece.side side && piece_reaches board piece x y)
     (map.get board x) false
 
+-- Whether an enemy of the side attacks the square.
 unfoldable pub attacked : ShogiBoard → Side → ℕ → Bool
 attacked board side square = list_any (side_reaches board (other side) square) all_squares
 
+-- Whether the side's king is on the square and is attacked there.
 unfoldable pub king_attacked_at : ShogiBoard → Side → ℕ → Bool
 king_attacked_at board side square = holds_king side (map.get board square) && attacked board side square
 
+-- Whether the side's king is in check.
 unfoldable pub king_attacked : ShogiBoard → Side → Bool
 king_attacked board side = list_any (king_attacked_at board side) all_squares

@@ -1,8 +1,8 @@
 //! Attacked squares and check.
-ghost use Rattle.std.specs.Prelude.{◌≡◌, ◌↔◌, ◌&&◌, not, nat_lt, IsTrue};
+ghost use Rattle.std.specs.Prelude.{◌≡◌, ◌↔◌, ◌&&◌, ◌-◌, not, nat_lt, IsTrue};
 ghost use Rattle.squares.specs.Sides.{same_side};
-ghost use Rattle.shogi_moves.specs.Reach.{Attacked, KingAttacked, range};
-ghost use Rattle.shogi_moves.specs.Facing.{farthest, facing, faced_along, seen};
+ghost use Rattle.shogi_moves.specs.Reach.{Attacked, KingAttacked, line, range};
+ghost use Rattle.shogi_moves.specs.Facing.{farthest, facing, faced, faced_along, seen};
 ghost use Rattle.shogi_moves.specs.Search.{attacked};
 
 use crate::heading::{MoveDirection, range, step};
@@ -27,8 +27,8 @@ pub fn in_check(position: &SPos) -> bool
     is_king_attacked(position.board(), position.turn())
 }
 
-// The greatest distance in squares at which a piece can attack along a heading.
-fn farthest(heading: MoveDirection) -> u8
+/// The greatest distance in squares at which a piece can attack along a heading.
+pub fn farthest(heading: MoveDirection) -> u8
     ensures { result ≡ farthest heading }
 {
     match heading {
@@ -63,12 +63,20 @@ fn comes_here(piece: SPiece, side: Side, distance: u8, heading: MoveDirection) -
     !(piece.side == side) && distance < range(piece.role, facing(heading))
 }
 
-// Whether the first piece along a heading is an enemy that attacks the square.
-fn is_faced(board: &SBoard, side: Side, heading: MoveDirection, square: Ssq) -> bool
-    ensures { result ≡ faced_along board.now side square heading }
+/// Whether the first piece beyond `from` along a heading is an enemy whose range exceeds the number of empty squares
+/// before it by more than `passed`.
+pub fn is_faced_from(
+    board: &SBoard,
+    side: Side,
+    heading: MoveDirection,
+    passed: u8,
+    from: Ssq,
+) -> bool
+    ensures { result ≡ faced board.now side heading passed
+        (line (farthest heading - passed) side heading from) }
 {
-    let mut at = square;
-    for distance in 0..farthest(heading) {
+    let mut at = from;
+    for distance in passed..farthest(heading) {
         match step(side, heading, at) {
             None => return false,
             Some(next) => match board.piece_at(next) {
@@ -78,6 +86,13 @@ fn is_faced(board: &SBoard, side: Side, heading: MoveDirection, square: Ssq) -> 
         }
     }
     false
+}
+
+// Whether the first piece along a heading is an enemy that attacks the square.
+fn is_faced(board: &SBoard, side: Side, heading: MoveDirection, square: Ssq) -> bool
+    ensures { result ≡ faced_along board.now side square heading }
+{
+    is_faced_from(board, side, heading, 0, square)
 }
 
 // Whether an enemy attacks the square, found by looking outward from it.

@@ -1,23 +1,28 @@
 //! The parts of a position on which move generation works, and the effect of a move on them.
-ghost use Rattle.std.specs.Prelude.{◌≡◌, ◌&&◌, not};
+ghost use Rattle.std.specs.Prelude.{◌≡◌, ℕ, true};
+ghost use Rattle.std.specs.FinSet as set;
 ghost use Rattle.squares.specs.ShogiSets.{IsShogiPosition};
 ghost use Rattle.shogi_moves.specs.Rules.{held, with_held, dropped_role, arrived, board_after};
 ghost use Rattle.shogi_moves.specs.Rules.{play};
 ghost use Rattle.squares.specs.declared.shogi.moves.SMove.TheVariants.{Step, Drop};
 ghost use Rattle.shogi_moves.specs.Search.{king_attacked};
-ghost use Rattle.shogi_moves.specs.Computed.{is_drop};
+ghost use Rattle.shogi_moves.specs.Pins.{is_unpinned, exposes_nothing};
 
 use crate::kings::is_king_attacked;
+use crate::pins::unpinned_pieces;
+use masks::Bitboard81;
 use squares::{Hand, HandKind, Hands, Role, SBoard, SMove, SPiece, SPos, Side, Ssq};
 
-/// The board, the hands and the side to move, with a cached flag for check.
+/// The board, the hands and the side to move, with a cached flag for check and cached pieces that are not pinned.
 #[derive(Drop)]
 pub struct Layout {
     pub board: SBoard,
     pub hands: Hands,
     pub turn: Side,
     checked: bool,
+    unpinned: Bitboard81,
     ghost is_known: { checked ≡ king_attacked board turn },
+    ghost can_leave: { (n : ℕ) → set.contains unpinned n ≡ true → is_unpinned board turn n ≡ true },
 }
 
 impl Layout {
@@ -31,11 +36,13 @@ impl Layout {
         let board = position.board().copy();
         let turn = position.turn();
         let checked = is_king_attacked(&board, turn);
+        let unpinned = unpinned_pieces(&board, turn, checked);
         Layout {
             board,
             hands: position.hands(),
             turn,
             checked,
+            unpinned,
         }
     }
 
@@ -101,18 +108,21 @@ impl Layout {
         self.checked
     }
 
-    // Whether the move is a drop by a side that is not in check; such a move cannot expose its king.
-    fn uncovers_nothing(&self, played: &SMove) -> bool
-        ensures { result ≡ (is_drop played.now && not self.now.checked) }
+    // Whether a move is known to leave the king safe: a step of a piece that is not pinned, or a drop out of check.
+    fn exposes_nothing(&self, played: &SMove) -> bool
+        ensures { result ≡ exposes_nothing self.now.checked self.now.unpinned played.now }
     {
-        is_drop(played) && !self.checked
+        match played {
+            SMove::Step { from, .. } => self.unpinned.contains(from.number()),
+            SMove::Drop { .. } => !self.checked,
+        }
     }
 
     /// Whether the moving side's king is attacked after a move.
     pub fn is_checked_after(&self, played: &SMove) -> bool
         ensures { result ≡ king_attacked (board_after (position_of self.now) played.now) self.now.turn }
     {
-        if self.uncovers_nothing(played) {
+        if self.exposes_nothing(played) {
             return false;
         }
         let mut board = self.board.copy();
@@ -134,16 +144,8 @@ impl Layout {
             hands: with_held(self.hands, self.turn, kind, count),
             turn,
             checked,
+            unpinned: Bitboard81::new(),
         }
-    }
-}
-
-fn is_drop(played: &SMove) -> bool
-    ensures { result ≡ is_drop played.now }
-{
-    match played {
-        SMove::Step { .. } => false,
-        SMove::Drop { .. } => true,
     }
 }
 

@@ -59,23 +59,30 @@ fn passes(piece: SPiece, from: Ssq, to: Ssq, promote: bool) -> bool
     }
 }
 
+// A piece and its square.
+#[derive(Drop)]
+struct PlacedPiece {
+    piece: SPiece,
+    from: Ssq,
+}
+
 // Visits a piece's step to a square that it attacks and may land on.
 fn seek_step<S: MoveVisitor>(
     layout: &Layout,
-    piece: SPiece,
-    from: Ssq,
+    mover: &PlacedPiece,
     to: Ssq,
     promote: bool,
     seeker: &mut S,
 ) -> Result<(), S::Fault>
-    requires stands { map.get layout.now.board from ≡ Some piece }
-    requires own { piece.side ≡ layout.now.turn }
-    requires reaches { piece_reaches layout.now.board piece from to ≡ true }
+    requires stands { map.get layout.now.board mover.now.from ≡ Some mover.now.piece }
+    requires own { mover.now.piece.side ≡ layout.now.turn }
+    requires reaches { piece_reaches layout.now.board mover.now.piece mover.now.from to ≡ true }
     requires lands { may_land layout.now.turn (map.get layout.now.board to) ≡ true }
     ensures { OnOk result (seeker.new
-        ≡ S.plus seeker.old (if_passes (S.test (position_of layout.now)) (Step from to promote))) }
+        ≡ S.plus seeker.old (if_passes (S.test (position_of layout.now)) (Step mover.now.from to promote))) }
 {
-    if !passes(piece, from, to, promote) {
+    let from = mover.from;
+    if !passes(mover.piece, from, to, promote) {
         return Ok(());
     }
     seeker.take(layout, SMove::Step { from, to, promote })?;
@@ -85,43 +92,41 @@ fn seek_step<S: MoveVisitor>(
 // Visits a piece's steps to a square that it attacks, without and with promotion.
 fn seek_between<S: MoveVisitor>(
     layout: &Layout,
-    piece: SPiece,
-    from: Ssq,
+    mover: &PlacedPiece,
     to: Ssq,
     seeker: &mut S,
 ) -> Result<(), S::Fault>
-    requires stands { map.get layout.now.board from ≡ Some piece }
-    requires own { piece.side ≡ layout.now.turn }
-    requires reaches { piece_reaches layout.now.board piece from to ≡ true }
+    requires stands { map.get layout.now.board mover.now.from ≡ Some mover.now.piece }
+    requires own { mover.now.piece.side ≡ layout.now.turn }
+    requires reaches { piece_reaches layout.now.board mover.now.piece mover.now.from to ≡ true }
     ensures { OnOk result (seeker.new
-        ≡ S.plus seeker.old (steps_between (S.test (position_of layout.now)) from to)) }
+        ≡ S.plus seeker.old (steps_between (S.test (position_of layout.now)) mover.now.from to)) }
 {
     if !may_land(layout.turn, layout.board.piece_at(to)) {
         return Ok(());
     }
-    seek_step(layout, piece, from, to, false, seeker)?;
-    seek_step(layout, piece, from, to, true, seeker)?;
+    seek_step(layout, mover, to, false, seeker)?;
+    seek_step(layout, mover, to, true, seeker)?;
     Ok(())
 }
 
 // Visits the steps of a piece.
 fn seek_steps_of<S: MoveVisitor>(
     layout: &Layout,
-    piece: SPiece,
-    from: Ssq,
+    mover: &PlacedPiece,
     seeker: &mut S,
 ) -> Result<(), S::Fault>
-    requires stands { map.get layout.now.board from ≡ Some piece }
-    requires own { piece.side ≡ layout.now.turn }
+    requires stands { map.get layout.now.board mover.now.from ≡ Some mover.now.piece }
+    requires own { mover.now.piece.side ≡ layout.now.turn }
     ensures { OnOk result (seeker.new
-        ≡ S.plus seeker.old (steps_from (S.test (position_of layout.now)) from)) }
+        ≡ S.plus seeker.old (steps_from (S.test (position_of layout.now)) mover.now.from)) }
 {
-    let mut rest = attacks_from(&layout.board, piece, from);
+    let mut rest = attacks_from(&layout.board, mover.piece, mover.from);
     while let Some(to) = rest.pop() {
         if seeker.is_done() {
             return Ok(());
         }
-        seek_between(layout, piece, from, Ssq::of_number(to), seeker)?;
+        seek_between(layout, mover, Ssq::of_number(to), seeker)?;
     }
     Ok(())
 }
@@ -139,7 +144,7 @@ fn seek_steps_from<S: MoveVisitor>(
     match layout.board.piece_at(from) {
         None => Ok(()),
         Some(piece) => {
-            seek_steps_of(layout, piece, from, seeker)?;
+            seek_steps_of(layout, &PlacedPiece { piece, from }, seeker)?;
             Ok(())
         }
     }

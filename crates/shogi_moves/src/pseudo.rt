@@ -16,15 +16,16 @@ use crate::zones::{is_stuck, may_land, may_promote};
 use masks::Bitboard81;
 use squares::{HandKind, Role, SBoard, SMove, SPiece, Side, Ssq};
 
-// Whether the piece on `from` belongs to the side and can step to `to`.
-fn piece_goes(board: &SBoard, turn: Side, piece: SPiece, from: Ssq, to: Ssq, promote: bool) -> bool
-    ensures { result ≡ (same_side piece.side turn && may_land turn (map.get board.now to)
-        && (not promote || may_promote piece from to) && piece_reaches board.now piece from to) }
+// Whether the piece on `from` belongs to the side to move and can step to `to`.
+fn piece_goes(layout: &Layout, piece: SPiece, from: Ssq, to: Ssq, promote: bool) -> bool
+    ensures { result ≡ (same_side piece.side layout.now.turn
+        && may_land layout.now.turn (map.get layout.now.board to)
+        && (not promote || may_promote piece from to) && piece_reaches layout.now.board piece from to) }
 {
-    piece.side == turn
-        && may_land(turn, board.piece_at(to))
+    piece.side == layout.turn
+        && may_land(layout.turn, layout.board.piece_at(to))
         && (!promote || may_promote(piece, from, to))
-        && piece_reaches(board, piece, from, to)
+        && piece_reaches(&layout.board, piece, from, to)
 }
 
 // Whether the piece on `from` can step to `to`.
@@ -34,7 +35,7 @@ fn goes(layout: &Layout, from: Ssq, to: Ssq, promote: bool) -> bool
 {
     match layout.board.piece_at(from) {
         None => false,
-        Some(piece) => piece_goes(&layout.board, layout.turn, piece, from, to, promote),
+        Some(piece) => piece_goes(layout, piece, from, to, promote),
     }
 }
 

@@ -8,21 +8,41 @@ use crate::heading::{MoveDirection, range, step};
 use masks::Bitboard81;
 use squares::{SBoard, SPiece, Side, Ssq};
 
-// Whether a piece on `from` reaches `to` along a heading, over at most `distance` squares, all but the last of them
-// empty.
-fn comes_to(
-    board: &SBoard,
+// A way along a heading, over at most `distance` squares, all but the last of them empty.
+#[derive(Clone, Copy)]
+struct Way {
     side: Side,
     heading: MoveDirection,
     distance: u8,
     from: Ssq,
-    to: Ssq,
-) -> bool
-    ensures { result ≡ comes_to board.now to (line distance side heading from) }
+}
+
+impl Way {
+    // The way of the piece on `from` along a heading.
+    fn of_piece(piece: SPiece, heading: MoveDirection, from: Ssq) -> Way
+        ensures { result ≡ record {
+          side = piece.side;
+          heading = heading;
+          distance = range piece.role heading;
+          from = from;
+        } }
+    {
+        Way {
+            side: piece.side,
+            heading,
+            distance: range(piece.role, heading),
+            from,
+        }
+    }
+}
+
+// Whether a way reaches `to`.
+fn comes_to(board: &SBoard, way: Way, to: Ssq) -> bool
+    ensures { result ≡ comes_to board.now to (line way.distance way.side way.heading way.from) }
 {
-    let mut at = from;
-    for _ in 0..distance {
-        match step(side, heading, at) {
+    let mut at = way.from;
+    for _ in 0..way.distance {
+        match step(way.side, way.heading, at) {
             None => return false,
             Some(next) => {
                 if next == to {
@@ -43,16 +63,11 @@ fn comes_to(
 pub fn piece_reaches(board: &SBoard, piece: SPiece, from: Ssq, to: Ssq) -> bool
     ensures { result ≡ piece_reaches board.now piece from to }
 {
-    MoveDirection::ALL.iter().any(|heading| {
-        comes_to(
-            board,
-            piece.side,
-            *heading,
-            range(piece.role, *heading),
-            from,
-            to,
-        )
-    })
+    MoveDirection::ALL.iter().any(|heading| comes_to(
+        board,
+        Way::of_piece(piece, *heading, from),
+        to,
+    ))
 }
 
 /// Whether `from` holds a piece of the side that attacks `to`.
@@ -66,22 +81,15 @@ pub fn side_reaches(board: &SBoard, side: Side, to: Ssq, from: Ssq) -> bool
     }
 }
 
-// Adds to `squares` the squares that a piece reaches along a heading within `distance` squares.
-fn with_line(
-    board: &SBoard,
-    side: Side,
-    heading: MoveDirection,
-    distance: u8,
-    from: Ssq,
-    squares: Bitboard81,
-) -> Bitboard81
+// Adds to `squares` the squares that a way reaches.
+fn with_line(board: &SBoard, way: Way, squares: Bitboard81) -> Bitboard81
     ensures { (to : ℕ) → set.contains result to
-        ≡ (set.contains squares to || comes_to board.now to (line distance side heading from)) }
+        ≡ (set.contains squares to || comes_to board.now to (line way.distance way.side way.heading way.from)) }
 {
     let mut found = squares;
-    let mut at = from;
-    for _ in 0..distance {
-        match step(side, heading, at) {
+    let mut at = way.from;
+    for _ in 0..way.distance {
+        match step(way.side, way.heading, at) {
             None => return found,
             Some(next) => {
                 found = found.with(next.number());
@@ -95,28 +103,13 @@ fn with_line(
     found
 }
 
-// Adds to `squares` the squares that the piece on `from` reaches along a heading.
-fn with_heading(
-    board: &SBoard,
-    piece: SPiece,
-    heading: MoveDirection,
-    from: Ssq,
-    squares: Bitboard81,
-) -> Bitboard81
-    ensures { (to : ℕ) → set.contains result to
-        ≡ (set.contains squares to || comes_to board.now to (line (range piece.role heading) piece.side heading from)) }
-{
-    let distance = range(piece.role, heading);
-    with_line(board, piece.side, heading, distance, from, squares)
-}
-
 /// The squares that the piece on `from` attacks.
 pub fn attacks_from(board: &SBoard, piece: SPiece, from: Ssq) -> Bitboard81
     ensures { (to : ℕ) → set.contains result to ≡ piece_reaches board.now piece from to }
 {
     let mut found = Bitboard81::new();
     for heading in &MoveDirection::ALL {
-        found = with_heading(board, piece, *heading, from, found);
+        found = with_line(board, Way::of_piece(piece, *heading, from), found);
     }
     found
 }

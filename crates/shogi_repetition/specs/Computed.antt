@@ -42,6 +42,7 @@ end_by_checks false true = PerpetualCheck Second
 end_by_checks true true = Fourfold
 end_by_checks false false = Fourfold
 
+-- The end by a fourth occurrence of the last position, from the checks since its first occurrence.
 unfoldable pub repetition : ShogiPosition → List ShogiPosition → SEnd
 repetition last ps = end_by_checks (checks_throughout First (since_first last ps))
     (checks_throughout Second (since_first last ps))

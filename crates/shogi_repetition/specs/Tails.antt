@@ -35,9 +35,11 @@ tail_of start ms =
 
 -- The tail, ply by ply.
 
+-- The tail of a history without moves.
 abbrev pub no_checks : Tail
 no_checks = record { first_checks = 0; second_checks = 0 }
 
+-- The number of a side's consecutive checks after one more of its moves.
 abbrev pub count_on : ℕ → Bool → ℕ
 count_on checks gives_check = if gives_check then checks + 1 else 0
 
@@ -48,6 +50,7 @@ tail_after tail gives_check First =
 tail_after tail gives_check Second =
     record { first_checks = count_on tail.first_checks gives_check; second_checks = tail.second_checks }
 
+-- The tail after one more move, which leads to the position `after`.
 abbrev pub next_tail : Tail → ShogiPosition → Tail
 next_tail tail after = tail_after tail (is_in_check after) after.turn
 

@@ -1,5 +1,5 @@
 -- The cells and the sets of squares are kept together.
-use Rattle.std.proofs.Common.{◌≡◌, ℕ, zero, suc, ◌+◌, ◌<◌, Bool, true, false, not, ◌&&◌, ◌||◌, cond, nat_le, Option}
+use Rattle.std.proofs.Common.{◌≡◌, ℕ, zero, suc, ◌+◌, ◌-◌, ◌<◌, ◌≤◌, Bool, true, false, not, ◌&&◌, ◌||◌, cond, nat_le, Option}
 use Rattle.std.proofs.Common.{Some, None, List, length, get_or, inl, inr, refl, sym, ap, ◌∙◌, subst, arith, replicate}
 use Rattle.std.specs.Ordering.{nat_cmp, eq_by_cmp}
 use Rattle.std.specs.Cmp.{nat_cmp_total, unsigned_tied}
@@ -8,7 +8,8 @@ use Rattle.std.specs.FinMap.{nat_cmp-IsAntisymmetric}
 use Rattle.std.specs.FinSet as set
 use Rattle.std.proofs.Math.ListN.{set as list_set}
 use Rattle.std.proofs.lemmas.Bool.{cases_lt}
-use Rattle.std.proofs.lemmas.List.{length-set, get_or_past}
+use Rattle.std.proofs.lemmas.List.{ext_get_or, length-map, length-set, get_or_past}
+use Rattle.std.proofs.lemmas.List.FromFn.{get_or-map-range_with_len}
 use Rattle.masks.specs.Words.{Numbers}
 use Rattle.squares.specs.declared.draughts.piece.DPiece.{DPiece}
 use Rattle.squares.specs.declared.sides.Side.{Side}
@@ -19,7 +20,7 @@ use Rattle.squares.specs.DraughtsBoard.{Board, board_of, is_of}
 use Rattle.squares.specs.DraughtsCells.{get-board_of, get-board_of-zero, board_of-put, board_of-clear}
 use Rattle.squares.specs.DraughtsMarks.{nat_eq-same}
 use Rattle.squares.specs.DraughtsOpening.{opening_piece}
-use Rattle.squares.specs.DraughtsKept.{is_king, Marks, KeepsCells, noted}
+use Rattle.squares.specs.DraughtsKept.{is_king, Marks, KeepsCells, noted, cell_in, cells_in, squares_where, where_back}
 
 module _ (test : Option DPiece → Bool) (s : Numbers) (board : Board) (n : ℕ) (marks : Marks test s board) where
   put_noted : (p : DPiece) → Marks test (noted s n (test (Some p))) (map.insert board n p)
@@ -163,3 +164,85 @@ same_or_other Second = refl
 pub neither_side : (cell : Option DPiece) → not (is_of First cell || is_of Second cell) ≡ is_none cell
 neither_side None = refl
 neither_side (Some q) = same_or_other q.side
+
+-- ---- The sets determine the cells
+
+abbrev made : Bool → Bool → Bool → Option DPiece
+made f s r = cond f (Some (record { side = First; king = r })) (cond s (Some (record { side = Second; king = r })) None)
+
+cell_some : (side : Side) (king f s r : Bool) → f ≡ same_side side First → s ≡ same_side side Second → r ≡ king
+    → made f s r ≡ Some (record { side = side; king = king })
+cell_some First king f s r fe se re = λ i. made (fe i) (se i) (re i)
+cell_some Second king f s r fe se re = λ i. made (fe i) (se i) (re i)
+
+cell_from : (cell : Option DPiece) (f s r : Bool) → f ≡ is_of First cell → s ≡ is_of Second cell → r ≡ is_king cell
+    → made f s r ≡ cell
+cell_from None f s r fe se re = λ i. made (fe i) (se i) r
+cell_from (Some q) f s r fe se re = cell_some q.side q.king f s r fe se re
+
+pub cells_from : (cells : List (Option DPiece)) (f s r : Numbers) → KeepsCells cells f s r → cells_in f s r ≡ cells
+unfolding cells_in
+cells_from cells f s r kept =
+    ext_get_or None _ _ (simp length-map (sym kept.has_cells))
+    (λ k below. let b : k < 50 = simp length-map at below in
+    let there = get-board_of cells (k + 1) k refl in
+    get_or-map-range_with_len (cell_in f s r) 1 50 k (k + 1) None b (omega arith)
+    ∙ cell_from (get_or cells k None) (set.contains f (k + 1)) (set.contains s (k + 1)) (set.contains r (k + 1))
+    (kept.of_first (k + 1) ∙ ap (is_of First) there) (kept.of_second (k + 1) ∙ ap (is_of Second) there)
+    (kept.of_kings (k + 1) ∙ ap is_king there))
+
+pub kept_from : (cells : List (Option DPiece)) (f s r : Numbers) → KeepsCells cells f s r
+    → KeepsCells (cells_in f s r) f s r
+kept_from cells f s r kept = subst (λ cs. KeepsCells cs f s r) (sym (cells_from cells f s r kept)) kept
+
+pub cell_read : (f s r : Numbers) (n k : ℕ) → n ≡ k + 1 → k < 50
+    → map.get (board_of (cells_in f s r)) n ≡ cell_in f s r n
+unfolding cells_in
+cell_read f s r n k is below = get-board_of (cells_in f s r) n k is
+    ∙ get_or-map-range_with_len (cell_in f s r) 1 50 k n None below (omega arith)
+
+module _ (first second kings : Numbers) (kept : KeepsCells (cells_in first second kings) first second kings) (n : ℕ)
+    (from : 1 ≤ n) (to : n ≤ 50) (f s r : Numbers) where
+  abbrev before : List (Option DPiece)
+  before = cells_in first second kings
+
+  module _ (p : DPiece) (ef : f ≡ noted first n (is_of First (Some p))) (es : s ≡ noted second n (is_of Second (Some p)))
+      (er : r ≡ noted kings n p.king) where
+    put_kept : KeepsCells (list_set before (n - 1) (Some p)) f s r
+    put_kept = kept_with before first second kings kept (n - 1) n (omega arith) (omega arith) p f s r ef es er
+
+    pub kept_put : KeepsCells (cells_in f s r) f s r
+    kept_put = kept_from (list_set before (n - 1) (Some p)) f s r put_kept
+
+    pub board_put : board_of (cells_in f s r) ≡ map.insert (board_of before) n p
+    board_put = ap board_of (cells_from (list_set before (n - 1) (Some p)) f s r put_kept)
+        ∙ board_of-put before (n - 1) n p (omega arith) (omega (arith, kept.has_cells))
+
+  module _ (ef : f ≡ set.remove first n) (es : s ≡ set.remove second n) (er : r ≡ set.remove kings n) where
+    clear_kept : KeepsCells (list_set before (n - 1) None) f s r
+    clear_kept = kept_without before first second kings kept (n - 1) n (omega arith) (omega arith) f s r ef es er
+
+    pub kept_clear : KeepsCells (cells_in f s r) f s r
+    kept_clear = kept_from (list_set before (n - 1) None) f s r clear_kept
+
+    pub board_clear : board_of (cells_in f s r) ≡ map.remove (board_of before) n
+    board_clear = ap board_of (cells_from (list_set before (n - 1) None) f s r clear_kept)
+        ∙ board_of-clear before (n - 1) n (omega arith) (omega (arith, kept.has_cells))
+
+-- equal boards have equal sets
+module _ (f s r g t u : Numbers) (mine : KeepsCells (cells_in f s r) f s r) (theirs : KeepsCells (cells_in g t u) g t u)
+    (boards : board_of (cells_in f s r) ≡ board_of (cells_in g t u)) where
+  pub same_first : f ≡ g
+  same_first = sym (where_back (is_of First) refl (cells_in f s r) f mine.has_cells mine.of_first)
+      ∙ ap (squares_where (is_of First)) boards
+      ∙ where_back (is_of First) refl (cells_in g t u) g theirs.has_cells theirs.of_first
+
+  pub same_second : s ≡ t
+  same_second = sym (where_back (is_of Second) refl (cells_in f s r) s mine.has_cells mine.of_second)
+      ∙ ap (squares_where (is_of Second)) boards
+      ∙ where_back (is_of Second) refl (cells_in g t u) t theirs.has_cells theirs.of_second
+
+  pub same_kings : r ≡ u
+  same_kings = sym (where_back is_king refl (cells_in f s r) r mine.has_cells mine.of_kings)
+      ∙ ap (squares_where is_king) boards
+      ∙ where_back is_king refl (cells_in g t u) u theirs.has_cells theirs.of_kings

@@ -7,13 +7,16 @@ use Rattle.squares.specs.declared.draughts.piece.DPiece.{DPiece}
 use Rattle.squares.specs.declared.sides.Side.{Side}
 use Rattle.squares.specs.Sides.{same_side}
 
+-- The pieces of a board, by the numbers of their squares.
 abbrev pub Board : Type 0
 Board = map.FinMap nat_cmp DPiece
 
+-- A position: the board and the side to move.
 pub record Position : Type 0 where
   pub board : Board
   pub turn : Side
 
+-- The occupied squares from n on, with their pieces.
 abbrev pub occupied : ℕ → List (Option DPiece) → List (ℕ × DPiece)
 occupied n [] = []
 occupied n (None ∷ cells) = occupied (suc n) cells

@@ -6,9 +6,11 @@ use Rattle.std.proofs.Common.{zero, suc, refl, ap, ◌∙◌, arith}
 use Rattle.squares.specs.declared.draughts.direction.Direction.{Direction}
 use Rattle.squares.specs.declared.draughts.direction.Direction.TheVariants.{UpLeft, UpRight, DownLeft, DownRight}
 
+-- The row of a square, from 0 at the top to 9 at the bottom.
 abbrev pub row_of : ℕ → ℕ
 row_of n = (n - 1) / 5
 
+-- The column of a square, from 0 at the left to 9 at the right.
 abbrev pub column_of : ℕ → ℕ
 column_of n = 2 * ((n - 1) % 5) + (1 - row_of n % 2)
 

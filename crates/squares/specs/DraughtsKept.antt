@@ -1,6 +1,8 @@
 -- The bitboards of a position: each side's pieces, and the kings.
 use Rattle.std.proofs.Common.{◌≡◌, ℕ, zero, suc, Bool, false, cond, Option, Some, None, List, length, sym, ap, ◌∙◌}
 use Rattle.std.proofs.Common.{arith, inl, inr}
+use Rattle.std.specs.Prelude.{if◌then◌else◌, map as list_map}
+use Rattle.std.specs.List.{range_with_len}
 use Rattle.std.specs.Cmp.{nat_cmp_total}
 use Rattle.std.specs.FinMap as map
 use Rattle.std.specs.FinSet as set
@@ -21,6 +23,16 @@ is_king (Some q) = q.king
 -- The set holds exactly the squares whose cell passes the test.
 abbrev pub Marks : (Option DPiece → Bool) → Numbers → Board → Type 0
 Marks test s board = (q : ℕ) → set.contains s q ≡ test (map.get board q)
+
+-- The content of square n, by the sets of each side's pieces and of the kings.
+abbrev pub cell_in : Numbers → Numbers → Numbers → ℕ → Option DPiece
+cell_in first second kings n = if set.contains first n
+    then Some (record { side = First; king = set.contains kings n })
+    else if set.contains second n then Some (record { side = Second; king = set.contains kings n }) else None
+
+-- The fifty cells that these sets describe.
+unfoldable pub cells_in : Numbers → Numbers → Numbers → List (Option DPiece)
+cells_in first second kings = list_map (cell_in first second kings) (range_with_len 1 50)
 
 -- Fifty cells with the squares of each side's pieces and of the kings.
 pub record KeepsCells (cells : List (Option DPiece)) (first second kings : Numbers) : Type 0 where

@@ -6,6 +6,7 @@ use Rattle.squares.specs.declared.sides.Side.{Side}
 use Rattle.squares.specs.declared.sides.Side.TheVariants.{First, Second}
 use Rattle.squares.specs.DraughtsBoard.{Position, board_of}
 
+-- A man of the side.
 abbrev pub man : Side → DPiece
 man side = record { side = side; king = false }
 
@@ -13,5 +14,6 @@ man side = record { side = side; king = false }
 abbrev pub opening_piece : ℕ → Option DPiece
 opening_piece n = if nat_le n 20 then Some (man Second) else if nat_le n 30 then None else Some (man First)
 
+-- The starting position.
 unfoldable pub opening : Position
 opening = record { board = board_of (map opening_piece (range_with_len 1 50)); turn = First }

@@ -13,20 +13,15 @@ abbrev pub same_rank : Bool → Bool → Bool
 same_rank true b = b
 same_rank false b = not b
 
+-- Whether two pieces have the same side and are both kings or both men.
 abbrev pub same_piece : DPiece → DPiece → Bool
 same_piece a b = same_side a.side b.side && same_rank a.king b.king
-
--- Whether two cells have the same content.
-abbrev pub same_cell : Option DPiece → Option DPiece → Bool
-same_cell None None = true
-same_cell None (Some b) = false
-same_cell (Some a) None = false
-same_cell (Some a) (Some b) = same_piece a b
 
 -- Whether two entries have the same square and the same piece.
 abbrev pub same_entry : ℕ × DPiece → ℕ × DPiece → Bool
 same_entry a b = nat_eq a.0 b.0 && same_piece a.1 b.1
 
+-- Whether two lists have the same entries in the same order.
 abbrev pub same_entries : List (ℕ × DPiece) → List (ℕ × DPiece) → Bool
 same_entries [] [] = true
 same_entries [] (b ∷ ys) = false
@@ -60,16 +55,6 @@ same_piece-same a b e =
 
 same_piece-itself : (a : DPiece) → same_piece a a ≡ true
 same_piece-itself a = λ i. same_side-itself a.side i && same_rank-itself a.king i
-
-pub same_cell-same : (a b : Option DPiece) → same_cell a b ≡ true → a ≡ b
-same_cell-same None None e = refl
-same_cell-same None (Some b) e = cc
-same_cell-same (Some a) None e = cc
-same_cell-same (Some a) (Some b) e = ap Some (same_piece-same a b e)
-
-pub same_cell-itself : (a : Option DPiece) → same_cell a a ≡ true
-same_cell-itself None = refl
-same_cell-itself (Some a) = same_piece-itself a
 
 same_entry-same : (a b : ℕ × DPiece) → same_entry a b ≡ true → a ≡ b
 same_entry-same a b e =

@@ -5,6 +5,7 @@ use Rattle.std.specs.Ordering.{nat_cmp}
 use Rattle.std.specs.FinSet as set
 use Rattle.std.proofs.Common.{suc}
 
+-- A set of squares, by their numbers.
 abbrev pub Squares : Type 0
 Squares = set.FinSet nat_cmp
 

@@ -3,6 +3,7 @@ use Rattle.std.specs.Prelude.{List, [], ◌∷◌}
 use Rattle.std.specs.declared.cmp.Ordering.{Ordering}
 use Rattle.std.specs.declared.cmp.Ordering.TheVariants.{Less, Equal, Greater}
 
+-- A sorted list with `m` inserted, by the order of its first element and `m`; `more` is its rest with `m` inserted.
 abbrev pub put_by : {A : Type 0} → Ordering → A → A → List A → List A → List A
 put_by Less m x xs more = x ∷ more
 put_by Equal m x xs more = x ∷ xs

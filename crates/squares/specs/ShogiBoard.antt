@@ -5,6 +5,7 @@ use Rattle.std.specs.FinMap as map
 use Rattle.std.proofs.Common.{suc}
 use Rattle.squares.specs.declared.shogi.piece.SPiece.{SPiece}
 
+-- The pieces of a board, by the indices of their squares.
 abbrev pub ShogiBoard : Type 0
 ShogiBoard = map.FinMap nat_cmp SPiece
 

@@ -9,8 +9,10 @@ OnShogiBoard file rank = ((1 ≤ file) × (file ≤ 9)) × ((1 ≤ rank) × (ran
 abbrev pub shogi_number : ℕ → ℕ → ℕ
 shogi_number file rank = 9 * (file - 1) + (rank - 1)
 
+-- The file of a square, from 1 to 9.
 abbrev pub file_of : ℕ → ℕ
 file_of n = n / 9 + 1
 
+-- The rank of a square, from 1 to 9.
 abbrev pub rank_of : ℕ → ℕ
 rank_of n = n % 9 + 1

@@ -7,6 +7,7 @@ use Rattle.squares.specs.declared.shogi.piece.HandKind.TheVariants as in_hand
 use Rattle.squares.specs.declared.shogi.hand.Hand.{Hand}
 use Rattle.squares.specs.declared.shogi.hand.Hands.{Hands}
 
+-- The number of pieces of a kind in a hand.
 abbrev pub count_of : HandKind → Hand → ℕ
 count_of in_hand.Rook hand = hand.rook
 count_of in_hand.Bishop hand = hand.bishop
@@ -26,6 +27,7 @@ with_count in_hand.Knight count hand = record hand { knight = count }
 with_count in_hand.Lance count hand = record hand { lance = count }
 with_count in_hand.Pawn count hand = record hand { pawn = count }
 
+-- The hand of a side.
 abbrev pub hand_of : Side → Hands → Hand
 hand_of First hands = hands.first
 hand_of Second hands = hands.second

@@ -35,12 +35,15 @@ abbrev pub opening_piece : ℕ → ℕ → Option SPiece
 opening_piece file rank = if nat_le rank 3 then piece_of Second (army_role (10 - file) rank) else piece_of First
     (army_role file (10 - rank))
 
+-- The piece on the square with index n in the starting position, if there is one.
 abbrev pub opening_cell : ℕ → Option SPiece
 opening_cell n = opening_piece (file_of n) (rank_of n)
 
+-- The hand without pieces.
 abbrev pub no_hand : Hand
 no_hand = record { rook = 0; bishop = 0; gold = 0; silver = 0; knight = 0; lance = 0; pawn = 0 }
 
+-- The starting position.
 unfoldable pub opening : ShogiPosition
 opening =
     record {

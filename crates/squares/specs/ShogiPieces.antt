@@ -24,6 +24,7 @@ kind_of role.PromotedKnight = kind.Knight
 kind_of role.PromotedLance = kind.Lance
 kind_of role.PromotedPawn = kind.Pawn
 
+-- Whether the role is that of a promoted piece.
 abbrev pub is_promoted : Role → Bool
 is_promoted role.PromotedRook = true
 is_promoted role.PromotedBishop = true

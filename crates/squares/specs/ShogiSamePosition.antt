@@ -17,6 +17,7 @@ use Rattle.squares.specs.DraughtsMarks.{nat_eq_same, nat_eq-same}
 abbrev pub same_role : Role → Role → Bool
 same_role a b = sameb the_type a b
 
+-- Whether two pieces have the same side and the same role.
 abbrev pub same_shogi_piece : SPiece → SPiece → Bool
 same_shogi_piece a b = same_side a.side b.side && same_role a.role b.role
 
@@ -24,6 +25,7 @@ same_shogi_piece a b = same_side a.side b.side && same_role a.role b.role
 abbrev pub same_shogi_entry : ℕ × SPiece → ℕ × SPiece → Bool
 same_shogi_entry a b = nat_eq a.0 b.0 && same_shogi_piece a.1 b.1
 
+-- Whether two lists have the same entries in the same order.
 abbrev pub same_shogi_entries : List (ℕ × SPiece) → List (ℕ × SPiece) → Bool
 same_shogi_entries [] [] = true
 same_shogi_entries [] (b ∷ ys) = false
@@ -42,6 +44,7 @@ same_hand a b =
     (nat_eq a.gold b.gold &&
     (nat_eq a.silver b.silver && (nat_eq a.knight b.knight && (nat_eq a.lance b.lance && nat_eq a.pawn b.pawn)))))
 
+-- Whether each side holds the same number of each kind in both.
 abbrev pub same_hands : Hands → Hands → Bool
 same_hands a b = same_hand a.first b.first && same_hand a.second b.second
 

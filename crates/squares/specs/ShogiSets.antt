@@ -13,6 +13,7 @@ use Rattle.squares.specs.Sides.{same_side}
 use Rattle.squares.specs.ShogiHands.{count_of}
 use Rattle.squares.specs.ShogiBoard.{ShogiBoard}
 
+-- A position: the board, the hands of both sides, and the side to move.
 pub record ShogiPosition : Type 0 where
   pub board : ShogiBoard
   pub hands : Hands
@@ -35,6 +36,7 @@ is_of in_hand.Pawn role.Pawn = true
 is_of in_hand.Pawn role.PromotedPawn = true
 is_of _ _ = false
 
+-- Whether the role is that of a king.
 abbrev pub is_king : Role → Bool
 is_king role.King = true
 is_king _ = false

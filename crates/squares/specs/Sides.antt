@@ -5,6 +5,7 @@ use Rattle.squares.specs.declared.sides.Side.TheVariants.{First, Second}
 use Rattle.squares.specs.declared.sides.Score.{Score}
 use Rattle.squares.specs.declared.sides.Score.TheVariants.{FirstWins, Draw, SecondWins}
 
+-- The opponent of a side.
 abbrev pub other : Side → Side
 other First = Second
 other Second = First

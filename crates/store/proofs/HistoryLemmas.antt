@@ -28,8 +28,9 @@ use Rattle.store.specs.declared.club.run.Run.{Run}
 use Rattle.store.specs.declared.fault.StoreFault.{StoreFault}
 use Rattle.club_changes.specs.Steps.{club_step, club_next}
 use Rattle.store.specs.Runs.{club_fold, club_outcomes, club_accepted}
+use Rattle.store.specs.SchemaRuns.{accepted_in, fold_in}
 use Rattle.store_sql.proofs.Proved.{opens_exactly, schema_once}
-use Rattle.store.specs.Histories.{HistoryStep, StepLeadsTo, Place, SessionReaches, HistoryLeadsTo, IsReachable, IsHistory, IsHistoryAt}
+use Rattle.store.specs.Histories.{HistoryStep, StepLeadsTo, Place, SessionReaches, HistoryLeadsTo, IsReachable, IsHistory}
 use Rattle.store.specs.Histories.{IsAfter, is_taken, opens_as, run_session, served, session_of, answered_session}
 use Rattle.store.specs.Histories.{IsExactlyAt, LeavesAt, Session, cut_session}
 use Rattle.club_rows.specs.FirstSchema.{first_tables}
@@ -65,11 +66,21 @@ after : (s : ClubState) (rs : List Request) (j : ℕ)
     → club_fold s (take j rs) ≡ club_fold s (take (Counted s rs j) (club_accepted s rs))
 after s rs j = sym (folds-accepted both_games s (take j rs)) ∙ ap (club_fold s) (sym (first_accepted s rs j))
 
+-- the program of schema 2 is the machine, whose states its tables hold whole
+pub fold_same : (s : ClubState) (rs : List Request) → fold_in Current s rs ≡ club_fold s rs
+fold_same s [] = refl
+fold_same s (r ∷ rs) = fold_same (club_next s r) rs
+
+accepted_same : (s : ClubState) (rs : List Request) → accepted_in Current s rs ≡ club_accepted s rs
+accepted_same s [] = refl
+accepted_same s (r ∷ rs) =
+    ap (λ l. if is_accepted (club_step s r) then r ∷ l else l) (accepted_same (club_next s r) rs)
+
 -- where so many of the first j were answered as accepted, the session leads to the state after these, and where it was
 -- stopped, to the state after one more
 leads_on : (s : ClubState) (rs : List Request) (j n a : ℕ) (whole : Bool) → a ≡ Counted s rs j
     → (n ≡ j) ⊎ ((whole ≡ false) × (n ≡ j + 1))
-    → SessionReaches s (record { requests = rs; returned = a; is_whole = whole }) (club_fold s (take n rs))
+    → SessionReaches Current s (record { requests = rs; returned = a; is_whole = whole }) (club_fold s (take n rs))
 leads_on s rs j n a whole is by = record {
   k = Counted s rs n;
   effect = elim by [
@@ -86,7 +97,9 @@ leads_on s rs j n a whole is by = record {
           whole = λ e. absurd (true≢false (sym e ∙ stopped));
         }
   ];
-  is = after s rs n;
+  is = after s rs n
+      ∙ (ap (λ l. club_fold s (take (Counted s rs n) l)) (sym (accepted_same s rs))
+      ∙ sym (fold_same s (take (Counted s rs n) (accepted_in Current s rs))));
 }
 
 -- in the last version
@@ -100,21 +113,21 @@ leads_then s t u (y ∷ xs) x led one = (led.0, led.1, leads_then led.0 t u xs x
 
 -- a session of a club of the last version leads on
 session_then : (from : Version) (xs : List HistoryStep) {s u : ClubState} {session : Session}
-    → HistoryLeadsTo (opens_as from) xs (at_state s) → SessionReaches s session u
+    → HistoryLeadsTo (opens_as from) xs (at_state s) → SessionReaches Current s session u
     → HistoryLeadsTo (opens_as from) (xs ++ served session ∷ []) (at_state u)
 session_then from xs led one = leads_then _ _ _ xs _ led (refl, one)
 
 session_reached : (from : Version) (xs : List HistoryStep) {them : Neighbours} {s u : ClubState} {session : Session}
-    {db : Trees} → HistoryLeadsTo (opens_as from) xs (at_state s) → SessionReaches s session u → IsClub u
-    → LeavesBeside them (tables u) db → IsReachable them (xs ++ served session ∷ []) db
+    {db : Trees} → HistoryLeadsTo (opens_as from) xs (at_state s) → SessionReaches Current s session u → IsClub u
+    → LeavesBeside them (tables u) db → IsReachable from Current them (xs ++ served session ∷ []) db
 session_reached from xs led one legal left =
-    record { from = from; after = at_state _; legal = legal; leads = session_then from xs led one; leaves = left }
+    record { after = _; legal = legal; leads = session_then from xs led one; leaves = left }
 
-session_stood : {them : Neighbours} {old now : State} {xs : List HistoryStep} {session : Session} {u : ClubState}
-    → (at : IsHistory them xs old) → SessionReaches at.after session u → IsClub u
-    → HoldsClubAmong them (tables u) now → IsHistory them (xs ++ served session ∷ []) now
+session_stood : {from : Version} {them : Neighbours} {old now : State} {xs : List HistoryStep} {session : Session}
+    {u : ClubState} → (at : IsHistory from Current them xs old) → SessionReaches Current at.after session u → IsClub u
+    → HoldsClubAmong them (tables u) now → IsHistory from Current them (xs ++ served session ∷ []) now
 session_stood at one legal exactly =
-    record { from = at.from; after = _; legal = legal; leads = session_then _ _ at.leads one; exactly = exactly }
+    record { after = _; legal = legal; leads = session_then _ _ at.leads one; exactly = exactly }
 
 -- ---- what was answered
 
@@ -157,37 +170,39 @@ first_given rs n m within = take-map request_of n (take m rs) ∙ ap (map reques
 -- the state after the answered requests is one that the session leads to; with a fault, so is the state after one more
 run_leads : (s : ClubState) (rs : List given_request.Request) (run : Run) (n : ℕ) → Told s rs run
     → (n ≡ length run.outcomes.items) ⊎ (IsSome run.fault × (n ≡ length run.outcomes.items + 1))
-    → SessionReaches s (run_session rs run) (club_fold s (map request_of (take n rs)))
+    → SessionReaches Current s (run_session rs run) (club_fold s (map request_of (take n rs)))
 run_leads s rs run n told by =
     let os = run.outcomes.items in
     let j = length os in
     let counted = sym (count_outcomes os) ∙ (ap count told ∙ (count_machine s (map request_of (take j rs))
     ∙ ap (λ xs. length (club_accepted s xs)) (sym (first_given rs j (j + 1) (omega arith))))) in
-    subst (λ xs. SessionReaches s (run_session rs run) (club_fold s xs))
+    subst (λ xs. SessionReaches Current s (run_session rs run) (club_fold s xs))
     (first_given rs n (j + 1) (elim by [ inl e ↦ omega (arith, e) | inr e ↦ (let x = e.1 in omega (arith, x)) ]))
     (leads_on s _ j n _ _ counted
     (elim by [ inl e ↦ inl e | inr (failed, e) ↦ inr (is_stopped run.fault failed, e) ]))
 
 -- what a stop leaves is led to with this session added
-pub session_leads : {them : Neighbours} {sessions : List HistoryStep} {rs : List given_request.Request} (run : Run)
-    {old : State} {db : Trees} → (at : IsHistory them sessions old) → Told at.after rs run →
+pub session_leads : {from : Version} {them : Neighbours} {sessions : List HistoryStep}
+    {rs : List given_request.Request} (run : Run) {old : State} {db : Trees} →
+    (at : IsHistory from Current them sessions old) → Told at.after rs run →
     IsAfter them at.after rs (length run.outcomes.items) db
     ⊎ (IsSome run.fault × IsAfter them at.after rs (length run.outcomes.items + 1) db)
-    → IsReachable them (sessions ++ session_of rs run ∷ []) db
+    → IsReachable from Current them (sessions ++ session_of rs run ∷ []) db
 session_leads run at told (inl here) =
     session_reached _ _ at.leads (run_leads _ _ run _ told (inl refl)) here.legal here.leaves
 session_leads run at told (inr (failed, later)) =
     session_reached _ _ at.leads (run_leads _ _ run _ told (inr (failed, refl))) later.legal later.leaves
 
 -- without a fault, the tables are led to with this session added
-pub session_stands : {them : Neighbours} {sessions : List HistoryStep} (rs : List given_request.Request) (run : Run)
-    {old now : State} → (at : IsHistory them sessions old) → Told at.after rs run
-    → length run.outcomes.items ≡ length rs → IsClub (club_fold at.after (map request_of rs))
+pub session_stands : {from : Version} {them : Neighbours} {sessions : List HistoryStep}
+    (rs : List given_request.Request) (run : Run) {old now : State} → (at : IsHistory from Current them sessions old)
+    → Told at.after rs run → length run.outcomes.items ≡ length rs
+    → IsClub (club_fold at.after (map request_of rs))
     → HoldsClubAmong them (tables (club_fold at.after (map request_of rs))) now
-    → IsHistory them (sessions ++ session_of rs run ∷ []) now
+    → IsHistory from Current them (sessions ++ session_of rs run ∷ []) now
 session_stands rs run at told whole legal exactly =
     session_stood at
-    (subst (λ xs. SessionReaches at.after (run_session rs run) (club_fold at.after (map request_of xs)))
+    (subst (λ xs. SessionReaches Current at.after (run_session rs run) (club_fold at.after (map request_of xs)))
     (take_all (length run.outcomes.items) rs (omega (arith, whole))) (run_leads at.after rs run _ told (inl refl)))
     legal exactly
 
@@ -202,10 +217,11 @@ taken_session s r =
     served (record { requests = r ∷ []; returned = if is_accepted (club_step s r) then 1 else 0; is_whole = true })
 
 -- a request that was answered leads, as a session of its own, to the state after it
-pub one_stands : {them : Neighbours} {sessions : List HistoryStep} (r : Request) (o : given_outcome.Outcome)
-    {old now : State} → (at : IsHistory them sessions old) → outcome_of o ≡ answered (club_step at.after r)
-    → IsClub (club_next at.after r) → HoldsClubAmong them (tables (club_next at.after r)) now
-    → IsHistory them (sessions ++ answered_session r o ∷ []) now
+pub one_stands : {from : Version} {them : Neighbours} {sessions : List HistoryStep} (r : Request)
+    (o : given_outcome.Outcome) {old now : State} → (at : IsHistory from Current them sessions old)
+    → outcome_of o ≡ answered (club_step at.after r) → IsClub (club_next at.after r)
+    → HoldsClubAmong them (tables (club_next at.after r)) now
+    → IsHistory from Current them (sessions ++ answered_session r o ∷ []) now
 one_stands r o at told =
     session_stood at (leads_on at.after (r ∷ []) 1 1 _ true
     (ap (λ b. if b then 1 else 0) (ap is_accepted told ∙ told_same (club_step at.after r)) ∙ one_counted at.after r)
@@ -223,7 +239,7 @@ pub one_cut : (from : Version) (them : Neighbours) (s : ClubState) (sessions : L
     → HistoryLeadsTo (opens_as from) sessions (at_state s)
     → IsClub s → IsClub (club_next s r)
     → LeavesBeside them (tables s) db ⊎ LeavesBeside them (tables (club_next s r)) db
-    → IsReachable them (sessions ++ cut_session r ∷ []) db
+    → IsReachable from Current them (sessions ++ cut_session r ∷ []) db
 one_cut from them s sessions r db led before after (inl kept) =
     session_reached from sessions led (leads_on s (r ∷ []) 0 0 0 false refl (inl refl)) before kept
 one_cut from them s sessions r db led before after (inr changed) =
@@ -236,17 +252,16 @@ opening_legal = search arith
 
 -- a club that was just made, beside whatever neighbours, has a history with no session
 pub made_led : (them : Neighbours) (trees : Trees) → LeavesBeside them (tables opening_state) trees
-    → IsReachable them [] trees
-made_led them trees left =
-    record { from = Current; after = at_state opening_state; legal = opening_legal; leads = refl; leaves = left }
+    → IsReachable Current Current them [] trees
+made_led them trees left = record { after = opening_state; legal = opening_legal; leads = refl; leaves = left }
 
 pub made_stands : (them : Neighbours) (now : State) → HoldsClubAmong them (tables opening_state) now
-    → IsHistory them [] now
+    → IsHistory Current Current them [] now
 made_stands them now exactly =
-    record { from = Current; after = opening_state; legal = opening_legal; leads = refl; exactly = exactly }
+    record { after = opening_state; legal = opening_legal; leads = refl; exactly = exactly }
 
 -- so has one that stands alone
-pub opening_led : (trees : Trees) → Leaves (tables opening_state) trees → IsReachable alone [] trees
+pub opening_led : (trees : Trees) → Leaves (tables opening_state) trees → IsReachable Current Current alone [] trees
 opening_led trees left = made_led alone trees (left_alone (tables opening_state) trees left)
 
 -- what a stop leaves of a place in a history
@@ -255,30 +270,29 @@ pub left_at : (version : Version) (them : Neighbours) (after : ClubState) (now :
 left_at First them after now k trees left = leaves_first them (first_tables after) now k trees left
 left_at Current them after now k trees left = leaves_beside them (tables after) now k trees left
 
-pub stops_led : (version : Version) (them : Neighbours) (chapters : List HistoryStep) (now : State)
-    → IsHistoryAt version them chapters now → (trees : Trees) → now.may_leave trees → IsReachable them chapters trees
-stops_led version them chapters now at trees left = record {
-  from = at.from;
-  after = record { version = version; state = at.after };
+pub stops_led : (from version : Version) (them : Neighbours) (chapters : List HistoryStep) (now : State)
+    → IsHistory from version them chapters now → (trees : Trees) → now.may_leave trees
+    → IsReachable from version them chapters trees
+stops_led from version them chapters now at trees left = record {
+  after = at.after;
   legal = at.legal;
   leads = at.leads;
   leaves = left_at version them at.after now at.exactly trees left;
 }
 
 -- a history whose tables were taken as those of the last schema, if they are a club's, is one of the last version
-pub current_taken : (them : Neighbours) (chapters : List HistoryStep) (s : State)
-    → (HasClubTables s.now.schema → HasTablesOf Current s.now.schema)
-    → (version : Version) × IsHistoryAt version them chapters s → IsHistory them chapters s
-current_taken them chapters s taken (First, at) =
+pub current_taken : (from version : Version) (them : Neighbours) (chapters : List HistoryStep) (s : State)
+    → (HasClubTables s.now.schema → HasTablesOf Current s.now.schema) → IsHistory from version them chapters s
+    → (version ≡ Current) × IsHistory from Current them chapters s
+current_taken from First them chapters s taken at =
     let first = subst (HasTablesOf First) (sym at.exactly.exactly.now.schema) at.exactly.before.tables in
     absurd (versions_apart s.now.schema first (taken (inl first)))
-current_taken them chapters s taken (Current, at) = at
+current_taken from Current them chapters s taken at = (refl, at)
 
 -- what keeps the tables keeps where they stand
-pub still_stands : (them : Neighbours) (chapters : List HistoryStep) (old new : State) → KeepsContent old new
-    → IsHistory them chapters old → IsHistory them chapters new
-still_stands them chapters old new kept at = record {
-  from = at.from;
+pub still_stands : (from : Version) (them : Neighbours) (chapters : List HistoryStep) (old new : State)
+    → KeepsContent old new → IsHistory from Current them chapters old → IsHistory from Current them chapters new
+still_stands from them chapters old new kept at = record {
   after = at.after;
   legal = at.legal;
   leads = at.leads;
@@ -306,25 +320,23 @@ module _ (s : State) (opens : Opens s) (live : IsLive s)
   }
   opens_at Current them after left = opens_beside them (tables after) left
 
-  pub opens_led : (them : Neighbours) (chapters : List HistoryStep) → IsReachable them chapters s.committed.trees
-      → (version : Version) × IsHistoryAt version them chapters s
-  opens_led them chapters led = (
-    led.after.version,
-    record {
-      from = led.from;
-      after = led.after.state;
-      legal = led.legal;
-      leads = led.leads;
-      exactly = opens_at led.after.version them led.after.state led.leaves;
-    },
-  )
+  pub opens_led : (from version : Version) (them : Neighbours) (chapters : List HistoryStep)
+      → IsReachable from version them chapters s.committed.trees → IsHistory from version them chapters s
+  opens_led from version them chapters led = record {
+    after = led.after;
+    legal = led.legal;
+    leads = led.leads;
+    exactly = opens_at version them led.after led.leaves;
+  }
 
   -- what keeps the tables of a connection that was taken as the last schema's stands where the chapters lead
-  pub opens_taken : {them : Neighbours} {chapters : List HistoryStep} {now : State}
-      → IsReachable them chapters s.committed.trees
+  pub opens_taken : {from version : Version} {them : Neighbours} {chapters : List HistoryStep} {now : State}
+      → IsReachable from version them chapters s.committed.trees
       → (HasClubTables s.now.schema → HasTablesOf Current s.now.schema) → KeepsContent s now
-      → IsHistory them chapters now
-  opens_taken led taken kept = still_stands _ _ s _ kept (current_taken _ _ s taken (opens_led _ _ led))
+      → (version ≡ Current) × IsHistory from Current them chapters now
+  opens_taken led taken kept =
+      let (is, at) = current_taken _ _ _ _ s taken (opens_led _ _ _ _ led) in
+      (is, still_stands _ _ _ s _ kept at)
 
   -- a connection that opens on trees with no table is empty
   pub opens_empty : IsEmpty s.committed.trees → IsExactlyEmpty s

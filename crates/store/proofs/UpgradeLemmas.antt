@@ -1,5 +1,5 @@
 -- From the tables of schema 1 to those of schema 2 with the same state.
-use Rattle.std.proofs.Common.{◌≡◌, ◌⊎◌, ◌+◌, ℕ, pos, true, false, List, [], ◌∷◌, ◌++◌, map, refl, sym, ap, subst}
+use Rattle.std.proofs.Common.{◌≡◌, ◌⊎◌, ◌≤◌, ◌+◌, Bool, ℕ, pos, true, false, List, [], ◌∷◌, ◌++◌, map, refl, sym, ap, subst}
 use Rattle.std.proofs.Common.{◌∙◌, subst₂, arith, inl, inr}
 use Rattle.std.specs.Prelude.{slice_get}
 use Rattle.std.proofs.lemmas.Option.{same_Some}
@@ -13,6 +13,7 @@ use Rattle.store_tables.specs.Content.{put}
 use Rattle.store_tables.specs.Contents.{put_each, put_in}
 use Rattle.store_tables.specs.Over.{HoldsClubAmong, LeavesBeside, Neighbours}
 use Rattle.store_tables.specs.Placed.{HasTablesOf}
+use Rattle.store_tables.specs.Tables.{schema_number}
 use Rattle.store_tables.specs.declared.names.Version.{Version}
 use Rattle.store_tables.specs.declared.names.Version.TheVariants.{First, Current}
 use Rattle.store_tables.specs.declared.rows.EventRuleRow.{EventRuleRow}
@@ -28,7 +29,7 @@ use Rattle.club_rows.specs.Club.{ClubState, tables}
 use Rattle.club_rows.specs.FirstSchema.{first_tables}
 use Rattle.club_rows.specs.Tables.{meta_row, numbered_from, rule_row}
 use Rattle.club_check.proofs.Proved.{club_of_version}
-use Rattle.store.specs.Histories.{HistoryStep, IsHistory, IsHistoryAt, IsReachable, LeavesAt, Place, upgraded}
+use Rattle.store.specs.Histories.{HistoryStep, IsHistory, IsReachableIn, LeavesAt, Place, UpgradeLeads, upgraded}
 use Rattle.store.proofs.HistoryLemmas.{at_state, holds_beside, leads_then}
 
 -- ---- the tables
@@ -102,43 +103,58 @@ pub not_newer : {found : Version} → found ≡ First → ¬ (found ≡ Current)
 not_newer first current = absurd (let x = sym first ∙ current in cc)
 
 -- a history by tables that were found to be those of schema 1 is one of the first version
-pub first_history : {them : Neighbours} {chapters : List HistoryStep} {s : State} {found : Version} → found ≡ First
-    → (HasTablesOf Current s.now.schema → found ≡ Current)
-    → (version : Version) × IsHistoryAt version them chapters s → IsHistoryAt First them chapters s
-first_history first newer (First, at) = at
-first_history {them} {s = s} first newer (Current, at) =
+pub first_history : {from : Version} (version : Version) {them : Neighbours} {chapters : List HistoryStep} {s : State}
+    {found : Version} → found ≡ First → (HasTablesOf Current s.now.schema → found ≡ Current)
+    → IsHistory from version them chapters s → (version ≡ First) × IsHistory from First them chapters s
+first_history First first newer at = (refl, at)
+first_history Current {them} {s = s} first newer at =
     absurd (not_newer first (newer (holds_beside them (tables at.after) s at.exactly).schema))
 
+none_later : (version : Version) → schema_number version ≤ schema_number Current
+none_later First = let it : 1 ≤ 2 = omega arith in it
+none_later Current = let it : 2 ≤ 2 = omega arith in it
+
+upgrades : (version : Version) (s : ClubState) {answered : Bool}
+    → UpgradeLeads (record { version = version; state = s }) Current answered (at_state s)
+upgrades version s = record { later = none_later version; same = refl; version = inl refl }
+
 -- an upgrade that was answered leads to the last version
-pub upgraded_stands : {version : Version} {them : Neighbours} {chapters : List HistoryStep} {old new : State}
-    → (at : IsHistoryAt version them chapters old) → HoldsClubAmong them (tables at.after) new
-    → IsHistory them (chapters ++ upgraded true ∷ []) new
-upgraded_stands {version} at exactly = record {
-  from = at.from;
+pub upgraded_stands : {from version : Version} {them : Neighbours} {chapters : List HistoryStep} {old new : State}
+    → (at : IsHistory from version them chapters old) → HoldsClubAmong them (tables at.after) new
+    → IsHistory from Current them (chapters ++ upgraded Current true ∷ []) new
+upgraded_stands {version = version} at exactly = record {
   after = at.after;
   legal = club_of_version version at.after at.legal;
-  leads = leads_then _ _ (at_state at.after) _ _ at.leads (refl, inl refl);
+  leads = leads_then _ _ (at_state at.after) _ (upgraded Current true) at.leads (upgrades version at.after);
   exactly = exactly;
 }
 
 -- one that was cut off leads to it, or stays where it was
-pub upgraded_cut : {version : Version} {them : Neighbours} {chapters : List HistoryStep} {old : State} {db : Trees}
-    → (at : IsHistoryAt version them chapters old)
+pub upgraded_cut : {from version : Version} {them : Neighbours} {chapters : List HistoryStep} {old : State}
+    {db : Trees} → (at : IsHistory from version them chapters old)
     → LeavesAt version them at.after db ⊎ LeavesBeside them (tables at.after) db
-    → IsReachable them (chapters ++ upgraded false ∷ []) db
-upgraded_cut {version} at (inl before) =
+    → IsReachableIn from (version ∷ Current ∷ []) them (chapters ++ upgraded Current false ∷ []) db
+upgraded_cut {version = version} at (inl before) =
     let stays : Place = record { version = version; state = at.after } in
     record {
-      from = at.from;
-      after = stays;
-      legal = at.legal;
-      leads = leads_then _ stays stays _ _ at.leads (refl, inr (refl, refl));
-      leaves = before;
+      version = version;
+      among = inl refl;
+      reached = record {
+        after = at.after;
+        legal = at.legal;
+        leads =
+            leads_then _ stays stays _ (upgraded Current false) at.leads
+            (record { later = none_later version; same = refl; version = inr (refl, refl) });
+        leaves = before;
+      };
     }
-upgraded_cut {version} at (inr after) = record {
-  from = at.from;
-  after = at_state at.after;
-  legal = club_of_version version at.after at.legal;
-  leads = leads_then _ _ (at_state at.after) _ _ at.leads (refl, inl refl);
-  leaves = after;
+upgraded_cut {version = version} at (inr after) = record {
+  version = Current;
+  among = inr (inl refl);
+  reached = record {
+    after = at.after;
+    legal = club_of_version version at.after at.legal;
+    leads = leads_then _ _ (at_state at.after) _ (upgraded Current false) at.leads (upgrades version at.after);
+    leaves = after;
+  };
 }

@@ -5,6 +5,7 @@ use Rattle.store.specs.declared.fault.AskFault.TheVariants as ask_fault
 use Rattle.store.specs.declared.fault.StoreFault.{StoreFault}
 use Rattle.store.specs.declared.fault.StoreFault.TheVariants as store_fault
 
+-- the number and the name of the fault
 abbrev pub store_fault_text : StoreFault → List ℕ
 store_fault_text store_fault.Store = codes "73 Store"
 store_fault_text store_fault.Reopen = codes "74 Reopen"

@@ -5,7 +5,9 @@ use Rattle.std.specs.List.{count_by}
 use Rattle.sqlite.specs.Tree.{Trees}
 use Rattle.sqlite.specs.State.{State}
 use Rattle.store_tables.specs.Club.{Leaves}
+use Rattle.store_tables.specs.Sql.{Has}
 use Rattle.store_tables.specs.Over.{Neighbours, alone, HoldsClubAmong, IsFirstBeside, LeavesBeside, LeavesFirst}
+use Rattle.store_tables.specs.Tables.{schema_number}
 use Rattle.store_tables.specs.declared.names.Version.{Version}
 use Rattle.store_tables.specs.declared.names.Version.TheVariants.{First, Current}
 use Rattle.club_requests.specs.declared.requests.Request as given_request
@@ -16,9 +18,10 @@ use Rattle.club_rows.specs.Club.{ClubState, IsClub, tables}
 use Rattle.club_rows.specs.FirstSchema.{IsClubOf, first_tables}
 use Rattle.schema_match.specs.Shapes.{is_of_club}
 use Rattle.store.specs.declared.club.run.Run.{Run}
-use Rattle.store.specs.FirstRuns.{first_accepted, first_fold}
-use Rattle.store.specs.Runs.{club_fold, club_accepted}
+use Rattle.store.specs.Runs.{club_fold}
+use Rattle.store.specs.SchemaRuns.{accepted_in, fold_in}
 
+-- The requests of one session in order, and how many were answered as accepted.
 pub record Session : Type 0 where
   pub requests : List Request
   -- the number of requests that were answered as accepted
@@ -32,39 +35,34 @@ pub record TakesEffect (session : Session) (k : ℕ) : Type 0 where
   pub most : k ≤ session.returned + 1
   pub whole : session.is_whole ≡ true → k ≡ session.returned
 
--- the state after the first k accepted requests
-pub record SessionReaches (before : ClubState) (session : Session) (after : ClubState) : Type 0 where
+-- the state after the first k accepted requests, which the program of this schema executed
+pub record SessionReaches (version : Version) (before : ClubState) (session : Session) (after : ClubState) : Type 0 where
   pub k : ℕ
   pub effect : TakesEffect session k
-  pub is : after ≡ club_fold before (take k (club_accepted before session.requests))
+  pub is : after ≡ fold_in version before (take k (accepted_in version before session.requests))
 
--- the same for a session of the program of schema 1
-pub record FirstSessionReaches (before : ClubState) (session : Session) (after : ClubState) : Type 0 where
-  pub k : ℕ
-  pub effect : TakesEffect session k
-  pub is : after ≡ first_fold before (take k (first_accepted before session.requests))
-
--- A step of a history: a session, or an upgrade, which was answered or cut off.
+-- A step of a history: a session, or an upgrade to a schema, which was answered or cut off.
 pub data HistoryStep : Type 0 where
   served : Session → HistoryStep
-  upgraded : (answered : Bool) → HistoryStep
+  upgraded : (to : Version) (answered : Bool) → HistoryStep
 
 -- the schema version and the state of a club
 pub record Place : Type 0 where
   pub version : Version
   pub state : ClubState
 
-abbrev pub SessionLeads : Version → ClubState → Session → ClubState → Type 0
-SessionLeads First before session after = FirstSessionReaches before session after
-SessionLeads Current before session after = SessionReaches before session after
+-- An upgrade keeps the state. It ends in its schema, which is no earlier one; if it was cut off, perhaps in the one
+-- before.
+pub record UpgradeLeads (before : Place) (to : Version) (answered : Bool) (after : Place) : Type 0 where
+  pub later : schema_number before.version ≤ schema_number to
+  pub same : after.state ≡ before.state
+  pub version : (after.version ≡ to) ⊎ ((answered ≡ false) × (after.version ≡ before.version))
 
--- A session keeps the version. An upgrade keeps the state and ends in the last version, or, if it was cut off, perhaps
--- in the one before.
+-- a session keeps the schema
 abbrev pub StepLeadsTo : Place → HistoryStep → Place → Type 0
 StepLeadsTo before (served session) after =
-    (after.version ≡ before.version) × SessionLeads before.version before.state session after.state
-StepLeadsTo before (upgraded answered) after = (after.state ≡ before.state)
-    × ((after.version ≡ Current) ⊎ ((answered ≡ false) × (after.version ≡ before.version)))
+    (after.version ≡ before.version) × SessionReaches before.version before.state session after.state
+StepLeadsTo before (upgraded to answered) after = UpgradeLeads before to answered after
 
 -- the steps lead from one place to another
 abbrev pub HistoryLeadsTo : Place → List HistoryStep → Place → Type 0
@@ -93,25 +91,29 @@ pub record HasState (s : ClubState) (trees : Trees) : Type 0 where
   pub leaves : LeavesBeside them (tables s) trees
   pub shape : is_of_club Current them.schema ≡ true
 
--- From an empty club of some version the steps lead to a legal state, whose tables a later opening finds in the
--- database, beside these foreign tables.
-pub record IsReachable (them : Neighbours) (chapters : List HistoryStep) (trees : Trees) : Type 0 where
-  pub from : Version
-  pub after : Place
-  pub legal : IsClubOf after.version after.state
-  pub leads : HistoryLeadsTo (opens_as from) chapters after
-  pub leaves : LeavesAt after.version them after.state trees
-
--- the same for an open connection with tables of this version, and for whatever a crash leaves of it
-pub record IsHistoryAt (version : Version) (them : Neighbours) (chapters : List HistoryStep) (now : State) : Type 0 where
-  pub from : Version
+-- From an empty club in the schema `from` the steps lead to a legal state in this schema, whose tables a later opening
+-- finds in the database, beside these foreign tables.
+pub record IsReachable (from version : Version) (them : Neighbours) (chapters : List HistoryStep) (trees : Trees)
+    : Type 0 where
   pub after : ClubState
   pub legal : IsClubOf version after
   pub leads : HistoryLeadsTo (opens_as from) chapters (record { version = version; state = after })
-  pub exactly : IsExactlyAt version them after now
+  pub leaves : LeavesAt version them after trees
 
-abbrev pub IsHistory : Neighbours → List HistoryStep → State → Type 0
-IsHistory = IsHistoryAt Current
+-- the steps lead to the tables of the database in one of these schemas
+pub record IsReachableIn (from : Version) (versions : List Version) (them : Neighbours) (chapters : List HistoryStep)
+    (trees : Trees) : Type 0 where
+  pub version : Version
+  pub among : Has versions version
+  pub reached : IsReachable from version them chapters trees
+
+-- the same for an open connection with tables in this schema, and for whatever a crash leaves of it
+pub record IsHistory (from version : Version) (them : Neighbours) (chapters : List HistoryStep) (now : State) : Type 0
+  where
+    pub after : ClubState
+    pub legal : IsClubOf version after
+    pub leads : HistoryLeadsTo (opens_as from) chapters (record { version = version; state = after })
+    pub exactly : IsExactlyAt version them after now
 
 -- whether the outcome is that the request was accepted
 abbrev pub is_taken : given_outcome.Outcome → Bool
@@ -144,6 +146,7 @@ pub record IsAfter (them : Neighbours) (before : ClubState) (requests : List giv
   pub legal : IsClub (club_fold before (map request_of (take count requests)))
   pub leaves : LeavesBeside them (tables (club_fold before (map request_of (take count requests)))) trees
 
--- the empty history leads to the tables of an empty club
+-- the empty history of a club that was created in schema 2 leads to the tables of an empty club in schema 2
 abbrev pub BeginsAtOpening : Type 0
-BeginsAtOpening = (trees : Trees) → Leaves (tables opening_state) trees → IsReachable alone [] trees
+BeginsAtOpening =
+    (trees : Trees) → Leaves (tables opening_state) trees → IsReachable Current Current alone [] trees

@@ -84,7 +84,7 @@ pub struct Unopened<S: Alter> {
 /// # Guarantees
 ///
 /// `after_crash`, `behind_fault`: after an error or a crash there is the empty club or no club, and foreign tables keep
-/// their rows. `begins`: the history of the new club is empty.
+/// their rows. `begins`: the history of the new club, in schema 2, is empty.
 pub fn create<S: Alter>(_alloc: Global, conn: Connection<S>) -> Result<Club<S>, Unopened<S>>
     requires { conn.in_transaction ≡ false }
     ensures ready { IfOk result (λ club. club.needs_reopening ≡ false) }
@@ -101,15 +101,18 @@ pub fn create<S: Alter>(_alloc: Global, conn: Connection<S>) -> Result<Club<S>, 
     ensures fault { IfErr result (λ u. HasCleanDisk (state S.Store u.conn) → IsExactlyEmpty (state S.Store conn) →
         (db : _) → (state S.Store u.conn).may_leave db → IsEmpty db ⊎ Leaves (tables opening_state) db) }
     ensures begins { IfOk result (λ club. HasCleanDisk (state S.Store club.connection) → IsExactlyEmpty
-        (state S.Store conn) → IsHistory alone [] (state S.Store club.connection)) }
+        (state S.Store conn) → IsHistory Current Current alone [] (state S.Store club.connection)) }
     ensures after_crash { IfErr result (λ u. HasCleanDisk (state S.Store u.conn) → IsExactlyEmpty (state S.Store conn) →
-        (db : _) → (state S.Store u.conn).may_leave db → IsEmpty db ⊎ IsReachable alone [] db) }
+        (db : _) → (state S.Store u.conn).may_leave db → IsEmpty db ⊎
+        IsReachable Current Current alone [] db) }
     // Beside foreign tables, which keep their rows.
     ensures behind { IfOk result (λ club. HasCleanDisk (state S.Store club.connection) → (them : _) →
-        IsWithoutClub them (state S.Store conn) → IsHistory them [] (state S.Store club.connection)) }
+        IsWithoutClub them (state S.Store conn) →
+        IsHistory Current Current them [] (state S.Store club.connection)) }
     ensures behind_fault { IfErr result (λ u. HasCleanDisk (state S.Store u.conn) → (them : _) →
         IsWithoutClub them (state S.Store conn) → (u.fault ≡ OpenFault.Store) × ((db : _) →
-        (state S.Store u.conn).may_leave db → LeavesNoClub them db ⊎ IsReachable them [] db)) }
+        (state S.Store u.conn).may_leave db → LeavesNoClub them db ⊎
+        IsReachable Current Current them [] db)) }
     ensures stays { IfErr result (λ u. HasCleanDisk (state S.Store u.conn) →
         HasTables First (state S.Store conn).now.schema →
         KeepsMay (state S.Store conn) (state S.Store u.conn)) }
@@ -241,7 +244,7 @@ impl<S: Alter> Club<S> {
     /// # Guarantees
     ///
     /// `answer`, `step`: the outcome and the new state are those of the club's specification. `fault`, `after_crash`: after
-    /// an error or a crash the file holds the state before or after the command.
+    /// an error or a crash the file holds the state before or after the command. The tables stay in schema 2.
     pub fn apply(
         &mut self,
         alloc: Global,
@@ -268,13 +271,15 @@ impl<S: Alter> Club<S> {
             (db : _) → (state S.Store self.new.connection).may_leave db → LeavesBeside them (tables s) db ⊎
             LeavesBeside them (tables (club_next s (request who.now command.now moment))) db) }
         ensures stands { HasCleanDisk (state S.Store self.new.connection) → IfOk result (λ outcome.
-            (them : _) (sessions : _) → IsHistory them sessions (state S.Store self.old.connection) →
-            IsHistory them (sessions ++ answered_session (request who.now command.now moment) outcome ∷ [])
+            (from : _) (them : _) (sessions : _) →
+            IsHistory from Current them sessions (state S.Store self.old.connection) → IsHistory from Current them
+            (sessions ++ answered_session (request who.now command.now moment) outcome ∷ [])
             (state S.Store self.new.connection)) }
         ensures after_crash { HasCleanDisk (state S.Store self.new.connection) →
-            OnErr result (self.old.needs_reopening ≡ false → (them : _) (sessions : _) → IsHistory them sessions
-            (state S.Store self.old.connection) → (db : _) → (state S.Store self.new.connection).may_leave db →
-            IsReachable them (sessions ++ cut_session (request who.now command.now moment) ∷ []) db) }
+            OnErr result (self.old.needs_reopening ≡ false → (from : _) (them : _) (sessions : _) →
+            IsHistory from Current them sessions (state S.Store self.old.connection) →
+            (db : _) → (state S.Store self.new.connection).may_leave db → IsReachable from Current them
+            (sessions ++ cut_session (request who.now command.now moment) ∷ []) db) }
         ensures unchanged { HasCleanDisk (state S.Store self.new.connection) → IfOk result (λ outcome.
             ¬ IsAccepted outcome → KeepsContent (state S.Store self.old.connection)
             (state S.Store self.new.connection)) }

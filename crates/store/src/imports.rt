@@ -24,9 +24,9 @@ use club_changes::{
     CommandEffect, ImportContext, event_at, event_kind, new_rows, put_rows, terms_of,
     without_changes,
 };
-use club_core::Event;
+use club_core::{Event, StoredGames};
 use club_games::by_kind;
-use club_imports::{ImportDecision, NewGame, import};
+use club_imports::{ComparedGames, ImportDecision, NewGame, import};
 use club_reads::{LookupFault, played_under, read_known, score_rows_after};
 use club_requests::values::{is_budget, is_increment};
 use club_requests::{Answer, Caller, Import, Outcome};
@@ -97,17 +97,14 @@ fn import_as<R: Records, S: Alter>(
     let played = played_under::<R, S>(alloc, conn, kind, &known.under)?;
     let members = known.members.as_slice();
     let events = known.events.as_slice();
-    let games = known.games;
-    match import::<R>(
-        alloc,
-        members,
-        events,
-        known.keyed,
-        &played,
-        games,
-        caller,
-        command,
-    )? {
+    let compared = ComparedGames {
+        stored: StoredGames {
+            under_key: known.keyed,
+            count: known.games,
+        },
+        played,
+    };
+    match import::<R>(alloc, members, events, &compared, caller, command)? {
         ImportDecision::Adds(new) => {
             let changes = added::<R, S>(alloc, conn, events, &new, command.key.as_str(), moment)?;
             Ok(CommandEffect {

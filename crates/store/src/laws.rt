@@ -8,7 +8,7 @@ pub fn requests_keep_clubs()
     ensures { KeepsClub }
 {}
 
-/// The empty history of a club leads to what its creation leaves.
+/// The empty history of a club that was created in schema 2 leads to what its creation leaves.
 pub fn histories_begin_at_opening()
     ensures { BeginsAtOpening }
 {}

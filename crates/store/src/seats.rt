@@ -17,7 +17,7 @@ ghost use Rattle.club_changes.specs.Whole.{IsWhole};
 use crate::decides::Decide;
 use clocks::Moment;
 use club_changes::{ChangeFault, CommandEffect, seated_rows, without_changes};
-use club_core::{Event, Member, SeatDecision, seat};
+use club_core::{Event, Member, SeatDecision, StoredGames, seat};
 use club_reads::{LookupFault, all_events, all_members, game_under};
 use club_requests::{Answer, Caller, Outcome, Seat};
 use sqlite::{Alter, Connection};
@@ -48,7 +48,11 @@ fn decided_seating<S: Alter>(
     let Ok(games) = u32::try_from(count::<GameTableRow, S>(conn)?) else {
         return Err(LookupFault::Store);
     };
-    Ok(seat(members, events, under_key, games, caller, command))
+    let stored = StoredGames {
+        under_key,
+        count: games,
+    };
+    Ok(seat(members, events, stored, caller, command))
 }
 
 // The effect of a seating: a new game, a repeat of one with the same key, or a refusal.

@@ -17,7 +17,8 @@ ghost use Rattle.club_check.specs.RightTables.{NamesFirstDamaged};
 ghost use Rattle.club_check.specs.Versions.{HoldsRows, IsOpenedAt};
 ghost use Rattle.club_rows.specs.Club.{ClubState, IsClub, tables};
 ghost use Rattle.club_rows.specs.FirstSchema.{IsClubOf, IsFirstClub, first_tables, tables_at};
-ghost use Rattle.store.specs.Histories.{IsHistory, IsReachable, upgraded};
+ghost use Rattle.store.specs.Histories.{IsHistory, IsReachable, IsReachableIn, upgraded};
+ghost use Rattle.store.specs.Upgrades.{version_found};
 
 use crate::club::Unopened;
 use crate::upgrade_result::Upgrade;
@@ -47,8 +48,10 @@ fn of_current(meta: &MetaRow) -> MetaRow
 ///
 /// # Guarantees
 ///
-/// `done`, `already`: the connection holds the same state in schema 2. `fault`, `after_crash`: after an error or a crash
-/// the file is of schema 1 or of schema 2, with the same state. `kept`: only `Store` may leave a changed file.
+/// `done`, `already`: the connection holds the same state in schema 2. `history`: the result names the schema that was
+/// found. `fault`, `after_crash`: after an error or a crash
+/// the file is of schema 1 or of schema 2, with the same state. `kept`: only `Store` may leave a changed file. `shape`: a
+/// file that is no club's is rejected.
 pub fn upgrade<S: Alter>(
     alloc: Global,
     conn: Connection<S>,
@@ -67,6 +70,8 @@ pub fn upgrade<S: Alter>(
         (done.1 ≡ Upgrade.Already) × HoldsClubAmong them (tables s) (state S.Store done.0)) }
     ensures unchanged { IfOk result (λ done. HasCleanDisk (state S.Store done.0) → done.1 ≡ Upgrade.Already →
         KeepsMay (state S.Store conn) (state S.Store done.0)) }
+    // The schema was equivalent to that of a club of the version found, whatever `CREATE` statements made it.
+    ensures shape { IfOk result (λ done. is_of_club (version_found done.1) (state S.Store conn).now.schema ≡ true) }
     ensures found { IfOk result (λ done. HasCleanDisk (state S.Store done.0) → (version : _) → IsOpenedAt version
         (state S.Store conn) → (s : _) × IsClubOf version s × IsExactly (tables s) (state S.Store done.0)) }
     ensures fault { IfErr result (λ u. HasCleanDisk (state S.Store u.conn) → (them : _) (s : ClubState) →
@@ -87,13 +92,15 @@ pub fn upgrade<S: Alter>(
     ensures possible_faults { IfErr result (λ u. HasCleanDisk (state S.Store u.conn) →
         HasClubTables (state S.Store conn).now.schema → NamesFirstDamaged (state S.Store conn).now u.fault) }
     ensures history { IfOk result (λ done. HasCleanDisk (state S.Store done.0) → Opens (state S.Store conn) →
-        IsLive (state S.Store conn) → (them : _) (chapters : _) →
-        IsReachable them chapters (state S.Store conn).committed.trees →
-        IsHistory them (chapters ++ upgraded true ∷ []) (state S.Store done.0)) }
+        IsLive (state S.Store conn) → (from version : _) (them : _) (chapters : _) →
+        IsReachable from version them chapters (state S.Store conn).committed.trees →
+        (version ≡ version_found done.1) ×
+        IsHistory from Current them (chapters ++ upgraded Current true ∷ []) (state S.Store done.0)) }
     ensures after_crash { IfErr result (λ u. HasCleanDisk (state S.Store u.conn) → Opens (state S.Store conn) →
-        IsLive (state S.Store conn) → (them : _) (chapters : _) →
-        IsReachable them chapters (state S.Store conn).committed.trees →
-        (db : _) → (state S.Store u.conn).may_leave db → IsReachable them (chapters ++ upgraded false ∷ []) db) }
+        IsLive (state S.Store conn) → (from version : _) (them : _) (chapters : _) →
+        IsReachable from version them chapters (state S.Store conn).committed.trees →
+        (db : _) → (state S.Store u.conn).may_leave db →
+        IsReachableIn from (version ∷ Current ∷ []) them (chapters ++ upgraded Current false ∷ []) db) }
 {
     let mut conn = conn;
     let found = match check_schemas(alloc, &mut conn, Version::First) {

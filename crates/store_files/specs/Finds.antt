@@ -6,7 +6,8 @@ use Rattle.sqlite.specs.Files.{HoldsDatabase, AreFoundIn}
 use Rattle.store_tables.specs.Contents.{IsEmpty}
 use Rattle.store_tables.specs.Over.{Neighbours}
 use Rattle.store_tables.specs.Room.{LeavesNoClub}
-use Rattle.store.specs.Histories.{HistoryStep, IsReachable}
+use Rattle.store_tables.specs.declared.names.Version.{Version}
+use Rattle.store.specs.Histories.{HistoryStep, IsReachableIn}
 
 -- the database that the files hold, as in the field `holds` of `FindsIn` (contract of `Connection::open`)
 abbrev pub Finds : Image → Trees → Type 0
@@ -17,9 +18,11 @@ pub record IsFoundIn (files : Image) (found : Trees) : Type 0 where
   pub holds : Finds files found
   pub reads : AreFoundIn files found
 
--- whatever an opening finds in the files, the history leads to it, beside these foreign tables
-abbrev pub AreReachable : Neighbours → List HistoryStep → Image → Type 0
-AreReachable them chapters files = (found : Trees) → IsFoundIn files found → ∥ IsReachable them chapters found ∥₁
+-- whatever an opening finds in the files, the history of a club that was created in the schema `from` leads to it in
+-- one of these schemas, beside these foreign tables
+abbrev pub AreReachable : (from : Version) → List Version → Neighbours → List HistoryStep → Image → Type 0
+AreReachable from versions them chapters files =
+    (found : Trees) → IsFoundIn files found → ∥ IsReachableIn from versions them chapters found ∥₁
 
 -- whatever an opening finds in the files has these foreign tables and no club, and a club can be created there
 abbrev pub AreWithoutClub : Neighbours → Image → Type 0

@@ -1,6 +1,14 @@
 //! Serving sessions of a club over its files: open, execute the requests, close.
 //!
 //! Whatever a crash leaves of a session, the next opening finds a state that the club's history leads to.
+//!
+//! # Guarantees
+//!
+//! - `close_club` (`member`, `history`), `close` (`member`): the next opening finds one of the databases that a crash
+//!   could leave. A history that leads to all of those leads to what is found.
+//! - `serve_session` (`history`, `kept`): if a history led to what an opening found, that history and this session
+//!   lead to what the next opening finds. If the club is not opened, the history alone does.
+//! - `new_files_have_no_tables`: an opening of new files finds no table.
 #![tactic(auto)]
 
 ghost use Rattle.std.specs.Prelude.{◌≡◌, ◌≤◌, ◌⊎◌, ◌++◌, ◌∷◌, [], false, None, IfOk, IfErr, IfSome, map, length, take};
@@ -46,16 +54,16 @@ pub fn close<D: Disk + Drop>(conn: Connection<FileStore<D>>) -> FileStore<D>
 /// # Guarantees
 ///
 /// `member`: after a crash, an opening finds one of the databases that a crash could leave of the club. `history`: a
-/// history that leads to all of these leads to what the opening finds.
+/// history that leads to all of these leads to what the opening finds, in the same schema.
 pub fn close_club<D: Disk + Drop>(club: Club<FileStore<D>>) -> FileStore<D>
     ensures clean { doubt (file_state club.connection).is_clean ≤ doubt (store_view result).is_clean }
     ensures member { IsClean (store_view result) → (left : _) → (store_state result).may_leave left → (found : _) →
         Finds left found →
         ∥ (file_state club.connection).may_leave found ∥₁ }
-    ensures history { IsClean (store_view result) → (them : _) (sessions : _) →
-        ((db : _) → (file_state club.connection).may_leave db → IsReachable them sessions db) →
+    ensures history { IsClean (store_view result) → (from version : _) (them : _) (sessions : _) →
+        ((db : _) → (file_state club.connection).may_leave db → IsReachable from version them sessions db) →
         (left : _) → (store_state result).may_leave left → (found : _) → Finds left found →
-        ∥ IsReachable them sessions found ∥₁ }
+        ∥ IsReachable from version them sessions found ∥₁ }
 {
     let conn = club.into_connection();
     close(conn)
@@ -70,8 +78,8 @@ pub fn close_club<D: Disk + Drop>(club: Club<FileStore<D>>) -> FileStore<D>
 ///
 /// # Guarantees
 ///
-/// `history`: whatever a crash leaves, the next opening finds a state that the earlier sessions and this one lead to.
-/// `kept`: after an error, one that the earlier sessions lead to.
+/// `history`: whatever a crash leaves, the next opening finds a state that the earlier sessions and this one lead to, in
+/// the same schema. `kept`: after an error, one that the earlier sessions lead to.
 pub fn serve_session<D: Disk + Drop>(
     alloc: Global,
     conn: Connection<FileStore<D>>,
@@ -91,10 +99,10 @@ pub fn serve_session<D: Disk + Drop>(
         (map request_of (take (length lived.0.outcomes.items) requests.now)))) }
     ensures history { IfOk result (λ lived. IsClean (store_view lived.1) → Opens (file_state conn) →
         IsLive (file_state conn) →
-        (them : _) (sessions : _) →
-        ∥ IsReachable them sessions (file_state conn).committed.trees ∥₁ →
+        (from version : _) (them : _) (sessions : _) →
+        ∥ IsReachable from version them sessions (file_state conn).committed.trees ∥₁ →
         (left : _) → (store_state lived.1).may_leave left → (found : _) → Finds left found →
-        ∥ IsReachable them (sessions ++ session_of requests.now lived.0 ∷ []) found ∥₁) }
+        ∥ IsReachable from version them (sessions ++ session_of requests.now lived.0 ∷ []) found ∥₁) }
     ensures idle { IfErr result (λ unopened. unopened.conn.in_transaction ≡ false) }
     ensures known { IfErr result (λ unopened. doubt (file_state conn).is_clean ≤ doubt
         (file_state unopened.conn).is_clean) }
@@ -104,9 +112,9 @@ pub fn serve_session<D: Disk + Drop>(
         (unopened.fault ≡ OpenFault.Store) ⊎ (unopened.fault ≡ OpenFault.Memory)) }
     ensures kept { IfErr result (λ unopened. HasCleanDisk (file_state unopened.conn) → Opens (file_state conn) →
         IsLive (file_state conn) →
-        (them : _) (sessions : _) →
-        ∥ IsReachable them sessions (file_state conn).committed.trees ∥₁ →
-        (db : _) → (file_state unopened.conn).may_leave db → ∥ IsReachable them sessions db ∥₁) }
+        (from version : _) (them : _) (sessions : _) →
+        ∥ IsReachable from version them sessions (file_state conn).committed.trees ∥₁ →
+        (db : _) → (file_state unopened.conn).may_leave db → ∥ IsReachable from version them sessions db ∥₁) }
 {
     match resume(alloc, conn, requests) {
         Ok((run, club)) => Ok((run, close_club(club))),

@@ -1,6 +1,20 @@
 //! Reads, upserts and copies the rows of a club's tables over a SQLite connection, one transaction for each change.
 //!
 //! All guarantees about rows assume `HasCleanDisk`: no doubt about the disk has arisen.
+//!
+//! # Guarantees
+//!
+//! - `read_all` (`reads`, `rows`), `list` (`reads`, `rows`), `find_by_first` (`reads`, `rows`), `find` (`reads`,
+//!   `rows`), `count` (`reads`, `count`): the rows are exactly those of the table, and reading changes nothing.
+//! - `commit_changes` (`stored`, `fault`, `survives`): changed rows are upserted in one transaction with one commit.
+//!   Done, the tables have these rows; failed, a crash leaves the tables before or after.
+//! - `create_tables` (`stored`, `fault`, `behind`, `behind_fault`, `stands`): the tables are made, in an empty
+//!   database or beside foreign tables with room for a club. A crash leaves no club or all of it.
+//! - `migrate` (`stored`, `fault`, `survives`): schema 1 becomes schema 2 in one transaction with one commit. Failed,
+//!   a crash leaves the tables before or after.
+//! - `has_event_rules` (`stands`, `missing`): whether the table of schema 2 exists: true where it is the club's, false
+//!   where nothing has its name.
+//! - All of it holds beside foreign tables, indexes and views that have no part in writing a row (`TakesClub`).
 #![tactic(auto)]
 
 mod commit;

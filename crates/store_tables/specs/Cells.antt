@@ -16,26 +16,33 @@ pub use Rattle.store_tables.specs.declared.rows.GameTableRow.{GameTableRow}
 pub use Rattle.store_tables.specs.declared.rows.SeenRow.{SeenRow}
 pub use Rattle.store_tables.specs.declared.rows.ScoreRow.{ScoreRow}
 
+-- the column values of a row of `meta`
 abbrev pub meta_cells : MetaRow → Row
 meta_cells r = Int r.id ∷ Int r.schema ∷ Int r.last ∷ []
 
+-- the column values of a row of `members`
 abbrev pub member_cells : MemberRow → Row
 member_cells r = Int r.id ∷ Text (string_bytes r.name) ∷ Text (string_bytes r.key) ∷ []
 
+-- the column values of a row of `events`
 abbrev pub event_cells : EventRow → Row
 event_cells r = Int r.id ∷ Text (string_bytes r.name) ∷ Int r.game ∷ Int r.budget ∷ Int r.increment ∷ []
 
+-- the column values of a row of `event_rules`
 abbrev pub event_rule_cells : EventRuleRow → Row
 event_rule_cells r = Int r.event ∷ Int r.declares ∷ []
 
+-- the column values of a row of `challenges`
 abbrev pub challenge_cells : ChallengeRow → Row
 challenge_cells r = Int r.member ∷ Int r.number ∷ Int r.event ∷ Int r.other ∷ Int r.first ∷ Int r.state
     ∷ or_null Int r.game ∷ []
 
+-- the column values of a row of `moves`
 abbrev pub move_cells : MoveRow → Row
 move_cells r = Int r.game ∷ Int r.ply ∷ Text (string_bytes r.text) ∷ Int r.moment ∷ Int r.left
     ∷ Text (string_bytes r.position) ∷ []
 
+-- the column values of a row of `games`
 abbrev pub game_cells : GameTableRow → Row
 game_cells r =
     Int r.id ∷ or_null (λ s. Text (string_bytes s)) r.key ∷ Int r.event ∷ Int r.first ∷ Int r.second ∷ Int r.start
@@ -44,9 +51,11 @@ game_cells r =
     ∷ or_null (λ s. Text (string_bytes s)) r.result ∷ Text (string_bytes r.position) ∷ Int r.track_a ∷ Int r.track_b
     ∷ []
 
+-- the column values of a row of `seen`
 abbrev pub seen_cells : SeenRow → Row
 seen_cells r = Int r.game ∷ Text (string_bytes r.position) ∷ Int r.count ∷ Int r.first_ply ∷ []
 
+-- the column values of a row of `scores`
 abbrev pub score_cells : ScoreRow → Row
 score_cells r = Int r.event ∷ Int r.member ∷ Int r.opponent ∷ Int r.points ∷ Int r.wins ∷ Int r.draws ∷ Int r.losses
     ∷ []
@@ -57,21 +66,25 @@ score_cells r = Int r.event ∷ Int r.member ∷ Int r.opponent ∷ Int r.points
 abbrev pub IsText : Value → Type 0
 IsText v = (t : List ℕ) × (v ≡ Text t) × IsUtf8 t
 
+-- NULL, or a value with this property
 abbrev pub OrNull : (Value → Type 0) → Value → Type 0
 OrNull Is v = (v ≡ Null) ⊎ Is v
 
+-- the row has the columns of `meta`, each with a value of its type
 pub record IsMeta (row : Row) : Type 0 where
   pub width : length row ≡ 3
   pub id : IsInt (column row 0)
   pub schema : IsInt (column row 1)
   pub last : IsInt (column row 2)
 
+-- the row has the columns of `members`, each with a value of its type
 pub record IsMember (row : Row) : Type 0 where
   pub width : length row ≡ 3
   pub id : IsInt (column row 0)
   pub name : IsText (column row 1)
   pub key : IsText (column row 2)
 
+-- the row has the columns of `events`, each with a value of its type
 pub record IsEvent (row : Row) : Type 0 where
   pub width : length row ≡ 5
   pub id : IsInt (column row 0)
@@ -80,11 +93,13 @@ pub record IsEvent (row : Row) : Type 0 where
   pub budget : IsInt (column row 3)
   pub increment : IsInt (column row 4)
 
+-- the row has the columns of `event_rules`, each with a value of its type
 pub record IsEventRule (row : Row) : Type 0 where
   pub width : length row ≡ 2
   pub event : IsInt (column row 0)
   pub declares : IsInt (column row 1)
 
+-- the row has the columns of `challenges`, each with a value of its type
 pub record IsChallenge (row : Row) : Type 0 where
   pub width : length row ≡ 7
   pub member : IsInt (column row 0)
@@ -95,6 +110,7 @@ pub record IsChallenge (row : Row) : Type 0 where
   pub state : IsInt (column row 5)
   pub game : OrNull IsInt (column row 6)
 
+-- the row has the columns of `moves`, each with a value of its type
 pub record IsMove (row : Row) : Type 0 where
   pub width : length row ≡ 6
   pub game : IsInt (column row 0)
@@ -104,6 +120,7 @@ pub record IsMove (row : Row) : Type 0 where
   pub left : IsInt (column row 4)
   pub position : IsText (column row 5)
 
+-- the row has the columns of `games`, each with a value of its type
 pub record IsGame (row : Row) : Type 0 where
   pub width : length row ≡ 17
   pub id : IsInt (column row 0)
@@ -124,6 +141,7 @@ pub record IsGame (row : Row) : Type 0 where
   pub track_a : IsInt (column row 15)
   pub track_b : IsInt (column row 16)
 
+-- the row has the columns of `seen`, each with a value of its type
 pub record IsSeen (row : Row) : Type 0 where
   pub width : length row ≡ 4
   pub game : IsInt (column row 0)
@@ -131,6 +149,7 @@ pub record IsSeen (row : Row) : Type 0 where
   pub count : IsInt (column row 2)
   pub first_ply : IsInt (column row 3)
 
+-- the row has the columns of `scores`, each with a value of its type
 pub record IsScore (row : Row) : Type 0 where
   pub width : length row ≡ 7
   pub event : IsInt (column row 0)
@@ -145,5 +164,6 @@ pub record IsScore (row : Row) : Type 0 where
 abbrev pub Rises : List ℤ → Type 0
 Rises ids = IsAscending (λ a b. a <ℤ b) ids
 
+-- the first column is an integer
 abbrev pub BeginsWithInteger : Row → Type 0
 BeginsWithInteger row = IsTrue (is_int (column row 0))

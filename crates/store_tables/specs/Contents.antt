@@ -39,6 +39,7 @@ opening_meta = Int (pos 1) ∷ Int (pos 2) ∷ Int (pos 0) ∷ []
 abbrev pub opening : Content
 opening = put_in (tree_of Meta) (0 ∷ []) opening_meta nothing
 
+-- the table has exactly these rows, and their rowids are distinct integers
 pub record Stores (table : Table) (trees : Trees) (content : Content) : Type 0 where
   pub rows : Keeps table trees (content table.tree)
   pub apart : AreApart (trees table.tree)

@@ -4,6 +4,7 @@ use Rattle.store_tables.specs.declared.names.Table.{Table}
 use Rattle.store_tables.specs.declared.names.Table.TheVariants.{Members, Events, EventRules, Challenges, Moves, Games}
 use Rattle.store_tables.specs.declared.names.Table.TheVariants.{Seen, Scores, Meta}
 
+-- the name of the table in SQL
 abbrev pub table_name : Table → List ℕ
 table_name Members = codes "members"
 table_name Events = codes "events"

@@ -26,10 +26,12 @@ HasRows content s =
 
 -- ---- foreign tables
 
+-- there is a tree, and it has this number
 abbrev pub is_tree : ℕ → Option ℕ → Bool
 is_tree n None = false
 is_tree n (Some tree) = n == tree
 
+-- the club's content in the trees of these tables, and the foreign rows in all other trees
 abbrev pub over_each : Schema → List of_club.Table → Content → Content → Content
 over_each schema [] club others n = others n
 over_each schema (table ∷ tables) club others n =

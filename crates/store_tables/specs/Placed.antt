@@ -69,10 +69,12 @@ EachStanding schema P (table ∷ tables) stand = P table stand.0 × EachStanding
 
 -- ---- the rows of a club, by the tree numbers of `tree_of`
 
+-- the tree of a table, if there is one
 abbrev pub tree_of_found : Option Table → Option ℕ
 tree_of_found None = None
 tree_of_found (Some table) = Some table.tree
 
+-- the tree of the table at this place of the schema, if there is one
 abbrev pub tree_at : Schema → Option ℕ → Option ℕ
 tree_at schema None = None
 tree_at schema (Some place) = tree_of_found (slice_get schema.tables place)
@@ -81,10 +83,12 @@ tree_at schema (Some place) = tree_of_found (slice_get schema.tables place)
 unfoldable pub tree_in : Schema → of_club.Table → Option ℕ
 tree_in schema table = tree_at schema (table_named schema (table_name table))
 
+-- the rows in this tree; none if there is no tree
 abbrev pub rows_at : Content → Option ℕ → List Row
 rows_at content None = []
 rows_at content (Some tree) = content tree
 
+-- the rows of these tables of the club, by the tree numbers of `tree_of`
 abbrev pub among : Schema → Content → List of_club.Table → Content
 among schema content [] n = []
 among schema content (table ∷ tables) n =

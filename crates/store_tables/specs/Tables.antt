@@ -18,10 +18,12 @@ use Rattle.store_tables.specs.declared.names.Table.TheVariants as variant
 use Rattle.store_tables.specs.declared.names.Version.{Version}
 use Rattle.store_tables.specs.declared.names.Version.TheVariants.{First, Current}
 
+-- a column of a STRICT table with collation BINARY and no DEFAULT; NOT NULL if it is required
 abbrev pub column_of : List ℕ → Kind → Bool → Column
 column_of name kind required =
     record { name = name; kind = kind; is_strict = true; not_null = required; default = Null; collation = Binary }
 
+-- a table with these keys, and without CHECK, FOREIGN KEY, AUTOINCREMENT or computed defaults
 abbrev pub table_of : List ℕ → ℕ → List Column → Option ℕ → List ℕ → List (List ℕ) → Table
 table_of name tree columns key primary uniques = record {
   name = name;
@@ -38,16 +40,19 @@ table_of name tree columns key primary uniques = record {
   is_counted = false;
 }
 
+-- the table of the schema number and the last timestamp, in this tree
 abbrev pub meta : ℕ → Table
 meta tree = table_of (codes "meta") tree
     (column_of (codes "id") Integer false ∷ column_of (codes "schema") Integer true
     ∷ column_of (codes "last") Integer true ∷ []) (Some 0) (0 ∷ []) []
 
+-- the table of members, in this tree; names and keys are unique
 abbrev pub members : ℕ → Table
 members tree = table_of (codes "members") tree
     (column_of (codes "id") Integer false ∷ column_of (codes "name") Text true ∷ column_of (codes "key") Text true ∷ [])
     (Some 0) (0 ∷ []) ((2 ∷ []) ∷ (3 ∷ []) ∷ [])
 
+-- the table of moves, in this tree; its key is the game and the ply
 abbrev pub moves : ℕ → Table
 moves tree = table_of (codes "moves") tree
     (column_of (codes "game") Integer true ∷ column_of (codes "ply") Integer true ∷ column_of (codes "text") Text true
@@ -55,12 +60,14 @@ moves tree = table_of (codes "moves") tree
     ∷ column_of (codes "position") Text true ∷ [])
     None (1 ∷ 2 ∷ []) ((1 ∷ 2 ∷ []) ∷ [])
 
+-- the table of events, in this tree; names are unique
 abbrev pub events : ℕ → Table
 events tree = table_of (codes "events") tree
     (column_of (codes "id") Integer false ∷ column_of (codes "name") Text true ∷ column_of (codes "game") Integer true
     ∷ column_of (codes "budget") Integer true ∷ column_of (codes "increment") Integer true ∷ []) (Some 0) (0 ∷ [])
     ((2 ∷ []) ∷ [])
 
+-- the table of challenges, in this tree; its key is the challenger and the challenge's number
 abbrev pub challenges : ℕ → Table
 challenges tree = table_of (codes "challenges") tree
     (column_of (codes "member") Integer true ∷ column_of (codes "number") Integer true
@@ -69,6 +76,7 @@ challenges tree = table_of (codes "challenges") tree
     ∷ column_of (codes "game") Integer false ∷ [])
     None (1 ∷ 2 ∷ []) ((1 ∷ 2 ∷ []) ∷ [])
 
+-- the table of games, in this tree; keys are unique
 abbrev pub games : ℕ → Table
 games tree = table_of (codes "games") tree
     (column_of (codes "id") Integer false ∷ column_of (codes "key") Text false ∷ column_of (codes "event") Integer true
@@ -82,12 +90,14 @@ games tree = table_of (codes "games") tree
     ∷ column_of (codes "track_b") Integer true ∷ [])
     (Some 0) (0 ∷ []) ((2 ∷ []) ∷ [])
 
+-- the table of repetition counts, in this tree; its key is the game and the position
 abbrev pub seen : ℕ → Table
 seen tree = table_of (codes "seen") tree
     (column_of (codes "game") Integer true ∷ column_of (codes "position") Text true
     ∷ column_of (codes "count") Integer true ∷ column_of (codes "first_ply") Integer true ∷ []) None (1 ∷ 2 ∷ [])
     ((1 ∷ 2 ∷ []) ∷ [])
 
+-- the table of scores, in this tree; its key is the event, the member and the opponent
 abbrev pub scores : ℕ → Table
 scores tree = table_of (codes "scores") tree
     (column_of (codes "event") Integer true ∷ column_of (codes "member") Integer true
@@ -96,6 +106,7 @@ scores tree = table_of (codes "scores") tree
     ∷ column_of (codes "losses") Integer true ∷ [])
     None (1 ∷ 2 ∷ 3 ∷ []) ((1 ∷ 2 ∷ 3 ∷ []) ∷ [])
 
+-- the table of events' declarations, in this tree
 abbrev pub event_rules : ℕ → Table
 event_rules tree = table_of (codes "event_rules") tree
     (column_of (codes "event") Integer false ∷ column_of (codes "declares") Integer true ∷ []) (Some 0) (0 ∷ []) []
@@ -116,12 +127,15 @@ made_as variant.EventRules = event_rules
 abbrev pub standing : of_club.Table → Table
 standing table = made_as table (tree_of table)
 
+-- all tables of schema 2 in a database with only a club
 abbrev pub tables : List Table
 tables = map standing in_order
 
+-- the automatic indexes of the table's keys other than its rowid, in the trees that follow its own
 abbrev pub indexes_of : Table → List Index
 indexes_of table = automatics table 0 (table.tree + 1) table.uniques
 
+-- the automatic indexes of all these tables
 abbrev pub flat_indexes : List Table → List Index
 flat_indexes [] = []
 flat_indexes (t ∷ ts) = indexes_of t ++ flat_indexes ts
@@ -138,6 +152,7 @@ schema_after n = record { tables = take n tables; indexes = flat_indexes (take n
 abbrev pub first_schema : Schema
 first_schema = schema_after 8
 
+-- the schema of a database with only a club of this version
 abbrev pub schema_of : Version → Schema
 schema_of First = first_schema
 schema_of Current = club_schema

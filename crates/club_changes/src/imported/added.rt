@@ -44,15 +44,7 @@ pub fn new_rows<R: Rules>(
         (imported R.rules (Some key.now) new.now.pairing moment (recorded_of new.now.recorded))) }
 {
     let moves = new.recorded.moves.as_slice();
-    let row = imported_row::<R>(
-        alloc,
-        key,
-        new.pairing,
-        terms.budget,
-        terms.increment,
-        moment,
-        &new.recorded,
-    )?;
+    let row = imported_row::<R>(alloc, key, new, terms.budget, terms.increment, moment)?;
     let game = record_of::<R>(alloc, new.game, &row)?;
     let made = move_rows::<R>(alloc, new.game, terms, moment, moves)?;
     let seen = seen_rows::<R>(alloc, new.game, moves)?;

@@ -1,6 +1,7 @@
 //! The rows of an imported game's moves.
 
 ghost use Rattle.std.specs.Prelude.{◌≡◌, ◌≤◌, ◌<◌, ◌+◌, ◌^◌, [], ◌∷◌, map, length, Ok, IfOk, IsTrue};
+ghost use Rattle.std.specs.Prelude.{string_bytes};
 ghost use Rattle.sqlite_value.specs.declared.value.Value.TheVariants.{Text};
 ghost use Rattle.club_rules.specs.Line.{IsLegalLine};
 ghost use Rattle.club_requests.specs.Limits.{most_plies, is_budget, is_increment};
@@ -17,34 +18,43 @@ use club_rules::{Memory, Rules};
 use std::alloc::Global;
 use store_tables::MoveRow;
 
-// The row of one ply: its move and the position after it; `left` is the mover's remaining time in seconds.
-fn ply_row<R: Rules>(
+// The notation of a ply: its move, and the position after it.
+#[derive(Drop)]
+struct PlyTexts {
+    text: String,
+    position: String,
+}
+
+fn ply_texts<R: Rules>(
     alloc: Global,
-    game: u32,
-    ply: usize,
     before: &R::Position,
     made: &R::Move,
     after: &R::Position,
-    moment: Moment,
-    left: u64,
-) -> Result<MoveRow, Memory>
-    requires legal { R.rules.check before.now made.now ≡ Ok tt }
-    requires few { ply ≤ most_plies }
-    requires left { left < 2 ^ 63 }
-    ensures { IfOk result (λ row. move_cells row ≡ number game ∷ number ply
-        ∷ Text (R.rules.write_move before.now made.now)
-        ∷ number moment ∷ number left ∷ Text (R.rules.write_position after.now) ∷ []) }
+) -> Result<PlyTexts, Memory>
+    requires { R.rules.check before.now made.now ≡ Ok tt }
+    ensures text { IfOk result (λ texts. string_bytes texts.text ≡ R.rules.write_move before.now made.now) }
+    ensures position { IfOk result (λ texts. string_bytes texts.position ≡ R.rules.write_position after.now) }
 {
     let text = R::write_move(alloc, before, made)?;
     let position = R::write_position(alloc, after)?;
-    Ok(MoveRow {
+    Ok(PlyTexts { text, position })
+}
+
+// The row of one ply; `left` is the mover's remaining time in seconds.
+fn ply_row(game: u32, ply: usize, texts: PlyTexts, moment: Moment, left: u64) -> MoveRow
+    requires few { ply ≤ most_plies }
+    requires left { left < 2 ^ 63 }
+    ensures { move_cells result ≡ number game ∷ number ply ∷ Text (string_bytes texts.text)
+        ∷ number moment ∷ number left ∷ Text (string_bytes texts.position) ∷ [] }
+{
+    MoveRow {
         game: i64::from(game),
         ply: to_i64(ply as u64),
-        text,
+        text: texts.text,
         moment: to_i64(moment.seconds()),
         left: to_i64(left),
-        position,
-    })
+        position: texts.position,
+    }
 }
 
 /// Returns the rows of moves that all have the timestamp `to_moment`.
@@ -77,16 +87,8 @@ pub fn move_rows<R: Rules>(
         let turn = R::turn(&position);
         let after = R::play(&position, made);
         left = left.with_increment(turn, terms.increment);
-        rows.push(ply_row::<R>(
-            alloc,
-            game,
-            i + 1,
-            &position,
-            made,
-            &after,
-            moment,
-            left.seconds_of(turn),
-        )?)?;
+        let texts = ply_texts::<R>(alloc, &position, made, &after)?;
+        rows.push(ply_row(game, i + 1, texts, moment, left.seconds_of(turn)))?;
         position = after;
     }
     Ok(rows)

@@ -13,6 +13,7 @@ ghost use Rattle.club_rows.specs.Pairs.{pair_in, sums_at};
 ghost use Rattle.club_changes.specs.Standing.{AreStanding, PutsRows};
 
 use crate::swept::fault::SweepFault;
+use club_core::Pairing;
 use club_rows::columns::GameColumns;
 use club_rows::score_after;
 use club_rows::scores::{Pair, ScoreSums, pair_in, pair_of, sums_of};
@@ -108,15 +109,12 @@ pub fn put_scores(
     let firsts = row_of(standings, firsts_pair);
     let seconds_pair = pair_of(stored.event, stored.second, stored.first);
     let seconds = row_of(standings, seconds_pair);
-    let rows = score_after(
-        stored.event,
-        stored.first,
-        stored.second,
-        score,
-        firsts.as_ref(),
-        seconds.as_ref(),
-    );
-    match rows {
+    let pairing = Pairing {
+        event: stored.event,
+        first: stored.first,
+        second: stored.second,
+    };
+    match score_after(pairing, score, firsts.as_ref(), seconds.as_ref()) {
         Some(pair) => {
             put(standings, changed, pair.first)?;
             put(standings, changed, pair.second)?;

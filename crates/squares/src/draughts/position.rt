@@ -1,12 +1,11 @@
 //! A draughts position: a board and the side to move.
-ghost use Rattle.std.specs.Prelude.{◌≡◌, ◌+◌, ◌<◌, ℕ, false, Option, length, not, IsTrue, ◌↔◌, ◌⊎◌, None};
+ghost use Rattle.std.specs.Prelude.{◌≡◌, ◌+◌, ◌<◌, ◌≤◌, ℕ, false, Option, length, not, ◌⊎◌, None};
 ghost use Rattle.std.specs.Prelude.{is_none};
 ghost use Rattle.std.specs.FinMap as map;
 ghost use Rattle.std.specs.FinSet as set;
 ghost use Rattle.squares.specs.DraughtsGeometry.{OnBoard};
 ghost use Rattle.squares.specs.DraughtsBoard.{is_of, board_of};
-ghost use Rattle.squares.specs.DraughtsKept.{is_king, Marks, noted};
-ghost use Rattle.squares.specs.DraughtsSamePosition.{same_cell};
+ghost use Rattle.squares.specs.DraughtsKept.{is_king, Marks, cell_in, cells_in, noted};
 ghost use Rattle.squares.specs.DraughtsOpening.{opening, opening_piece, man};
 ghost use Rattle.squares.specs.Sides.{other};
 
@@ -20,11 +19,10 @@ use std::marker::Model;
 
 /// A draughts position: at most one piece on each square, and the side to move.
 ///
-/// Positions are equal if they have the same pieces on the same squares and the same side to move. Besides the cells, a
-/// position keeps bitboards of each side's pieces and of the kings.
+/// Positions are equal if they have the same pieces on the same squares and the same side to move. A position is three
+/// bitboards, of each side's pieces and of the kings.
 #[derive(Clone, Copy, Debug)]
 pub struct DPos {
-    cells: [Option<DPiece>; 50],
     first: Bitboard50,
     second: Bitboard50,
     kings: Bitboard50,
@@ -33,7 +31,7 @@ pub struct DPos {
 
 impl Model for DPos {
     ghost use Rattle.squares.specs.DraughtsBoard.{Position, board_of, is_of};
-    ghost use Rattle.squares.specs.DraughtsKept.{KeepsCells, is_king, squares_where, where_back};
+    ghost use Rattle.squares.specs.DraughtsKept.{KeepsCells, cells_in, is_king, squares_where, where_back};
     ghost use Rattle.squares.specs.declared.sides.Side.TheVariants as side;
     ghost use Rattle.std.specs.Coded.{code_by, coded×, coded_ℕ};
     ghost use Rattle.std.specs.FinMap as finite_map;
@@ -49,16 +47,11 @@ impl Model for DPos {
         (coded× (finite_map.code coded_ℕ piece_type.the_row.coded) side_type.the_row.coded)
         (λ p. (p.board, p.turn)) (λ q. record { board = q.0; turn = q.1 }) (λ _. refl) };
 
-    ghost view = { λ p. record { board = board_of p.cells; turn = p.turn } };
+    ghost view = { λ p. record { board = board_of (cells_in p.first p.second p.kings); turn = p.turn } };
 
-    ghost invariant = { λ p. KeepsCells p.cells p.first p.second p.kings };
-
-    ghost use Rattle.std.specs.Prelude.{map};
-    ghost use Rattle.std.specs.List.{range_with_len};
-    ghost use Rattle.squares.specs.DraughtsCells.{cells_back};
+    ghost invariant = { λ p. KeepsCells (cells_in p.first p.second p.kings) p.first p.second p.kings };
 
     ghost inverse = { λ p. record {
-      cells = map (λ n. finite_map.get p.board n) (range_with_len 1 50);
       first = squares_where (is_of side.First) p.board;
       second = squares_where (is_of side.Second) p.board;
       kings = squares_where is_king p.board;
@@ -66,10 +59,11 @@ impl Model for DPos {
     } };
 
     ghost inverse_ok = { λ a h i. record {
-      cells = cells_back a.cells h.has_cells i;
-      first = where_back (is_of side.First) refl a.cells a.first h.has_cells h.of_first i;
-      second = where_back (is_of side.Second) refl a.cells a.second h.has_cells h.of_second i;
-      kings = where_back is_king refl a.cells a.kings h.has_cells h.of_kings i;
+      first = where_back (is_of side.First) refl (cells_in a.first a.second a.kings) a.first
+          h.has_cells h.of_first i;
+      second = where_back (is_of side.Second) refl (cells_in a.first a.second a.kings) a.second
+          h.has_cells h.of_second i;
+      kings = where_back is_king refl (cells_in a.first a.second a.kings) a.kings h.has_cells h.of_kings i;
       turn = a.turn;
     } };
 }
@@ -80,7 +74,6 @@ impl DPos {
         ensures { result ≡ record { board = map.empty; turn = turn } }
     {
         DPos {
-            cells: [None; 50],
             first: Bitboard50::new(),
             second: Bitboard50::new(),
             kings: Bitboard50::new(),
@@ -98,7 +91,6 @@ impl DPos {
             cells[i] = opening_piece(i as u8 + 1);
         }
         DPos {
-            cells,
             first: squares_in(&cells, Side::First),
             second: squares_in(&cells, Side::Second),
             kings: Bitboard50::new(),
@@ -117,7 +109,7 @@ impl DPos {
     pub fn piece_at(&self, square: Dsq) -> Option<DPiece>
         ensures { result ≡ map.get self.now.board square }
     {
-        self.cells[usize::from(square.number()) - 1]
+        cell_in(self.first, self.second, self.kings, square.number())
     }
 
     /// The squares of a side's pieces.
@@ -153,7 +145,6 @@ impl DPos {
     pub fn put(&mut self, square: Dsq, piece: DPiece)
         ensures { self.new ≡ record self.old { board = map.insert self.old.board square piece } }
     {
-        self.cells[usize::from(square.number()) - 1] = Some(piece);
         self.first = noted(self.first, square, is_of(Side::First, Some(piece)));
         self.second = noted(self.second, square, is_of(Side::Second, Some(piece)));
         self.kings = noted(self.kings, square, piece.king);
@@ -163,7 +154,6 @@ impl DPos {
     pub fn clear(&mut self, square: Dsq)
         ensures { self.new ≡ record self.old { board = map.remove self.old.board square } }
     {
-        self.cells[usize::from(square.number()) - 1] = None;
         self.first = self.first.without(square.number());
         self.second = self.second.without(square.number());
         self.kings = self.kings.without(square.number());
@@ -185,7 +175,7 @@ impl DPos {
     pub fn keeps_to_its_squares(&self)
         ensures { (n : ℕ) → (n < 1) ⊎ (50 < n) → map.get self.now.board n ≡ None }
     {
-        let _cells = &self.cells;
+        let _first = self.first;
     }
 
     /// Passes the turn to the other side.
@@ -207,7 +197,13 @@ impl PartialEq for DPos {
         if self.turn != other.turn {
             return false;
         }
-        same_cells(&self.cells, &other.cells)
+        if !self.first.is_same(other.first) {
+            return false;
+        }
+        if !self.second.is_same(other.second) {
+            return false;
+        }
+        self.kings.is_same(other.kings)
     }
 }
 
@@ -230,23 +226,41 @@ impl Hash for DPos {
         (same_position-same p q same) };
 
     fn hash<H: Hasher>(&self, state: &mut H) {
-        self.cells.hash(state);
+        let cells = cells_in(self.first, self.second, self.kings);
+        cells.hash(state);
         self.turn.hash(state);
     }
 }
 
-// Whether both lists of 50 cells hold the same pieces.
-fn same_cells(mine: &[Option<DPiece>], theirs: &[Option<DPiece>]) -> bool
-    requires mine { length mine.now ≡ 50 }
-    requires theirs { length theirs.now ≡ 50 }
-    ensures { IsTrue result ↔ (mine.now ≡ theirs.now) }
+// The content of a square, by the bitboards of each side's pieces and of the kings.
+fn cell_in(first: Bitboard50, second: Bitboard50, kings: Bitboard50, number: u8) -> Option<DPiece>
+    requires { (1 ≤ number) × (number ≤ 50) }
+    ensures { result ≡ cell_in first second kings number }
 {
-    for i in 0..50 {
-        if !same_cell(mine[i], theirs[i]) {
-            return false;
-        }
+    if first.contains(number) {
+        return Some(DPiece {
+            side: Side::First,
+            king: kings.contains(number),
+        });
     }
-    true
+    if second.contains(number) {
+        return Some(DPiece {
+            side: Side::Second,
+            king: kings.contains(number),
+        });
+    }
+    None
+}
+
+// The content of the 50 squares in order.
+fn cells_in(first: Bitboard50, second: Bitboard50, kings: Bitboard50) -> [Option<DPiece>; 50]
+    ensures { result ≡ cells_in first second kings }
+{
+    let mut cells = [None; 50];
+    for i in 0..50 {
+        cells[i] = cell_in(first, second, kings, i as u8 + 1);
+    }
+    cells
 }
 
 // The squares of a side's pieces in a list of 50 cells.
@@ -281,16 +295,6 @@ fn is_of(side: Side, cell: Option<DPiece>) -> bool
     match cell {
         Some(piece) => piece.side == side,
         None => false,
-    }
-}
-
-fn same_cell(mine: Option<DPiece>, theirs: Option<DPiece>) -> bool
-    ensures { result ≡ same_cell mine theirs }
-{
-    match (mine, theirs) {
-        (None, None) => true,
-        (Some(a), Some(b)) => a == b,
-        _ => false,
     }
 }
 

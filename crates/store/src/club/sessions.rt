@@ -1,15 +1,16 @@
 //! Serving sessions of a club, each over what the earlier ones left in the file.
 
-ghost use Rattle.std.specs.Prelude.{◌≡◌, ◌≤◌, ◌⊎◌, ◌++◌, ◌∷◌, [], false, true, Some, None, IsSome, IfSome, IfOk, IfErr};
+ghost use Rattle.std.specs.Prelude.{◌≡◌, ◌≤◌, ◌⊎◌, ◌+◌, ◌++◌, ◌∷◌, [], false, true, Some, None, IsSome, IfSome, IfOk, IfErr};
 ghost use Rattle.std.specs.Prelude.{map, length, take};
 ghost use Rattle.sqlite.specs.State.{HasCleanDisk, Opens, IsLive};
 ghost use Rattle.sqlite.specs.Held.{state};
 ghost use Rattle.sqlite_trees.specs.View.{doubt};
 ghost use Rattle.store_tables.specs.Over.{HoldsClubAmong};
+ghost use Rattle.store_tables.specs.declared.names.Version.TheVariants.{Current};
 ghost use Rattle.club_core.specs.Answer.{answered, outcome_of, request_of};
 ghost use Rattle.club_rows.specs.Club.{ClubState, IsClub, tables};
 ghost use Rattle.store.specs.Runs.{club_outcomes};
-ghost use Rattle.store.specs.Histories.{HasState, IsReachable, IsHistory, session_of};
+ghost use Rattle.store.specs.Histories.{HasState, IsAfter, IsReachable, IsHistory, session_of};
 
 use super::run::Run;
 use super::{Club, Unopened, adopt};
@@ -24,7 +25,7 @@ impl<S: Alter> Club<S> {
     ///
     /// # Guarantees
     ///
-    /// `history`: whatever a crash leaves is reached by the earlier sessions and this one. `stands`: without a fault
+    /// `history`: whatever a crash leaves is reached by the earlier sessions and this one, in schema 2. `stands`: without a fault
     /// the open club is, too, so the next session can follow.
     pub fn session(&mut self, alloc: Global, requests: &[Request]) -> Run
         ensures shut { self.old.needs_reopening ≡ true → (result.fault ≡ Some StoreFault.Reopen) ×
@@ -41,13 +42,22 @@ impl<S: Alter> Club<S> {
             HoldsClubAmong them (tables s) (state S.Store self.old.connection) →
             map outcome_of result.outcomes.items ≡ map answered
             (club_outcomes s (map request_of (take (length result.outcomes.items) requests.now))) }
-        ensures history { HasCleanDisk (state S.Store self.new.connection) → self.old.needs_reopening ≡ false →
-            (them : _) (sessions : _) → IsHistory them sessions (state S.Store self.old.connection) →
+        // From one legal state, whatever history led to it.
+        ensures left { HasCleanDisk (state S.Store self.new.connection) → self.old.needs_reopening ≡ false →
+            (them : _) (s : ClubState) → IsClub s →
+            HoldsClubAmong them (tables s) (state S.Store self.old.connection) →
             (db : _) → (state S.Store self.new.connection).may_leave db →
-            IsReachable them (sessions ++ session_of requests.now result ∷ []) db }
+            IsAfter them s requests.now (length result.outcomes.items) db
+            ⊎ (IsSome result.fault × IsAfter them s requests.now (length result.outcomes.items + 1) db) }
+        ensures history { HasCleanDisk (state S.Store self.new.connection) → self.old.needs_reopening ≡ false →
+            (from : _) (them : _) (sessions : _) →
+            IsHistory from Current them sessions (state S.Store self.old.connection) →
+            (db : _) → (state S.Store self.new.connection).may_leave db →
+            IsReachable from Current them (sessions ++ session_of requests.now result ∷ []) db }
         ensures stands { HasCleanDisk (state S.Store self.new.connection) → result.fault ≡ None →
-            (them : _) (sessions : _) → IsHistory them sessions (state S.Store self.old.connection) →
-            IsHistory them (sessions ++ session_of requests.now result ∷ []) (state S.Store self.new.connection) }
+            (from : _) (them : _) (sessions : _) →
+            IsHistory from Current them sessions (state S.Store self.old.connection) → IsHistory from Current them
+            (sessions ++ session_of requests.now result ∷ []) (state S.Store self.new.connection) }
     {
         self.run(alloc, requests)
     }
@@ -61,8 +71,8 @@ impl<S: Alter> Club<S> {
 ///
 /// # Guarantees
 ///
-/// `history`: whatever a crash leaves is reached by the earlier sessions and this one. `kept`: after an error, by the
-/// earlier sessions. `accepts_sound`: a legal club is opened, unless a call fails or memory runs out.
+/// `history`: whatever a crash leaves is reached by the earlier sessions and this one, in the same schema. `kept`: after an
+/// error, by the earlier sessions. `stands`: only a club of schema 2 is served. `accepts_sound`: a legal club is opened, unless a call fails or memory runs out.
 pub fn resume<S: Alter>(
     alloc: Global,
     conn: Connection<S>,
@@ -86,13 +96,15 @@ pub fn resume<S: Alter>(
         (club_outcomes s (map request_of (take (length resumed.0.outcomes.items) requests.now)))) }
     ensures history { IfOk result (λ resumed. HasCleanDisk (state S.Store resumed.1.connection) → Opens
         (state S.Store conn) → IsLive (state S.Store conn) →
-        (them : _) (sessions : _) → IsReachable them sessions (state S.Store conn).committed.trees →
+        (from version : _) (them : _) (sessions : _) →
+        IsReachable from version them sessions (state S.Store conn).committed.trees →
         (db : _) → (state S.Store resumed.1.connection).may_leave db →
-        IsReachable them (sessions ++ session_of requests.now resumed.0 ∷ []) db) }
+        IsReachable from version them (sessions ++ session_of requests.now resumed.0 ∷ []) db) }
     ensures stands { IfOk result (λ resumed. HasCleanDisk (state S.Store resumed.1.connection) → Opens
         (state S.Store conn) → IsLive (state S.Store conn) → resumed.0.fault ≡ None →
-        (them : _) (sessions : _) → IsReachable them sessions (state S.Store conn).committed.trees →
-        IsHistory them (sessions ++ session_of requests.now resumed.0 ∷ [])
+        (from version : _) (them : _) (sessions : _) →
+        IsReachable from version them sessions (state S.Store conn).committed.trees →
+        (version ≡ Current) × IsHistory from Current them (sessions ++ session_of requests.now resumed.0 ∷ [])
         (state S.Store resumed.1.connection)) }
     ensures idle { IfErr result (λ unopened. unopened.conn.in_transaction ≡ false) }
     ensures known { IfErr result (λ unopened. doubt (state S.Store conn).is_clean ≤ doubt
@@ -103,8 +115,9 @@ pub fn resume<S: Alter>(
         (unopened.fault ≡ OpenFault.Store) ⊎ (unopened.fault ≡ OpenFault.Memory)) }
     ensures kept { IfErr result (λ unopened. HasCleanDisk (state S.Store unopened.conn) → Opens (state S.Store conn) →
         IsLive (state S.Store conn) →
-        (them : _) (sessions : _) → IsReachable them sessions (state S.Store conn).committed.trees →
-        (db : _) → (state S.Store unopened.conn).may_leave db → IsReachable them sessions db) }
+        (from version : _) (them : _) (sessions : _) →
+        IsReachable from version them sessions (state S.Store conn).committed.trees → (db : _) →
+        (state S.Store unopened.conn).may_leave db → IsReachable from version them sessions db) }
 {
     let mut club = match adopt(alloc, conn) {
         Ok(club) => club,

@@ -15,5 +15,5 @@ returns-clause-member g c clean left may found finds =
     (c.close.ensures.member clean left may found finds)
 
 pub returns-clause-history : goal.returns-clause-history
-returns-clause-history g c clean them sessions each left may found finds =
+returns-clause-history g c clean from version them sessions each left may found finds =
     ∥∥₁_map (returns-clause-member g c clean left may found finds) (each found)

@@ -4,5 +4,5 @@ pub returns-in_ok-text-in-Some-clause-found : goal.returns-in_ok-text-in-Some-cl
 returns-in_ok-text-in-Some-clause-found g c clean s is_club k = (
   c.in-Some.viewed,
   rw c.in-Some.is at (c.in_ok-viewed.ensures.viewed clean s is_club k),
-  cc (c.in_ok-text-in-Some.ensures, c.in_ok-shown-in-Some.ensures),
+  c.in_ok-text-in-Some.ensures,
 )

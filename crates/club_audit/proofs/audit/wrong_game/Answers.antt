@@ -6,14 +6,15 @@ use Rattle.club_audit.proofs.audit.wrong_game.Goals as goal
 
 pub returns-in-None : goal.returns-in-None
 returns-in-None c = λ s people.
-    no-event s c.args.rows.now people c.args.place c.args.game.now c.args.moves.now c.args.seen.now c.args.last
+    let own = c.args.own.now in
+    no-event s c.args.rows.now people c.args.place own.game.now own.moves.now own.seen.now c.args.last
     (c.event_of.ensures.none c.in-None.is)
 
 pub returns-in-None-declares_in : goal.returns-in-None-declares_in
 returns-in-None-declares_in c = λ s people.
     let (id, named) = c.in-Some.ensures.some in
     absurd
-    (no-rule s c.args.rows.now people c.args.game.now id c.in-Some.event.now named
+    (no-rule s c.args.rows.now people c.args.own.now.game.now id c.in-Some.event.now named
     (c.declares_in.ensures.none c.in-None-declares_in.is))
 
 pub returns : goal.returns
@@ -21,8 +22,9 @@ returns c = λ s people.
     let (id, named) = c.in-Some.ensures.some in
     let (other, told) = c.in-Some-declares_in.ensures.some in
     let ruled =
-    subst (λ n. NamesRule c.args.rows.now c.args.game.now n c.in-Some-declares_in.declares)
+    subst (λ n. NamesRule c.args.rows.now c.args.own.now.game.now n c.in-Some-declares_in.declares)
     (same-pos _ _ (sym told.event_is ∙ named.event_is)) told in
-    placed-first s c.args.rows.now people c.args.place c.args.game.now c.args.moves.now c.args.seen.now c.args.last id
+    let own = c.args.own.now in
+    placed-first s c.args.rows.now people c.args.place own.game.now own.moves.now own.seen.now c.args.last id
     _ _ named ruled _ _ _ c.in_ok-wrong.ensures c.stands_at.ensures.sound c.stands_at.ensures.complete
     c.with_place.ensures.stands c.with_place.ensures.moves c.with_place.ensures.games

@@ -13,14 +13,16 @@ returns-in-None-kind_of c =
 
 pub returns-in-Some-Draughts : goal.returns-in-Some-Draughts
 returns-in-Some-Draughts c =
+    let own = c.args.own.now in
     let terms = c.in-Some.terms in
-    event-first c.args.event.now c.args.declares c.args.last c.args.game.now c.args.moves.now c.args.seen.now Draughts
+    event-first c.args.event.now c.args.declares c.args.last own.game.now own.moves.now own.seen.now Draughts
     terms.budget terms.increment (search rules) c.in-Some.ensures.some (terms_given terms) c.in-Some.ensures.told
     c.wrong_of_all.result c.wrong_of_all.ensures
 
 pub returns-in-Some-Shogi : goal.returns-in-Some-Shogi
 returns-in-Some-Shogi c =
+    let own = c.args.own.now in
     let terms = c.in-Some.terms in
-    event-first c.args.event.now c.args.declares c.args.last c.args.game.now c.args.moves.now c.args.seen.now Shogi
+    event-first c.args.event.now c.args.declares c.args.last own.game.now own.moves.now own.seen.now Shogi
     terms.budget terms.increment (search rules) c.in-Some.ensures.some (terms_given terms) c.in-Some.ensures.told
     c.wrong_of_all-in-Some-Shogi.result c.wrong_of_all-in-Some-Shogi.ensures

@@ -9,7 +9,7 @@ pub returns-then-not-is_within_given : goal.returns-then-not-is_within_given
 returns-then-not-is_within_given g c =
     let shown = shown-by _ _ _ _ _ c.in-Game.played c.in-Game.is c.in_ok-played.ensures.sound
     c.in_ok-played.ensures.complete in
-    late-game shown c.args.seen.now c.args.last (λ within.
+    late-game shown c.args.own.now.seen.now c.args.last (λ within.
     true≢false (sym (c.is_within_given.ensures.complete
     (given-last _ _ c.new.result c.new.ensures.value within)) ∙ c.if-not-is_within_given.true))
 
@@ -19,8 +19,8 @@ returns-then-not-branch g c =
     c.in_ok-played.ensures.complete in
     let within = last-given _ _ c.new.result (c.new.ensures.some.1 (omega arith))
     c.new.ensures.value (c.is_within_given.ensures.sound c.if-not-is_within_given.false) in
-    let number : pos c.in-Some.number ≡ c.args.game.now.id = omega (arith, ints, c.in-Some.ensures.some) in
-    wrong-seen shown c.args.seen.now c.args.last within c.in-Some.number number (λ other is once.
+    let number : pos c.in-Some.number ≡ c.args.own.now.game.now.id = omega (arith, ints, c.in-Some.ensures.some) in
+    wrong-seen shown c.args.own.now.seen.now c.args.last within c.in-Some.number number (λ other is once.
     let yes = c.in_ok-are_seen.ensures.complete (terms_given c.args.terms) other is.legal.plies is.moves once in
     true≢false (sym yes ∙ c.if-not-branch.true))
 
@@ -30,9 +30,9 @@ returns-then-not-is_within_given-2 g c =
     c.in_ok-played.ensures.complete in
     let within = last-given _ _ c.new.result (c.new.ensures.some.1 (omega arith))
     c.new.ensures.value (c.is_within_given.ensures.sound c.if-not-is_within_given.false) in
-    let number : pos c.in-Some.number ≡ c.args.game.now.id = omega (arith, ints, c.in-Some.ensures.some) in
+    let number : pos c.in-Some.number ≡ c.args.own.now.game.now.id = omega (arith, ints, c.in-Some.ensures.some) in
     let are = own-rows shown c.in-Some.number number in
-    late-end shown c.args.seen.now c.args.last within c.in-Some.number number
+    late-end shown c.args.own.now.seen.now c.args.last within c.in-Some.number number
     (c.in_ok-are_seen.ensures.sound c.if-not-branch.false (terms_given c.args.terms) shown.game are.legal.plies
     are.moves) (λ given.
     true≢false (sym (c.is_within_given-2.ensures.complete given) ∙ c.if-not-is_within_given-2.true))
@@ -43,9 +43,9 @@ returns g c =
     c.in_ok-played.ensures.complete in
     let within = last-given _ _ c.new.result (c.new.ensures.some.1 (omega arith))
     c.new.ensures.value (c.is_within_given.ensures.sound c.if-not-is_within_given.false) in
-    let number : pos c.in-Some.number ≡ c.args.game.now.id = omega (arith, ints, c.in-Some.ensures.some) in
+    let number : pos c.in-Some.number ≡ c.args.own.now.game.now.id = omega (arith, ints, c.in-Some.ensures.some) in
     let are = own-rows shown c.in-Some.number number in
-    none-late shown c.args.seen.now c.args.last within c.in-Some.number number
+    none-late shown c.args.own.now.seen.now c.args.last within c.in-Some.number number
     (c.in_ok-are_seen.ensures.sound c.if-not-branch.false (terms_given c.args.terms) shown.game are.legal.plies
     are.moves)
     (c.is_within_given-2.ensures.sound c.if-not-is_within_given-2.false)

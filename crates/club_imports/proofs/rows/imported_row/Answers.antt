@@ -15,14 +15,14 @@ line_state_after-line_state-requires-clause-few g c =
     let met = g.met.R.Rules in
     let are = are_rules g.R.Rules.rules met.first_starts met.turn_passes met.same_is met.ends_at_limit in
     subst (λ ms. length ms ≤ most_plies) (sym c.as_slice-moves.ensures.value)
-    (within-limit g.R.Rules.rules are c.args.recorded.now.moves.items c.requires.by_rules.line)
+    (within-limit g.R.Rules.rules are c.args.new.now.recorded.moves.items c.requires.by_rules.line)
 
 pub left_after-left-requires-clause-few : goal.left_after-left-requires-clause-few
 left_after-left-requires-clause-few g c =
     let met = g.met.R.Rules in
     let are = are_rules g.R.Rules.rules met.first_starts met.turn_passes met.same_is met.ends_at_limit in
     subst (λ ms. length ms ≤ most_plies) (sym c.as_slice-moves.ensures.value)
-    (within-limit g.R.Rules.rules are c.args.recorded.now.moves.items c.requires.by_rules.line)
+    (within-limit g.R.Rules.rules are c.args.new.now.recorded.moves.items c.requires.by_rules.line)
 
 pub overflow_cast-result : goal.overflow_cast-result
 overflow_cast-result g c =
@@ -30,15 +30,15 @@ overflow_cast-result g c =
     let are = are_rules g.R.Rules.rules met.first_starts met.turn_passes met.same_is met.ends_at_limit in
     let few : length c.as_slice-moves.result.now ≤ most_plies =
     subst (λ ms. length ms ≤ most_plies) (sym c.as_slice-moves.ensures.value)
-    (within-limit g.R.Rules.rules are c.args.recorded.now.moves.items c.requires.by_rules.line) in
+    (within-limit g.R.Rules.rules are c.args.new.now.recorded.moves.items c.requires.by_rules.line) in
     omega (arith, few)
 
 pub returns : goal.returns
 returns g c = λ declares.
     let laws = g.R.Rules.rules in
-    let r = recorded_of c.args.recorded.now in
+    let r = recorded_of c.args.new.now.recorded in
     let key = Some c.args.key.now in
-    let pairing = c.args.pairing in
+    let pairing = c.args.new.now.pairing in
     let value = c.as_slice-moves.ensures.value in
     let line_state = c.line_state_after-line_state.ensures in
     let position = line_state.position ∙ ap (position_after laws laws.start) value in

@@ -1,3 +1,6 @@
+use Rattle.sqlite.specs.Held.{state}
+use Rattle.club_orders.proofs.SessionLemmas.{led_still_in}
+use Rattle.club_orders.proofs.TakenLemmas.{kept_tables}
 use Rattle.club_orders.proofs.execution.act.Goals as goal
 
 pub returns-in-Request-clause-answer : goal.returns-in-Request-clause-answer
@@ -41,3 +44,63 @@ returns-in-Batch-clause-older g c = rw c.in-Batch.is c.execute_in_club-in-Batch.
 
 pub returns-in-Upgrade-clause-carries : goal.returns-in-Upgrade-clause-carries
 returns-in-Upgrade-clause-carries g c = rw c.in-Upgrade.is c.run_upgrade.ensures.carries
+
+pub returns-in-Init-clause-existing : goal.returns-in-Init-clause-existing
+returns-in-Init-clause-existing g c clean opens is = c.init.ensures.existing clean opens
+
+pub returns-in-Init-clause-next_state : goal.returns-in-Init-clause-next_state
+returns-in-Init-clause-next_state g c clean opens live s is_club has =
+    rw c.in-Init.is (kept_tables s (state g.S.Store c.args.conn) (state g.S.Store c.init.result.1) has (c.init.ensures.unchanged clean opens live s has))
+
+pub returns-in-Request-clause-next_state : goal.returns-in-Request-clause-next_state
+returns-in-Request-clause-next_state g c = rw c.in-Request.is c.execute_in_club.ensures.next_state
+
+pub returns-in-Ask-clause-next_state : goal.returns-in-Ask-clause-next_state
+returns-in-Ask-clause-next_state g c = rw c.in-Ask.is c.execute_in_club-in-Ask.ensures.next_state
+
+pub returns-in-Verify-clause-next_state : goal.returns-in-Verify-clause-next_state
+returns-in-Verify-clause-next_state g c clean opens live s is_club has =
+    rw c.in-Verify.is (kept_tables s (state g.S.Store c.args.conn) (state g.S.Store c.verify.result.1) has (c.verify.ensures.keeps clean opens))
+
+pub returns-in-Backup-clause-next_state : goal.returns-in-Backup-clause-next_state
+returns-in-Backup-clause-next_state g c clean opens live s is_club has =
+    rw c.in-Backup.is (kept_tables s (state g.S.Store c.args.conn) (state g.S.Store c.verify-in-Backup.result.1) has (c.verify-in-Backup.ensures.keeps clean opens))
+
+pub returns-in-Upgrade-clause-next_state : goal.returns-in-Upgrade-clause-next_state
+returns-in-Upgrade-clause-next_state g c clean opens live s is_club has =
+    rw c.in-Upgrade.is (kept_tables s (state g.S.Store c.args.conn) (state g.S.Store c.run_upgrade.result.1) has (c.run_upgrade.ensures.repeats clean opens live s is_club has).1)
+
+pub returns-in-Batch-clause-next_state : goal.returns-in-Batch-clause-next_state
+returns-in-Batch-clause-next_state g c = rw c.in-Batch.is c.execute_in_club-in-Batch.ensures.next_state
+
+-- ---- histories
+
+pub returns-in-Init-clause-history : goal.returns-in-Init-clause-history
+returns-in-Init-clause-history g c clean opens live from versions them sessions led db left =
+    rw c.in-Init.is
+    (led_still_in from versions them sessions db
+    (c.init.ensures.history clean opens live from versions them sessions led db left))
+
+pub returns-in-Verify-clause-history : goal.returns-in-Verify-clause-history
+returns-in-Verify-clause-history g c clean opens live from versions them sessions led db left =
+    rw c.in-Verify.is
+    (led_still_in from versions them sessions db
+    (c.verify.ensures.history clean opens live from versions them sessions led db left))
+
+pub returns-in-Backup-clause-history : goal.returns-in-Backup-clause-history
+returns-in-Backup-clause-history g c clean opens live from versions them sessions led db left =
+    rw c.in-Backup.is
+    (led_still_in from versions them sessions db
+    (c.verify-in-Backup.ensures.history clean opens live from versions them sessions led db left))
+
+pub returns-in-Request-clause-history : goal.returns-in-Request-clause-history
+returns-in-Request-clause-history g c = rw c.in-Request.is c.execute_in_club.ensures.history
+
+pub returns-in-Ask-clause-history : goal.returns-in-Ask-clause-history
+returns-in-Ask-clause-history g c = rw c.in-Ask.is c.execute_in_club-in-Ask.ensures.history
+
+pub returns-in-Batch-clause-history : goal.returns-in-Batch-clause-history
+returns-in-Batch-clause-history g c = rw c.in-Batch.is c.execute_in_club-in-Batch.ensures.history
+
+pub returns-in-Upgrade-clause-history : goal.returns-in-Upgrade-clause-history
+returns-in-Upgrade-clause-history g c = rw c.in-Upgrade.is c.run_upgrade.ensures.history

@@ -1,12 +1,12 @@
-use Rattle.std.proofs.Common.{◌≡◌, [], sym, subst}
+use Rattle.std.proofs.Common.{◌≡◌, [], inr, sym, subst}
 use Rattle.sqlite.specs.State.{HasCleanDisk}
 use Rattle.store.specs.Histories.{IsHistory}
 use Rattle.sqlite.specs.Held.{state}
 use Rattle.club_check.specs.declared.fault.OpenFault.TheVariants.{Foreign}
 use Rattle.store_tables.specs.declared.names.Version.TheVariants.{Current}
 use Rattle.store_tables.specs.Over.{alone}
-use Rattle.club_orders.proofs.SessionLemmas.{stand_first}
-use Rattle.club_orders.proofs.TakenLemmas.{without_club}
+use Rattle.club_orders.proofs.SessionLemmas.{first_tables_of, stand_first}
+use Rattle.club_orders.proofs.TakenLemmas.{stand_beside, without_club}
 use Rattle.club_orders.proofs.execution.init.Goals as goal
 
 pub returns-in-Ok-clause-begun : goal.returns-in-Ok-clause-begun
@@ -14,15 +14,15 @@ returns-in-Ok-clause-begun g c clean opens live empty db left =
     let same = c.into_connection-conn.ensures.same in
     let made = c.in-Ok.ensures.begins (subst (λ h. HasCleanDisk (state g.S.Store h)) same clean)
     (c.opened_empty_holds.ensures opens live empty) in
-    c.crash_keeps_history-in-Ok.ensures Current alone [] (subst (λ h. IsHistory alone [] (state g.S.Store h))
-    (sym same) made) db left
+    c.crash_keeps_history-in-Ok.ensures Current Current alone []
+    (subst (λ h. IsHistory Current Current alone [] (state g.S.Store h)) (sym same) made) db left
 
 pub returns-in-Ok-clause-history : goal.returns-in-Ok-clause-history
-returns-in-Ok-clause-history g c clean opens live them sessions led db left =
+returns-in-Ok-clause-history g c clean opens live from versions them sessions led db left =
     let same = c.into_connection-conn.ensures.same in
-    let (version, at) = c.opened_history_holds.ensures opens live them sessions led in
+    let at = c.opened_history_holds.ensures opens live from led.version them sessions led.reached in
     absurd (c.in-Ok.ensures.fresh (subst (λ h. HasCleanDisk (state g.S.Store h)) same clean)
-    (stand_first version them sessions _ at))
+    (stand_first from led.version them sessions _ at))
 
 pub returns-in-Ok-clause-behind : goal.returns-in-Ok-clause-behind
 returns-in-Ok-clause-behind g c clean opens live them left =
@@ -30,8 +30,8 @@ returns-in-Ok-clause-behind g c clean opens live them left =
     let made = c.in-Ok.ensures.behind (subst (λ h. HasCleanDisk (state g.S.Store h)) same clean) them
     (without_club them _ (c.holds_exactly.ensures opens live) left) in (
       tt,
-      c.crash_keeps_history-in-Ok.ensures Current them [] (subst (λ h. IsHistory them [] (state g.S.Store h))
-          (sym same) made),
+      c.crash_keeps_history-in-Ok.ensures Current Current them []
+          (subst (λ h. IsHistory Current Current them [] (state g.S.Store h)) (sym same) made),
     )
 
 pub returns-in-Err-clause-behind : goal.returns-in-Err-clause-behind
@@ -43,10 +43,15 @@ returns-in-Err-clause-begun g c clean opens live empty db left =
     c.in-Err.ensures.after_crash clean (c.opened_empty_holds.ensures opens live empty) db left
 
 pub returns-in-Err-clause-history : goal.returns-in-Err-clause-history
-returns-in-Err-clause-history g c clean opens live them sessions led db left =
-    let (version, at) = c.opened_history_holds.ensures opens live them sessions led in
-    c.crash_keeps_history.ensures version them sessions at db
-    (c.in-Err.ensures.stays clean (stand_first version them sessions _ at) db left)
+returns-in-Err-clause-history g c clean opens live from versions them sessions led db left =
+    let at = c.opened_history_holds.ensures opens live from led.version them sessions led.reached in
+    record {
+      version = led.version;
+      among = led.among;
+      reached =
+          c.crash_keeps_history.ensures from led.version them sessions at db
+          (c.in-Err.ensures.stays clean (stand_first from led.version them sessions _ at) db left);
+    }
 
 pub returns-in-Err-clause-spares : goal.returns-in-Err-clause-spares
 returns-in-Err-clause-spares g c clean opens is db left =
@@ -56,3 +61,23 @@ returns-in-Err-clause-spares g c clean opens is db left =
 pub returns-in-Err-clause-empty : goal.returns-in-Err-clause-empty
 returns-in-Err-clause-empty g c clean opens live empty =
     c.in-Err.ensures.empty clean (c.opened_empty_holds.ensures opens live empty)
+
+pub returns-in-Ok-clause-existing : goal.returns-in-Ok-clause-existing
+returns-in-Ok-clause-existing g c clean opens has =
+    let same = c.into_connection-conn.ensures.same in
+    absurd (c.in-Ok.ensures.fresh (subst (λ h. HasCleanDisk (state g.S.Store h)) same clean) (first_tables_of _ has))
+
+pub returns-in-Err-clause-existing : goal.returns-in-Err-clause-existing
+returns-in-Err-clause-existing g c clean opens has = (
+  c.in-Err.ensures.possible_faults,
+  λ db left. g.met.S.Store.settled c.args.conn.store db opens.is_open
+      (c.in-Err.ensures.stays clean (first_tables_of _ has) db left),
+)
+
+pub returns-in-Ok-clause-unchanged : goal.returns-in-Ok-clause-unchanged
+returns-in-Ok-clause-unchanged g c clean opens live s has =
+    absurd (returns-in-Ok-clause-existing g c clean opens (inr (stand_beside s _ (c.holds_exactly.ensures opens live) has))).0
+
+pub returns-in-Err-clause-unchanged : goal.returns-in-Err-clause-unchanged
+returns-in-Err-clause-unchanged g c clean opens live s has =
+    (returns-in-Err-clause-existing g c clean opens (inr (stand_beside s _ (c.holds_exactly.ensures opens live) has))).1

@@ -10,9 +10,22 @@ returns-in-Ok-clause-sound g c clean opened is =
     rw same (c.in-Ok.ensures.found (rw same at clean) opened)
 
 pub returns-in-Ok-clause-history : goal.returns-in-Ok-clause-history
-returns-in-Ok-clause-history g c clean opens live them sessions led db left =
+returns-in-Ok-clause-history g c clean opens live from versions them sessions led db left =
     let same = c.into_connection.ensures.same in
-    (c.in-Ok.ensures.taken (rw same at clean) opens live).leads them sessions led db (rw same at left)
+    record {
+      version = led.version;
+      among = led.among;
+      reached =
+          (c.in-Ok.ensures.taken (rw same at clean) opens live).leads from led.version them sessions led.reached db
+          (rw same at left);
+    }
+
+pub returns-in-Err-clause-history : goal.returns-in-Err-clause-history
+returns-in-Err-clause-history g c clean opens live from versions them sessions led db left = record {
+  version = led.version;
+  among = led.among;
+  reached = c.in-Err.ensures.history clean opens live from led.version them sessions led.reached db left;
+}
 
 pub returns-in-Ok-clause-legal : goal.returns-in-Ok-clause-legal
 returns-in-Ok-clause-legal g c clean opens live has is =

@@ -29,13 +29,13 @@ returns-clause-taken g c =
       stands = λ s has.
           still_beside old new (reads.kept refl clean) has.them (tables s) (stands_beside s old exact has);
       rows = λ s has. still_there s old exact has new (reads.kept refl clean);
-      history = λ them sessions led.
-          let (version, at) = found them sessions led in
-          still_stands them sessions old new (reads.kept refl clean)
-          (newer_history version them sessions old (older clean them) at);
-      leads = λ them sessions led db left.
-          let (version, at) = found them sessions led in
-          c.crash_keeps_history.ensures version them sessions at db (reads.may clean db left);
+      history = λ from version them sessions led.
+          let (is, at) =
+          newer_history from version them sessions old (older clean them) (found from version them sessions led) in
+          (is, still_stands from them sessions old new (reads.kept refl clean) at);
+      leads = λ from version them sessions led db left.
+          c.crash_keeps_history.ensures from version them sessions (found from version them sessions led) db
+          (reads.may clean db left);
     })
     (both_ok c.adopt.result _ _ c.adopt.ensures.kept
     (both_ok c.adopt.result _ _ c.adopt.ensures.older
@@ -70,6 +70,7 @@ returns-clause-older g c =
 pub returns-clause-history : goal.returns-clause-history
 returns-clause-history g c =
     IfErr-weaker c.adopt.result _ _
-    (λ u reads clean opens live them sessions led db left.
-    let (version, at) = c.opened_history_holds.ensures opens live them sessions led in
-    c.crash_keeps_history.ensures version them sessions at db (reads.may clean db left)) c.adopt.ensures.reads
+    (λ u reads clean opens live from version them sessions led db left.
+    c.crash_keeps_history.ensures from version them sessions
+    (c.opened_history_holds.ensures opens live from version them sessions led) db (reads.may clean db left))
+    c.adopt.ensures.reads

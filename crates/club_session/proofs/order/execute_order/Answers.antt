@@ -2,38 +2,64 @@ use Rattle.std.proofs.Math.Logic.{∥∥₁_elim, ∥∥₁_map}
 use Rattle.sqlite_wal.specs.Files.{image_at}
 use Rattle.sqlite_store.specs.FileStore.{state as store_state}
 use Rattle.sqlite.specs.Files.{file_state}
+use Rattle.store.specs.Histories.{HasState}
 use Rattle.store_files.proofs.Proved.{was_clean}
-use Rattle.club_session.proofs.FoundLemmas.{carried_files, kept_files, not_upgraded, refused_files, shaped_files}
-use Rattle.club_session.proofs.FoundLemmas.{sound_files}
-use Rattle.club_session.proofs.TaskLemmas.{if_taken_over, if_takes_over, if_unopened, if_upgrade, if_verify, verify_under}
+use Rattle.club_session.proofs.FoundLemmas.{carried_files, club_tables, kept_files, not_upgraded, refused_files}
+use Rattle.club_session.proofs.FoundLemmas.{shaped_as, sound_files}
+use Rattle.club_session.proofs.TaskLemmas.{if_accepted, if_takes_over, if_unopened, if_upgrade, if_verify, verify_under}
 use Rattle.club_session.proofs.order.execute_order.Goals as goal
 
 pub returns-clause-begun : goal.returns-clause-begun
 returns-clause-begun g c clean is void left may found finds =
     let after = was_clean _ _ c.close.ensures.clean clean in
     let before = was_clean _ _ c.act-report.ensures.clean after in
-    let opened = c.in-Ok.ensures.opened before in
-    let here = c.in-Ok.ensures.found before in
+    let opened = (rw c.in-Ok.is at c.requires.opened) before in
+    let here = (rw c.in-Ok.is at c.requires.found) before in
     ∥∥₁_map (c.close.ensures.member clean left may found finds.holds)
     (λ now. c.act-report.ensures.begun after opened.0 opened.1 is
     (void _ (record { holds = here.holds; reads = here.reads })) found now)
 
 pub returns-clause-behind : goal.returns-clause-behind
-returns-clause-behind g c clean is them without left may found finds =
+returns-clause-behind g c clean is them without =
     let after = was_clean _ _ c.close.ensures.clean clean in
     let before = was_clean _ _ c.act-report.ensures.clean after in
-    let opened = c.in-Ok.ensures.opened before in
-    let here = c.in-Ok.ensures.found before in
+    let opened = (rw c.in-Ok.is at c.requires.opened) before in
+    let here = (rw c.in-Ok.is at c.requires.found) before in
     let told = c.act-report.ensures.behind after opened.0 opened.1 is them
-    (without _ (record { holds = here.holds; reads = here.reads })) in
-    ∥∥₁_map (c.close.ensures.member clean left may found finds.holds) (λ now. told.1 found now)
+    (without _ (record { holds = here.holds; reads = here.reads })) in (
+      told.0,
+      λ left may found finds.
+          ∥∥₁_map (c.close.ensures.member clean left may found finds.holds) (λ now. told.1 found now),
+    )
+
+pub returns-clause-empty : goal.returns-clause-empty
+returns-clause-empty g c clean is void =
+    let after = was_clean _ _ c.close.ensures.clean clean in
+    let before = was_clean _ _ c.act-report.ensures.clean after in
+    let opened = (rw c.in-Ok.is at c.requires.opened) before in
+    let here = (rw c.in-Ok.is at c.requires.found) before in
+    c.act-report.ensures.empty after opened.0 opened.1 is
+    (void _ (record { holds = here.holds; reads = here.reads }))
+
+pub returns-clause-existing : goal.returns-clause-existing
+returns-clause-existing g c clean is have =
+    let after = was_clean _ _ c.close.ensures.clean clean in
+    let before = was_clean _ _ c.act-report.ensures.clean after in
+    let opened = (rw c.in-Ok.is at c.requires.opened) before in
+    let here = (rw c.in-Ok.is at c.requires.found) before in
+    let (told, kept) = c.act-report.ensures.existing after opened.0 is
+    (club_tables (image_at g.S.Start) (file_state c.in-Ok.conn) here opened.0 opened.1 have) in (
+      told,
+      kept_files (image_at g.S.Start) (file_state c.in-Ok.conn) here (file_state c.act-report.result.1)
+          (store_state c.close.result).may_leave (c.close.ensures.member clean) kept,
+    )
 
 pub returns-clause-answer : goal.returns-clause-answer
 returns-clause-answer g c clean s are =
     let after = was_clean _ _ c.close.ensures.clean clean in
     let before = was_clean _ _ c.act-report.ensures.clean after in
-    let opened = c.in-Ok.ensures.opened before in
-    let here = c.in-Ok.ensures.found before in
+    let opened = (rw c.in-Ok.is at c.requires.opened) before in
+    let here = (rw c.in-Ok.is at c.requires.found) before in
     c.act-report.ensures.answer after opened.0 opened.1 s are.legal
     (are.finds _ (record { holds = here.holds; reads = here.reads }))
 
@@ -41,27 +67,41 @@ pub returns-clause-given : goal.returns-clause-given
 returns-clause-given g c clean s are =
     let after = was_clean _ _ c.close.ensures.clean clean in
     let before = was_clean _ _ c.act-report.ensures.clean after in
-    let opened = c.in-Ok.ensures.opened before in
-    let here = c.in-Ok.ensures.found before in
+    let opened = (rw c.in-Ok.is at c.requires.opened) before in
+    let here = (rw c.in-Ok.is at c.requires.found) before in
     c.act-report.ensures.given after opened.0 opened.1 s are.legal
     (are.finds _ (record { holds = here.holds; reads = here.reads }))
 
 pub returns-clause-history : goal.returns-clause-history
-returns-clause-history g c clean them sessions led left may found finds =
+returns-clause-history g c clean from versions them sessions led left may found finds =
     let after = was_clean _ _ c.close.ensures.clean clean in
     let before = was_clean _ _ c.act-report.ensures.clean after in
-    let opened = c.in-Ok.ensures.opened before in
-    let here = c.in-Ok.ensures.found before in
+    let opened = (rw c.in-Ok.is at c.requires.opened) before in
+    let here = (rw c.in-Ok.is at c.requires.found) before in
     ∥∥₁_elim (led _ (record { holds = here.holds; reads = here.reads })) squash₁ (λ was.
     ∥∥₁_map (c.close.ensures.member clean left may found finds.holds)
-    (λ now. c.act-report.ensures.history after opened.0 opened.1 them sessions was found now))
+    (λ now. c.act-report.ensures.history after opened.0 opened.1 from versions them sessions was found now))
+
+pub returns-clause-next_state : goal.returns-clause-next_state
+returns-clause-next_state g c clean them s are left may found finds =
+    let after = was_clean _ _ c.close.ensures.clean clean in
+    let before = was_clean _ _ c.act-report.ensures.clean after in
+    let opened = (rw c.in-Ok.is at c.requires.opened) before in
+    let here = (rw c.in-Ok.is at c.requires.found) before in
+    let has : HasState s (file_state c.in-Ok.conn).committed.trees = record {
+      them = them;
+      leaves = are.finds _ (record { holds = here.holds; reads = here.reads });
+      shape = are.shape;
+    } in
+    ∥∥₁_map (c.close.ensures.member clean left may found finds.holds)
+    (λ now. c.act-report.ensures.next_state after opened.0 opened.1 s are.legal has found now)
 
 pub returns-clause-passes : goal.returns-clause-passes
 returns-clause-passes g c clean s are =
     let after = was_clean _ _ c.close.ensures.clean clean in
     let before = was_clean _ _ c.act-report.ensures.clean after in
-    let opened = c.in-Ok.ensures.opened before in
-    let here = c.in-Ok.ensures.found before in
+    let opened = (rw c.in-Ok.is at c.requires.opened) before in
+    let here = (rw c.in-Ok.is at c.requires.found) before in
     c.act-report.ensures.passes after opened.0 opened.1 s are.legal
     (are.finds _ (record { holds = here.holds; reads = here.reads }))
 
@@ -69,8 +109,8 @@ pub returns-clause-asked : goal.returns-clause-asked
 returns-clause-asked g c clean s are =
     let after = was_clean _ _ c.close.ensures.clean clean in
     let before = was_clean _ _ c.act-report.ensures.clean after in
-    let opened = c.in-Ok.ensures.opened before in
-    let here = c.in-Ok.ensures.found before in
+    let opened = (rw c.in-Ok.is at c.requires.opened) before in
+    let here = (rw c.in-Ok.is at c.requires.found) before in
     c.act-report.ensures.asked after opened.0 opened.1 s are.legal
     (are.finds _ (record { holds = here.holds; reads = here.reads }))
 
@@ -78,31 +118,30 @@ pub returns-clause-sound : goal.returns-clause-sound
 returns-clause-sound g c clean =
     let after = was_clean _ _ c.close.ensures.clean clean in
     let before = was_clean _ _ c.act-report.ensures.clean after in
-    let opened = c.in-Ok.ensures.opened before in
-    if_verify c.args.order.now.task (λ legal is.
-    sound_files (image_at g.S.Start) (file_state c.in-Ok.conn) (c.in-Ok.ensures.found before)
+    let opened = (rw c.in-Ok.is at c.requires.opened) before in
+    if_verify c.args.task.now (λ legal is.
+    sound_files (image_at g.S.Start) (file_state c.in-Ok.conn) ((rw c.in-Ok.is at c.requires.found) before)
     opened.0 opened.1 (λ schema. legal schema is))
-    (verify_under _ _ c.args.order.now.task (λ schema. c.act-report.ensures.legal after opened.0 opened.1 schema))
+    (verify_under _ _ c.args.task.now (λ schema. c.act-report.ensures.legal after opened.0 opened.1 schema))
 
 pub returns-clause-shape : goal.returns-clause-shape
 returns-clause-shape g c clean =
     let after = was_clean _ _ c.close.ensures.clean clean in
     let before = was_clean _ _ c.act-report.ensures.clean after in
-    let opened = c.in-Ok.ensures.opened before in
-    if_takes_over c.args.order.now.task (λ taken.
-    if_taken_over c.act-report.result.0 (λ shape.
-    shaped_files (image_at g.S.Start) (file_state c.in-Ok.conn) (c.in-Ok.ensures.found before) opened.0 opened.1 shape)
-    taken)
+    let opened = (rw c.in-Ok.is at c.requires.opened) before in
+    let here = (rw c.in-Ok.is at c.requires.found) before in
+    if_accepted c.args.task.now c.act-report.result.0 (λ version.
+    shaped_as (image_at g.S.Start) (file_state c.in-Ok.conn) here version opened.0 opened.1)
     c.act-report.ensures.shape
 
 pub returns-clause-refuses : goal.returns-clause-refuses
 returns-clause-refuses g c clean =
     let after = was_clean _ _ c.close.ensures.clean clean in
     let before = was_clean _ _ c.act-report.ensures.clean after in
-    let opened = c.in-Ok.ensures.opened before in
-    if_takes_over c.args.order.now.task (λ refused.
+    let opened = (rw c.in-Ok.is at c.requires.opened) before in
+    if_takes_over c.args.task.now (λ refused.
     if_unopened _ _ c.act-report.result.0 (λ fault refusal.
-    refused_files (image_at g.S.Start) (file_state c.in-Ok.conn) (c.in-Ok.ensures.found before)
+    refused_files (image_at g.S.Start) (file_state c.in-Ok.conn) ((rw c.in-Ok.is at c.requires.found) before)
     (file_state c.act-report.result.1) (store_state c.close.result).may_leave (c.close.ensures.member clean) opened.0
     opened.1 fault refusal)
     refused)
@@ -112,8 +151,8 @@ pub returns-clause-spares : goal.returns-clause-spares
 returns-clause-spares g c clean is foreign =
     let after = was_clean _ _ c.close.ensures.clean clean in
     let before = was_clean _ _ c.act-report.ensures.clean after in
-    let opened = c.in-Ok.ensures.opened before in
-    kept_files (image_at g.S.Start) (file_state c.in-Ok.conn) (c.in-Ok.ensures.found before)
+    let opened = (rw c.in-Ok.is at c.requires.opened) before in
+    kept_files (image_at g.S.Start) (file_state c.in-Ok.conn) ((rw c.in-Ok.is at c.requires.found) before)
     (file_state c.act-report.result.1) (store_state c.close.result).may_leave (c.close.ensures.member clean)
     (c.act-report.ensures.spares after opened.0 is foreign)
 
@@ -121,8 +160,8 @@ pub returns-clause-older : goal.returns-clause-older
 returns-clause-older g c clean them s are =
     let after = was_clean _ _ c.close.ensures.clean clean in
     let before = was_clean _ _ c.act-report.ensures.clean after in
-    let opened = c.in-Ok.ensures.opened before in
-    let here = c.in-Ok.ensures.found before in
+    let opened = (rw c.in-Ok.is at c.requires.opened) before in
+    let here = (rw c.in-Ok.is at c.requires.found) before in
     c.act-report.ensures.older after opened.0 opened.1 them s
     (are.finds _ (record { holds = here.holds; reads = here.reads }))
 
@@ -130,9 +169,9 @@ pub returns-clause-carries : goal.returns-clause-carries
 returns-clause-carries g c clean them s are =
     let after = was_clean _ _ c.close.ensures.clean clean in
     let before = was_clean _ _ c.act-report.ensures.clean after in
-    let opened = c.in-Ok.ensures.opened before in
-    let here = c.in-Ok.ensures.found before in
-    if_upgrade c.args.order.now.task (λ carried.
+    let opened = (rw c.in-Ok.is at c.requires.opened) before in
+    let here = (rw c.in-Ok.is at c.requires.found) before in
+    if_upgrade c.args.task.now (λ carried.
     carried_files (image_at g.S.Start) (file_state c.in-Ok.conn) here (file_state c.act-report.result.1)
     (store_state c.close.result).may_leave (c.close.ensures.member clean) them s c.act-report.result.0
     carried)
@@ -143,9 +182,9 @@ pub returns-clause-repeats : goal.returns-clause-repeats
 returns-clause-repeats g c clean s are =
     let after = was_clean _ _ c.close.ensures.clean clean in
     let before = was_clean _ _ c.act-report.ensures.clean after in
-    let opened = c.in-Ok.ensures.opened before in
-    let here = c.in-Ok.ensures.found before in
-    if_upgrade c.args.order.now.task (λ (told, kept). (
+    let opened = (rw c.in-Ok.is at c.requires.opened) before in
+    let here = (rw c.in-Ok.is at c.requires.found) before in
+    if_upgrade c.args.task.now (λ (told, kept). (
       told,
       kept_files (image_at g.S.Start) (file_state c.in-Ok.conn) here (file_state c.act-report.result.1)
           (store_state c.close.result).may_leave (c.close.ensures.member clean) kept,
@@ -157,9 +196,9 @@ pub returns-clause-withheld : goal.returns-clause-withheld
 returns-clause-withheld g c clean =
     let after = was_clean _ _ c.close.ensures.clean clean in
     let before = was_clean _ _ c.act-report.ensures.clean after in
-    let opened = c.in-Ok.ensures.opened before in
-    let here = c.in-Ok.ensures.found before in
-    if_upgrade c.args.order.now.task (λ refused.
+    let opened = (rw c.in-Ok.is at c.requires.opened) before in
+    let here = (rw c.in-Ok.is at c.requires.found) before in
+    if_upgrade c.args.task.now (λ refused.
     if_unopened _ _ c.act-report.result.0 (λ fault refusal.
     not_upgraded (image_at g.S.Start) (file_state c.in-Ok.conn) here (file_state c.act-report.result.1)
     (store_state c.close.result).may_leave (c.close.ensures.member clean) opened.0

@@ -1,51 +1,59 @@
-use Rattle.std.proofs.Common.{◌≡◌, true, refl, sym, subst, inr}
+use Rattle.std.proofs.Common.{◌≡◌, ◌∙◌, List, [], false, true, refl, sym, subst, inr}
+use Rattle.std.proofs.lemmas.List.{append-nil}
 use Rattle.sqlite.specs.State.{HasCleanDisk}
 use Rattle.sqlite.specs.Held.{state}
 use Rattle.schema_match.specs.Shapes.{is_of_club}
 use Rattle.store_tables.specs.Over.{HoldsClubAmong}
 use Rattle.store_tables.specs.declared.names.Version.TheVariants.{Current}
+use Rattle.store_tables.proofs.Proved.{leaves_beside, still_beside}
 use Rattle.club_rows.specs.Club.{tables}
+use Rattle.server.specs.declared.connections.Served.{Served}
 use Rattle.store.proofs.Proved.{current_taken, holds_beside, still_stands}
+use Rattle.club_session.specs.Served.{beside_them}
+use Rattle.club_session.specs.ServedStates.{IsServed}
 use Rattle.club_session.specs.Turns.{IsHistoryOn, IsReachableOn}
 use Rattle.club_session.proofs.ToldLemmas.{untaken, good_told, served_told, served_taken, served_good, none_failed, stood}
 use Rattle.club_session.proofs.TurnLemmas.{reads_led}
 use Rattle.club_session.proofs.serving.serve_club.Goals as goal
 
 pub returns-in-Err-clause-history : goal.returns-in-Err-clause-history
-returns-in-Err-clause-history g c clean opens live them sessions led =
-    reads_led them sessions (state g.S.Store c.args.conn) (state g.S.Store c.in-Err.unopened.conn)
+returns-in-Err-clause-history g c clean opens live from version them sessions led =
+    reads_led from version them sessions (state g.S.Store c.args.conn) (state g.S.Store c.in-Err.unopened.conn)
     c.in-Err.ensures.reads clean
-    (let (version, at) = c.opened_history_holds.ensures opens live them sessions led in
-    c.crash_keeps_history.ensures version them sessions at)
+    (c.crash_keeps_history.ensures from version them sessions
+    (c.opened_history_holds.ensures opens live from version them sessions led))
 
 pub returns-clause-history : goal.returns-clause-history
-returns-clause-history g c clean opens live them sessions led =
+returns-clause-history g c clean opens live from version them sessions led =
     let same = c.into_connection.ensures.same in
     let after : HasCleanDisk (state g.S.Store c.serve_open-has_failed.new.club.club.connection) =
     subst (λ k. HasCleanDisk (state g.S.Store k)) same clean in
     let before = c.serve_open-has_failed.ensures.clean after in
-    let stood = current_taken them sessions (state g.S.Store c.args.conn)
+    let (is, stood) = current_taken from version them sessions (state g.S.Store c.args.conn)
     (λ known. (c.in-Ok.ensures.unchanged before known).0)
-    (c.opened_history_holds.ensures opens live them sessions led) in
-    let stands = still_stands them sessions (state g.S.Store c.args.conn) (state g.S.Store c.in-Ok.club.connection)
+    (c.opened_history_holds.ensures opens live from version them sessions led) in
+    let stands = still_stands from them sessions (state g.S.Store c.args.conn) (state g.S.Store c.in-Ok.club.connection)
     (c.in-Ok.ensures.kept.kept refl before) stood in
-    subst (λ k. IsReachableOn them sessions (state g.S.Store k)) (sym same)
-    (c.serve_open-has_failed.ensures.history after them sessions stands)
+    subst (λ k. IsReachableOn from version them sessions (state g.S.Store k)) (sym same)
+    (subst (λ v. IsReachableOn from v them sessions (state g.S.Store c.serve_open-has_failed.new.club.club.connection))
+    (sym is) (c.serve_open-has_failed.ensures.history after from them sessions stands))
 
 pub returns-clause-stands : goal.returns-clause-stands
-returns-clause-stands g c clean opens live none them sessions led =
+returns-clause-stands g c clean opens live none from version them sessions led =
     let same = c.into_connection.ensures.same in
     let after : HasCleanDisk (state g.S.Store c.serve_open-has_failed.new.club.club.connection) =
     subst (λ k. HasCleanDisk (state g.S.Store k)) same clean in
     let before = c.serve_open-has_failed.ensures.clean after in
-    let stood = current_taken them sessions (state g.S.Store c.args.conn)
+    let (is, stood) = current_taken from version them sessions (state g.S.Store c.args.conn)
     (λ known. (c.in-Ok.ensures.unchanged before known).0)
-    (c.opened_history_holds.ensures opens live them sessions led) in
-    let stands = still_stands them sessions (state g.S.Store c.args.conn) (state g.S.Store c.in-Ok.club.connection)
+    (c.opened_history_holds.ensures opens live from version them sessions led) in
+    let stands = still_stands from them sessions (state g.S.Store c.args.conn) (state g.S.Store c.in-Ok.club.connection)
     (c.in-Ok.ensures.kept.kept refl before) stood in
-    let open_still = none_failed c.serve_open-has_failed.result c.fault_after.result c.fault_after.ensures none in
-    subst (λ k. IsHistoryOn them sessions (state g.S.Store k)) (sym same)
-    (c.serve_open-has_failed.ensures.stands open_still after them sessions stands)
+    let open_still = none_failed c.serve_open-has_failed.result c.fault_after.result c.fault_after.ensures none in (
+      is,
+      subst (λ k. IsHistoryOn from Current them sessions (state g.S.Store k)) (sym same)
+          (c.serve_open-has_failed.ensures.stands open_still after from them sessions stands),
+    )
 
 pub returns-in-Err-clause-told : goal.returns-in-Err-clause-told
 returns-in-Err-clause-told g c clean = inr (
@@ -104,3 +112,84 @@ returns-in-Err-clause-accepts_sound g c clean opens live s is_club has =
 pub returns-clause-accepts_sound : goal.returns-clause-accepts_sound
 returns-clause-accepts_sound g c clean opens live s is_club left =
     served_good c.serve_open-has_failed.result c.fault_after.result c.fault_after.ensures
+
+pub returns-in-Err-clause-acknowledged : goal.returns-in-Err-clause-acknowledged
+returns-in-Err-clause-acknowledged g c before had =
+    let P : List Served → Type 0 = λ xs. g.V.Connections.HasServed c.args.visits.now xs in (
+      [],
+      subst P (sym (append-nil before)) had,
+      λ clean opens live s is_club has db may.
+          let was = state g.S.Store c.args.conn in
+          let found : HoldsClubAmong has.them (tables s) was = record {
+            clear = has.leaves.clear;
+            exactly = c.holds_exactly.ensures opens live _ _ has.leaves.leaves;
+          } in
+          record {
+            them = has.them;
+            after = beside_them has.them s;
+            leads = refl;
+            leaves =
+                leaves_beside has.them (tables s) was found db (c.in-Err.ensures.reads.may clean db may);
+          },
+    )
+
+pub returns-clause-acknowledged : goal.returns-clause-acknowledged
+returns-clause-acknowledged g c before had =
+    let (items, served, leads) = c.serve_open-has_failed.ensures.acknowledged before had in (
+      items,
+      served,
+      λ clean opens live s is_club has db may.
+          let same = c.into_connection.ensures.same in
+          let after : HasCleanDisk (state g.S.Store c.serve_open-has_failed.new.club.club.connection) =
+          subst (λ k. HasCleanDisk (state g.S.Store k)) same clean in
+          let before_it = c.serve_open-has_failed.ensures.clean after in
+          let was = state g.S.Store c.args.conn in
+          let now = state g.S.Store c.in-Ok.club.connection in
+          let found : HoldsClubAmong has.them (tables s) was = record {
+            clear = has.leaves.clear;
+            exactly = c.holds_exactly.ensures opens live _ _ has.leaves.leaves;
+          } in
+          let is : IsServed false now (beside_them has.them s) = record {
+            ready = refl;
+            legal = is_club;
+            exactly = still_beside was now (c.in-Ok.ensures.kept.kept refl before_it) has.them (tables s) found;
+          } in
+          let (t, on, left) =
+          (leads after (beside_them has.them s) is).leaves db
+          (subst (λ k. (state g.S.Store k).may_leave db) same may) in
+          record { them = has.them; after = t; leads = on; leaves = left },
+    )
+
+pub returns-clause-answered : goal.returns-clause-answered
+returns-clause-answered g c none before had =
+    let (items, served, leads) = c.serve_open-has_failed.ensures.acknowledged before had in (
+      items,
+      served,
+      λ clean opens live s is_club has.
+          let same = c.into_connection.ensures.same in
+          let after : HasCleanDisk (state g.S.Store c.serve_open-has_failed.new.club.club.connection) =
+          subst (λ k. HasCleanDisk (state g.S.Store k)) same clean in
+          let before_it = c.serve_open-has_failed.ensures.clean after in
+          let was = state g.S.Store c.args.conn in
+          let now = state g.S.Store c.in-Ok.club.connection in
+          let found : HoldsClubAmong has.them (tables s) was = record {
+            clear = has.leaves.clear;
+            exactly = c.holds_exactly.ensures opens live _ _ has.leaves.leaves;
+          } in
+          let is : IsServed false now (beside_them has.them s) = record {
+            ready = refl;
+            legal = is_club;
+            exactly = still_beside was now (c.in-Ok.ensures.kept.kept refl before_it) has.them (tables s) found;
+          } in
+          let open_still = none_failed c.serve_open-has_failed.result c.fault_after.result c.fault_after.ensures none in
+          let (t, on, stood) =
+          (leads after (beside_them has.them s) is).stands (sym c.serve_open-has_failed.ensures.told ∙ open_still) in
+          record {
+            them = has.them;
+            after = t;
+            leads = on;
+            leaves = λ db may.
+                leaves_beside t.them (tables t.state) _ stood.exactly db
+                (subst (λ k. (state g.S.Store k).may_leave db) same may);
+          },
+    )

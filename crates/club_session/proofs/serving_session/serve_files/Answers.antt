@@ -1,4 +1,5 @@
-use Rattle.std.proofs.Common.{◌≡◌, None, refl}
+use Rattle.std.proofs.Common.{◌≡◌, None, inl, refl}
+use Rattle.store_tables.specs.declared.names.Version.TheVariants.{Current}
 use Rattle.std.proofs.Math.Logic.{∥∥₁_elim, ∥∥₁_map}
 use Rattle.sqlite_wal.specs.Files.{image_at}
 use Rattle.sqlite_store.specs.FileStore.{state as store_state}
@@ -7,39 +8,46 @@ use Rattle.store_tables.proofs.Proved.{leaves_beside}
 use Rattle.store_files.proofs.Proved.{was_clean}
 use Rattle.club_session.proofs.FoundLemmas.{shaped_files, taken_files, told_files}
 use Rattle.club_session.proofs.TaskLemmas.{if_taken}
-use Rattle.club_session.specs.Repeats.{stands_at}
 use Rattle.club_session.proofs.serving_session.serve_files.Goals as goal
 
 pub returns-clause-history : goal.returns-clause-history
-returns-clause-history g c clean them sessions led left may found finds =
+returns-clause-history g c clean from versions them sessions led left may found finds =
     let after = was_clean _ _ c.close.ensures.clean clean in
     let before = c.serve_club-fault.ensures.clean after in
     let opened = c.in-Ok.ensures.opened before in
     let here = c.in-Ok.ensures.found before in
     ∥∥₁_elim (led _ (record { holds = here.holds; reads = here.reads })) squash₁ (λ was.
-    let on = c.serve_club-fault.ensures.history after opened.0 opened.1 them sessions was in
+    let on = c.serve_club-fault.ensures.history after opened.0 opened.1 from was.version them sessions was.reached in
     ∥∥₁_map (c.close.ensures.member clean left may found finds.holds)
-    (λ now. record { turns = on.turns; are_turns = on.are_turns; led = on.led found now }))
+    (λ now. record {
+      turns = on.turns;
+      are_turns = on.are_turns;
+      led = record { version = was.version; among = was.among; reached = on.led found now };
+    }))
 
 pub returns-clause-whole : goal.returns-clause-whole
-returns-clause-whole g c clean none them sessions led left may found finds =
+returns-clause-whole g c clean none from versions them sessions led left may found finds =
     let after = was_clean _ _ c.close.ensures.clean clean in
     let before = c.serve_club-fault.ensures.clean after in
     let opened = c.in-Ok.ensures.opened before in
     let here = c.in-Ok.ensures.found before in
     let nothing : c.serve_club-fault.result.0 ≡ None = cc in
     ∥∥₁_elim (led _ (record { holds = here.holds; reads = here.reads })) squash₁ (λ was.
-    let on = c.serve_club-fault.ensures.stands after opened.0 opened.1 nothing them sessions was in
+    let (is, on) =
+    c.serve_club-fault.ensures.stands after opened.0 opened.1 nothing from was.version them sessions was.reached in
     ∥∥₁_map (c.close.ensures.member clean left may found finds.holds) (λ now. (
       record {
         turns = on.turns;
         are_turns = on.are_turns;
         led = record {
-          from = on.stands.from;
-          after = stands_at on.stands.after;
-          legal = on.stands.legal;
-          leads = on.stands.leads;
-          leaves = leaves_beside them _ _ on.stands.exactly found now;
+          version = Current;
+          among = inl refl;
+          reached = record {
+            after = on.stands.after;
+            legal = on.stands.legal;
+            leads = on.stands.leads;
+            leaves = leaves_beside them _ _ on.stands.exactly found now;
+          };
         };
       },
       on.whole,
@@ -84,3 +92,40 @@ returns-clause-accepts_sound g c clean s are =
     let here = c.in-Ok.ensures.found before in
     c.serve_club-fault.ensures.accepts_sound after opened.0 opened.1 s are.legal
     (are.finds _ (record { holds = here.holds; reads = here.reads }))
+
+pub returns-clause-acknowledged : goal.returns-clause-acknowledged
+returns-clause-acknowledged g c before had =
+    let (items, served, leads) = c.serve_club-fault.ensures.acknowledged before had in (
+      items,
+      served,
+      λ clean s are left may found finds.
+          let after = was_clean _ _ c.close.ensures.clean clean in
+          let before_it = c.serve_club-fault.ensures.clean after in
+          let opened = c.in-Ok.ensures.opened before_it in
+          let here = c.in-Ok.ensures.found before_it in
+          let has = are.finds _ (record { holds = here.holds; reads = here.reads }) in
+          ∥∥₁_map (c.close.ensures.member clean left may found finds.holds)
+          (λ now. leads after opened.0 opened.1 s are.legal has found now),
+    )
+
+pub returns-clause-answered : goal.returns-clause-answered
+returns-clause-answered g c none before had =
+    let nothing : c.serve_club-fault.result.0 ≡ None = cc in
+    let (items, served, settled) = c.serve_club-fault.ensures.answered nothing before had in (
+      items,
+      served,
+      λ clean s are.
+          let after = was_clean _ _ c.close.ensures.clean clean in
+          let before_it = c.serve_club-fault.ensures.clean after in
+          let opened = c.in-Ok.ensures.opened before_it in
+          let here = c.in-Ok.ensures.found before_it in
+          let has = are.finds _ (record { holds = here.holds; reads = here.reads }) in
+          let is = settled after opened.0 opened.1 s are.legal has in
+          record {
+            them = is.them;
+            after = is.after;
+            leads = is.leads;
+            leaves = λ left may found finds.
+                ∥∥₁_map (c.close.ensures.member clean left may found finds.holds) (λ now. is.leaves found now);
+          },
+    )

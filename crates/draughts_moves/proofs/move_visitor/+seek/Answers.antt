@@ -1,10 +1,11 @@
-use Rattle.std.proofs.Common.{◌≡◌, ℕ, ◌+◌, ◌<◌, ◌≤◌, List, [], length, max, drop, refl, sym, ap, ◌∙◌, arith}
+use Rattle.std.proofs.Common.{◌≡◌, ℕ, true, false, nat_lt, ◌+◌, ◌<◌, ◌≤◌, List, [], length, max, drop, refl, sym, ap, ◌∙◌, arith}
 use Rattle.std.specs.FinSet as set
+use Rattle.std.proofs.lemmas.Bool.{ltb-true, ltb-false}
 use Rattle.std.proofs.lemmas.Grind.{common_steps}
 use Rattle.squares.specs.OrderedLists.{put_all}
 use Rattle.draughts_moves.specs.declared.mover.Mover.{Mover}
-use Rattle.draughts_moves.specs.Capture.{without}
-use Rattle.draughts_moves.specs.Search.{greatest, prey_left}
+use Rattle.draughts_moves.specs.Capture.{Cells, without}
+use Rattle.draughts_moves.specs.Search.{greatest, jumps, prey_left}
 use Rattle.draughts_moves.specs.Listing.{move_cmp}
 use Rattle.draughts_moves.specs.Found.{kept}
 use Rattle.draughts_moves.proofs.FoundLemmas.{no_jumps, greatest-end, ends_of-end, most-begun, all-gone, gone-on, among}
@@ -16,26 +17,37 @@ use Rattle.draughts_moves.proofs.move_visitor.+seek.Goals as goal
 gone : {A : Type 0} (i : ℕ) (xs : List A) → length xs ≤ i → drop i xs ≡ []
 gone i xs h = grind (arith, common_steps)
 
-pub returns-then-len-eq0-clause-size : goal.returns-then-len-eq0-clause-size
-returns-then-len-eq0-clause-size t c =
+-- the jumps where there is none, and where there is one
+no_jump : (b : Cells) (m : Mover) → nat_lt 0 (length (jumps b m.piece m.taken m.at)) ≡ false
+    → jumps b m.piece m.taken m.at ≡ []
+no_jump b m none = no_jumps (jumps b m.piece m.taken m.at)
+    (omega (arith, ltb-false 0 (length (jumps b m.piece m.taken m.at)) none))
+
+some_jump : (b : Cells) (m : Mover) (items : List (ℕ × ℕ)) → items ≡ jumps b m.piece m.taken m.at
+    → nat_lt 0 (length (jumps b m.piece m.taken m.at)) ≡ true → length items ≡ 0 → ⊥
+some_jump b m items are some none =
+    omega (arith, ltb-true 0 (length (jumps b m.piece m.taken m.at)) some, ap length are, none)
+
+pub returns-then-not-can_jump-clause-size : goal.returns-then-not-can_jump-clause-size
+returns-then-not-can_jump-clause-size t c =
     let m = c.args.mover.now in
-    let none = sym c.jumps_from-jumps.ensures
-    ∙ no_jumps c.jumps_from-jumps.result (sym c.len.ensures ∙ c.if-len-eq0.true) in
+    let b = without c.args.position.now.board m.origin in
+    let none = no_jump b m (sym c.can_jump.ensures ∙ c.if-not-can_jump.true) in
     omega (
       arith,
       c.in_ok-offer.ensures.size,
-      greatest-end (without c.args.position.now.board m.origin) m none,
+      greatest-end b m none,
     )
 
-pub returns-then-len-eq0-clause-moves : goal.returns-then-len-eq0-clause-moves
-returns-then-len-eq0-clause-moves t c =
+pub returns-then-not-can_jump-clause-moves : goal.returns-then-not-can_jump-clause-moves
+returns-then-not-can_jump-clause-moves t c =
     let m = c.args.mover.now in
-    let none = sym c.jumps_from-jumps.ensures
-    ∙ no_jumps c.jumps_from-jumps.result (sym c.len.ensures ∙ c.if-len-eq0.true) in
+    let b = without c.args.position.now.board m.origin in
+    let none = no_jump b m (sym c.can_jump.ensures ∙ c.if-not-can_jump.true) in
     let size = c.offer.new.self.size in
     c.in_ok-offer.ensures.moves
     ∙ ap (λ ms. put_all move_cmp ms (kept c.args.found.now.size size c.args.found.now.moves.items))
-    (ends_of-end (without c.args.position.now.board m.origin) m size none (omega (arith, c.in_ok-offer.ensures.size)))
+    (ends_of-end b m size none (omega (arith, c.in_ok-offer.ensures.size)))
 
 pub loop-over-init : goal.loop-over-init
 loop-over-init t c =
@@ -45,7 +57,7 @@ loop-over-init t c =
       gathers = record {
         most_is = most-begun (without c.args.position.now.board m.origin) m c.items-over-items.result.now are
             c.args.found.now.size
-            (λ e. c.if-len-eq0.false (c.len.ensures ∙ ap length (sym c.items-over-items.ensures) ∙ e));
+            (some_jump (without c.args.position.now.board m.origin) m c.items-over-items.result.now are (sym c.can_jump.ensures ∙ c.if-not-can_jump.false));
         listed = refl;
         sorted = c.requires;
       };
@@ -99,4 +111,4 @@ returns-clause-moves t c =
     (rw (gone w.over-index items c.loop-over-test.false) at w.invariant.gathers) in
     rw end.0
     (end.1 ∙ all-gone b m items w.invariant.items_are most c.args.found.now.size c.args.found.now.moves.items
-    (λ e. c.if-len-eq0.false (c.len.ensures ∙ ap length (sym c.items-over-items.ensures) ∙ e)) refl)
+    (some_jump b m c.items-over-items.result.now w.invariant.items_are (sym c.can_jump.ensures ∙ c.if-not-can_jump.false)) refl)

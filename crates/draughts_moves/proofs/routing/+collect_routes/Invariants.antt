@@ -11,13 +11,13 @@ abbrev pub invariant-loop-over : goal.invariant-loop-over
 invariant-loop-over l =
     let b = without l.position.board l.mover.origin in
     record {
-      so_far : lists_in l.routes.items
+      so_far : lists_in l.search.routes.items
           ≡
           put_all route_cmp
-          (flat_map (by_jump b l.mover.piece l.played.taken l.played.to (l.left - 1) l.mover.taken l.fn.path.items)
-          (take l.over-index l.over-items)) (lists_in l.fn.routes.items);
+          (flat_map (by_jump b l.mover.piece l.played.taken l.played.to (l.left - 1) l.mover.taken l.fn.search.path.items)
+          (take l.over-index l.over-items)) (lists_in l.fn.search.routes.items);
       items_are : l.over-items ≡ jumps b l.mover.piece l.mover.taken l.fn.mover.at;
-      path_is : l.path.items ≡ l.fn.path.items;
+      path_is : l.search.path.items ≡ l.fn.search.path.items;
     }
 
 abbrev pub decreases-collect_routes : goal.decreases-collect_routes

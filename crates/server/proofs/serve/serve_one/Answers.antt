@@ -1,6 +1,7 @@
 use Rattle.std.proofs.Common.{◌++◌, ℕ, List, Some, Result, Ok, Err, refl, subst}
 use Rattle.http_desk.specs.declared.faults.DeskFault.{DeskFault}
 use Rattle.server.proofs.ActedLemmas.{answered_acted_on, consumes_on}
+use Rattle.server.proofs.ServedLemmas.{lost_answered}
 use Rattle.server.proofs.ServingLemmas.{served, stopped, shut_served}
 use Rattle.server.specs.declared.serve.Exchange.{Exchange}
 use Rattle.server.specs.Serving.{IsReplyTo}
@@ -13,10 +14,10 @@ returns-in-Ok-write_reply-clause-serves g c clean s input before stands reader w
     c.args.moment (c.args.heard.items ++ input) before
     c.in-Ok.bytes.items c.deref.result.now c.in-Ok-answer.replied.reply.items c.deref-2.result.now
     (Some (c.args.heard.items ++ input)) (g.R.Read.remaining c.read_request_bytes.new.reader)
-    (g.W.Write.contents c.args.writer.now) (g.W.Write.contents c.write_reply.new.writer) written
+    (g.W.Write.contents c.args.connection.now.writer) (g.W.Write.contents c.write_reply.new.writer) written
     refl writer c.deref.ensures.value c.deref-2.ensures.value
     (consumes_on c.args.heard.items input c.in-Ok.bytes.items c.in-Ok.ensures.taken.0
-    (g.R.Read.remaining c.args.reader.now) (g.R.Read.remaining c.read_request_bytes.new.reader) reader c.in-Ok.ensures.taken.1
+    (g.R.Read.remaining c.args.connection.now.reader) (g.R.Read.remaining c.read_request_bytes.new.reader) reader c.in-Ok.ensures.taken.1
     c.in-Ok.ensures.taken.2)
     c.in-Ok.ensures.enough
     (c.in-Ok-answer.ensures.replies clean s stands) c.in-Ok-write_reply.ensures.ok tt tt
@@ -27,11 +28,11 @@ returns-in-Err-write_reply-clause-serves g c clean s input before stands reader 
     c.args.moment (c.args.heard.items ++ input) before
     c.in-Ok.bytes.items c.deref.result.now c.in-Ok-answer.replied.reply.items c.deref-2.result.now
     (Some (c.args.heard.items ++ input)) (g.R.Read.remaining c.read_request_bytes.new.reader)
-    (g.W.Write.contents c.args.writer.now) (g.W.Write.contents c.write_reply.new.writer)
+    (g.W.Write.contents c.args.connection.now.writer) (g.W.Write.contents c.write_reply.new.writer)
     (let failed : Result Exchange DeskFault = Err c.in-Err-write_reply.fault in failed)
     refl writer c.deref.ensures.value c.deref-2.ensures.value
     (consumes_on c.args.heard.items input c.in-Ok.bytes.items c.in-Ok.ensures.taken.0
-    (g.R.Read.remaining c.args.reader.now) (g.R.Read.remaining c.read_request_bytes.new.reader) reader c.in-Ok.ensures.taken.1
+    (g.R.Read.remaining c.args.connection.now.reader) (g.R.Read.remaining c.read_request_bytes.new.reader) reader c.in-Ok.ensures.taken.1
     c.in-Ok.ensures.taken.2)
     c.in-Ok.ensures.enough
     (c.in-Ok-answer.ensures.replies clean s stands) tt c.in-Err-write_reply.ensures.beginning
@@ -44,10 +45,10 @@ returns-in-Err-clause-serves g c clean s input before stands reader writer =
     c.args.moment (c.args.heard.items ++ input) before
     c.in-Ok.bytes.items c.deref.result.now
     (Some (c.args.heard.items ++ input)) (g.R.Read.remaining c.read_request_bytes.new.reader)
-    (g.W.Write.contents c.args.writer.now) c.in-Err.fault
+    (g.W.Write.contents c.args.connection.now.writer) c.in-Err.fault
     refl writer c.deref.ensures.value
     (consumes_on c.args.heard.items input c.in-Ok.bytes.items c.in-Ok.ensures.taken.0
-    (g.R.Read.remaining c.args.reader.now) (g.R.Read.remaining c.read_request_bytes.new.reader) reader c.in-Ok.ensures.taken.1
+    (g.R.Read.remaining c.args.connection.now.reader) (g.R.Read.remaining c.read_request_bytes.new.reader) reader c.in-Ok.ensures.taken.1
     c.in-Ok.ensures.taken.2)
     c.in-Ok.ensures.enough c.in-Err.ensures.fault
     (c.in-Err.ensures.replies clean s stands)
@@ -68,10 +69,10 @@ returns-in-Ok-write_reply-clause-shut g c fault shut =
           shut_served fault (c.args.heard.items ++ input) before
           c.in-Ok.bytes.items c.deref.result.now c.in-Ok-answer.replied.reply.items c.deref-2.result.now
           (Some (c.args.heard.items ++ input)) (g.R.Read.remaining c.read_request_bytes.new.reader)
-          (g.W.Write.contents c.args.writer.now) (g.W.Write.contents c.write_reply.new.writer) written
+          (g.W.Write.contents c.args.connection.now.writer) (g.W.Write.contents c.write_reply.new.writer) written
           refl writer c.deref.ensures.value c.deref-2.ensures.value
           (consumes_on c.args.heard.items input c.in-Ok.bytes.items c.in-Ok.ensures.taken.0
-          (g.R.Read.remaining c.args.reader.now) (g.R.Read.remaining c.read_request_bytes.new.reader) reader
+          (g.R.Read.remaining c.args.connection.now.reader) (g.R.Read.remaining c.read_request_bytes.new.reader) reader
           c.in-Ok.ensures.taken.1 c.in-Ok.ensures.taken.2)
           c.in-Ok.ensures.enough
           told.1 c.in-Ok-write_reply.ensures.ok tt tt,
@@ -85,11 +86,11 @@ returns-in-Err-write_reply-clause-shut g c fault shut =
           shut_served fault (c.args.heard.items ++ input) before
           c.in-Ok.bytes.items c.deref.result.now c.in-Ok-answer.replied.reply.items c.deref-2.result.now
           (Some (c.args.heard.items ++ input)) (g.R.Read.remaining c.read_request_bytes.new.reader)
-          (g.W.Write.contents c.args.writer.now) (g.W.Write.contents c.write_reply.new.writer)
+          (g.W.Write.contents c.args.connection.now.writer) (g.W.Write.contents c.write_reply.new.writer)
           (let failed : Result Exchange DeskFault = Err c.in-Err-write_reply.fault in failed)
           refl writer c.deref.ensures.value c.deref-2.ensures.value
           (consumes_on c.args.heard.items input c.in-Ok.bytes.items c.in-Ok.ensures.taken.0
-          (g.R.Read.remaining c.args.reader.now) (g.R.Read.remaining c.read_request_bytes.new.reader) reader
+          (g.R.Read.remaining c.args.connection.now.reader) (g.R.Read.remaining c.read_request_bytes.new.reader) reader
           c.in-Ok.ensures.taken.1 c.in-Ok.ensures.taken.2)
           c.in-Ok.ensures.enough
           told.1 tt c.in-Err-write_reply.ensures.beginning c.in-Err-write_reply.ensures.fault,
@@ -115,3 +116,12 @@ returns-in-Err-clause-acts g c clean s stands =
     (g.C.ClubService.Leaves c.answer.new.club) (λ v. v.reply.items) s c.args.moment c.args.heard.items
     c.in-Ok.ensures.taken.0 c.in-Ok.bytes.items c.deref.result.now c.answer.result c.deref.ensures.value
     c.in-Ok.ensures.taken.1 (c.answer.ensures.replies clean s stands)
+
+pub returns-in-Err-clause-answers : goal.returns-in-Err-clause-answers
+returns-in-Err-clause-answers g c clean s stands =
+    lost_answered g.C.ClubService.club (g.C.ClubService.Stands c.answer.new.club)
+    (g.C.ClubService.Leaves c.answer.new.club) s c.args.moment c.args.heard.items c.in-Err.fault c.in-Err.ensures.fault
+    (answered_acted_on g.C.ClubService.club (g.C.ClubService.Stands c.answer.new.club)
+    (g.C.ClubService.Leaves c.answer.new.club) (λ v. v.reply.items) s c.args.moment c.args.heard.items
+    c.in-Ok.ensures.taken.0 c.in-Ok.bytes.items c.deref.result.now c.answer.result c.deref.ensures.value
+    c.in-Ok.ensures.taken.1 (c.answer.ensures.replies clean s stands))

@@ -13,7 +13,7 @@ loop-to-init g c =
     record {
       sought =
           ap (s.plus a.seeker.now)
-          (steps-reached p a.piece a.from c.requires.stands (s.test p) (g.met.S.MoveVisitor.only p) rest.result
+          (steps-reached p a.mover.now.piece a.mover.now.from c.requires.stands (s.test p) (g.met.S.MoveVisitor.only p) rest.result
           rest.ensures);
       each = λ to e. sym (rest.ensures to) ∙ e;
     }
@@ -21,6 +21,6 @@ loop-to-init g c =
 pub loop-to-preserved : goal.loop-to-preserved
 loop-to-preserved g c =
     let s = g.S.MoveVisitor in
-    let f = steps_between (s.test (position_of c.args.layout.now)) c.args.from in
+    let f = steps_between (s.test (position_of c.args.layout.now)) c.args.mover.now.from in
     sought_popped s.plus g.met.S.MoveVisitor.plus_more f _ _ _ _ _ _ _ c.in-Some.ensures c.loop-to.invariant
     (c.in_ok-seek_between.ensures ∙ ap (λ to. s.plus c.loop-to.seeker (f to)) c.of_number.ensures)

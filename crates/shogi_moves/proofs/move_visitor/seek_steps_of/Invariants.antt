@@ -10,8 +10,8 @@ abbrev pub invariant-loop-to : goal.invariant-loop-to
 invariant-loop-to g l =
     let s = g.S.MoveVisitor in
     let p = position_of l.layout in
-    Sought s.plus (steps_between (s.test p) l.from) (λ to. piece_reaches l.layout.board l.piece l.from to ≡ true)
-    (s.plus l.fn.seeker (steps_from (s.test p) l.from)) l.rest l.seeker
+    Sought s.plus (steps_between (s.test p) l.mover.from) (λ to. piece_reaches l.layout.board l.mover.piece l.mover.from to ≡ true)
+    (s.plus l.fn.seeker (steps_from (s.test p) l.mover.from)) l.rest l.seeker
 
 abbrev pub decreases-loop-to : goal.decreases-loop-to
 decreases-loop-to g l = length (ascending 0 81 l.rest)

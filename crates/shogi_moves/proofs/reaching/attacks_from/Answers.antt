@@ -11,7 +11,7 @@ loop-heading-init c to = ap (λ s. set.contains s to) c.new-found.ensures ∙ se
 pub loop-heading-preserved : goal.loop-heading-preserved
 loop-heading-preserved c to =
     let w = c.loop-heading in
-    c.with_heading-found.ensures to
+    (rw c.of_piece.ensures at (c.with_line-found.ensures to))
     ∙ any_more _ all_headings w.heading-index _ _ (omega (arith, c.loop-heading-test.true)) (w.invariant to)
 
 pub returns : goal.returns

@@ -6,5 +6,5 @@ use Rattle.shogi_moves.proofs.reaching.with_line.Given as goal
 
 abbrev pub invariant-loop : goal.invariant-loop
 invariant-loop l =
-    (to : ℕ) → (set.contains l.found to || comes_to l.board to (line (l.distance - l.counter) l.side l.heading l.at))
-    ≡ (set.contains l.fn.squares to || comes_to l.board to (line l.distance l.side l.heading l.fn.from))
+    (to : ℕ) → (set.contains l.found to || comes_to l.board to (line (l.way.distance - l.counter) l.way.side l.way.heading l.at))
+    ≡ (set.contains l.fn.squares to || comes_to l.board to (line l.way.distance l.way.side l.way.heading l.fn.way.from))

@@ -2,4 +2,4 @@ use Rattle.store.proofs.HistoryLemmas.{stops_led}
 use Rattle.store.proofs.reopen.crash_keeps_history.Goals as goal
 
 pub returns : goal.returns
-returns g c version them chapters = stops_led version them chapters _
+returns g c from version them chapters = stops_led from version them chapters _

@@ -1,14 +1,16 @@
-use Rattle.std.proofs.Common.{arith, inl, inr, refl, subst, sym, ◌∙◌}
+use Rattle.std.proofs.Common.{◌≡◌, true, false, arith, inl, inr, refl, subst, sym, ◌∙◌, [], ◌∷◌, ◌++◌}
 use Rattle.sqlite.specs.Held.{state}
 use Rattle.sqlite.specs.State.{HasCleanDisk}
 use Rattle.store_tables.specs.Over.{alone}
 use Rattle.store_tables.specs.Placed.{HasTablesOf}
-use Rattle.store_tables.specs.declared.names.Version.TheVariants.{First}
+use Rattle.store_tables.specs.declared.names.Version.TheVariants.{First, Current}
 use Rattle.store_tables.proofs.Proved.{alone_exactly, beside_same, first_alone, leaves_first, left_same, still_beside}
 use Rattle.store_tables.proofs.Proved.{still_first}
+use Rattle.schema_match.specs.Shapes.{is_of_club}
 use Rattle.club_rows.specs.Club.{tables}
 use Rattle.club_rows.specs.FirstSchema.{first_tables}
 use Rattle.club_check.specs.Versions.{IsExactlyClub}
+use Rattle.store.specs.Histories.{IsReachableIn, upgraded}
 use Rattle.store.proofs.HistoryLemmas.{holds_beside, holds_first, left_at, opens_led, opens_taken}
 use Rattle.store.proofs.UpgradeLemmas.{first_history, found_widened, not_newer, upgraded_cut, upgraded_stands}
 use Rattle.store.proofs.upgrades.upgrade.Goals as goal
@@ -30,14 +32,22 @@ returns-in-Current-clause-found g c clean version opened =
     (s, club, subst (λ v. IsExactlyClub v s (state g.S.Store c.check_schemas.new.conn)) current exactly)
 
 pub returns-in-Current-clause-history : goal.returns-in-Current-clause-history
-returns-in-Current-clause-history g c clean opens live them chapters led =
+returns-in-Current-clause-history g c clean opens live from version them chapters led =
     let s0 = state g.S.Store c.args.conn in
-    let last = opens_taken s0 opens live (g.met.S.Store.settled c.args.conn.store) led
+    let (is, last) = opens_taken s0 opens live (g.met.S.Store.settled c.args.conn.store) led
     (λ known. subst (λ v. HasTablesOf v s0.now.schema) c.in-Current.is (c.in-Ok.ensures.stays clean known).0)
     (c.in-Ok.ensures.reads.kept refl clean) in
-    upgraded_stands last last.exactly
+    (is, upgraded_stands last last.exactly)
+
+pub returns-in-Current-clause-shape : goal.returns-in-Current-clause-shape
+returns-in-Current-clause-shape g c =
+    subst (λ v. is_of_club v (state g.S.Store c.args.conn).now.schema ≡ true) c.in-Current.is c.in-Ok.ensures.shape
 
 -- ---- schema 1
+
+pub returns-in-Ok-migrate-clause-shape : goal.returns-in-Ok-migrate-clause-shape
+returns-in-Ok-migrate-clause-shape g c =
+    subst (λ v. is_of_club v (state g.S.Store c.args.conn).now.schema ≡ true) c.in-First.is c.in-Ok.ensures.shape
 
 pub returns-in-Ok-migrate-clause-done : goal.returns-in-Ok-migrate-clause-done
 returns-in-Ok-migrate-clause-done g c clean them s first exactly =
@@ -68,12 +78,14 @@ returns-in-Ok-migrate-clause-found g c clean version opened =
     )
 
 pub returns-in-Ok-migrate-clause-history : goal.returns-in-Ok-migrate-clause-history
-returns-in-Ok-migrate-clause-history g c clean opens live them chapters led =
+returns-in-Ok-migrate-clause-history g c clean opens live from version them chapters led =
     let clean1 : HasCleanDisk (state g.S.Store c.check_schemas.new.conn) = omega (arith, c.migrate.ensures.clean, clean) in
-    let first = first_history c.in-First.is (c.in-Ok.ensures.newer clean1)
-    (opens_led _ opens live (g.met.S.Store.settled c.args.conn.store) them chapters led) in
-    upgraded_stands first
-    (returns-in-Ok-migrate-clause-done g c clean them first.after first.legal first.exactly).1
+    let (is, first) = first_history version c.in-First.is (c.in-Ok.ensures.newer clean1)
+    (opens_led _ opens live (g.met.S.Store.settled c.args.conn.store) from version them chapters led) in (
+      is,
+      upgraded_stands first
+          (returns-in-Ok-migrate-clause-done g c clean them first.after first.legal first.exactly).1,
+    )
 
 -- ---- faults
 
@@ -86,8 +98,8 @@ returns-in-Err-clause-accepts_sound g c clean version s club holds shape =
     c.in-Err.ensures.accepts_sound clean version s club holds shape (λ is. absurd (not_newer refl is))
 
 pub returns-in-Err-clause-after_crash : goal.returns-in-Err-clause-after_crash
-returns-in-Err-clause-after_crash g c clean opens live them chapters led db may =
-    let (version, at) = opens_led _ opens live (g.met.S.Store.settled c.args.conn.store) them chapters led in
+returns-in-Err-clause-after_crash g c clean opens live from version them chapters led db may =
+    let at = opens_led _ opens live (g.met.S.Store.settled c.args.conn.store) from version them chapters led in
     upgraded_cut at (inl (left_at version them at.after _ at.exactly db (c.in-Err.ensures.reads.may clean db may)))
 
 pub returns-clause-fault : goal.returns-clause-fault
@@ -106,8 +118,10 @@ returns-clause-stays g c clean beside =
     absurd (not_newer c.in-First.is (c.in-Ok.ensures.newer clean1 beside))
 
 pub returns-clause-after_crash : goal.returns-clause-after_crash
-returns-clause-after_crash g c clean opens live them chapters led db may =
+returns-clause-after_crash g c clean opens live from version them chapters led db may =
     let clean1 : HasCleanDisk (state g.S.Store c.check_schemas.new.conn) = omega (arith, c.migrate.ensures.clean, clean) in
-    let first = first_history c.in-First.is (c.in-Ok.ensures.newer clean1)
-    (opens_led _ opens live (g.met.S.Store.settled c.args.conn.store) them chapters led) in
-    upgraded_cut first (returns-clause-fault g c clean them first.after first.legal first.exactly db may)
+    let (is, first) = first_history version c.in-First.is (c.in-Ok.ensures.newer clean1)
+    (opens_led _ opens live (g.met.S.Store.settled c.args.conn.store) from version them chapters led) in
+    let fault = returns-clause-fault g c clean them first.after first.legal first.exactly db may in
+    subst (λ v. IsReachableIn from (v ∷ Current ∷ []) them (chapters ++ upgraded Current false ∷ []) db) (sym is)
+    (upgraded_cut first fault)

@@ -12,8 +12,8 @@ play-after-requires g c =
     move-legal g.R.Rules.rules c.args.moves.now c.loop-i.i c.index-moves-i.result c.loop-i-test.true c.index-moves-i.is
     c.requires.line c.loop-i.position c.loop-i.invariant.position
 
-pub ply_row-requires-clause-legal : goal.ply_row-requires-clause-legal
-ply_row-requires-clause-legal g c =
+pub ply_texts-requires : goal.ply_texts-requires
+ply_texts-requires g c =
     move-legal g.R.Rules.rules c.args.moves.now c.loop-i.i c.index-moves-i.result c.loop-i-test.true c.index-moves-i.is
     c.requires.line c.loop-i.position c.loop-i.invariant.position
 
@@ -51,11 +51,11 @@ loop-i-preserved g c =
     let x : ℕ = c.with_increment-left.result.first in
     let y : ℕ = c.with_increment-left.result.second in
     let next = ply-next laws ms i m within is are c.requires.line (terms_given c.args.terms) c.args.game moment p q turn
-    a b x y c.seconds_of.result now.position c.play-after.ensures c.turn-turn.ensures now.clocks (c.with_increment-left.ensures moment)
-    (c.seconds_of.ensures moment) (map move_cells c.loop-i.rows.items) (map move_cells c.push.new.self.items)
-    (move_cells c.in_ok-ply_row.field-0) now.rows
-    (ap (map move_cells) c.in_ok-push.ensures.items
-    ∙ map-append move_cells c.loop-i.rows.items (c.in_ok-ply_row.field-0 ∷ [])) c.in_ok-ply_row.ensures in
+    a b x y c.seconds_of.result now.position c.play-after.ensures c.turn-turn.ensures now.clocks
+    (c.with_increment-left.ensures moment) (c.seconds_of.ensures moment) (map move_cells c.loop-i.rows.items)
+    (map move_cells c.push.new.self.items) (move_cells c.ply_row.result) now.rows
+    (ap (map move_cells) c.in_ok-push.ensures.items ∙ map-append move_cells c.loop-i.rows.items (c.ply_row.result ∷ []))
+    (rw (c.in_ok-texts.ensures.text, c.in_ok-texts.ensures.position) at c.ply_row.ensures) in
     let few = spent_few c.args.terms.increment turn i a b x y c.requires.increment now.first now.second
     (c.with_increment-left.ensures 0) in
     record {

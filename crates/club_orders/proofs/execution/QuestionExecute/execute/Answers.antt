@@ -1,5 +1,6 @@
 use Rattle.std.proofs.lemmas.Result.{IfOk-weaker, IfErr-weaker}
-use Rattle.store_tables.proofs.Proved.{rows_beside}
+use Rattle.store_tables.specs.declared.names.Version.TheVariants.{Current}
+use Rattle.store_tables.proofs.Proved.{leaves_beside, rows_beside}
 use Rattle.club_rows.specs.Club.{tables}
 use Rattle.club_orders.proofs.QuestionLemmas.{shows}
 use Rattle.club_orders.proofs.SessionLemmas.{led_still, left_led}
@@ -16,5 +17,9 @@ returns-clause-answer g c clean them s is_club here =
     (IfErr-weaker answer _ _ (λ fault told. told c.requires) c.ask.ensures.possible_faults))
 
 pub returns-clause-history : goal.returns-clause-history
-returns-clause-history g c clean them sessions at db left =
-    led_still them sessions db (left_led them sessions _ at db (c.ask.ensures.reads.may clean db left))
+returns-clause-history g c clean from them sessions at db left =
+    led_still from Current them sessions db (left_led from them sessions _ at db (c.ask.ensures.reads.may clean db left))
+
+pub returns-clause-next_state : goal.returns-clause-next_state
+returns-clause-next_state g c clean them s is_club here db left =
+    leaves_beside them (tables s) _ here db (c.ask.ensures.reads.may clean db left)

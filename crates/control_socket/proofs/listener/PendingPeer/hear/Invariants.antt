@@ -1,6 +1,8 @@
-use Rattle.std.proofs.Common.{◌≡◌, ◌++◌, ℕ, List}
+use Rattle.http_head.specs.Intake.{HasTaken}
 use Rattle.control_socket.proofs.listener.PendingPeer.hear.Given as goal
 
--- what was heard stands behind what was said before
+-- what was read so far is behind what was received before
 abbrev pub invariant-loop : goal.invariant-loop
-invariant-loop l = (more : List ℕ) × (l.self.said.items ≡ l.fn.self.said.items ++ more)
+invariant-loop g l =
+    HasTaken l.fn.self.said.items l.self.said.items (g.T.Read.remaining l.fn.self.stream)
+    (g.T.Read.remaining l.self.stream)

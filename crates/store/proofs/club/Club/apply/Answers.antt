@@ -56,26 +56,26 @@ returns-in-None-clause-unchanged g c clean refused schema content k =
     c.in-Ok.ensures.reads.kept refl clean schema content (search rules)
 
 pub returns-in-Err-clause-after_crash : goal.returns-in-Err-clause-after_crash
-returns-in-Err-clause-after_crash g c clean usable them sessions at db left =
-    one_cut at.from them at.after sessions _ db at.leads at.legal
+returns-in-Err-clause-after_crash g c clean usable from them sessions at db left =
+    one_cut from them at.after sessions _ db at.leads at.legal
     (club_stays at.after _ (omega (arith, c.seconds-within.ensures.value, c.seconds-within.ensures.range)) at.legal)
     (returns-in-Err-clause-fault g c clean usable them at.after at.legal at.exactly db left)
 
 pub returns-in-Ok-apply_changes-clause-stands : goal.returns-in-Ok-apply_changes-clause-stands
-returns-in-Ok-apply_changes-clause-stands g c clean them sessions at =
+returns-in-Ok-apply_changes-clause-stands g c clean from them sessions at =
     one_stands _ _ at
     (returns-in-Ok-apply_changes-clause-answer g c clean at.after at.legal (rows_beside them _ _ at.exactly))
     (club_stays at.after _ (omega (arith, c.seconds-within.ensures.value, c.seconds-within.ensures.range)) at.legal)
     (returns-in-Ok-apply_changes-clause-step g c clean them at.after at.legal at.exactly)
 
 pub returns-in-Err-apply_changes-clause-after_crash : goal.returns-in-Err-apply_changes-clause-after_crash
-returns-in-Err-apply_changes-clause-after_crash g c clean usable them sessions at db left =
-    one_cut at.from them at.after sessions _ db at.leads at.legal
+returns-in-Err-apply_changes-clause-after_crash g c clean usable from them sessions at db left =
+    one_cut from them at.after sessions _ db at.leads at.legal
     (club_stays at.after _ (omega (arith, c.seconds-within.ensures.value, c.seconds-within.ensures.range)) at.legal)
     (returns-in-Err-apply_changes-clause-fault g c clean usable them at.after at.legal at.exactly db left)
 
 pub returns-in-None-clause-stands : goal.returns-in-None-clause-stands
-returns-in-None-clause-stands g c clean them sessions at =
+returns-in-None-clause-stands g c clean from them sessions at =
     one_stands _ _ at (returns-in-None-clause-answer g c clean at.after at.legal (rows_beside them _ _ at.exactly))
     (club_stays at.after _ (omega (arith, c.seconds-within.ensures.value, c.seconds-within.ensures.range)) at.legal)
     (returns-in-None-clause-step g c clean them at.after at.legal at.exactly)

@@ -1,26 +1,28 @@
-use Rattle.std.proofs.Common.{refl, arith}
+use Rattle.std.proofs.Common.{refl, arith, sym, subst, [], ◌∷◌, ◌++◌}
 use Rattle.sqlite.specs.State.{HasCleanDisk}
 use Rattle.sqlite.specs.Held.{state}
 use Rattle.store_tables.proofs.Proved.{still_beside}
 use Rattle.club_rows.specs.Club.{tables}
+use Rattle.store.specs.Histories.{IsReachable, session_of}
 use Rattle.store.proofs.HistoryLemmas.{holds_beside, opens_beside, opens_led, opens_taken, stops_led}
 use Rattle.store.proofs.club.sessions.resume.Goals as goal
 
 pub returns-clause-history : goal.returns-clause-history
-returns-clause-history g c clean opens live them sessions led db left =
+returns-clause-history g c clean opens live from version them sessions led db left =
     let before : HasCleanDisk (state g.S.Store c.in-Ok.club.connection) =
     omega (arith, c.session-run.ensures.clean, clean) in
-    c.session-run.ensures.history clean c.in-Ok.ensures.ready them sessions
-    (opens_taken _ opens live (g.met.S.Store.settled c.args.conn.store) led
-    (λ known. (c.in-Ok.ensures.unchanged before known).0) (c.in-Ok.ensures.kept.kept refl before)) db left
+    let (is, at) = opens_taken _ opens live (g.met.S.Store.settled c.args.conn.store) led
+    (λ known. (c.in-Ok.ensures.unchanged before known).0) (c.in-Ok.ensures.kept.kept refl before) in
+    subst (λ v. IsReachable from v them (sessions ++ session_of c.args.requests.now c.session-run.result ∷ []) db)
+    (sym is) (c.session-run.ensures.history clean c.in-Ok.ensures.ready from them sessions at db left)
 
 pub returns-clause-stands : goal.returns-clause-stands
-returns-clause-stands g c clean opens live none them sessions led =
+returns-clause-stands g c clean opens live none from version them sessions led =
     let before : HasCleanDisk (state g.S.Store c.in-Ok.club.connection) =
     omega (arith, c.session-run.ensures.clean, clean) in
-    c.session-run.ensures.stands clean none them sessions
-    (opens_taken _ opens live (g.met.S.Store.settled c.args.conn.store) led
-    (λ known. (c.in-Ok.ensures.unchanged before known).0) (c.in-Ok.ensures.kept.kept refl before))
+    let (is, at) = opens_taken _ opens live (g.met.S.Store.settled c.args.conn.store) led
+    (λ known. (c.in-Ok.ensures.unchanged before known).0) (c.in-Ok.ensures.kept.kept refl before) in
+    (is, c.session-run.ensures.stands clean none from them sessions at)
 
 pub returns-clause-outcomes : goal.returns-clause-outcomes
 returns-clause-outcomes g c clean opens live s is_club left =
@@ -38,9 +40,9 @@ returns-in-Err-clause-accepts_sound g c clean opens live s is_club left =
     (rw found.exactly.now.schema left.shape)
 
 pub returns-in-Err-clause-kept : goal.returns-in-Err-clause-kept
-returns-in-Err-clause-kept g c clean opens live them sessions led db left =
-    let (version, at) = opens_led _ opens live (g.met.S.Store.settled c.args.conn.store) them sessions led in
-    stops_led version them sessions _ at db (c.in-Err.ensures.reads.may clean db left)
+returns-in-Err-clause-kept g c clean opens live from version them sessions led db left =
+    let at = opens_led _ opens live (g.met.S.Store.settled c.args.conn.store) from version them sessions led in
+    stops_led from version them sessions _ at db (c.in-Err.ensures.reads.may clean db left)
 
 pub returns-clause-possible_faults : goal.returns-clause-possible_faults
 returns-clause-possible_faults g c = c.session-run.ensures.possible_faults c.in-Ok.ensures.ready

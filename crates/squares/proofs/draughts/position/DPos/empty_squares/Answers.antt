@@ -5,13 +5,14 @@ use Rattle.std.specs.FinSet as set
 use Rattle.std.specs.Prelude.{is_none}
 use Rattle.masks.specs.Words.{Numbers}
 use Rattle.squares.specs.DraughtsBoard.{Position, board_of}
+use Rattle.squares.specs.DraughtsKept.{cells_in}
 use Rattle.squares.proofs.DraughtsKept.{neither_side}
 use Rattle.squares.proofs.draughts.position.DPos.empty_squares.Goals as goal
 
 pub returns-clause-empty : goal.returns-clause-empty
 returns-clause-empty c = λ n on.
     let inside = c.self.inside in
-    let cell = get (board_of inside.cells) n in
+    let cell = get (board_of (cells_in inside.first inside.second inside.kings)) n in
     let occupied = ap (λ (s : Numbers). set.contains s n) c.union-occupied.ensures
     ∙ set.contains-union nat_cmp_total inside.first inside.second n
     ∙ (λ i. c.self.invariant.of_first n i || c.self.invariant.of_second n i) in

@@ -1,0 +1,12 @@
+use Rattle.store_tables.proofs.Proved.{reads_on}
+use Rattle.club_answers.proofs.CallLemmas.{tells_found}
+use Rattle.club_answers.proofs.pages.page.Goals as goal
+
+pub returns-in_ok-text-in-Some-clause-reads : goal.returns-in_ok-text-in-Some-clause-reads
+returns-in_ok-text-in-Some-clause-reads g c =
+    reads_on c.in_ok-stored.ensures.reads c.in_ok-text-in-Some.ensures.reads
+
+pub returns-in_ok-text-in-Some-clause-found : goal.returns-in_ok-text-in-Some-clause-found
+returns-in_ok-text-in-Some-clause-found g c clean s is_club k =
+    tells_found s c.args.game c.in_ok-stored.ensures.reads c.page_in.ensures.reads c.in_ok-stored.ensures.found
+    c.in-Some.is clean is_club k (c.in_ok-text-in-Some.ensures.page clean s c.args.game)

@@ -1,0 +1,142 @@
+-- No value that is written has a float, so each has one compact text.
+use Rattle.std.proofs.Common.{◌≡◌, ℕ, List, [], ◌∷◌, map, false, Option, Some, None, option_map, refl}
+use Rattle.serde_json.specs.Data.{Data, string}
+use Rattle.serde_json.specs.View.{items_of}
+use Rattle.serde_json.specs.Written.{has_float, items_have_float}
+use Rattle.squares.specs.Sides.{score_text}
+use Rattle.club_core.specs.Events.{Event}
+use Rattle.club_core.specs.Members.{Member}
+use Rattle.club_core.specs.declared.challenges.Challenge.{Challenge}
+use Rattle.club_lists.specs.Bodies.{game_data, moves_data}
+use Rattle.club_lists.specs.Clock.{clock_data, deadline_within, running_turn, while_running}
+use Rattle.club_lists.specs.Ended.{end_moment, ended_data, ended_games_data, is_own_ended, most_ended}
+use Rattle.club_lists.specs.GameShown.{GameShown, end_name}
+use Rattle.club_lists.specs.GameSummary.{GameSummary, Running, end_of, result_of}
+use Rattle.club_lists.specs.Newest.{newest}
+use Rattle.club_lists.specs.Page.{page_data}
+use Rattle.club_lists.specs.Shows.{challenge_choices, challenge_data, event_data, event_game_data, event_games_data}
+use Rattle.club_lists.specs.Shows.{is_of_event, is_other, is_own_refused, is_shown, most_refused, my_games_data}
+use Rattle.club_lists.specs.Shows.{offerer, own_game_data, started}
+use Rattle.club_lists.specs.Values.{number_or_null, text_or_null}
+use Rattle.std.specs.Prelude.{filter}
+
+pub text_float : (text : Option (List ℕ)) → has_float (text_or_null text) ≡ false
+text_float None = refl
+text_float (Some text) = refl
+
+number_float : (number : Option ℕ) → has_float (number_or_null number) ≡ false
+number_float None = refl
+number_float (Some n) = refl
+
+-- nor an array of values that have none
+items_float : {A : Type 0} (of : A → Data) → ((x : A) → has_float (of x) ≡ false) → (xs : List A)
+    → items_have_float (items_of (map of xs)) ≡ false
+items_float of none [] = refl
+items_float of none (x ∷ xs) = rw (none x, items_float of none xs) refl
+
+texts_float : (texts : List (List ℕ)) → items_have_float (items_of (map string texts)) ≡ false
+texts_float texts = items_float string (λ t. refl) texts
+
+-- ---- one game
+
+pub moves_float : (rows : List (List ℕ)) → has_float (moves_data rows) ≡ false
+moves_float rows = rw (texts_float rows) refl
+
+pub game_float : (id : ℕ) (game : GameShown) → has_float (game_data id game) ≡ false
+unfolding game_data
+game_float id game =
+    rw (
+      text_float (option_map end_name game.end),
+      texts_float game.moves,
+      text_float game.offer,
+      text_float (option_map score_text game.result),
+    ) refl
+
+pub clock_float : (members : List Member) (moment : ℕ) (told : GameSummary)
+    → has_float (clock_data members moment told) ≡ false
+unfolding clock_data
+clock_float members moment told =
+    rw (
+      number_float (while_running told (deadline_within told)),
+      text_float (running_turn members told),
+    ) refl
+
+pub page_float : (members : List Member) (moment id : ℕ) (told : GameSummary) (game : GameShown) (kind : List ℕ)
+    (legal : List (List ℕ)) → has_float (page_data (clock_data members moment told) (game_data id game) kind legal) ≡ false
+unfolding page_data
+page_float members moment id told game kind legal =
+    rw (clock_float members moment told, game_float id game, texts_float legal) refl
+
+-- ---- lists
+
+event_game_float : (members : List Member) (told : GameSummary) → has_float (event_game_data members told) ≡ false
+unfolding event_game_data
+event_game_float members told =
+    rw (
+      number_float (while_running told (deadline_within told)),
+      text_float (end_of told),
+      text_float (result_of told),
+      text_float (running_turn members told),
+    ) refl
+
+pub event_games_float : (members : List Member) (events : List Event) (name : List ℕ) (games : List GameSummary)
+    → has_float (event_games_data members events name games) ≡ false
+unfolding event_games_data
+event_games_float members events name games =
+    rw (items_float (event_game_data members) (event_game_float members) (filter (is_of_event events name) games)) refl
+
+event_float : (event : Event) → has_float (event_data event) ≡ false
+unfolding event_data
+event_float event = refl
+
+pub choices_float : (key : List ℕ) (members : List Member) (events : List Event)
+    → has_float (challenge_choices key members events) ≡ false
+unfolding challenge_choices
+choices_float key members events =
+    rw (
+      items_float event_data event_float events,
+      items_float (λ (m : Member). string m.name) (λ m. refl) (filter (is_other key) members),
+    ) refl
+
+ended_float : (members : List Member) (events : List Event) (told : GameSummary)
+    → has_float (ended_data members events told) ≡ false
+unfolding ended_data
+ended_float members events told =
+    rw (text_float (end_of told), number_float (end_moment told), text_float (result_of told)) refl
+
+pub ended_games_float : (members : List Member) (events : List Event) (name : List ℕ) (moment : ℕ)
+    (games : List GameSummary) → has_float (ended_games_data members events name moment games) ≡ false
+unfolding ended_games_data
+ended_games_float members events name moment games =
+    rw (items_float (ended_data members events) (ended_float members events)
+    (newest most_ended (is_own_ended members name) games)) refl
+
+-- ---- the games of a member
+
+own_game_float : (members : List Member) (events : List Event) (running : Running)
+    → has_float (own_game_data members events running) ≡ false
+unfolding own_game_data
+own_game_float members events running =
+    rw (
+      number_float (deadline_within running.told),
+      text_float running.last,
+      text_float (offerer members running.told),
+    ) refl
+
+challenge_float : (members : List Member) (events : List Event) (c : Challenge)
+    → has_float (challenge_data members events c) ≡ false
+unfolding challenge_data
+challenge_float members events c = rw (number_float (started c.standing)) refl
+
+pub my_games_float : (members : List Member) (events : List Event) (name : List ℕ) (moment : ℕ)
+    (challenges : List Challenge) (games : List Running)
+    → has_float (my_games_data members events name moment challenges games) ≡ false
+unfolding my_games_data
+my_games_float members events name moment challenges games =
+    rw (
+      items_float (challenge_data members events) (challenge_float members events)
+          (filter (is_shown members name) challenges),
+      items_float (own_game_data members events) (own_game_float members events) games,
+      items_float (challenge_data members events) (challenge_float members events)
+          (newest most_refused (is_own_refused members name) challenges),
+    ) refl

@@ -1,0 +1,145 @@
+//! The route table: the path and the method of each route, who is served, and what.
+
+use self::Access::{Members, Public};
+use self::GameAction::{AcceptDraw, ClaimTime, Declare, MakeMove, OfferDraw, Resign};
+use self::QuestionTopic::{
+    EventGames, EventTable, GameClock, GamePage, GameRecord, GameView, LegalMoves, MyEndedGames,
+    MyEvents, MyGames,
+};
+use self::Topic::{Answer, Challenge, MembersPage, OnGame, Question, Withdraw};
+use http_bodies::ContentType::{Json, Plain};
+use http_bodies::Method::{Get, Post};
+use http_bodies::{ContentType, Method};
+
+/// A query of a member.
+#[derive(Clone, Copy, Debug, PartialEq, Eq)]
+pub enum QuestionTopic {
+    /// The game `{id}`.
+    GameView,
+    /// The legal moves of the game `{id}`.
+    LegalMoves,
+    /// The record of the game `{id}`.
+    GameRecord,
+    /// The clock of the game `{id}`.
+    GameClock,
+    /// The game `{id}`, its clock and its legal moves.
+    GamePage,
+    /// The cross table of the event `{name}`.
+    EventTable,
+    /// The games of the event `{name}`.
+    EventGames,
+    /// The games and challenges of the member who has the key.
+    MyGames,
+    /// The ended games of the member who has the key.
+    MyEndedGames,
+    /// The events, and the members to challenge in each.
+    MyEvents,
+}
+
+/// A command on the game `{id}`; a command with a `{ply}` is for that ply, counted from 1.
+#[derive(Clone, Copy, Debug, PartialEq, Eq)]
+pub enum GameAction {
+    /// A move; the body has its text.
+    MakeMove,
+    /// An offer of a draw.
+    OfferDraw,
+    /// The acceptance of a draw.
+    AcceptDraw,
+    /// A resignation.
+    Resign,
+    /// A claim that the opponent is out of time.
+    ClaimTime,
+    /// A declaration.
+    Declare,
+}
+
+/// What a route serves.
+#[derive(Clone, Copy, Debug, PartialEq, Eq)]
+pub enum Topic {
+    /// The members' page.
+    MembersPage,
+    /// The answer to a query, as a body of this content type.
+    Question(QuestionTopic, ContentType),
+    /// A command on the game `{id}`.
+    OnGame(GameAction),
+    /// A new challenge, `{number}`.
+    Challenge,
+    /// The withdrawal of the challenge `{number}`.
+    Withdraw,
+    /// An answer to the challenge `{number}` of `{member}`.
+    Answer,
+}
+
+/// Who is served.
+#[derive(Clone, Copy, Debug, PartialEq, Eq)]
+pub enum Access {
+    /// Anyone.
+    Public,
+    /// The holder of a member's key.
+    Members,
+}
+
+/// A route, without its path.
+#[derive(Clone, Copy, Debug, PartialEq, Eq)]
+pub struct Route {
+    /// The one method.
+    pub method: Method,
+    /// Who is served.
+    pub access: Access,
+    /// What is served.
+    pub topic: Topic,
+}
+
+/// All routes, each after its path with the parameters in braces.
+pub(crate) const TABLE: [(&str, Method, Access, Topic); 20] = [
+    ("/games/{id}", Get, Members, Question(GameView, Json)),
+    (
+        "/games/{id}/legal",
+        Get,
+        Members,
+        Question(LegalMoves, Json),
+    ),
+    (
+        "/games/{id}/record",
+        Get,
+        Members,
+        Question(GameRecord, Plain),
+    ),
+    ("/games/{id}/clock", Get, Members, Question(GameClock, Json)),
+    ("/games/{id}/page", Get, Members, Question(GamePage, Json)),
+    (
+        "/events/{name}/table",
+        Get,
+        Members,
+        Question(EventTable, Plain),
+    ),
+    (
+        "/events/{name}/games",
+        Get,
+        Members,
+        Question(EventGames, Json),
+    ),
+    ("/me", Get, Members, Question(MyGames, Json)),
+    ("/me/ended", Get, Members, Question(MyEndedGames, Json)),
+    ("/me/events", Get, Members, Question(MyEvents, Json)),
+    ("/games/{id}/moves/{ply}", Post, Members, OnGame(MakeMove)),
+    (
+        "/games/{id}/draw/{ply}/offer",
+        Post,
+        Members,
+        OnGame(OfferDraw),
+    ),
+    (
+        "/games/{id}/draw/{ply}/accept",
+        Post,
+        Members,
+        OnGame(AcceptDraw),
+    ),
+    ("/games/{id}/resign", Post, Members, OnGame(Resign)),
+    ("/games/{id}/claim-time", Post, Members, OnGame(ClaimTime)),
+    ("/games/{id}/declare/{ply}", Post, Members, OnGame(Declare)),
+    ("/challenges/{number}", Post, Members, Challenge),
+    ("/challenges/{number}/withdraw", Post, Members, Withdraw),
+    ("/answers/{member}/{number}", Post, Members, Answer),
+    ("/play", Get, Public, MembersPage),
+];
