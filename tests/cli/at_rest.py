@@ -344,7 +344,7 @@ def move_away_while_served():
     move("away.db", 1)
     with serve("away.db", now=None) as server:
         check("the server shows the game before its file is moved", (200, True), shows_move(server))
-        server.wait_until_released("away.db")
+        server.release("away.db")
         for end in ("", "-wal"):
             os.replace(f"away.db{end}", f"aside.db{end}")
         check("a file that was moved away is fault 70", unavailable(70), server.show())

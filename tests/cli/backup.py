@@ -1,16 +1,17 @@
 #!/usr/bin/env python3
-"""Tests `backup`: the copy, the club, and what is in the way of a copy.
+"""Tests `backup`: the copy, the club, what is in the way of a copy, and repairs after a wrong clock.
 
     python3 tests/cli/backup.py
 
 The copy must be the whole club in one file that only its owner may read, without a log; the club must be unchanged,
 byte for byte. If anything is at the path of the copy, or the copy cannot be created or written, that is fault 77, and
-what was there is unchanged.
+what was there is unchanged. The repairs are the commands that docs/operating.md shows.
 """
 import contextlib
 import hashlib
 import os
 import pathlib
+import re
 import shutil
 import sqlite3
 import stat
@@ -21,9 +22,9 @@ import time
 
 sys.path[0] = str(pathlib.Path(__file__).resolve().parents[1])
 from lib.club import (
-    DRAUGHTS_MOVES, FAST, PROGRAM, TWO_MEMBERS, WAIT, club, copy_of, limit_files_to, read_tables,
+    DRAUGHTS_MOVES, FAST, PROGRAM, TOP, TWO_MEMBERS, WAIT, club, copy_of, limit_files_to, read_tables,
 )
-from lib.report import check, exit_status
+from lib.report import check, exit_status, skip
 from lib.server import serve
 
 ORDERS = [*TWO_MEMBERS, "event cup draughts 86400 0", "event fuji shogi 86400 60", "seat g cup anna bert",
@@ -234,12 +235,97 @@ def killed_backups():
     check("a killed backup leaves the club unchanged", (expected, (0, "sound")), (rows("c.db"), club("c.db", "verify")))
 
 
+def documented_repairs():
+    """The blocks of commands for a wrong clock: to see the club's clock, to set it back, to go back to a backup."""
+    text = (TOP / "docs/operating.md").read_text(encoding="utf-8")
+    section = text.partition("\n## When the machine's clock was wrong\n")[2].partition("\n## ")[0]
+    blocks = re.findall(r"^```sh\n(.*?)^```$", section, re.MULTILINE | re.DOTALL)
+    return [re.sub("^sudo .*\n", "", it, flags=re.MULTILINE) for it in blocks]
+
+
+def repair(block):
+    """What the commands of a block print, if each succeeds."""
+    ran = subprocess.run(["bash", "-e", "-c", block], capture_output=True, text=True, timeout=WAIT, check=False)
+    return ran.stdout.splitlines() if ran.returncode == 0 else (ran.returncode, ran.stdout, ran.stderr)
+
+
+def game_lines(file="ourclub.db"):
+    return club(file, "games", now=None)[1].splitlines()
+
+
+def has_day_left(line):
+    """Whether a move of this game is due a day from now, give or take what this test may take."""
+    due = re.search(r"until (\S+)$", line)
+    latest = time.time() + 86400
+    earliest, latest = (time.strftime("%Y-%m-%dT%H:%M:%SZ", time.gmtime(it)) for it in (latest - WAIT, latest))
+    return due is not None and earliest <= due[1] <= latest
+
+
+def prepare_wrong_clock(began):
+    """A club of an hour ago with a running game, and its backup; a move was made since."""
+    for words in ("init", "member anna keyanna1", "member bert keybert2", "event cup draughts 86400 0",
+                  "seat g1 cup anna bert", "move 1 1 32-28", "backup backup.db"):
+        assert club("ourclub.db", *words.split(), now=began)[0] == 0, words
+    assert club("ourclub.db", "move", "1", "2", "19-23", now=began + 60)[0] == 0
+
+
+def clock_set_back():
+    """The clock was ahead by a month, and nothing was ended or moved: docs/operating.md sets the club's clock back."""
+    began = int(time.time()) - 3600
+    prepare_wrong_clock(began)
+    assert club("ourclub.db", "member", "cara", "keycara3", now=began + 30 * 86400)[0] == 0
+    look, set_back, _ = documented_repairs()
+    ahead, true = re.findall(r"\d{4}-\d\d", " ".join(repair(look)))
+    check("the club's clock is seen to be ahead", True, ahead > true)
+    club("ourclub.db", "seat", "g2", "cup", "bert", "cara", now=None)
+    check("after a clock that was ahead, a game begins at the club's clock", False, has_day_left(game_lines()[1]))
+    shutil.copy("backup.db", "ourclub.db")
+    pathlib.Path("ourclub.db-wal").unlink(missing_ok=True)
+    assert club("ourclub.db", "member", "cara", "keycara3", now=began + 30 * 86400)[0] == 0
+    check("the club's clock is set back, and the club is sound", ["copied", "sound"], repair(set_back))
+    club("ourclub.db", "seat", "g2", "cup", "bert", "cara", now=None)
+    check("then a game begins at the true time", True, has_day_left(game_lines()[1]))
+
+
+def back_to_a_backup():
+    """The clock was ahead by a year, and `sweep` ended a game: docs/operating.md goes back to a backup."""
+    began = int(time.time()) - 3600
+    prepare_wrong_clock(began)
+    check("a sweep by a clock that is ahead ends a game that is not overdue", (0, "accepted sweep 1"),
+          club("ourclub.db", "sweep", now=began + 365 * 86400))
+    _, set_back, go_back = documented_repairs()
+    for it in ("ourclub.db", "ourclub.db-wal"):
+        if os.path.exists(it):
+            shutil.copy(it, it.replace("ourclub", "swept"))
+    check("setting the clock back does not help: the club is then damaged", True,
+          "store 72 Damaged meta" in str(repair(set_back)))
+    for it in ("ourclub.db", "ourclub.db-wal", "before-change.db"):
+        pathlib.Path(it).unlink(missing_ok=True)
+    shutil.copy("swept.db", "ourclub.db")
+    check("the commands go back to the backup, and play the later moves again",
+          ["sound", "1 repeated ply 1 32-28", "2 accepted ply 2 19-23", "sound"], repair(go_back))
+    check("the game that was ended runs again", ["game 1 cup anna bert g1 ply 2 turn anna until"],
+          [it.rpartition(" ")[0] for it in game_lines()])
+    check("nobody lost the time of the repair", True, has_day_left(game_lines()[0]))
+
+
+def wrong_clocks():
+    if not shutil.which("sqlite3"):
+        skip("the club is repaired after a wrong clock", "there is no sqlite3")
+        return
+    for part in clock_set_back, back_to_a_backup:
+        with tempfile.TemporaryDirectory(dir=FAST) as folder, contextlib.chdir(folder):
+            os.symlink(PROGRAM, "club")
+            part()
+
+
 def main():
     with tempfile.TemporaryDirectory(dir=FAST) as folder, contextlib.chdir(folder):
         create()
         for part in (whole_copy, other_paths, existing_paths, folders_without_permission, no_club, club_in_use, explained,
                      beside_a_server, full_disks, killed_backups):
             part()
+    wrong_clocks()
     return exit_status()
 
 

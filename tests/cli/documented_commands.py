@@ -3,10 +3,11 @@
 
     python3 tests/cli/documented_commands.py [FOLDER]
 
-FOLDER has the documents; it is the repository if it is not given. The blocks of README.md are one course, from an empty
-folder. Each block of docs/operating.md runs in a folder of its own, in which the club of the example exists. A command
-begins with `$ ` and has its output below it, or it is a line of a block of `sh`. A server is started before the first
-command that connects to one, unless a command has started it.
+FOLDER has the documents; it is the repository if it is not given. The blocks of README.md are one course, from an
+empty folder. Each block of docs/operating.md runs in a folder of its own, in which the club of the example exists, and
+a backup of it before its last command where the block reads one that it does not make. A command begins with `$ ` and
+has its output below it, or it is a line of a block of `sh`. A server is started before the first command that connects
+to one, unless a command has started it.
 """
 import contextlib
 import dataclasses
@@ -31,7 +32,10 @@ SHELLS = {"sh", "bash", "shell"}
 CONSOLES = {"", "console", "text"}
 PORT = "8080"
 CLUB = ["init", "member anna keyanna1", "member bert keybert2", "event autumn draughts 86400 3600",
-        "seat g1 autumn anna bert"]  # the example of README.md
+        "seat g1 autumn anna bert", "move 1 1 32-28"]  # the example of README.md
+BACKUP = "backup.db"
+NGINX = re.compile(r"^```nginx\n(.*?)^```$", re.MULTILINE | re.DOTALL)
+CERTIFICATE = re.compile(r"(ssl_certificate(?:_key)? +)\S*/(\S+);")
 # Commands that are not run, by a pattern of their beginning, and the reason.
 LEFT_OUT = {
     r"\./test\b": "runs this test itself",
@@ -40,6 +44,8 @@ LEFT_OUT = {
     r"tools/records --all\b": "needs an archive; tests/cli/records_batch.py tests it",
     r"(sudo|systemctl|journalctl|runuser|useradd|chown|apt-get|apt)\b": "needs root or systemd",
     r"(nginx|certbot)\b": "needs nginx, and the right to its ports",
+    r"timedatectl\b": "needs systemd; it shows a setting of the machine",
+    r"gpg\b": "asks for a passphrase",
     r"git clone\b": "needs the network",
     r"rt\b": "needs the kit",
     r"\.?/?\S*club FILE\b": "is a placeholder",
@@ -50,6 +56,7 @@ VARIABLE = [
     (re.compile(r"\d{4}-\d\d-\d\d"), "DATE"),
     (re.compile(r"\b\d{10}\b"), "TIMESTAMP"),
     (re.compile(r'"left":\d+'), '"left":SECONDS'),
+    (re.compile(r"\b(?:8639\d|86400|8999\d|90000)\b"), "SECONDS"),  # left of a day, and of a day and an hour
     (re.compile(r"127\.0\.0\.1:\d+"), "127.0.0.1:PORT"),
 ]
 STOP = 5  # seconds for a server to end
@@ -198,9 +205,17 @@ def run_command(shell, command):
         result(True, command.name)
 
 
+def needs_backup(commands):
+    """Whether these commands read a backup that none of them makes."""
+    texts = [it.text for it in commands if not it.reason]
+    return any(BACKUP in it for it in texts) and not any(re.search(rf"backup '?{BACKUP}", it) for it in texts)
+
+
 def run_commands(commands, is_prepared):
     with tempfile.TemporaryDirectory(dir=FAST) as folder:
         for words in CLUB if is_prepared else ():
+            if words == CLUB[-1] and needs_backup(commands):
+                assert club(f"{folder}/ourclub.db", "backup", f"{folder}/{BACKUP}", now=None)[0] == 0
             assert club(f"{folder}/ourclub.db", *words.split(), now=None)[0] == 0, words
         shell = Shell(folder)
         try:
@@ -219,6 +234,29 @@ def check_names(text, name):
                f"{name}: a command like `{command}` exists", f"status {status}", printed)
 
 
+def check_nginx(text, name):
+    """Lets nginx read each complete configuration, with a certificate and ports of its own."""
+    texts = [it[1] for it in NGINX.finditer(text) if "events {" in it[1]]
+    title = f"nginx accepts the configuration in {name}"
+    if not shutil.which("nginx") or not shutil.which("openssl"):
+        skip(title, "there is no nginx, or no openssl")
+        return
+    result(texts, f"{name} shows a configuration of nginx")
+    with tempfile.TemporaryDirectory() as folder:
+        subprocess.run(["openssl", "req", "-x509", "-newkey", "rsa:2048", "-nodes", "-subj", "/CN=club.example.org",
+                        "-keyout", f"{folder}/privkey.pem", "-out", f"{folder}/fullchain.pem"],
+                       capture_output=True, check=True, timeout=WAIT)
+        for it in texts:
+            it = CERTIFICATE.sub(rf"\1{folder}/\2;", re.sub(r"^user .*;$", "", it, flags=re.MULTILINE))
+            for port in ("80", "443"):
+                it = re.sub(rf"(listen (?:\[::\]:)?){port}\b", rf"\g<1>{free_port()}", it)
+            path = pathlib.Path(folder, "nginx.conf")
+            path.write_text(f"pid {folder}/pid;\nerror_log {folder}/log;\n{it}", encoding="utf-8")
+            ran = subprocess.run(["nginx", "-t", "-q", "-c", str(path)], capture_output=True, text=True, check=False,
+                                 timeout=WAIT)
+            result(ran.returncode == 0, title, ran.stderr)
+
+
 def main():
     folder = pathlib.Path(sys.argv[1]) if sys.argv[1:] else TOP
     for name, is_prepared in (("README.md", False), ("docs/operating.md", True)):
@@ -227,6 +265,7 @@ def main():
         for commands in blocks if is_prepared else [sum(blocks, [])]:
             run_commands(commands, is_prepared)
         check_names((folder / name).read_text(encoding="utf-8"), name)
+    check_nginx((folder / "docs/operating.md").read_text(encoding="utf-8"), "docs/operating.md")
     return exit_status()
 
 

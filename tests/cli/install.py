@@ -1,5 +1,5 @@
 #!/usr/bin/env python3
-"""Tests `./install`: files, modes, units, the second run and removal, below a temporary root.
+"""Tests `./install`: files, modes, tools, units, the second run and removal, below a temporary root.
 
     python3 tests/cli/install.py
 
@@ -26,10 +26,21 @@ FILES = {
     "share/zsh/site-functions/_club": 0o644,
     "share/fish/vendor_completions.d/club.fish": 0o644,
 }
+TOOLS = "notify", "publish", "records"
+LINKS = {f"bin/club-{it}": f"../lib/club/tools/{it}" for it in TOOLS}
+MODULES = [it for name in ("common", *(f"{it}_of" for it in TOOLS)) for it in (TOP / "tools" / name).iterdir()
+           if it.is_file()]
+ALL_FILES = {**FILES, **{f"lib/club/tools/{it}": 0o755 for it in TOOLS},
+             **{f"lib/club/{it.relative_to(TOP)}": 0o644 for it in MODULES}}
 MANIFEST, BACKUP = "lib/club/installed", "lib/club/backup"
 UNITS = "/etc/systemd/system"
-UNIT_NAMES = "club-backup.service", "club-backup.timer", "club-server.service", "club-sweep.service", "club-sweep.timer"
-HARDENING = "User=club", "UMask=0077", "NoNewPrivileges=yes", "ProtectSystem=strict", "ReadWritePaths=/srv/club"
+UNIT_NAMES = [f"club-{it}.{kind}" for it in ("backup", "notify", "publish", "server", "sweep")
+              for kind in ("service", "timer") if (it, kind) != ("server", "timer")]
+HARDENING = ("User=club", "NoNewPrivileges=yes", "ProtectSystem=strict", "ProtectHome=yes", "PrivateTmp=yes",
+             "ReadWritePaths=/srv/club")
+READABLE = "club-publish.service"  # writes files for everybody
+SHOWN_UNIT = re.compile(r"^```ini\n# /etc/systemd/system/(\S+)\n(.*?)^```$", re.MULTILINE | re.DOTALL)
+OPTIONS = re.compile(r'^Environment="OPTIONS=(.*)"$', re.MULTILINE)
 NOBODY = 65534
 # In a private namespace whose /etc, /srv and /usr/local are layers over the machine's.
 LAYERED = """
@@ -50,7 +61,7 @@ if id -u club > /dev/null 2>&1 || [ -e /srv/club ]; then echo "something is left
 stat -c '%U %G %a' /srv/club
 setpriv --reuid club --regid club --clear-groups /usr/local/bin/club /srv/club/ourclub.db init
 "$2/install" --remove > /dev/null
-echo "$(id -un club) $(ls /srv/club) $(ls /usr/local/bin/club /etc/systemd/system/club-* 2> /dev/null | wc -l)"
+echo "$(id -un club) $(ls /srv/club) $(ls /usr/local/bin/club* /etc/systemd/system/club-* 2> /dev/null | wc -l)"
 """
 
 
@@ -74,20 +85,49 @@ def mode(path):
 def test_files(root):
     check("install without --service succeeds", 0, install("--root", root, "--program", PROGRAM)[0])
     made = {it for it, (_, content) in tree(root).items() if content is not None}
-    check("it installs the program, the man page and completions, and nothing else",
-          {f"usr/local/{it}" for it in (*FILES, MANIFEST)}, made)
-    check("each file has its mode", FILES, {it: mode(f"{root}/usr/local/{it}") for it in FILES})
+    check("it installs the program, the man page, completions and tools, and nothing else",
+          {f"usr/local/{it}" for it in (*ALL_FILES, *LINKS, MANIFEST)}, made)
+    check("each file has its mode", ALL_FILES, {it: mode(f"{root}/usr/local/{it}") for it in ALL_FILES})
+    check("each command of a tool is a link to it", LINKS, {it: os.readlink(f"{root}/usr/local/{it}") for it in LINKS})
     check("the installed program is the one that was given", pathlib.Path(PROGRAM).read_bytes(),
           pathlib.Path(f"{root}/usr/local/bin/club").read_bytes())
     before = tree(root)
     status, lines = install("--root", root, "--program", PROGRAM)
-    check("a second run says that each file is current", (0, len(FILES)),
+    check("a second run says that each file is current", (0, len(ALL_FILES) + len(LINKS)),
           (status, sum(it.startswith("is current: ") for it in lines)))
     check("a second run changes nothing", before, tree(root))
     install("--root", root, "--remove")
     check("removal leaves nothing", {}, tree(root))
     check("removal twice says that nothing is installed", (0, ["nothing is installed under /usr/local"]),
           install("--root", root, "--remove"))
+
+
+def test_tools(root):
+    """The tools run where they are installed, with the program that was installed with them."""
+    prefix, club_file = f"{root}/prefix", f"{root}/c.db"
+    install("--prefix", prefix, "--program", PROGRAM)
+    for words in (*TWO_MEMBERS, "event cup draughts 86400 0"):
+        club(club_file, *words.split())
+    plain = {"PATH": f"{os.path.dirname(sys.executable)}:/usr/bin:/bin"}  # as of cron
+
+    def tool(name, *words):
+        words = [f"{prefix}/bin/club-{name}", *words]
+        ran = subprocess.run(words, capture_output=True, text=True, timeout=WAIT, check=False, cwd=root, env=plain)
+        return ran.returncode, ran.stdout + ran.stderr
+
+    check("club-publish writes pages", (0, True),
+          (tool("publish", club_file, "site")[0], os.path.exists(f"{root}/site/event-cup.html")))
+    check("club-notify writes a calendar", (0, "BEGIN:VCALENDAR"),
+          (lambda status, text: (status, text[:15]))(*tool("notify", "--ics", "anna", club_file)))
+    pathlib.Path(root, "game.pdn").write_text("1. 32-28 2-0\n", encoding="utf-8")
+    check("club-records converts a record", (0, "1. 32-28 2-0\n"), tool("records", "pdn", "game.pdn"))
+    pathlib.Path(f"{prefix}/bin/club-notify").unlink()
+    os.symlink("/bin/true", f"{prefix}/bin/club-notify")
+    status, lines = install("--prefix", prefix, "--remove")
+    result(status == 0 and f"kept, because it was changed after it was installed: {prefix}/bin/club-notify" in lines,
+           "removal keeps a link that was changed", lines)
+    check("removal leaves nothing else, also of what Python wrote beside the modules", {"bin", "bin/club-notify"},
+          set(tree(prefix)))
 
 
 def test_service(root):
@@ -101,8 +141,10 @@ def test_service(root):
         text = pathlib.Path(f"{root}{UNITS}/{name}").read_text(encoding="utf-8")
         if name.endswith(".service"):
             missing = [it for it in HARDENING if it not in text.splitlines()]
-            result(not missing and "ExecStart=/opt/club/" in text and "@" not in text,
+            result(not missing and "ExecStart=/opt/club/" in text and "@PREFIX@" not in text,
                    f"{name} is hardened, and runs what was installed", missing, text)
+            check(f"{name} has its umask", ["UMask=0022" if name == READABLE else "UMask=0077"],
+                  re.findall("^UMask=.*", text, re.MULTILINE))
     verify_units(root)
     data = pathlib.Path(f"{root}/srv/club/ourclub.db")
     data.write_bytes(b"a club")
@@ -119,18 +161,63 @@ def test_service(root):
 
 def verify_units(root):
     """Lets systemd read the units; what they name exists below the root alone."""
+    paths = [pathlib.Path(f"{root}{UNITS}/{it}") for it in UNIT_NAMES]
+    verify("systemd accepts the units", paths, {"/opt/club": f"{root}/opt/club"})
+
+
+def verify(name, paths, places):
+    """Lets systemd read units, in which places are put for those that do not exist here."""
     if not shutil.which("systemd-analyze"):
-        skip("systemd accepts the units", "there is no systemd-analyze")
+        skip(name, "there is no systemd-analyze")
         return
     with tempfile.TemporaryDirectory() as folder:
-        for name in UNIT_NAMES:
-            text = pathlib.Path(f"{root}{UNITS}/{name}").read_text(encoding="utf-8")
-            pathlib.Path(folder, name).write_text(text.replace("/opt/club", f"{root}/opt/club"), encoding="utf-8")
-        paths = [f"{folder}/{it}" for it in UNIT_NAMES]
-        ran = subprocess.run(["systemd-analyze", "verify", "--man=no", *paths], capture_output=True, text=True,
-                             timeout=WAIT, check=False)
+        for path in paths:
+            text = path.read_text(encoding="utf-8")
+            for place, real in places.items():
+                text = text.replace(place, real)
+            pathlib.Path(folder, path.name).write_text(text, encoding="utf-8")
+        words = ["systemd-analyze", "verify", "--man=no", *(f"{folder}/{it.name}" for it in paths)]
+        ran = subprocess.run(words, capture_output=True, text=True, timeout=WAIT, check=False)
         about_ours = [it for it in (ran.stdout + ran.stderr).splitlines() if "club-" in it]
-        check("systemd accepts the units", (0, []), (ran.returncode, about_ours))
+        check(name, (0, []), (ran.returncode, about_ours))
+
+
+def test_units_of_tools(_):
+    """The words that the units give to the tools."""
+    for name in ("notify", "publish"):
+        text = (TOP / f"tools/service/club-{name}.service").read_text(encoding="utf-8")
+        command = re.search(rf"^ExecStart=@PREFIX@/bin/club-{name} (.*)$", text, re.MULTILINE)
+        result(command and "$OPTIONS" in command[1], f"club-{name}.service runs its tool with the options", text)
+        words = [str(TOP / "tools" / name), "--help"]
+        known = subprocess.run(words, capture_output=True, text=True, timeout=WAIT, check=False).stdout
+        unknown = [it for it in re.findall(r"--[a-z]+", command[1] + OPTIONS.search(text)[1]) if f"{it} " not in known]
+        check(f"club-{name}.service gives the tool options that it has", [], unknown)
+
+
+def test_clock(folder):
+    """The sweep's condition, in its unit and in the line of cron, over what timedatectl prints."""
+    unit = (TOP / "tools/service/club-sweep.service").read_text(encoding="utf-8")
+    condition = re.search(r"^ExecCondition=/bin/sh -c '(.*)'$", unit, re.MULTILINE)[1]
+    cron = re.search(r"^\S+ \* \* \* \* club (.*) && \S+/club \S+ sweep$",
+                     (TOP / "docs/operating.md").read_text(encoding="utf-8"), re.MULTILINE)
+    check("the line of cron has the condition of the unit", condition, cron and cron[1])
+    stub = pathlib.Path(folder, "timedatectl")
+    words = '[ "$*" = "show --property=NTPSynchronized" ]'
+    for printed, expected in ("NTPSynchronized=yes", 0), ("NTPSynchronized=no", 1), ("", 1):
+        stub.write_text(f"#!/bin/sh\n{words} && echo {printed}\n", encoding="utf-8")
+        stub.chmod(0o755)
+        ran = subprocess.run(["sh", "-c", condition], env={"PATH": f"{folder}:/usr/bin:/bin"}, timeout=WAIT)
+        check(f"where timedatectl prints {printed or 'nothing'}, the sweep is {'skipped' if expected else 'run'}",
+              expected, ran.returncode)
+
+
+def test_shown_units(_):
+    """The units that docs/operating.md shows are those that are installed."""
+    shown = SHOWN_UNIT.findall((TOP / "docs/operating.md").read_text(encoding="utf-8"))
+    result(shown, "docs/operating.md shows a unit")
+    for name, text in shown:
+        installed = (TOP / "tools/service" / name).read_text(encoding="utf-8").replace("@PREFIX@", "/usr/local")
+        check(f"docs/operating.md shows {name} as it is installed", installed, text)
 
 
 def test_refusals(root):
@@ -237,7 +324,8 @@ def test_backup(folder):
           (backup(folder).returncode != 0, tree(kept).keys()))
 
 
-TESTS = test_files, test_service, test_refusals, test_rights, test_user, test_backup
+TESTS = (test_files, test_tools, test_service, test_refusals, test_rights, test_user, test_backup, test_units_of_tools,
+         test_clock, test_shown_units)
 
 if __name__ == "__main__":
     for test in TESTS:

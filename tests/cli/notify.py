@@ -8,9 +8,6 @@ import contextlib
 import email
 import email.policy
 import fcntl
-import importlib.machinery
-import importlib.util
-import io
 import json
 import os
 import pathlib
@@ -25,11 +22,11 @@ import tempfile
 import threading
 
 sys.path[0] = str(pathlib.Path(__file__).resolve().parents[1])
-from lib.club import FAST, PROGRAM, TOP, WAIT, club
+from lib.club import FAST, PROGRAM, WAIT, club
 from lib.report import check, exit_status, result, skip
 from lib.server import free_port, serve
+from lib.tool import Tool
 
-TOOL = str(TOP / "tools/notify")
 START, DAY = 1796000000, 86400  # 2026-11-30
 SENDER = "club@example.org"
 ADDRESSES = "# The members.\n\nanna anna@example.org\nbert bert@example.org de\ncara cara@example.org\n"
@@ -120,29 +117,12 @@ def sink(port=0):
         server.shutdown()
 
 
-def load_tool():
-    """The tool, read once for all runs."""
-    sys.path.insert(0, str(TOP / "tools"))
-    loader = importlib.machinery.SourceFileLoader("tool", TOOL)
-    module = importlib.util.module_from_spec(importlib.util.spec_from_loader("tool", loader))
-    loader.exec_module(module)
-    return module
-
-
-MAIN = load_tool().main
+NOTIFY = Tool("notify")
 
 
 def tool(*words, now=START, program=PROGRAM):
-    """The status of the tool, its output and its messages; it is called here, which is quicker than a process."""
-    output, messages = io.TextIOWrapper(io.BytesIO(), "utf-8", newline=""), io.StringIO()
-    sys.argv = [TOOL, "--club", program, *([] if now is None else ["--now", str(now)]), *map(str, words)]
-    with contextlib.redirect_stdout(output), contextlib.redirect_stderr(messages):
-        try:
-            status = MAIN()
-        except SystemExit as ended:
-            status = ended.code
-    output.flush()
-    return status, output.buffer.getvalue().decode(), messages.getvalue()
+    """The status of the tool, its output and its messages."""
+    return NOTIFY.run("--club", program, *([] if now is None else ["--now", now]), *words)
 
 
 def notify(server, *words, state="state", addresses="addresses", **how):
@@ -406,6 +386,41 @@ def content_lines(data):
     return re.sub(rb"\r\n[ \t]", b"", data).decode().split("\r\n")[:-1]
 
 
+def challenges_of_a_backup(server):
+    """With --challenges they are mailed today, although the program does not list them."""
+    now, copies = START + 9 * DAY, pathlib.Path("copies")
+    copies.mkdir()
+    tempfile.tempdir = str(copies.resolve())
+    words = "--challenges", "--state", "by_backup"
+
+    def mails(*more):
+        status = notify(server, *(more or words[:1]), state="by_backup", now=now)[0]
+        return status, [it for it in server.take() if "turn" not in it[1] and "Zug" not in it[1]]
+
+    tool("--addresses", "addresses", *words, "--begin", "c.db", now=now)
+    with serve("c.db", now=now) as desk:
+        def post(path, body, key):
+            assert desk.request("POST", path, body, key)[0] == 200, path
+
+        for key, number, first in ("keycara3", 7, True), ("keyanna1", 8, False), ("keyanna1", 9, True):
+            post(f"/challenges/{number}", {"event": "fuji", "first": first, "other": "bert"}, key)
+        post("/challenges/9/withdraw", None, "keyanna1")
+        check("open challenges of a backup are mailed to the member who is challenged, beside a server",
+              (0, [("bert@example.org", "anna fordert Sie heraus (fuji)"),
+                   ("bert@example.org", "cara fordert Sie heraus (fuji)")]), mails())
+        check("challenges of a backup are mailed once", (0, []), mails())
+        post("/answers/cara/7", {"accept": False}, "keybert2")
+        post("/answers/anna/8", {"accept": True}, "keybert2")
+        game = json.loads(desk.request("GET", "/me", None, "keyanna1")[1])["games"][-1]["game"]
+        check("answers of a backup are mailed to the challenger",
+              (0, [("anna@example.org", f"bert accepts your challenge (fuji, game {game})"),
+                   ("cara@example.org", "bert declines your challenge (fuji)")]), mails())
+        check("answers of a backup are mailed once", (0, []), mails())
+        check("without --challenges they are not mailed again", (0, []), mails("--language", "en"))
+    check("no copy of the club is left", [], list(copies.iterdir()))
+    tempfile.tempdir = None
+
+
 def calendars():
     def write(member, *words, now=START + 8 * DAY):
         status, text, _ = tool("--ics", member, *words, "c.db", now=now)
@@ -441,7 +456,7 @@ def calendars():
 
 def texts():
     """All texts have each language, with the same values to fill in."""
-    ran = subprocess.run([TOOL, "--help"], capture_output=True, timeout=WAIT)
+    ran = subprocess.run([NOTIFY.path, "--help"], capture_output=True, timeout=WAIT)
     check("`tools/notify` runs as a program, and `--help` names each option", (0, []),
           (ran.returncode, [it for it in ("--addresses", "--state", "--from", "--smtp", "--sendmail", "--starttls",
                                           "--login", "--dry-run", "--begin", "--language", "--ics") if
@@ -468,6 +483,7 @@ def main():
         login(server)
         refused_files(server)
         listed_challenges(server)
+        challenges_of_a_backup(server)
         calendars()
     texts()
     return exit_status()

@@ -4,6 +4,7 @@
     python3 tests/cli/records_batch.py
 """
 import contextlib
+import os
 import pathlib
 import re
 import subprocess
@@ -72,7 +73,8 @@ def draughts():
                 "league.pdn: game 7: left out: both players are anna",
                 "cup.pdn: game 1: left out: it is the same game as league.pdn: game 1",
                 "empty.pdn: left out: it has no game"]
-    check("the report says what was left out, and why", [*left_out, "4 of 9 games are in the batch"], messages)
+    check("the report says what was left out, and why, and which names have no member",
+          [*left_out, "4 of 9 games are in the batch", 'names.csv: no row for "Elsa" (1 game)'], messages)
     result("17-99" in left_out[2], "the report says which move is not understood", left_out[2])
     check("the batch begins with the report, as comments", [f"# {it}" for it in left_out], text.splitlines()[:6])
     check("each record of the batch is a file, and no other", sorted(it.split("/")[1] for it in expected),
@@ -99,6 +101,34 @@ def program_takes_it(words, text):
     check("a second import is repeated", 3, printed.count("repeated game"))
     check("a second run into the same folder is refused",
           (1, "", ["batch: refused: ready/league-1.pdn is there already"]), tool("--all", "ready", *words))
+
+
+def folders(text):
+    """The same games in a folder of folders."""
+    for path, data in (("archive/2024/spring/league.PDN", LEAGUE), ("archive/2023/league.pdn", CUP),
+                       ("archive/2023/notes.txt", CUP), ("archive/2023/match.csa", "V2.2")):
+        pathlib.Path(path).parent.mkdir(parents=True, exist_ok=True)
+        pathlib.Path(path).write_text(data, encoding="utf-8")
+    os.symlink("nowhere", "archive/2023/lost.pdn")
+    words = "--orders", "names.csv", "--event", "autumn", "pdn", "archive"
+    status, found, messages = tool("--all", "archive/ready", *words)
+    check("the files of the kind in a folder make the same orders as those that are named",
+          (1, sorted(it.split()[:5] for it in orders_of(text))),
+          (status, sorted(it.split()[:5] for it in orders_of(found))))
+    check("records from folders have the folders' names", ["2023-league-1.pdn", "2024-spring-league-2.pdn",
+          "2024-spring-league-3.pdn", "2024-spring-league-8.pdn"],
+          sorted(it.name for it in pathlib.Path("archive/ready").iterdir()))
+    result("archive/2023/lost.pdn: left out: No such file or directory" in messages,
+           "a file of a folder that cannot be read is left out, with the reason", messages)
+    printed = run(["c.db", "batch", "-"], data=found)[1]
+    check("the batch of the folder is repeated by the program", 3, printed.count("repeated game"))
+    pathlib.Path("archive/more").mkdir()
+    pathlib.Path("archive/more/other.pdn").write_text(pdn("Dora", "A. Jansen", "2020.01.01"))
+    check("the folder of the output is not read", 4, len(orders_of(tool("--all", "archive/more", *words)[1])))
+    pathlib.Path("empty").mkdir()
+    check("a folder without a file of the kind is refused", (1, "", ["batch: refused: empty has no file .pdn"]),
+          tool("--all", "none", *words[:-1], "empty"))
+    check("a file that is named and missing is status 2", (2, ""), tool("--all", "none", *words, "missing.pdn")[:2])
 
 
 def shogi():
@@ -153,7 +183,9 @@ def main():
             assert club("c.db", *line.split())[0] == 0, line
         for name, text in ("names.csv", NAMES), ("league.pdn", LEAGUE), ("cup.pdn", CUP), ("empty.pdn", "\n"):
             pathlib.Path(name).write_text(text, encoding="utf-8")
-        program_takes_it(*draughts())
+        words, text = draughts()
+        program_takes_it(words, text)
+        folders(text)
         shogi()
         tables_of_names()
     return exit_status()

@@ -8,8 +8,8 @@ WHOLE = (  # each route once
     ("POST", "/games/1/declare/1", ""),
     ("POST", "/challenges/1", '{"event":"autumn","first":true,"other":"bert"}'),
     ("POST", "/challenges/1/withdraw", ""), ("POST", "/answers/bert/1", '{"accept":false}'),
-    ("GET", "/me", None), ("GET", "/me/events", None), ("GET", "/events/autumn/games", None),
-    ("GET", "/games/1/clock", None), ("GET", "/games/1/record", None),
+    ("GET", "/me", None), ("GET", "/me/ended", None), ("GET", "/me/events", None), ("GET", "/events/autumn/games", None),
+    ("GET", "/games/1/clock", None), ("GET", "/games/1/record", None), ("GET", "/games/1/page", None),
 )
 VERSIONS = "HTTP/1.0", "HTTP/1.1", "HTTP/2.0", "HTTP/1.2", "http/1.1", "HTTP/1.", "HTTP/01.1", "HTTP/1.1 ", "HTTP/", ""
 METHODS = ("HEAD", "PUT", "get", "POST", "GET", "DELETE", "OPTIONS", "PO ST", "", "GET\t", "HEAD ", "POST\0", "G(T",

@@ -151,7 +151,7 @@ def build():
     rt.say = say_progress
     os.environ.pop("CI", None)
     os.chdir(TOP)
-    status = rt.main(["ci", "club"])
+    status = kit.ci(rt, ["club"])
     if taken and not status:
         keep(taken[0], kit.version())
     return bool(taken) and not status

@@ -19,6 +19,9 @@ import tempfile
 sys.path[0] = os.path.dirname(os.path.dirname(os.path.abspath(__file__)))
 from lib import kit
 
+# The result of an edit, in the words of the kit's newer script.
+REFUSED, MISSED, BAD = "refused", "missed", "bad"
+
 HEAD = re.compile(r"^(\s*)(?:pub(?:\([^)]*\))? )?(?:const )?(?:unsafe )?fn (\w+)")
 IMPL = re.compile(r"^impl\b")
 CYCLE = re.compile(r"^\s*#\[cycle\((\w+)\)\]")
@@ -231,18 +234,23 @@ class Trial:
         while True:
             refused = self.round(left)
             for edit in refused:
-                said = f"{self.label(edit)}: refused, as it must be, by a goal of its function"
-                self.found[edit.file] = self.rt.REFUSED, said
+                self.found[edit.file] = REFUSED, f"{self.label(edit)}: refused, as it must be, by a goal of its function"
             left = [edit for edit in left if edit not in refused]
             if not refused:
                 return left
 
     def alone(self, edit):
-        flags = ["--jobs", "1"]
         if edit.seen_by and self.is_seen(edit):
-            return self.rt.REFUSED, f"{self.label(edit)}: refused, as it must be, by a goal of {edit.seen_by}"
-        tried = self.rt.must_fail(self.crate, edit.file, flags, self.kept)
-        return tried if tried[0] in self.rt.SETTLED else self.rt.must_fail(self.crate, edit.file, flags)
+            return REFUSED, f"{self.label(edit)}: refused, as it must be, by a goal of {edit.seen_by}"
+        tried = self.by_the_kit(edit, self.kept)
+        return tried if tried[0] in getattr(self.rt, "SETTLED", [REFUSED]) else self.by_the_kit(edit, None)
+
+    def by_the_kit(self, edit, kept):
+        """The result of one edit by the kit's own script, over what was proved so far or from nothing."""
+        kind, text = self.rt.must_fail(self.crate, edit.file, ["--jobs", "1"], kept)
+        if kit.is_older(self.rt):
+            kind = REFUSED if kind else BAD if "BAD EDIT" in text else MISSED
+        return kind, text
 
     def is_seen(self, edit):
         """Whether the function that the edit names is refused, over what was proved so far, for a goal of its own."""
@@ -267,7 +275,7 @@ def tried(rt, crate, files, start=None):
     """What the edits in these files come to, over a copy of what a check kept in the folder start, if there is one."""
     with tempfile.TemporaryDirectory(prefix=f"rt-edits-{os.getpid()}-") as room:
         if start and os.path.isdir(start):
-            rt.linked(start, f"{room}/kept")
+            shutil.copytree(start, f"{room}/kept")
         else:
             os.mkdir(f"{room}/kept")
         return Trial(rt, crate, f"{room}/kept", files).results()
@@ -275,9 +283,11 @@ def tried(rt, crate, files, start=None):
 
 def main(names):
     rt = kit.load()
-    top = os.path.dirname(os.path.dirname(os.path.abspath(__file__)))
+    top = os.path.dirname(os.path.dirname(os.path.dirname(os.path.abspath(__file__))))
     os.chdir(top)
-    rt.share_work(False)
+    rt.rtlib.guarded()
+    if not kit.is_older(rt):
+        rt.share_work(False)
     crates = {crate.name: crate for crate in rt.rtlib.crates_below(top)}
     worst = 0
     for name in names:
@@ -287,7 +297,7 @@ def main(names):
         files, bad = rt.edits_of(crate)
         for kind, text in tried(rt, crate, files, f"{crate.folder}/out/incremental"):
             print(text, flush=True)
-            worst |= kind not in (rt.REFUSED, rt.AT_LIMIT)
+            worst |= kind not in (REFUSED, getattr(rt, "AT_LIMIT", REFUSED))
         for file in bad:
             print(f"{file}: BAD EDIT: an edit stands right in must-fail/, and its name ends in .edit")
             worst = 1

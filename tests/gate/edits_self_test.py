@@ -69,6 +69,9 @@ EDITS = {
     "cannot_be_read": ([("    let half = doubled(number);", "    let half = tripled(number);")], "bad"),
 }
 
+# the results that differ under the kit's older script, which does not compare the texts
+OF_OLDER = {"changes_nothing": "missed"}
+
 
 def lay_out(top):
     for part in ("src", "must-fail"):
@@ -93,7 +96,8 @@ def main():
     result(not worst, "the crate of the edits is proved")
     for file, (kind, text) in zip(files, found):
         name = os.path.basename(file).removesuffix(".edit")
-        result(kind == EDITS[name][1], f"the edit {name} is {EDITS[name][1]}", f"{kind}: {text}")
+        expected = (kit.is_older(rt) and OF_OLDER.get(name)) or EDITS[name][1]
+        result(kind == expected, f"the edit {name} is {expected}", f"{kind}: {text}")
     return exit_status()
 
 

@@ -24,6 +24,8 @@ from lib import kit
 
 TICKS = os.sysconf("SC_CLK_TCK")
 TOP = os.getcwd()
+# where the kit's older script tries edits: the folder does not name the process
+FOLDERS_OF_OLDER = ["/rt-edit-"] if kit.load() is not None and kit.is_older(kit.load()) else []
 spent = {}  # (pid, start) -> (crate, kind, seconds, peak in bytes)
 
 
@@ -53,7 +55,7 @@ def processes():
 def look():
     for name, words, fields, peak, folder in processes():
         crate = words[words.index("--crate-name") + 1]
-        if f"/rt-edit-{os.getpid()}-" in folder:
+        if any(it in folder for it in (f"/rt-edit-{os.getpid()}-", *FOLDERS_OF_OLDER)):
             kind = "edits"
         elif not folder.startswith(f"{TOP}/"):
             continue
@@ -88,13 +90,23 @@ def table(minutes):
 
 
 WANTED = ["tasks", "crate", "edits", "first", "waits", "is_well", "kept", "start", "in_ci"]
-NEEDED = "checked must_fail read_edit unread need edits_of linked REFUSED AT_LIMIT SETTLED Kept main".split()
+NEEDED = "checked must_fail read_edit unread need edits_of REFUSED AT_LIMIT SETTLED Kept main".split()
+NEEDED_OF_OLDER = "checked must_fail must_fail_all read_edit unread crates_of main".split()
 
 
 def is_known(rt):
-    """Whether the kit's script is as this one takes it."""
+    """Whether the kit's script is one of the two that this one takes."""
+    if kit.is_older(rt):
+        has = all(hasattr(rt, it) for it in NEEDED_OF_OLDER)
+        return has and list(inspect.signature(rt.must_fail_all).parameters) == ["crate", "edits", "flags"]
     has = all(hasattr(rt, it) for it in NEEDED) and hasattr(rt, "add_edits")
     return has and list(inspect.signature(rt.add_edits).parameters) == WANTED
+
+
+def tried_in_rounds(crate, files, flags):
+    """What takes the place of the older script's `must_fail_all`: whether each edit is refused, and what to print."""
+    del flags
+    return [(kind == edits.REFUSED, text) for kind, text in edits.tried(kit.load(), crate, files)]
 
 
 def add_rounds(rt):
@@ -141,11 +153,13 @@ def add_rounds(rt):
 def prove(words):
     """Runs `rt ci`, and returns its status."""
     rt = kit.load()
-    if "--plain" not in words and is_known(rt):
-        rt.add_edits = add_rounds(rt)
-    elif "--plain" not in words:
+    if "--plain" not in words and not is_known(rt):
         print("note: tests/gate/gate.py does not know this kit's script, so edits are tried one at a time")
-    return rt.main(["ci", *(it for it in words if it != "--plain")])
+    elif "--plain" not in words and kit.is_older(rt):
+        rt.must_fail_all = tried_in_rounds
+    elif "--plain" not in words:
+        rt.add_edits = add_rounds(rt)
+    return kit.ci(rt, [it for it in words if it != "--plain"])
 
 
 def main():

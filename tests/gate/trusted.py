@@ -401,7 +401,7 @@ say. A contract is made of definitions, and these definitions have to be read. T
 - The headline comes first. Its tables go from the rules of the games up to histories and crashes. In a crate, a file
   comes after the files that it uses. To read from the top down, begin with the last group.
 - Ask of each definition: is this the rule, the format or the state that I know? docs/rules.md and docs/formats.md name
-  the public standards.
+  the public standards. docs/crosschecks.md says with what each group was compared.
 - A row has a definition's name, its file in the crate, its lines without comments, and the first sentence of its
   comment. `no comment` marks a definition that has none.
 - A type of Rust means its fields, or its model if it has one. The types of a crate follow its definitions.
@@ -412,7 +412,7 @@ say. A contract is made of definitions, and these definitions have to be read. T
 ## What else is trusted
 
 The toolchain, the kit's libraries, the C library, and that the file system keeps what was synced. The program runs the
-headline with `Wary` for `S`: `S.Start` is what the kit's `sqlite_disk` says of it. docs/PROVED.md says what is only
+headline with `Wary` for `S`: `S.Start` is what the kit's `sqlite_disk` says of it. docs/unproved.md says what is only
 tested, and what is neither proved nor tested."""
 
 

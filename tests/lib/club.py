@@ -198,7 +198,12 @@ def limit_files_to(size):
 
 def build_fail_malloc(folder):
     """Compiles tests/lib/fail_malloc.c: a process that preloads it fails the allocation whose number REFUSE gives."""
-    library = f"{os.path.abspath(folder)}/fail_malloc.so"
-    source = str(TESTS / "lib/fail_malloc.c")
+    return build_preload(folder, "fail_malloc")
+
+
+def build_preload(folder, name):
+    """Compiles a file of tests/lib into a library that a process preloads, and returns its path."""
+    library = f"{os.path.abspath(folder)}/{name}.so"
+    source = str(TESTS / f"lib/{name}.c")
     subprocess.run(["gcc", "-shared", "-fPIC", "-O1", "-o", library, source, "-ldl"], check=True)
     return library

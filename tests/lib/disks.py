@@ -21,10 +21,10 @@ DRAWN = 6  # subsets, and values of one byte, that are drawn by chance
 LINE = re.compile(r"\d+ +(\w+)\((.*)\) += (-?\d+|\?|0x[0-9a-f]+)(?: .*)?")
 TEXT = re.compile(r'"((?:\\x[0-9a-f]{2})*)"(\.\.\.)?')
 ANSWERS = b"accepted", b"repeated", b"ready", b"sound", b"HTTP/1."
-KNOWN = "openat close write pwrite64 ftruncate fsync fdatasync fcntl sendto mmap unlink".split()
+KNOWN = "openat close write pwrite64 ftruncate fsync fdatasync fcntl sendto mmap link unlink".split()
 # Calls that may change files as well. The program makes none of them; one that is made is an error.
 OTHERS = """open creat writev pwritev pwritev2 truncate fallocate sync_file_range sync syncfs msync unlinkat
-rename renameat renameat2 link linkat symlink symlinkat dup dup2 dup3 sendmsg sendfile copy_file_range splice
+rename renameat renameat2 linkat symlink symlinkat dup dup2 dup3 sendmsg sendfile copy_file_range splice
 io_uring_setup""".split()
 
 
@@ -137,9 +137,14 @@ class Recorder:
 
     take_fdatasync = take_fsync
 
+    def take_link(self, arguments, _):
+        """The control socket of a server gets its name."""
+        if not text_in(arguments).endswith(b"-sk/s"):
+            raise Unknown(f"link({arguments[:200]})")
+
     def take_unlink(self, arguments, _):
-        """The control socket of a server is removed, which holds no data."""
-        if not text_in(arguments).endswith(b"-desk"):
+        """The control socket of a server is removed, or the name that it had first. It holds no data."""
+        if not text_in(arguments).endswith((b"-desk", b"-sk/s")):
             raise Unknown(f"unlink({arguments[:200]})")
 
     def take_mmap(self, arguments, _):

@@ -4,6 +4,7 @@ import dataclasses
 import http.client
 import json
 import os
+import pathlib
 import socket
 import subprocess
 import time
@@ -80,11 +81,20 @@ class Server:
     def request(self, method, path, body=None, key="keyanna1"):
         return request(self.port, method, path, body, key)
 
-    def wait_until_released(self, file):
-        """Waits until the server has closed a file, which it does once it is idle."""
-        path, end = os.path.realpath(file), time.monotonic() + WAIT
-        while path in self.open_files() and time.monotonic() < end:
+    def release(self, file):
+        """Removes the control socket, without which an idle server closes the file, and waits until it has."""
+        pathlib.Path(f"{file}-desk").unlink(missing_ok=True)
+        return self.wait_until(lambda: not self.has_open(file))
+
+    def has_open(self, file):
+        return os.path.realpath(file) in self.open_files()
+
+    def wait_until(self, is_so):
+        """Waits until something is so, and returns whether it is."""
+        end = time.monotonic() + WAIT
+        while not is_so() and time.monotonic() < end:
             time.sleep(0.05)
+        return is_so()
 
     def open_files(self):
         folder, paths = f"/proc/{self.process.pid}/fd", set()

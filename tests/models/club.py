@@ -24,6 +24,8 @@ STATUSES = {50: 401, 51: 403, 55: 403, 52: 404, 53: 404, 54: 404, 63: 422, 65: 4
             84: 411, 85: 413, 86: 431, 87: 501, 88: 400}
 STATES = ["open", "withdrawn", "refused", "accepted"]
 RULES = {"draughts": draughts, "shogi": shogi}
+OUTSIDE_ENDS = ["Resigned", "Agreed", "Time", "Declared", "Recorded"]  # that no move makes
+MOST_ENDED, MOST_REFUSED = 200, 20  # in the lists of a member
 
 
 def status_of(number):
@@ -204,12 +206,18 @@ class Game:
 
     def mine(self):
         return {"deadline": self.deadline_told(), "event": self.event["name"], "first": self.players[0],
-                "game": self.number, "offer": self.offerer_told(), "ply": self.plies(), "second": self.players[1],
-                "turn": self.mover_told()}
+                "game": self.number, "kind": self.event["game"], "last": self.texts[-1] if self.texts else None,
+                "offer": self.offerer_told(), "ply": self.plies(), "position": self.line.position_text(),
+                "second": self.players[1], "turn": self.mover_told()}
 
     def in_event(self):
-        return {"end": self.end, "first": self.players[0], "game": self.number, "ply": self.plies(),
-                "result": self.result, "second": self.players[1]}
+        return {"deadline": self.deadline_told(), "end": self.end, "first": self.players[0], "game": self.number,
+                "ply": self.plies(), "result": self.result, "second": self.players[1], "turn": self.mover_told()}
+
+    def mine_ended(self):
+        return {"end": self.end, "ended": None if self.end in OUTSIDE_ENDS else self.since,
+                "event": self.event["name"], "first": self.players[0], "game": self.number,
+                "kind": self.event["game"], "ply": self.plies(), "result": self.result, "second": self.players[1]}
 
     def legal(self):
         if self.end:
@@ -269,6 +277,11 @@ class Club:
     def do_clock(self, _, number):
         return self.game_of(number).clock(max(self.last, self.moment))
 
+    def do_page(self, _, number):
+        game = self.game_of(number)
+        return {"clock": game.clock(max(self.last, self.moment)), "game": game.shown(), "kind": game.event["game"],
+                "legal": game.legal()["moves"]}
+
     def games_in(self, event):
         return [it for it in self.games if it.event is event]
 
@@ -286,7 +299,14 @@ class Club:
         challenges = [self.challenge_told(*it) for it in sorted(self.challenges, key=lambda it: (ids[it[0]], it[1]))]
         mine = [it for it in challenges if it["state"] == "open" and member in (it["from"], it["to"])
                 or it["state"] == "accepted" and member == it["from"]]
-        return {"challenges": mine, "games": games, "member": member, "moment": max(self.last, self.moment)}
+        refused = [it for it in challenges if it["state"] == "refused" and member == it["from"]]
+        return {"challenges": mine, "games": games, "member": member, "moment": max(self.last, self.moment),
+                "refused": refused[::-1][:MOST_REFUSED]}
+
+    def do_ended(self, member):
+        games = [it.mine_ended() for it in reversed(self.games) if member in it.players and it.end]
+        return {"games": games[:MOST_ENDED], "member": member, "moment": max(self.last, self.moment),
+                "more": max(len(games) - MOST_ENDED, 0)}
 
     def challenge_told(self, member, number):
         found = self.challenges[member, number]

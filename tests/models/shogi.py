@@ -58,11 +58,11 @@ def write_sfen(position):
 
 
 def reached(board, square):
-    """The squares that the piece at a square reaches."""
+    """The squares that the piece at a square reaches, each once."""
     side, kind, promoted = board[square]
     steps, slides = STEPS.get(kind, ()), SLIDES.get(kind, ())
     if promoted:
-        steps = STEPS["K"] if kind in "RB" else GOLD
+        steps = {"R": DIAGONAL, "B": STRAIGHT}.get(kind, GOLD)
         slides = slides if kind in "RB" else ()
     for aside, ahead in steps:
         to = square[0] + aside, square[1] + ahead * FORWARD[side]

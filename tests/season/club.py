@@ -1,13 +1,17 @@
 """A model of a club as its members see it: the commands that were accepted, and the answer to each query after them.
 
-It does not know the rules of a game: the program says which moves are legal, and that one of them ends its game.
+The program says which moves are legal, and that one of them ends its game; tests/models has the position after them.
 Clocks, lists and each text are computed here.
 """
 import dataclasses
 import datetime
 import json
 
+from models import draughts, shogi
+
 LAST_MOMENT = 253402300799
+RULES = {"draughts": draughts, "shogi": shogi}
+OUTSIDE_ENDS = "Resigned", "Agreed", "Time", "Declared", "Recorded"  # that no move makes
 NAMES = {50: "UnknownKey", 52: "UnknownEvent", 53: "UnknownGame", 65: "BadValue", 72: "Damaged", 82: "NoRoute",
          83: "WrongMethod"}  # of the refusals that a question may have
 PHRASES = {200: "OK", 401: "Unauthorized", 404: "Not Found", 405: "Method Not Allowed", 503: "Service Unavailable"}
@@ -52,6 +56,7 @@ class Game:
         self.start = self.since = moment
         self.left, self.texts, self.spent = [event.budget] * 2, [], []
         self.offer = self.end = self.result = None
+        self.line = RULES[event.game].Line()
 
     def turn(self):
         return len(self.texts) % 2
@@ -77,6 +82,7 @@ class Game:
         self.left[self.turn()] += self.event.increment - (moment - self.since)
         self.spent.append(moment - self.since)
         self.texts.append(text)
+        self.line.push(self.line.read(text))
         self.since, self.offer = moment, None
 
     def ended(self, end, result):
@@ -205,9 +211,9 @@ class Club:
 
     def replied(self, member, path, now):
         """The bytes of the reply to a member who asks by one of the paths."""
-        routes = {("me",): self.me, ("me", "events"): self.my_events, ("events", "games"): self.event_games,
-                  ("events", "table"): self.event_table, ("games", "clock"): self.clock,
-                  ("games", "record"): self.game_record}
+        routes = {("me",): self.me, ("me", "ended"): self.my_ended, ("me", "events"): self.my_events,
+                  ("events", "games"): self.event_games, ("events", "table"): self.event_table,
+                  ("games", "clock"): self.clock, ("games", "record"): self.game_record}
         words = path.split("/")[1:]
         asked = routes[tuple(words) if words[0] == "me" else (words[0], words[2])]
         try:
@@ -220,7 +226,13 @@ class Club:
         numbered = sorted(self.challenges.values(), key=lambda it: (self.id_of(it.member), it.number))
         challenges = [challenge_shown(it) for it in numbered if it.state == "open" and member in it.sides()
                       or it.state == "accepted" and member == it.member]
-        return to_json({"challenges": challenges, "games": games, "member": member, "moment": moment})
+        refused = [challenge_shown(it) for it in numbered if it.state == "refused" and member == it.member]
+        return to_json({"challenges": challenges, "games": games, "member": member, "moment": moment,
+                        "refused": refused[:-21:-1]})
+
+    def my_ended(self, _, member, moment):
+        games = [ended_shown(it) for it in self.games[::-1] if member in it.players and it.end]
+        return to_json({"games": games[:200], "member": member, "moment": moment, "more": len(games[200:])})
 
     def my_events(self, _, member, moment):
         events = [{"budget": it.budget, "event": it.name, "game": it.game, "increment": it.increment}
@@ -229,8 +241,9 @@ class Club:
 
     def event_games(self, words, member, moment):
         event = self.event_of(words[1])
-        return to_json({"games": [{"end": it.end, "first": it.players[0], "game": it.number, "ply": len(it.texts),
-                                "result": it.result, "second": it.players[1]}
+        return to_json({"games": [{"deadline": None if it.end else shown_deadline(it), "end": it.end,
+                                "first": it.players[0], "game": it.number, "ply": len(it.texts), "result": it.result,
+                                "second": it.players[1], "turn": None if it.end else it.mover()}
                                for it in self.games if it.event is event]})
 
     def event_table(self, words, member, moment):
@@ -283,8 +296,15 @@ def shown_deadline(game):
 
 def mine(game):
     return {"deadline": shown_deadline(game), "event": game.event.name, "first": game.players[0], "game": game.number,
+            "kind": game.event.game, "last": game.texts[-1] if game.texts else None,
             "offer": None if game.offer is None else game.players[game.offer], "ply": len(game.texts),
-            "second": game.players[1], "turn": game.mover()}
+            "position": game.line.position_text(), "second": game.players[1], "turn": game.mover()}
+
+
+def ended_shown(game):
+    return {"end": game.end, "ended": None if game.end in OUTSIDE_ENDS else game.since, "event": game.event.name,
+            "first": game.players[0], "game": game.number, "kind": game.event.game, "ply": len(game.texts),
+            "result": game.result, "second": game.players[1]}
 
 
 def challenge_shown(challenge):

@@ -11,7 +11,7 @@ from lib.club import FAST, copy_files
 
 GIVEN = """WITH given AS (SELECT max(:now, last) AS moment FROM meta),
 named AS (
-    SELECT games.*, events.name AS name, one.name AS white, two.name AS black,
+    SELECT games.*, events.name AS name, iif(events.game, 'shogi', 'draughts') AS kind, one.name AS white, two.name AS black,
         iif(plies % 2, two.name, one.name) AS mover, since + iif(plies % 2, left2, left1) AS deadline
     FROM games, events, members AS one, members AS two
     WHERE events.id = games.event AND one.id = games.first AND two.id = games.second),
@@ -32,28 +32,38 @@ FROM dated
 WHERE (:event IS NULL OR name = :event) AND (:member IS NULL OR :member IN (white, black)) AND (NOT :running OR runs)
     AND (NOT :overdue OR is_late)
 ORDER BY id"""
-MINE = """SELECT json_object('challenges', json((SELECT json_group_array(json(text)) FROM (
-        SELECT json_object('event', events.name, 'first', iif(challenges.first, me.name, you.name), 'from', me.name,
-            'game', challenges.game, 'number', number, 'second', iif(challenges.first, you.name, me.name),
-            'state', iif(state, 'accepted', 'open'), 'to', you.name) AS text
+CHALLENGE = """SELECT json_object('event', events.name, 'first', iif(challenges.first, me.name, you.name),
+            'from', me.name, 'game', challenges.game, 'number', number,
+            'second', iif(challenges.first, you.name, me.name),
+            'state', iif(state = 0, 'open', iif(state = 2, 'refused', 'accepted')), 'to', you.name) AS text
         FROM challenges, events, members AS me, members AS you
-        WHERE events.id = event AND me.id = member AND you.id = other
+        WHERE events.id = event AND me.id = member AND you.id = other"""
+MINE = f"""SELECT json_object('challenges', json((SELECT json_group_array(json(text)) FROM ({CHALLENGE}
             AND (state = 0 AND :member IN (me.name, you.name) OR state = 3 AND me.name = :member)
         ORDER BY member, number))),
     'games', json((SELECT json_group_array(json(text)) FROM (
-        SELECT json_object('deadline', until, 'event', name, 'first', white, 'game', id,
-            'offer', iif(offer_side, black, iif(offer_side IS NULL, NULL, white)), 'ply', plies, 'second', black,
-            'turn', mover) AS text
+        SELECT json_object('deadline', until, 'event', name, 'first', white, 'game', id, 'kind', kind,
+            'last', (SELECT text FROM moves WHERE game = dated.id ORDER BY ply DESC LIMIT 1),
+            'offer', iif(offer_side, black, iif(offer_side IS NULL, NULL, white)), 'ply', plies,
+            'position', position, 'second', black, 'turn', mover) AS text
         FROM dated WHERE runs AND :member IN (white, black) ORDER BY id))),
-    'member', :member, 'moment', moment) FROM given"""
+    'member', :member, 'moment', moment, 'refused', json((SELECT json_group_array(json(text)) FROM ({CHALLENGE}
+            AND state = 2 AND me.name = :member ORDER BY number DESC LIMIT 20)))) FROM given"""
+ENDED = """SELECT json_object('games', json((SELECT json_group_array(json(text)) FROM (
+        SELECT json_object('end', "end",
+            'ended', iif("end" IN ('Resigned', 'Agreed', 'Time', 'Declared', 'Recorded'), NULL, since), 'event', name,
+            'first', white, 'game', id, 'kind', kind, 'ply', plies, 'result', result, 'second', black) AS text
+        FROM dated WHERE NOT runs AND :member IN (white, black) ORDER BY id DESC LIMIT 200))),
+    'member', :member, 'moment', moment, 'more', max(0, -200 + (
+        SELECT count(*) FROM dated WHERE NOT runs AND :member IN (white, black)))) FROM given"""
 INVITING = """SELECT json_object('events', json((SELECT json_group_array(json(text)) FROM (
         SELECT json_object('budget', budget, 'event', name, 'game', iif(game, 'shogi', 'draughts'), 'increment',
             increment) AS text FROM events ORDER BY id))),
     'members', json((SELECT json_group_array(name) FROM (
         SELECT name FROM members WHERE name <> :member ORDER BY id))))"""
 EVENT_GAMES = """SELECT json_object('games', json(json_group_array(json(text)))) FROM (
-    SELECT json_object('end', "end", 'first', white, 'game', id, 'ply', plies, 'result', result, 'second', black)
-        AS text
+    SELECT json_object('deadline', iif(runs, until, NULL), 'end', "end", 'first', white, 'game', id, 'ply', plies,
+        'result', result, 'second', black, 'turn', iif(runs, mover, NULL)) AS text
     FROM dated WHERE name = :event ORDER BY id)"""
 CLOCK = """SELECT json_object('deadline', iif(runs, until, NULL), 'game', id, 'left', json_array(left1, left2),
     'moment', moment, 'now', json_array(iif(runs AND NOT plies % 2, max(0, deadline - moment), left1),
@@ -103,8 +113,9 @@ class Rows:
     def body(self, member, path, now):
         """The JSON that a path shows a member, or None."""
         words = path.split("/")[1:]
-        if path in ("/me", "/me/events"):
-            return self.one(MINE if path == "/me" else INVITING, member=member, now=now)
+        mine = {"/me": MINE, "/me/ended": ENDED, "/me/events": INVITING}
+        if path in mine:
+            return self.one(mine[path], member=member, now=now)
         if words[2] == "games":
             return self.one(EVENT_GAMES, event=words[1], now=now)
         return self.one(CLOCK, game=int(words[1]), now=now) if words[2] == "clock" else None

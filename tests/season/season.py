@@ -5,7 +5,7 @@
 
 Six members play in five events of both games: a round robin, moves over HTTP, challenges, offers of a draw, a
 resignation, a claim, records and sweeps, at timestamps just before, on and after deadlines. Each list (`members`,
-`events`, `games` with its options, `table`) and each path (`/me`, `/me/events`, `/events/NAME/games`,
+`events`, `games` with its options, `table`) and each path (`/me`, `/me/ended`, `/me/events`, `/events/NAME/games`,
 `/games/ID/clock`, `/games/ID/record`) is byte for byte what season/club.py computes from the commands, and what sqlite3
 computes from the rows (season/rows.py). No query changes a row, and no key is in any output. Then queries that are
 refused, and files that are no club of this schema.
@@ -38,7 +38,7 @@ MEMBERS = {"anna": "keyanna1", "bert": "KEYBERT2", "cara": "0cara0cara", "dora":
 EVENTS = (("autumn", "draughts", WEEK, 86400), ("fuji", "shogi", 86400, 60), ("blitz", "draughts", 60, 5),
           ("slow.shogi", "shogi", 31536000, 2592000), ("none", "draughts", 1, 0))
 LISTS = [["members"], ["events"], ["games"], ["games", "--running"], ["games", "--overdue"]]
-PATHS = "/me", "/me/events", "/events/autumn/games", "/games/1/clock", "/games/1/record"
+PATHS = "/me", "/me/ended", "/me/events", "/events/autumn/games", "/games/1/clock", "/games/1/record"
 FOURFOLD = ["2h3h", "8b7b", "3h2h", "7b8b"] * 3
 EXCHANGE = ["7g7f", "3c3d", "8h2b+", "3a2b", "B*4e"]
 PDN = b"1. 32-28 19-23 2. 28x19 14x23 1-1\n"
@@ -198,6 +198,7 @@ class Season:
         """Each path with a member who asks: what is one's own by each, the rest by anyone."""
         for member in self.club.keys:
             yield member, "/me"
+            yield member, "/me/ended"
             yield member, "/me/events"
         for event in self.club.events:
             yield self.chance.choice([*self.club.keys]), f"/events/{event}/games"
@@ -227,7 +228,7 @@ class Season:
         asked = [*self.paths()]
         expected = {it: self.club.replied(*it, now) for it in asked}
         got = {it: self.ask(port, self.club.keys[it[0]], "GET", it[1]) for it in asked}
-        for kind in ("me", "me/events", "games", "table", "clock", "record"):
+        for kind in ("me", "me/ended", "me/events", "games", "table", "clock", "record"):
             some = [it for it in asked if it[1].endswith(f"/{kind}")]
             compare(f"{stage}, /{kind} is that of the model",
                     {it: expected[it] for it in some}, {it: got[it] for it in some})
@@ -480,6 +481,7 @@ def faulty(season):
             beside = ["games", "--running"]
             check("a list is printed while the server has the file",
                   season.club.printed(beside, now), other.give(now, beside))
+            pathlib.Path(room, "c.db-desk").unlink()  # without its control socket the server releases the file
             change(f"{room}/c.db", DAMAGES[0][0])
             compare("each path is fault 72 once the file is damaged", {it: refusal(72) for it in PATHS},
                     {it: other.ask(port, "keyanna1", "GET", it) for it in PATHS})

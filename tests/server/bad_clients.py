@@ -104,7 +104,7 @@ def file_in_use():
     """While another program holds the file each request fails at once, and succeeds once the file is free."""
     with serve() as server:
         check("a game is shown before another program holds the file", 200, reply(server, SHOW_GAME)[0])
-        server.wait_until_released("c.db")
+        server.release("c.db")
         with contextlib.closing(sqlite3.connect("c.db", timeout=30, isolation_level=None)) as other:
             other.execute("BEGIN EXCLUSIVE")
             check("a request is fault 73 while another program holds the file",

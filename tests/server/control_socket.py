@@ -8,7 +8,7 @@ import contextlib
 import os
 import pathlib
 import signal
-import sqlite3
+import socket
 import stat
 import subprocess
 import sys
@@ -19,10 +19,11 @@ import time
 sys.path[0] = str(pathlib.Path(__file__).resolve().parents[1])
 import lib.club
 from lib.club import PROGRAM, TWO_MEMBERS, is_within
-from lib.report import check, exit_status
+from lib.report import check, exit_status, skip
 from lib.server import SHOW_GAME, free_port, serve
 
 SOCKET = "c.db-desk"
+NOBODY = 65534  # the number of a user without rights, and of the group
 CREATE = *TWO_MEMBERS, "event cup draughts 86400 0", "seat g cup anna bert"
 
 
@@ -176,14 +177,32 @@ def long_paths():
     check("a server with a long path answers requests", True, statuses.count(200) > 10)
 
 
-def idle_servers():
-    """Beside an idle server other programs can use the file."""
-    with serve(now=None) as server:
-        shown(server)
-        with contextlib.closing(sqlite3.connect("c.db", timeout=60)) as other:
-            count = other.execute("SELECT count(*) FROM members").fetchone()
-            check("sqlite3 reads the file beside an idle server", (34,), count)
-        check("an idle server shows a game after sqlite3 has read the file", 200, shown(server))
+def foreign_sockets():
+    """A command sends nothing to a program of another user, which could print that it was done."""
+    if os.geteuid():
+        skip("a socket of another user", "only root can make one")
+        return
+    pathlib.Path(SOCKET).unlink(missing_ok=True)  # of a server that was killed
+    with socket.socket(socket.AF_UNIX) as listener:
+        listener.bind(SOCKET)
+        os.chown(SOCKET, NOBODY, NOBODY)
+        os.chmod(SOCKET, 0o666)
+        listener.listen()
+        listener.setblocking(False)
+        status, printed = club("c.db", "member", "foreign", "keyforeign1")
+        check("a command beside another user's socket runs over the file", (0, True),
+              (status, printed.startswith("accepted member ")))
+        check("`verify` asks another user's socket for nothing", (0, "sound"), club("c.db", "verify"))
+        check("another user's program receives no connection", False, has_connection(listener))
+    os.remove(SOCKET)
+
+
+def has_connection(listener):
+    try:
+        listener.accept()[0].close()
+    except BlockingIOError:
+        return False
+    return True
 
 
 def end_of_server():
@@ -194,7 +213,7 @@ def end_of_server():
 
 
 PARTS = (commands_and_queries, commands_beside_requests, killed_servers, dead_sockets, two_servers, long_paths,
-         idle_servers, end_of_server)
+         foreign_sockets, end_of_server)
 
 
 def main():

@@ -26,7 +26,6 @@ from models.club import NAMES, status_of
 
 DESCRIPTION = TOP / "docs/openapi.json"
 NOW, BUDGET, SHORT = 2000, 86400, 60  # the server's timestamp; the budgets of the events, of which one is used up
-GET_ROUTES = "Members", "AskGame", "AskEvent", "AskMember"
 FAULTS = {  # what is done to a club's file so that each request fails
     70: lambda file: change(file, "DROP TABLE seen"),
     71: lambda file: change(file, "UPDATE meta SET schema = 3"),
@@ -202,7 +201,7 @@ def call_with_bad_bodies(calls, name, values, good):
 def ask(calls, ids):
     """Queries, in every state of a game."""
     for number in sorted(set(ids.values())) + [max(ids.values()) + it for it in range(1, 6)]:
-        for name in ("getGame", "listLegalMoves", "getClock", "getRecord"):
+        for name in ("getGame", "listLegalMoves", "getClock", "getRecord", "getGamePage"):
             calls.call(name, id=number)
     calls.call("getGame", key="cara", id="000000001")
     for event in ("autumn", "fuji", "short", "empty"):
@@ -210,6 +209,7 @@ def ask(calls, ids):
         calls.call("listEventGames", name=event)
     for member in ("anna", "bert", "cara"):
         calls.call("getMe", key=member)
+        calls.call("listEndedGames", key=member)
         calls.call("listEvents", key=member)
     calls.call("getPage", key=None)
 
@@ -328,7 +328,7 @@ def call_unavailable(calls, values):
             servers[number] = stack.enter_context(serve(f"{number}.db", now=NOW))
             servers[number].show()
         for number, damage in FAULTS.items():
-            servers[number].wait_until_released(f"{number}.db")
+            servers[number].release(f"{number}.db")
             damage(f"{number}.db")
             calls.server = servers[number]
             for name in calls.description.operations:
@@ -363,9 +363,9 @@ def call_all(description):
 
 
 def routes_of_server():
-    table = (TOP / "crates/http_desk/src/routes.rt").read_text()
-    return {("get" if route in GET_ROUTES else "post", path)
-            for path, route in re.findall(r'^    \("(/[^"]*)", Route::(\w+)', table, re.MULTILINE)}
+    table = (TOP / "crates/http_desk/src/table.rt").read_text()
+    return {(method.lower(), path)
+            for path, method in re.findall(r'\(\s*"(/[^"]*)",\s*(Get|Post),', table)}
 
 
 def routes_of_prose():

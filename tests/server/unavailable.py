@@ -68,13 +68,13 @@ def faults():
         check("a game is shown before any fault", 200, server.show()[0])
 
         def replace(name, fault, make):
-            server.wait_until_released("f.db")
+            server.release("f.db")
             make()
             before = hash_of("f.db")
             check(f"{name} is fault {fault} of a request", unavailable(fault), server.show())
             check(f"{name} is fault {fault} of a move", unavailable(fault), server.move(1))
             time.sleep(2.5)  # after two seconds the server tries the file again
-            server.wait_until_released("f.db")
+            server.release("f.db")
             check(f"{name} leaves the file unchanged", before, hash_of("f.db"))
             shutil.copyfile("good.db", "f.db")
             check(f"a game is shown once {name} is repaired", 200, server.show()[0])
@@ -85,7 +85,7 @@ def faults():
         replace("a damaged member", 72, lambda: change("f.db", "UPDATE members SET name = '' WHERE id = 2"))
         replace("a text file", 73, lambda: pathlib.Path("f.db").write_text("a letter to the members\n" * 400))
 
-        server.wait_until_released("f.db")
+        server.release("f.db")
         with contextlib.closing(sqlite3.connect("f.db", timeout=30, isolation_level=None)) as other:
             other.execute("BEGIN EXCLUSIVE")
             check("a file that another program holds is fault 73 of a request", unavailable(73), server.show())
