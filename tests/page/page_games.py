@@ -194,7 +194,7 @@ def declaration(room):
     if has_declarations:
         told("a king that has entered is declared", anna, "#state", "You won: by the entered king (2-0)")
     else:
-        told("a declaration is refused in words", anna, "#wrong", "This cannot be declared")
+        told("a declaration is refused in words", anna, "#wrong", "The entered king cannot be declared here")
 
 
 def dragging(room):
@@ -396,7 +396,7 @@ def unsent_move(room):
     says(anna, "#state", "Your turn")
     room.desk.stop()
     move(anna, "32", "28")
-    words = f"Game {game}: your move 32-28 was not sent"
+    words = f"Game {game}: your move 32-28 may not have arrived"
     told("a move that was not sent is told", anna, "#unsent", words)
     stands = "!!document.querySelector('[data-square=\"32\"]').firstChild"
     verdict("its piece is back", True, anna.until(stands))

@@ -144,7 +144,7 @@ def shut_club(room):
         other.execute("BEGIN EXCLUSIVE")
         move(anna, "32", "28")
         told("a shut club is told in words", anna, "#away", "The club is unavailable")
-        told("the move was not sent", anna, "#unsent", f"Game {game}: your move 32-28 was not sent")
+        told("the move was not sent", anna, "#unsent", f"Game {game}: your move 32-28 may not have arrived")
         back = "!!document.querySelector('[data-square=\"32\"]').firstChild"
         verdict("the piece is back", True, anna.until(back))
     verdict("an open club is told by itself", True, anna.until("!document.getElementById('away').textContent"))

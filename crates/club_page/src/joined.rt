@@ -319,7 +319,9 @@ pub fn page_1() -> &'static str
      document.head.append(make('link',{rel:'manifest',href}))}\
      const TEXTS={code:['en','de','nl','ja','fr'],language:['English','Deutsch','Nederlands','\\u65e5\\u67\
      2c\\u8a9e','Fran\\u00e7ais'],languageName:['Language','Sprache','Taal','\\u8a00\\u8a9e','Langue'],yourN\
-     ame:['Your name','I"
+     ame:['Your name','Ihr Name','Uw naam','\\u540d\\u524d','Votre nom'],key:['Member key','Mitgliedsschl\\\
+     u00fcssel','Lidsleutel','\\u4f1a\\u54e1\\u30ad\\u30fc','Cl\\u00e9 de membre'],keyHint:['The club\\u2019s \
+     officer gave you the key. Your password manager "
 }
 
 /// Part 2 of the page, in ASCII.
@@ -327,17 +329,15 @@ pub fn page_1() -> &'static str
 pub fn page_2() -> &'static str
     ensures { result.now ≡ page_2 }
 {
-    "hr Name','Uw naam','\\u540d\\u524d','Votre nom'],key:['Member key','Mitgliedsschl\\u00fcssel','Lidsle\
-     utel','\\u4f1a\\u54e1\\u30ad\\u30fc','Cl\\u00e9 de membre'],keyHint:['The club\\u2019s officer gave you t\
-     he key. Your password manager needs the name to tell members apart.','Den Schl\\u00fcssel erhalten S\
-     ie vom Turnierleiter. Am Namen unterscheidet Ihr Passwortmanager mehrere Mitglieder.','De sleutel k\
-     rijgt u van de wedstrijdleider. Aan de naam herkent uw wachtwoordbeheer verschillende leden.','\\u30\
-     ad\\u30fc\\u306f\\u30af\\u30e9\\u30d6\\u306e\\u5e79\\u4e8b\\u304b\\u3089\\u53d7\\u3051\\u53d6\\u3063\\u305f\\u3082\\\
-     u306e\\u3067\\u3059\\u3002\\u540d\\u524d\\u306f\\u30d1\\u30b9\\u30ef\\u30fc\\u30c9\\u7ba1\\u7406\\u30c4\\u30fc\\u30\
-     eb\\u304c\\u4f1a\\u54e1\\u3092\\u533a\\u5225\\u3059\\u308b\\u305f\\u3081\\u306b\\u4f7f\\u3044\\u307e\\u3059\\u3002'\
-     ,'La cl\\u00e9 vous est remise par le responsable du club. Le nom permet \\u00e0 votre gestionnaire d\
-     e mots de passe de distinguer les membres.'],otherName:['This key belongs to {name}\
-     . You are signed in as {name}.','Dieser Schl\\u00fcssel geh\\u00f6rt {name}. Sie sind als {name} \
+    "needs the name to tell members apart.','Den Schl\\u00fcssel erhalten Sie vom Turnierleiter. Am Name\
+     n unterscheidet Ihr Passwortmanager mehrere Mitglieder.','De sleutel krijgt u van de wedstrijdleide\
+     r. Aan de naam herkent uw wachtwoordbeheer verschillende leden.','\\u30ad\\u30fc\\u306f\\u30af\\u30e9\\u3\
+     0d6\\u306e\\u5e79\\u4e8b\\u304b\\u3089\\u53d7\\u3051\\u53d6\\u3063\\u305f\\u3082\\u306e\\u3067\\u3059\\u3002\\u540d\
+     \\u524d\\u306f\\u30d1\\u30b9\\u30ef\\u30fc\\u30c9\\u7ba1\\u7406\\u30c4\\u30fc\\u30eb\\u304c\\u4f1a\\u54e1\\u3092\\u5\
+     33a\\u5225\\u3059\\u308b\\u305f\\u3081\\u306b\\u4f7f\\u3044\\u307e\\u3059\\u3002','La cl\\u00e9 vous est remise \
+     par le responsable du club. Le nom permet \\u00e0 votre gestionnaire de mots de passe de distinguer \
+     les membres.'],otherName:['This key belongs to {name}. You are signed in as {name}\
+     .','Dieser Schl\\u00fcssel geh\\u00f6rt {name}. Sie sind als {name} \
      angemeldet.','Deze sleutel is van {name}. U bent aangemeld als {name}\
      .','\\u3053\\u306e\\u30ad\\u30fc\\u306f{name}\\u3055\\u3093\\u306e\\u3082\\u306e\\u3067\\u3059\\u3002{name}\
      \\u3068\\u3057\\u3066\\u30ed\\u30b0\\u30a4\\u30f3\\u3057\\u307e\\u3057\\u305f\\u3002','Cette cl\\u00e9 est celle \
@@ -441,40 +441,42 @@ pub fn page_2() -> &'static str
      played {move}','{name} zog {move}','{name} speelde {move}','{name} {move}','{name} \
      a jou\\u00e9 {move}\
      '],atStart:['The starting position','Die Anfangsstellung','De beginstand','\\u958b\\u59cb\\u5c40\\u9762\
-     ','La position de d\\u00e9part'],earlier:['An earlier position. Go to the latest one to move.','Eine \
-     fr\\u00fchere Stellung. Zum Ziehen zur neuesten gehen.','Een eerdere stand. Ga naar de laatste stand \
-     om te zetten.','\\u904e\\u53bb\\u306e\\u5c40\\u9762\\u3067\\u3059\\u3002\\u6307\\u3059\\u306b\\u306f\\u6700\\u65b\
-     0\\u306e\\u5c40\\u9762\\u306b\\u623b\\u3063\\u3066\\u304f\\u3060\\u3055\\u3044\\u3002','Une position ant\\u00e9r\
-     ieure. Allez \\u00e0 la derni\\u00e8re pour jouer.'],mustTake:['You must capture the most pieces you \
-     can: use a marked piece.','Schlagzwang: Schlagen Sie mit einem markierten Stein so viele Steine wie \
-     m\\u00f6glich.','Slaan is verplicht en meerslag gaat voor: sla met een gemarkeerd stuk.','\\u6700\\u30\
-     82\\u591a\\u304f\\u53d6\\u308b\\u624b\\u3060\\u3051\\u304c\\u6307\\u305b\\u307e\\u3059\\u3002\\u5370\\u306e\\u4ed8\\\
-     u3044\\u305f\\u99d2\\u3067\\u53d6\\u3063\\u3066\\u304f\\u3060\\u3055\\u3044\\u3002','Prise obligatoire et majo\
-     ritaire\\u00a0: jouez une des pi\\u00e8ces marqu\\u00e9es.'],inCheck:['You are in check. Move one of t\
-     he marked pieces.','Sie stehen im Schach. Ziehen Sie mit einem markierten Stein.','U staat schaak. \
-     Speel een van de gemarkeerde stukken.','\\u738b\\u624b\\u3067\\u3059\\u3002\\u5370\\u306e\\u4ed8\\u3044\\u305\
-     f\\u99d2\\u3067\\u5fdc\\u3058\\u3066\\u304f\\u3060\\u3055\\u3044\\u3002','Vous \\u00eates en \\u00e9chec. Jouez \
-     une des pi\\u00e8ces marqu\\u00e9es.'],confirmHint:['{move}: send this move?','{move}\
-     : diesen Zug senden?','{move}: deze zet verzenden?','{move}\
-     \\uff1a\\u9001\\u4fe1\\u3057\\u307e\\u3059\\u304b\\uff1f','{move}\
+     ','La position de d\\u00e9part'],earlier:['An earlier position. Moves are made in the latest one.','\
+     Eine fr\\u00fchere Stellung. Gezogen wird in der neuesten.','Een eerdere stand. Zetten kan alleen in \
+     de laatste.','\\u904e\\u53bb\\u306e\\u5c40\\u9762\\u3067\\u3059\\u3002\\u6307\\u305b\\u308b\\u306e\\u306f\\u6700\\\
+     u65b0\\u306e\\u5c40\\u9762\\u3060\\u3051\\u3067\\u3059\\u3002','Une position ant\\u00e9rieure. On joue dans \
+     la derni\\u00e8re.'],mustTake:['You must capture the most pieces you can: use a marked piece.','Schl\
+     agzwang: Schlagen Sie mit einem markierten Stein so viele Steine wie m\\u00f6glich.','Slaan is verpl\
+     icht en meerslag gaat voor: sla met een gemarkeerd stuk.','\\u6700\\u3082\\u591a\\u304f\\u53d6\\u308b\\u62\
+     4b\\u3060\\u3051\\u304c\\u6307\\u305b\\u307e\\u3059\\u3002\\u5370\\u306e\\u4ed8\\u3044\\u305f\\u99d2\\u3067\\u53d6\\\
+     u3063\\u3066\\u304f\\u3060\\u3055\\u3044\\u3002','Prise obligatoire et majoritaire\\u00a0: jouez une des p\
+     i\\u00e8ces marqu\\u00e9es.'],inCheck:['You are in check. Play one of the marked pieces.','Sie stehen \
+     im Schach. Spielen Sie einen der markierten Steine.','U staat schaak. Speel een van de gemarkeerde \
+     stukken.','\\u738b\\u624b\\u3067\\u3059\\u3002\\u5370\\u306e\\u4ed8\\u3044\\u305f\\u99d2\\u3067\\u5fdc\\u3058\\u30\
+     66\\u304f\\u3060\\u3055\\u3044\\u3002','Vous \\u00eates en \\u00e9chec. Jouez une des pi\\u00e8ces marqu\\u0\
+     0e9es.'],confirmHint:['{move}: send this move?','{move}: diesen Zug senden?','{move}\
+     : deze zet verzenden?','{move}\\uff1a\\u9001\\u4fe1\\u3057\\u307e\\u3059\\u304b\\uff1f','{move}\
      \\u00a0: envoyer ce coup\\u00a0?'],confirm:['Confirm move','Zug best\\u00e4tigen','Zet bevestigen','\\u\
      6307\\u3057\\u624b\\u3092\\u78ba\\u5b9a','Confirmer le coup'],takeBack:['Take back','Zur\\u00fccknehmen',\
      'Terugnemen','\\u53d6\\u308a\\u6d88\\u3059','Annuler le coup'],sending:['Sending\\u2026','Wird gesendet\\\
      u00a0\\u2026','Wordt verzonden\\u2026','\\u9001\\u4fe1\\u4e2d\\u2026','Envoi\\u2026'],unsent:['Game {game}\
-     : your move {as} was not sent. Sending it again is safe.','Partie {game}: Ihr Zug {as} \
-     wurde nicht gesendet. Sie k\\u00f6nnen ihn bedenkenlos erneut senden.','Partij {game}: uw zet {as} \
-     is niet verzonden. Opnieuw verzenden kan geen kwaad.','\\u5bfe\\u5c40{game}\\uff1a{as}\
-     \\u306f\\u9001\\u4fe1\\u3055\\u308c\\u3066\\u3044\\u307e\\u305b\\u3093\\u3002\\u518d\\u9001\\u4fe1\\u3057\\u3066\\u3\
-     082\\u4e8c\\u91cd\\u306b\\u306f\\u306a\\u308a\\u307e\\u305b\\u3093\\u3002','Partie {game}\
-     \\u00a0: votre coup {as} \
-     n\\u2019a pas \\u00e9t\\u00e9 envoy\\u00e9. Le renvoyer est sans risque.'],again:['Send again','Erneut \
-     senden','Opnieuw verzenden','\\u518d\\u9001\\u4fe1','Renvoyer'],dismiss:['Dismiss','Ausblenden','Verbe\
-     rgen','\\u9589\\u3058\\u308b','Masquer'],notDone:['Not done: {why}. Please try again; \
-     nothing is done twice.','Nicht ausgef\\u00fchrt: {why}. Bitte versuchen Sie es erneut; \
-     nichts geschieht doppelt.','Niet uitgevoerd: {why}. Probeer het opnieuw; \
-     niets gebeurt dubbel.','\\u5b9f\\u884c\\u3055\\u308c\\u307e\\u305b\\u3093\\u3067\\u3057\\u305f\\uff08{why}\
+     : your move {as} may not have arrived. Sending it again is safe.','Partie {game}: Ihr Zug {as} \
+     ist vielleicht nicht angekommen. Sie k\\u00f6nnen ihn bedenkenlos erneut senden.','Partij {game}\
+     : uw zet {as} is misschien niet aangekomen. Opnieuw verzenden kan geen kwaad.','\\u5bfe\\u5c40{game}\
+     \\uff1a{as}\
+     \\u304c\\u5c4a\\u3044\\u3066\\u3044\\u306a\\u3044\\u53ef\\u80fd\\u6027\\u304c\\u3042\\u308a\\u307e\\u3059\\u3002\\u5\
+     18d\\u9001\\u4fe1\\u3057\\u3066\\u3082\\u4e8c\\u91cd\\u306b\\u306f\\u306a\\u308a\\u307e\\u305b\\u3093\\u3002','Par\
+     tie {game}\\u00a0: votre coup {as} \
+     n\\u2019est peut-\\u00eatre pas arriv\\u00e9. Le renvoyer est sans risque.'],again:['Send again','Erne\
+     ut senden','Opnieuw verzenden','\\u518d\\u9001\\u4fe1','Renvoyer'],dismiss:['Dismiss','Schlie\\u00dfen'\
+     ,'Sluiten','\\u9589\\u3058\\u308b','Fermer'],notDone:['This may not have been done: {why}\
+     . Please try again; nothing is done twice.','Vielleicht nicht ausgef\\u00fchrt: {why}\
+     . Bitte versuchen Sie es erneut; nichts geschieht doppelt.','Misschien niet uitgevoerd: {why}\
+     . Probeer het opnieuw; \
+     er gebeurt niets dubbel.','\\u5b9f\\u884c\\u3055\\u308c\\u3066\\u3044\\u306a\\u3044\\u53ef\\u80fd\\u6027\\u304c\
+     \\u3042\\u308a\\u307e\\u3059\\uff08{why}\
      \\uff09\\u3002\\u3082\\u3046\\u4e00\\u5ea6\\u304a\\u8a66\\u3057\\u304f\\u3060\\u3055\\u3044\\u3002\\u4e8c\\u91cd\\u3\
-     06b\\u306f\\u306a\\u308a\\u307e\\u305b\\u3093\\u3002','Non effectu\\u00e9\\u00a0: {why}\
+     06b\\u306f\\u306a\\u308a\\u307e\\u305b\\u3093\\u3002','Peut-\\u00eatre non effectu\\u00e9\\u00a0: {why}\
      . R\\u00e9essayez\\u00a0; rien ne sera fait deux fois.'],retrying:['{why}. Trying again\\u2026','{why}\
      . Neuer Versuch l\\u00e4uft\\u00a0\\u2026','{why}. Nieuwe poging\\u2026','{why}\
      \\u3002\\u518d\\u63a5\\u7d9a\\u4e2d\\u2026','{why}\
@@ -593,23 +595,27 @@ pub fn page_2() -> &'static str
      62\\u304c\\u9032\\u3093\\u3067\\u3044\\u307e\\u3059','La partie a avanc\\u00e9'],58:['Something else was do\
      ne already','Es wurde schon etwas anderes getan','Er is al iets anders gedaan','\\u5225\\u306e\\u64cd\\\
      u4f5c\\u304c\\u5148\\u306b\\u884c\\u308f\\u308c\\u307e\\u3057\\u305f','Autre chose a d\\u00e9j\\u00e0 \\u00e9t\\\
-     u00e9 fait'],59:['It is not your turn','Sie sind nicht am Zug','U bent niet aan zet','\\u3042\\u306a\\\
-     u305f\\u306e\\u624b\\u756a\\u3067\\u306f\\u3042\\u308a\\u307e\\u305b\\u3093','Ce n\\u2019est pas \\u00e0 vous d\
-     e jouer'],60:['Your time is up','Ihre Zeit ist abgelaufen','Uw tijd is om','\\u6642\\u9593\\u5207\\u308\
-     c\\u3067\\u3059','Votre temps est \\u00e9coul\\u00e9'],61:['Your opponent has time left','Ihr Gegner ha\
-     t noch Zeit','Uw tegenstander heeft nog tijd','\\u76f8\\u624b\\u306e\\u6642\\u9593\\u306f\\u6b8b\\u3063\\u30\
-     66\\u3044\\u307e\\u3059','L\\u2019adversaire a encore du temps'],62:['The offer is no longer valid','Da\
-     s Angebot gilt nicht mehr','Het aanbod is vervallen','\\u63d0\\u6848\\u306f\\u7121\\u52b9\\u306b\\u306a\\u3\
-     08a\\u307e\\u3057\\u305f','L\\u2019offre n\\u2019est plus valable'],65:['Invalid value','Unzul\\u00e4ssig\
-     er Wert','Ongeldige waarde','\\u5024\\u304c\\u4e0d\\u6b63\\u3067\\u3059','Valeur non valide'],66:['The cl\
-     ub is full','Der Club ist voll','De club is vol','\\u5bfe\\u5c40\\u6570\\u304c\\u4e0a\\u9650\\u3067\\u3059'\
-     ,'Le club est plein'],67:['This cannot be declared','Das kann nicht erkl\\u00e4rt werden','Dit kan n\
-     iet worden verklaard','\\u5ba3\\u8a00\\u306e\\u6761\\u4ef6\\u3092\\u6e80\\u305f\\u3057\\u3066\\u3044\\u307e\\u30\
-     5b\\u3093','D\\u00e9claration impossible'],72:['The club\\u2019s file is damaged','Die Datei des Clubs \
-     ist besch\\u00e4digt','Het bestand van de club is beschadigd','\\u30af\\u30e9\\u30d6\\u306e\\u30c7\\u30fc\\\
-     u30bf\\u304c\\u58ca\\u308c\\u3066\\u3044\\u307e\\u3059','Le fichier du club est endommag\\u00e9'],73:['The \
-     club is unavailable','Der Club ist gerade nicht verf\\u00fcgbar','De club is even niet beschikbaar',\
-     '\\u30af\\u30e9\\u30d6\\u306f\\u73fe\\u5728\\u5229"
+     u00e9 fait'],59:['Only your opponent can do that now','Das kann jetzt nur Ihr Gegner','Dat kan nu a\
+     lleen uw tegenstander','\\u4eca\\u305d\\u308c\\u304c\\u3067\\u304d\\u308b\\u306e\\u306f\\u76f8\\u624b\\u3060\\u3\
+     051\\u3067\\u3059','Seul l\\u2019adversaire peut le faire maintenant'],60:['Your time is up','Ihre Zei\
+     t ist abgelaufen','Uw tijd is om','\\u6642\\u9593\\u5207\\u308c\\u3067\\u3059','Votre temps est \\u00e9cou\
+     l\\u00e9'],61:['Your opponent has time left','Ihr Gegner hat noch Zeit','Uw tegenstander heeft nog t\
+     ijd','\\u76f8\\u624b\\u306e\\u6642\\u9593\\u306f\\u6b8b\\u3063\\u3066\\u3044\\u307e\\u3059','L\\u2019adversaire \
+     a encore du temps'],62:['The offer is no longer valid','Das Angebot gilt nicht mehr','Het aanbod is \
+     vervallen','\\u63d0\\u6848\\u306f\\u7121\\u52b9\\u306b\\u306a\\u308a\\u307e\\u3057\\u305f','L\\u2019offre n\\u20\
+     19est plus valable'],65:['Invalid value','Unzul\\u00e4ssiger Wert','Ongeldige waarde','\\u5024\\u304c\\\
+     u4e0d\\u6b63\\u3067\\u3059','Valeur non valide'],66:['The club cannot hold more games','Der Club kann \
+     keine weiteren Partien aufnehmen','De club kan geen partijen meer opnemen','\\u5bfe\\u5c40\\u6570\\u304\
+     c\\u4e0a\\u9650\\u306b\\u9054\\u3057\\u3066\\u3044\\u307e\\u3059','Le club ne peut plus accueillir de partie\
+     s'],67:['The entered king cannot be declared here','Der K\\u00f6nigseintritt kann hier nicht erkl\\u0\
+     0e4rt werden','De koningsintrede kan hier niet worden geclaimd','\\u3053\\u3053\\u3067\\u306f\\u5165\\u73\
+     89\\u5ba3\\u8a00\\u306f\\u3067\\u304d\\u307e\\u305b\\u3093','L\\u2019entr\\u00e9e du roi ne peut pas \\u00eatr\
+     e d\\u00e9clar\\u00e9e ici'],72:['The club\\u2019s file cannot be used; \
+     please tell the officer','Die Datei des Clubs ist nicht nutzbar; \
+     bitte informieren Sie den Turnierleiter','Het bestand van de club is niet bruikbaar; \
+     waarschuw de wedstrijdleider','\\u30af\\u30e9\\u30d6\\u306e\\u30c7\\u30fc\\u30bf\\u3092\\u5229\\u7528\\u3067\\u\
+     304d\\u307e\\u305b\\u3093\\u3002\\u5e79\\u4e8b\\u306b\\u77e5\\u3089\\u305b\\u3066\\u304f\\u3060\\u3055\\u3044','Le \
+     fichier du club est inutilisable\\u00a0; pr\\u00e9ven"
 }
 
 /// Part 3 of the page, in ASCII.
@@ -617,10 +623,12 @@ pub fn page_2() -> &'static str
 pub fn page_3() -> &'static str
     ensures { result.now ≡ page_3 }
 {
-    "\\u7528\\u3067\\u304d\\u307e\\u305b\\u3093','Le club est momentan\\u00e9ment indisponible'],ending:['{who\
-     }: {why} ({result})','{who}: {why} ({result})','{who}: {why} ({result})','{who}\\uff1a{why}\
-     \\uff08{result}\\uff09','{who}\\u00a0: {why} ({result})'],won:['{name} won','{name} \
-     hat gewonnen','{name} heeft gewonnen','{name}\\u306e\\u52dd\\u3061','{name} \
+    "ez le responsable'],73:['The club is unavailable','Der Club ist gerade nicht verf\\u00fcgbar','De c\
+     lub is even niet beschikbaar','\\u30af\\u30e9\\u30d6\\u306f\\u73fe\\u5728\\u5229\\u7528\\u3067\\u304d\\u307e\\u\
+     305b\\u3093','Le club est momentan\\u00e9ment indisponible'],ending:['{who}: {why} ({result})','{who}\
+     : {why} ({result})','{who}: {why} ({result})','{who}\\uff1a{why}\\uff08{result}\\uff09','{who}\
+     \\u00a0: {why} ({result})'],won:['{name} won','{name} hat gewonnen','{name} heeft gewonnen','{name}\
+     \\u306e\\u52dd\\u3061','{name} \
      a gagn\\u00e9'],youWon:['You won','Sie haben gewonnen','U hebt gewonnen','\\u3042\\u306a\\u305f\\u306e\\u\
      52dd\\u3061','Vous avez gagn\\u00e9'],youLost:['You lost','Sie haben verloren','U hebt verloren','\\u3\
      042\\u306a\\u305f\\u306e\\u8ca0\\u3051','Vous avez perdu'],drawn:['Draw','Remis','Remise','\\u5f15\\u304d\\\
@@ -628,35 +636,37 @@ pub fn page_3() -> &'static str
      ,'\\u6307\\u305b\\u308b\\u624b\\u304c\\u306a\\u3044','plus de coup possible'],Mate:['checkmate','Matt','ma\
      t','\\u8a70\\u307f','mat'],Repetition:['threefold repetition','dreifache Stellungswiederholung','drie\
      maal dezelfde stand','\\u540c\\u4e00\\u5c40\\u97623\\u56de','triple r\\u00e9p\\u00e9tition'],KingMoves:['2\
-     5 moves of kings without a capture','25 Damenz\\u00fcge ohne Schlag','25 zetten met dammen zonder sl\
-     ag','\\u30ad\\u30f3\\u30b0\\u306e\\u307f\\u3067\\u53d6\\u308a\\u306a\\u305725\\u624b','25 coups de dames sans \
-     prise'],ThreeToOne:['three pieces against a king','drei Steine gegen eine Dame','drie om \\u00e9\\u00\
-     e9n','\\u30ad\\u30f3\\u30b01\\u679a\\u306b\\u5bfe\\u30573\\u679a','trois pi\\u00e8ces contre une dame'],TwoT\
-     oOne:['two pieces against a king','zwei Steine gegen eine Dame','twee om \\u00e9\\u00e9n','\\u30ad\\u30\
-     f3\\u30b01\\u679a\\u306b\\u5bfe\\u30572\\u679a','deux pi\\u00e8ces contre une dame'],PlyLimit:['limit of 6\
-     00 plies','Grenze von 600 Halbz\\u00fcgen','grens van 600 halve zetten','\\u6700\\u5927\\u624b\\u6570\\uf\
-     f08600\\u624b\\uff09','limite de 600 demi-coups'],PerpetualCheck:['perpetual check','Dauerschach','ee\
-     uwig schaak','\\u9023\\u7d9a\\u738b\\u624b\\u306e\\u5343\\u65e5\\u624b','\\u00e9chec perp\\u00e9tuel'],Fourfo\
-     ld:['fourfold repetition','vierfache Stellungswiederholung','viermaal dezelfde stand','\\u5343\\u65e5\
-     \\u624b','quadruple r\\u00e9p\\u00e9tition'],Agreed:['by agreement','durch Vereinbarung','in onderling \
-     overleg','\\u5408\\u610f','d\\u2019un commun accord'],Resigned:['by resignation','durch Aufgabe','door \
-     opgave','\\u6295\\u4e86','par abandon'],Time:['on time','durch Zeit\\u00fcberschreitung','op tijd','\\u\
-     6642\\u9593\\u5207\\u308c','au temps'],Declared:['by the entered king','durch den eingetretenen K\\u00f\
-     6nig','door de koning in de promotiezone','\\u5165\\u7389\\u5ba3\\u8a00','par l\\u2019entr\\u00e9e du roi\
-     '],Recorded:['as recorded','laut Notation','volgens notatie','\\u68cb\\u8b5c\\u306b\\u3088\\u308b','selo\
-     n la notation'],man:['man','Stein','schijf','\\u30de\\u30f3','pion'],king:['king','Dame','dam','\\u30a\
-     d\\u30f3\\u30b0','dame'],K:['king','K\\u00f6nig','koning','\\u7389','roi'],R:['rook','Turm','toren','\\u\
-     98db\\u8eca','tour'],B:['bishop','L\\u00e4ufer','loper','\\u89d2','fou'],G:['gold','Goldgeneral','goud\
-     en generaal','\\u91d1','g\\u00e9n\\u00e9ral d\\u2019or'],S:['silver','Silbergeneral','zilveren generaal\
-     ','\\u9280','g\\u00e9n\\u00e9ral d\\u2019argent'],N:['knight','Springer','paard','\\u6842\\u99ac','cavali\
-     er'],L:['lance','Lanze','lans','\\u9999\\u8eca','lance'],P:['pawn','Bauer','pion','\\u6b69','pion'],'+\
-     R':['dragon','Drache','draak','\\u7adc','dragon'],'+B':['horse','Pferd','gepromoveerde loper','\\u99a\
-     c','cheval'],'+S':['promoted silver','bef\\u00f6rderter Silbergeneral','gepromoveerde zilveren gener\
-     aal','\\u6210\\u9280','g\\u00e9n\\u00e9ral d\\u2019argent promu'],'+N':['promoted knight','bef\\u00f6rder\
-     ter Springer','gepromoveerd paard','\\u6210\\u6842','cavalier promu'],'+L':['promoted lance','bef\\u00\
-     f6rderte Lanze','gepromoveerde lans','\\u6210\\u9999','lance promue'],'+P':['tokin','Tokin','tokin','\
-     \\u3068\\u91d1','tokin']};const DAY=86400;const UNITS={day:DAY,hour:3600,minute:60,second:1};\
-     let language=0;\
+     5 king moves without a capture','25 Damenz\\u00fcge ohne Schlag','25 damzetten zonder slag','\\u30ad\\\
+     u30f3\\u30b0\\u306e\\u624b\\u306e\\u307f\\u30fb\\u99d2\\u53d6\\u308a\\u306a\\u3057\\u3067\\u53cc\\u65b925\\u624b',\
+     '25 coups de dames sans prise'],ThreeToOne:['16 moves with three pieces against a king','16 Z\\u00fc\
+     ge mit drei Steinen gegen eine Dame','16 zetten met drie om \\u00e9\\u00e9n','3\\u679a\\u5bfe\\u30ad\\u30\
+     f3\\u30b01\\u679a\\u3067\\u53cc\\u65b916\\u624b','16 coups \\u00e0 trois pi\\u00e8ces contre une dame'],Two\
+     ToOne:['5 moves with at most two pieces against a king','5 Z\\u00fcge mit h\\u00f6chstens zwei Steine\
+     n gegen eine Dame','5 zetten met hooguit twee om \\u00e9\\u00e9n','2\\u679a\\u4ee5\\u4e0b\\u5bfe\\u30ad\\u3\
+     0f3\\u30b01\\u679a\\u3067\\u53cc\\u65b95\\u624b','5 coups \\u00e0 deux pi\\u00e8ces au plus contre une dame\
+     '],PlyLimit:['limit of 600 plies','Grenze von 600 Halbz\\u00fcgen','grens van 600 halve zetten','\\u6\
+     700\\u5927\\u624b\\u6570\\uff08600\\u624b\\uff09','limite de 600 demi-coups'],PerpetualCheck:['perpetual \
+     check','Dauerschach','eeuwig schaak','\\u9023\\u7d9a\\u738b\\u624b\\u306e\\u5343\\u65e5\\u624b','\\u00e9chec \
+     perp\\u00e9tuel'],Fourfold:['fourfold repetition','vierfache Stellungswiederholung','viermaal dezelf\
+     de stand','\\u5343\\u65e5\\u624b','quadruple r\\u00e9p\\u00e9tition'],Agreed:['by agreement','durch Vere\
+     inbarung','in onderling overleg','\\u5408\\u610f','d\\u2019un commun accord'],Resigned:['by resignatio\
+     n','durch Aufgabe','door opgave','\\u6295\\u4e86','par abandon'],Time:['on time','durch Zeit\\u00fcber\
+     schreitung','op tijd','\\u6642\\u9593\\u5207\\u308c','au temps'],Declared:['by the entered king','durch \
+     den eingetretenen K\\u00f6nig','door de koning in de promotiezone','\\u5165\\u7389\\u5ba3\\u8a00','par l\
+     \\u2019entr\\u00e9e du roi'],Recorded:['as recorded','laut Notation','volgens notatie','\\u68cb\\u8b5c\\\
+     u306b\\u3088\\u308b','selon la notation'],man:['man','Stein','schijf','\\u30de\\u30f3','pion'],king:['k\
+     ing','Dame','dam','\\u30ad\\u30f3\\u30b0','dame'],K:['king','K\\u00f6nig','koning','\\u7389','roi'],R:['\
+     rook','Turm','toren','\\u98db\\u8eca','tour'],B:['bishop','L\\u00e4ufer','loper','\\u89d2','fou'],G:['g\
+     old','Goldgeneral','gouden generaal','\\u91d1','g\\u00e9n\\u00e9ral d\\u2019or'],S:['silver','Silbergen\
+     eral','zilveren generaal','\\u9280','g\\u00e9n\\u00e9ral d\\u2019argent'],N:['knight','Springer','paard\
+     ','\\u6842\\u99ac','cavalier'],L:['lance','Lanze','lans','\\u9999\\u8eca','lance'],P:['pawn','Bauer','p\
+     ion','\\u6b69','pion'],'+R':['dragon','Drache','draak','\\u7adc','dragon'],'+B':['horse','Pferd','gep\
+     romoveerde loper','\\u99ac','cheval'],'+S':['promoted silver','bef\\u00f6rderter Silbergeneral','gepr\
+     omoveerde zilveren generaal','\\u6210\\u9280','g\\u00e9n\\u00e9ral d\\u2019argent promu'],'+N':['promote\
+     d knight','bef\\u00f6rderter Springer','gepromoveerd paard','\\u6210\\u6842','cavalier promu'],'+L':['\
+     promoted lance','bef\\u00f6rderte Lanze','gepromoveerde lans','\\u6210\\u9999','lance promue'],'+P':['\
+     tokin','Tokin','tokin','\\u3068\\u91d1','tokin']};const DAY=86400;\
+     const UNITS={day:DAY,hour:3600,minute:60,second:1};let language=0;\
      function text(name,values,other){const columns=TEXTS[name]??TEXTS[other]??[String(name)];\
      return(columns[language]??columns[0]).replace(/\\{(\\w+)\\}/g,(_,it)=>values[it])}\
      const isJapanese=()=>text('code')==='ja';const kindName=(kind)=>text(kind);const locale=()=>\
@@ -688,7 +698,8 @@ pub fn page_3() -> &'static str
      ):name===reader?text('youWon'):text('youLost');\
      return text('ending',{who,why:reason(game),result:game.result})}const PATIENCE=20000;\
      const SILENT=0;let memberKey='';const showKey=(key)=>{memberKey=key};\
-     function refusal(number,name){const kind=number>99||!number?'silent':number<40?'illegal':'refused';\
+     function refusal(number,name){const fault=number>69&&number<80&&(number<73?72:73);\
+     const kind=fault||(number>99||!number?'silent':number<40?'illegal':'refused');\
      return Object.assign(Error(text(number,{number,name},kind)),{number})}const isPassing=({number})=>\
      number===SILENT||number>=70&&number<80||number>99;function silence(){throw refusal(SILENT)}\
      async function request(path,body){if(!/^[a-z0-9]+$/i.test(memberKey))throw refusal(50);\
@@ -932,10 +943,7 @@ pub fn page_3() -> &'static str
      item(it,'noticeEnded','game')),...me.refused.map((it)=>{return{tag:`declined ${it.number}\
      `,words:text('noticeDeclined',{name:it.to,event:it.event}),place:''}}\
      ),...me.challenges.filter(toMe).map((it)=>{return{tag:`challenge ${it.from} ${it.number}\
-     `,words:`${text('challengesYou', it)} ${it.event}`,place:''}})]}\
-     async function lookAtClub(names){if(!club||names.some((it)=>!kindOf(it))||Date.now()-received>\
-     LASTING){club=await ask('me/events');received=Date.now()}return club}\
-     async function lookAtHome(_,mine)"
+     `,words:`${text('challengesYou', "
 }
 
 /// Part 4 of the page, in ASCII.
@@ -943,7 +951,10 @@ pub fn page_3() -> &'static str
 pub fn page_4() -> &'static str
     ensures { result.now ≡ page_4 }
 {
-    "{await mine;await lookAtClub([...me.challenges,...me.refused].map((it)=>it.event));return()=>\
+    "it)} ${it.event}`,place:''}})]}async function lookAtClub(names){if(!club||names.some((it)=>\
+     !kindOf(it))||Date.now()-received>LASTING){club=await ask('me/events');received=Date.now()}\
+     return club}async function lookAtHome(_,mine){await mine;\
+     await lookAtClub([...me.challenges,...me.refused].map((it)=>it.event));return()=>\
      {fill('title',text('home'));const isNear=me.games.some((it)=>Math.abs(secondsLeft(it))<2*MINUTE);\
      const now=JSON.stringify([{...me,moment:isNear?me.moment:minute()},club,text('code')]);\
      if(now===paintedHome)return;paintedHome=now;paintGames();paintChallenges();paintClub();\
@@ -1282,6 +1293,6 @@ pub fn policy() -> &'static str
     ensures { result.now ≡ policy }
 {
     "default-src 'none'; style-src 'sha256-5tpAp8X0/GF1op9K1QPJpxFYsNnUM4YvYJr2fAFpY20='; \
-     script-src 'sha256-4Jdqlf97PGqiRoLmcEfgJREllaUoN7sxUs+j6APoWSo='; connect-src 'self'; \
+     script-src 'sha256-QLWCdxmvXHt/xXhGFHwcrrw4Cx5CGhNqVKQJvX7ZVAw='; connect-src 'self'; \
      img-src data:; manifest-src data:; base-uri 'none'; form-action 'none'; frame-ancestors 'none'"
 }
