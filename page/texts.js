@@ -49,14 +49,14 @@ export const TEXTS = {
     'Animer les coups',
   ],
   alertsChoice: [
-    'Notify me when something waits for me or a game ends, while this page is open in a tab',
+    'Notify me when something is waiting for me or a game ends, while this page is open in a tab',
     'Mich benachrichtigen, wenn etwas auf mich wartet oder eine Partie endet, solange diese Seite in einem Tab offen ist',
     'Mij een melding sturen als er iets op mij wacht of een partij eindigt, zolang deze pagina in een tabblad open is',
     '\u624b\u756a\u30fb\u6311\u6226\u30fb\u7d42\u5c40\u3092\u901a\u77e5\u3059\u308b\uff08\u3053\u306e\u30da\u30fc\u30b8\u304c\u30bf\u30d6\u3067\u958b\u3044\u3066\u3044\u308b\u9593\uff09',
     'Me notifier quand quelque chose m\u2019attend ou qu\u2019une partie se termine, tant que cette page est ouverte dans un onglet',
   ],
   soundChoice: [
-    'Play a sound for the same',
+    'Play a sound in the same cases',
     'Dazu einen Ton abspielen',
     'Daarbij een geluid afspelen',
     '\u540c\u3058\u5834\u5408\u306b\u97f3\u3092\u9cf4\u3089\u3059',
@@ -85,7 +85,7 @@ export const TEXTS = {
     'L\u2019adresse est peut-\u00eatre erron\u00e9e ou celle d\u2019un autre club.',
   ],
   news: [
-    'Games with your move: {moves}. Challenges: {challenges}.',
+    'Games awaiting your move: {moves}. Challenges: {challenges}.',
     'Partien, in denen Sie am Zug sind: {moves}. Herausforderungen: {challenges}.',
     'Partijen waarin u aan zet bent: {moves}. Uitdagingen: {challenges}.',
     '\u624b\u756a\u306e\u5bfe\u5c40: {moves}\u3002\u6311\u6226: {challenges}\u3002',
@@ -241,7 +241,7 @@ export const TEXTS = {
   endedGames: ['Finished games', 'Beendete Partien', 'Afgelopen partijen', '\u7d42\u4e86\u3057\u305f\u5bfe\u5c40', 'Parties termin\u00e9es'],
   noEnded: ['None yet.', 'Noch keine.', 'Nog geen.', '\u307e\u3060\u3042\u308a\u307e\u305b\u3093\u3002', 'Aucune pour l\u2019instant.'],
   older: [
-    'Older games are listed at their events ({count}).',
+    'Older games are listed under their events ({count}).',
     '\u00c4ltere Partien stehen bei ihren Turnieren ({count}).',
     'Oudere partijen staan bij hun toernooien ({count}).',
     '\u3053\u308c\u3088\u308a\u524d\u306e\u5bfe\u5c40\u306f\u5404\u5927\u4f1a\u306e\u4e00\u89a7\u306b\u3042\u308a\u307e\u3059\uff08{count}\u5c40\uff09\u3002',
@@ -328,7 +328,7 @@ export const TEXTS = {
   movable: ['may move', 'kann ziehen', 'kan spelen', '\u52d5\u304b\u305b\u308b', 'peut jouer'],
   check: ['in check', 'im Schach', 'staat schaak', '\u738b\u624b', 'en \u00e9chec'],
   which: ['Which move?', 'Welcher Zug?', 'Welke zet?', '\u3069\u306e\u624b\u306b\u3057\u307e\u3059\u304b\uff1f', 'Quel coup\u00a0?'],
-  start: ['First position', 'Anfangsstellung', 'Beginstand', '\u6700\u521d\u306e\u5c40\u9762', 'Position de d\u00e9part'],
+  start: ['Starting position', 'Anfangsstellung', 'Beginstand', '\u6700\u521d\u306e\u5c40\u9762', 'Position de d\u00e9part'],
   back: ['Previous move', 'Ein Zug zur\u00fcck', 'Vorige zet', '\u4e00\u624b\u623b\u308b', 'Coup pr\u00e9c\u00e9dent'],
   on: ['Next move', 'Ein Zug vor', 'Volgende zet', '\u4e00\u624b\u9032\u3080', 'Coup suivant'],
   present: ['Latest position', 'Neueste Stellung', 'Laatste stand', '\u6700\u65b0\u306e\u5c40\u9762', 'Derni\u00e8re position'],
@@ -521,7 +521,7 @@ export const TEXTS = {
   Resigned: ['by resignation', 'durch Aufgabe', 'door opgave', '\u6295\u4e86', 'par abandon'],
   Time: ['on time', 'durch Zeit\u00fcberschreitung', 'op tijd', '\u6642\u9593\u5207\u308c', 'au temps'],
   Declared: [
-    'by the entered king',
+    'by declaration of the entered king',
     'durch den eingetretenen K\u00f6nig',
     'door de koning in de promotiezone',
     '\u5165\u7389\u5ba3\u8a00',

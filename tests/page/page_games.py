@@ -192,7 +192,7 @@ def declaration(room):
     with page_desk.copied("c.db") as found:
         has_declarations = found.execute("SELECT schema FROM meta").fetchone()[0] > 1
     if has_declarations:
-        told("a king that has entered is declared", anna, "#state", "You won: by the entered king (2-0)")
+        told("a king that has entered is declared", anna, "#state", "You won: by declaration of the entered king (2-0)")
     else:
         told("a declaration is refused in words", anna, "#wrong", "The entered king cannot be declared here")
 

@@ -321,7 +321,7 @@ pub fn page_1() -> &'static str
      2c\\u8a9e','Fran\\u00e7ais'],languageName:['Language','Sprache','Taal','\\u8a00\\u8a9e','Langue'],yourN\
      ame:['Your name','Ihr Name','Uw naam','\\u540d\\u524d','Votre nom'],key:['Member key','Mitgliedsschl\\\
      u00fcssel','Lidsleutel','\\u4f1a\\u54e1\\u30ad\\u30fc','Cl\\u00e9 de membre'],keyHint:['The club\\u2019s \
-     officer gave you the key. Your password manager "
+     officer gave you the key. Your password manager needs the"
 }
 
 /// Part 2 of the page, in ASCII.
@@ -329,14 +329,14 @@ pub fn page_1() -> &'static str
 pub fn page_2() -> &'static str
     ensures { result.now ≡ page_2 }
 {
-    "needs the name to tell members apart.','Den Schl\\u00fcssel erhalten Sie vom Turnierleiter. Am Name\
-     n unterscheidet Ihr Passwortmanager mehrere Mitglieder.','De sleutel krijgt u van de wedstrijdleide\
-     r. Aan de naam herkent uw wachtwoordbeheer verschillende leden.','\\u30ad\\u30fc\\u306f\\u30af\\u30e9\\u3\
-     0d6\\u306e\\u5e79\\u4e8b\\u304b\\u3089\\u53d7\\u3051\\u53d6\\u3063\\u305f\\u3082\\u306e\\u3067\\u3059\\u3002\\u540d\
-     \\u524d\\u306f\\u30d1\\u30b9\\u30ef\\u30fc\\u30c9\\u7ba1\\u7406\\u30c4\\u30fc\\u30eb\\u304c\\u4f1a\\u54e1\\u3092\\u5\
-     33a\\u5225\\u3059\\u308b\\u305f\\u3081\\u306b\\u4f7f\\u3044\\u307e\\u3059\\u3002','La cl\\u00e9 vous est remise \
-     par le responsable du club. Le nom permet \\u00e0 votre gestionnaire de mots de passe de distinguer \
-     les membres.'],otherName:['This key belongs to {name}. You are signed in as {name}\
+    " name to tell members apart.','Den Schl\\u00fcssel erhalten Sie vom Turnierleiter. Am Namen untersc\
+     heidet Ihr Passwortmanager mehrere Mitglieder.','De sleutel krijgt u van de wedstrijdleider. Aan de \
+     naam herkent uw wachtwoordbeheer verschillende leden.','\\u30ad\\u30fc\\u306f\\u30af\\u30e9\\u30d6\\u306e\\\
+     u5e79\\u4e8b\\u304b\\u3089\\u53d7\\u3051\\u53d6\\u3063\\u305f\\u3082\\u306e\\u3067\\u3059\\u3002\\u540d\\u524d\\u30\
+     6f\\u30d1\\u30b9\\u30ef\\u30fc\\u30c9\\u7ba1\\u7406\\u30c4\\u30fc\\u30eb\\u304c\\u4f1a\\u54e1\\u3092\\u533a\\u5225\\\
+     u3059\\u308b\\u305f\\u3081\\u306b\\u4f7f\\u3044\\u307e\\u3059\\u3002','La cl\\u00e9 vous est remise par le re\
+     sponsable du club. Le nom permet \\u00e0 votre gestionnaire de mots de passe de distinguer les membr\
+     es.'],otherName:['This key belongs to {name}. You are signed in as {name}\
      .','Dieser Schl\\u00fcssel geh\\u00f6rt {name}. Sie sind als {name} \
      angemeldet.','Deze sleutel is van {name}. U bent aangemeld als {name}\
      .','\\u3053\\u306e\\u30ad\\u30fc\\u306f{name}\\u3055\\u3093\\u306e\\u3082\\u306e\\u3067\\u3059\\u3002{name}\
@@ -354,28 +354,28 @@ pub fn page_2() -> &'static str
      306b\\u78ba\\u8a8d\\u3059\\u308b','Confirmer chaque coup avant l\\u2019envoi'],animateChoice:['Animate m\
      oves','Z\\u00fcge animieren','Zetten animeren','\\u99d2\\u306e\\u52d5\\u304d\\u3092\\u30a2\\u30cb\\u30e1\\u30\
      fc\\u30b7\\u30e7\\u30f3\\u3067\\u8868\\u793a\\u3059\\u308b','Animer les coups'],alertsChoice:['Notify me wh\
-     en something waits for me or a game ends, while this page is open in a tab','Mich benachrichtigen, \
-     wenn etwas auf mich wartet oder eine Partie endet, solange diese Seite in einem Tab offen ist','Mij \
-     een melding sturen als er iets op mij wacht of een partij eindigt, zolang deze pagina in een tabbla\
-     d open is','\\u624b\\u756a\\u30fb\\u6311\\u6226\\u30fb\\u7d42\\u5c40\\u3092\\u901a\\u77e5\\u3059\\u308b\\uff08\\u3\
-     053\\u306e\\u30da\\u30fc\\u30b8\\u304c\\u30bf\\u30d6\\u3067\\u958b\\u3044\\u3066\\u3044\\u308b\\u9593\\uff09','Me \
-     notifier quand quelque chose m\\u2019attend ou qu\\u2019une partie se termine, tant que cette page es\
-     t ouverte dans un onglet'],soundChoice:['Play a sound for the same','Dazu einen Ton abspielen','Daa\
-     rbij een geluid afspelen','\\u540c\\u3058\\u5834\\u5408\\u306b\\u97f3\\u3092\\u9cf4\\u3089\\u3059','\\u00c9met\
-     tre un son dans les m\\u00eames cas'],alertsRefused:['The browser does not allow notifications from \
-     this page.','Der Browser erlaubt dieser Seite keine Benachrichtigungen.','De browser staat meldinge\
-     n van deze pagina niet toe.','\\u30d6\\u30e9\\u30a6\\u30b6\\u30fc\\u306e\\u8a2d\\u5b9a\\u3067\\u3053\\u306e\\u3\
-     0da\\u30fc\\u30b8\\u306e\\u901a\\u77e5\\u304c\\u8a31\\u53ef\\u3055\\u308c\\u3066\\u3044\\u307e\\u305b\\u3093\\u3002\
-     ','Le navigateur n\\u2019autorise pas les notifications de cette page.'],lettersChoice:['Western let\
-     ters on shogi pieces','Lateinische Buchstaben auf Shogi-Steinen','Westerse letters op shogistukken'\
-     ,'\\u5c06\\u68cb\\u306e\\u99d2\\u3092\\u30a2\\u30eb\\u30d5\\u30a1\\u30d9\\u30c3\\u30c8\\u3067\\u8868\\u793a\\u3059\\\
-     u308b','Lettres latines sur les pi\\u00e8ces de shogi'],loading:['Loading\\u2026','Wird geladen\\u00a0\
-     \\u2026','Laden\\u2026','\\u8aad\\u307f\\u8fbc\\u307f\\u4e2d\\u2026','Chargement\\u2026'],missing:['The addr\
-     ess may be wrong, or belong to another club.','Vielleicht ist die Adresse falsch oder geh\\u00f6rt z\
-     u einem anderen Club.','Misschien is het adres onjuist of van een andere club.','\\u30a2\\u30c9\\u30ec\
-     \\u30b9\\u304c\\u9593\\u9055\\u3063\\u3066\\u3044\\u308b\\u304b\\u3001\\u5225\\u306e\\u30af\\u30e9\\u30d6\\u306e\\u3\
-     082\\u306e\\u3067\\u3059\\u3002','L\\u2019adresse est peut-\\u00eatre erron\\u00e9e ou celle d\\u2019un aut\
-     re club.'],news:['Games with your move: {moves}. Challenges: {challenges}\
+     en something is waiting for me or a game ends, while this page is open in a tab','Mich benachrichti\
+     gen, wenn etwas auf mich wartet oder eine Partie endet, solange diese Seite in einem Tab offen ist'\
+     ,'Mij een melding sturen als er iets op mij wacht of een partij eindigt, zolang deze pagina in een \
+     tabblad open is','\\u624b\\u756a\\u30fb\\u6311\\u6226\\u30fb\\u7d42\\u5c40\\u3092\\u901a\\u77e5\\u3059\\u308b\\uf\
+     f08\\u3053\\u306e\\u30da\\u30fc\\u30b8\\u304c\\u30bf\\u30d6\\u3067\\u958b\\u3044\\u3066\\u3044\\u308b\\u9593\\uff09\
+     ','Me notifier quand quelque chose m\\u2019attend ou qu\\u2019une partie se termine, tant que cette p\
+     age est ouverte dans un onglet'],soundChoice:['Play a sound in the same cases','Dazu einen Ton absp\
+     ielen','Daarbij een geluid afspelen','\\u540c\\u3058\\u5834\\u5408\\u306b\\u97f3\\u3092\\u9cf4\\u3089\\u3059'\
+     ,'\\u00c9mettre un son dans les m\\u00eames cas'],alertsRefused:['The browser does not allow notifica\
+     tions from this page.','Der Browser erlaubt dieser Seite keine Benachrichtigungen.','De browser sta\
+     at meldingen van deze pagina niet toe.','\\u30d6\\u30e9\\u30a6\\u30b6\\u30fc\\u306e\\u8a2d\\u5b9a\\u3067\\u30\
+     53\\u306e\\u30da\\u30fc\\u30b8\\u306e\\u901a\\u77e5\\u304c\\u8a31\\u53ef\\u3055\\u308c\\u3066\\u3044\\u307e\\u305b\\\
+     u3093\\u3002','Le navigateur n\\u2019autorise pas les notifications de cette page.'],lettersChoice:['\
+     Western letters on shogi pieces','Lateinische Buchstaben auf Shogi-Steinen','Westerse letters op sh\
+     ogistukken','\\u5c06\\u68cb\\u306e\\u99d2\\u3092\\u30a2\\u30eb\\u30d5\\u30a1\\u30d9\\u30c3\\u30c8\\u3067\\u8868\\u\
+     793a\\u3059\\u308b','Lettres latines sur les pi\\u00e8ces de shogi'],loading:['Loading\\u2026','Wird ge\
+     laden\\u00a0\\u2026','Laden\\u2026','\\u8aad\\u307f\\u8fbc\\u307f\\u4e2d\\u2026','Chargement\\u2026'],missing\
+     :['The address may be wrong, or belong to another club.','Vielleicht ist die Adresse falsch oder ge\
+     h\\u00f6rt zu einem anderen Club.','Misschien is het adres onjuist of van een andere club.','\\u30a2\\\
+     u30c9\\u30ec\\u30b9\\u304c\\u9593\\u9055\\u3063\\u3066\\u3044\\u308b\\u304b\\u3001\\u5225\\u306e\\u30af\\u30e9\\u30\
+     d6\\u306e\\u3082\\u306e\\u3067\\u3059\\u3002','L\\u2019adresse est peut-\\u00eatre erron\\u00e9e ou celle d\\\
+     u2019un autre club.'],news:['Games awaiting your move: {moves}. Challenges: {challenges}\
      .','Partien, in denen Sie am Zug sind: {moves}. Herausforderungen: {challenges}\
      .','Partijen waarin u aan zet bent: {moves}. Uitdagingen: {challenges}\
      .','\\u624b\\u756a\\u306e\\u5bfe\\u5c40: {moves}\\u3002\\u6311\\u6226: {challenges}\
@@ -485,7 +485,7 @@ pub fn page_2() -> &'static str
      ies en cours'],endedGames:['Finished games','Beendete Partien','Afgelopen partijen','\\u7d42\\u4e86\\u\
      3057\\u305f\\u5bfe\\u5c40','Parties termin\\u00e9es'],noEnded:['None yet.','Noch keine.','Nog geen.','\\\
      u307e\\u3060\\u3042\\u308a\\u307e\\u305b\\u3093\\u3002','Aucune pour l\\u2019instant.'],older:['Older games \
-     are listed at their events ({count}).','\\u00c4ltere Partien stehen bei ihren Turnieren ({count}\
+     are listed under their events ({count}).','\\u00c4ltere Partien stehen bei ihren Turnieren ({count}\
      ).','Oudere partijen staan bij hun toernooien ({count}\
      ).','\\u3053\\u308c\\u3088\\u308a\\u524d\\u306e\\u5bfe\\u5c40\\u306f\\u5404\\u5927\\u4f1a\\u306e\\u4e00\\u89a7\\u30\
      6b\\u3042\\u308a\\u307e\\u3059\\uff08{count}\
@@ -547,23 +547,23 @@ pub fn page_2() -> &'static str
      een','\\u79fb\\u52d5\\u3067\\u304d\\u308b','peut aller ici'],movable:['may move','kann ziehen','kan spel\
      en','\\u52d5\\u304b\\u305b\\u308b','peut jouer'],check:['in check','im Schach','staat schaak','\\u738b\\u\
      624b','en \\u00e9chec'],which:['Which move?','Welcher Zug?','Welke zet?','\\u3069\\u306e\\u624b\\u306b\\u\
-     3057\\u307e\\u3059\\u304b\\uff1f','Quel coup\\u00a0?'],start:['First position','Anfangsstellung','Begins\
-     tand','\\u6700\\u521d\\u306e\\u5c40\\u9762','Position de d\\u00e9part'],back:['Previous move','Ein Zug zu\
-     r\\u00fcck','Vorige zet','\\u4e00\\u624b\\u623b\\u308b','Coup pr\\u00e9c\\u00e9dent'],on:['Next move','Ein \
-     Zug vor','Volgende zet','\\u4e00\\u624b\\u9032\\u3080','Coup suivant'],present:['Latest position','Neue\
-     ste Stellung','Laatste stand','\\u6700\\u65b0\\u306e\\u5c40\\u9762','Derni\\u00e8re position'],flip:['Tur\
-     n the board','Brett drehen','Bord draaien','\\u76e4\\u3092\\u53cd\\u8ee2','Retourner le plateau'],offer\
-     :['Offer a draw','Remis anbieten','Remise aanbieden','\\u5f15\\u304d\\u5206\\u3051\\u3092\\u63d0\\u6848','\
-     Proposer la remise'],accept:['Accept the draw','Remis annehmen','Remise aannemen','\\u5f15\\u304d\\u52\
-     06\\u3051\\u306b\\u5fdc\\u3058\\u308b','Accepter la remise'],resign:['Resign','Aufgeben','Opgeven','\\u62\
-     95\\u4e86','Abandonner'],resignWhen:['You can resign when it is your turn','Aufgeben k\\u00f6nnen Sie\
-     , wenn Sie am Zug sind','Opgeven kan als u aan zet bent','\\u6295\\u4e86\\u3067\\u304d\\u308b\\u306e\\u306\
-     f\\u81ea\\u5206\\u306e\\u624b\\u756a\\u306e\\u3068\\u304d\\u3060\\u3051\\u3067\\u3059','On ne peut abandonner q\
-     u\\u2019\\u00e0 son tour'],claim:['Claim the win on time','Zeit\\u00fcberschreitung reklamieren','Wins\
-     t op tijd claimen','\\u6642\\u9593\\u5207\\u308c\\u52dd\\u3061\\u3092\\u7533\\u8acb','R\\u00e9clamer le gain \
-     au temps'],declare:['Declare the entered king','Eingetretenen K\\u00f6nig erkl\\u00e4ren','Koning in \
-     promotiezone verklaren','\\u5165\\u7389\\u5ba3\\u8a00','D\\u00e9clarer l\\u2019entr\\u00e9e du roi'],sure:\
-     ['{what}?','{what}?','{what}?','{what}\
+     3057\\u307e\\u3059\\u304b\\uff1f','Quel coup\\u00a0?'],start:['Starting position','Anfangsstellung','Beg\
+     instand','\\u6700\\u521d\\u306e\\u5c40\\u9762','Position de d\\u00e9part'],back:['Previous move','Ein Zug \
+     zur\\u00fcck','Vorige zet','\\u4e00\\u624b\\u623b\\u308b','Coup pr\\u00e9c\\u00e9dent'],on:['Next move','E\
+     in Zug vor','Volgende zet','\\u4e00\\u624b\\u9032\\u3080','Coup suivant'],present:['Latest position','N\
+     eueste Stellung','Laatste stand','\\u6700\\u65b0\\u306e\\u5c40\\u9762','Derni\\u00e8re position'],flip:['\
+     Turn the board','Brett drehen','Bord draaien','\\u76e4\\u3092\\u53cd\\u8ee2','Retourner le plateau'],of\
+     fer:['Offer a draw','Remis anbieten','Remise aanbieden','\\u5f15\\u304d\\u5206\\u3051\\u3092\\u63d0\\u6848\
+     ','Proposer la remise'],accept:['Accept the draw','Remis annehmen','Remise aannemen','\\u5f15\\u304d\\\
+     u5206\\u3051\\u306b\\u5fdc\\u3058\\u308b','Accepter la remise'],resign:['Resign','Aufgeben','Opgeven','\\\
+     u6295\\u4e86','Abandonner'],resignWhen:['You can resign when it is your turn','Aufgeben k\\u00f6nnen \
+     Sie, wenn Sie am Zug sind','Opgeven kan als u aan zet bent','\\u6295\\u4e86\\u3067\\u304d\\u308b\\u306e\\u\
+     306f\\u81ea\\u5206\\u306e\\u624b\\u756a\\u306e\\u3068\\u304d\\u3060\\u3051\\u3067\\u3059','On ne peut abandonne\
+     r qu\\u2019\\u00e0 son tour'],claim:['Claim the win on time','Zeit\\u00fcberschreitung reklamieren','W\
+     inst op tijd claimen','\\u6642\\u9593\\u5207\\u308c\\u52dd\\u3061\\u3092\\u7533\\u8acb','R\\u00e9clamer le ga\
+     in au temps'],declare:['Declare the entered king','Eingetretenen K\\u00f6nig erkl\\u00e4ren','Koning \
+     in promotiezone verklaren','\\u5165\\u7389\\u5ba3\\u8a00','D\\u00e9clarer l\\u2019entr\\u00e9e du roi'],su\
+     re:['{what}?','{what}?','{what}?','{what}\
      \\uff1a\\u3088\\u308d\\u3057\\u3044\\u3067\\u3059\\u304b\\uff1f','{what}\
      \\u00a0?'],nextGame:['Next game ({count})','N\\u00e4chste Partie ({count})','Volgende partij ({count}\
      )','\\u6b21\\u306e\\u5bfe\\u5c40\\u3078\\uff08{count}\\uff09','Partie suivante ({count}\
@@ -615,7 +615,7 @@ pub fn page_2() -> &'static str
      bitte informieren Sie den Turnierleiter','Het bestand van de club is niet bruikbaar; \
      waarschuw de wedstrijdleider','\\u30af\\u30e9\\u30d6\\u306e\\u30c7\\u30fc\\u30bf\\u3092\\u5229\\u7528\\u3067\\u\
      304d\\u307e\\u305b\\u3093\\u3002\\u5e79\\u4e8b\\u306b\\u77e5\\u3089\\u305b\\u3066\\u304f\\u3060\\u3055\\u3044','Le \
-     fichier du club est inutilisable\\u00a0; pr\\u00e9ven"
+     fichier du club est inutilisable\\u00a0; pr\\u00e9"
 }
 
 /// Part 3 of the page, in ASCII.
@@ -623,12 +623,12 @@ pub fn page_2() -> &'static str
 pub fn page_3() -> &'static str
     ensures { result.now ≡ page_3 }
 {
-    "ez le responsable'],73:['The club is unavailable','Der Club ist gerade nicht verf\\u00fcgbar','De c\
-     lub is even niet beschikbaar','\\u30af\\u30e9\\u30d6\\u306f\\u73fe\\u5728\\u5229\\u7528\\u3067\\u304d\\u307e\\u\
-     305b\\u3093','Le club est momentan\\u00e9ment indisponible'],ending:['{who}: {why} ({result})','{who}\
-     : {why} ({result})','{who}: {why} ({result})','{who}\\uff1a{why}\\uff08{result}\\uff09','{who}\
-     \\u00a0: {why} ({result})'],won:['{name} won','{name} hat gewonnen','{name} heeft gewonnen','{name}\
-     \\u306e\\u52dd\\u3061','{name} \
+    "venez le responsable'],73:['The club is unavailable','Der Club ist gerade nicht verf\\u00fcgbar','D\
+     e club is even niet beschikbaar','\\u30af\\u30e9\\u30d6\\u306f\\u73fe\\u5728\\u5229\\u7528\\u3067\\u304d\\u307\
+     e\\u305b\\u3093','Le club est momentan\\u00e9ment indisponible'],ending:['{who}: {why} ({result}\
+     )','{who}: {why} ({result})','{who}: {why} ({result})','{who}\\uff1a{why}\\uff08{result}\
+     \\uff09','{who}\\u00a0: {why} ({result})'],won:['{name} won','{name} hat gewonnen','{name} \
+     heeft gewonnen','{name}\\u306e\\u52dd\\u3061','{name} \
      a gagn\\u00e9'],youWon:['You won','Sie haben gewonnen','U hebt gewonnen','\\u3042\\u306a\\u305f\\u306e\\u\
      52dd\\u3061','Vous avez gagn\\u00e9'],youLost:['You lost','Sie haben verloren','U hebt verloren','\\u3\
      042\\u306a\\u305f\\u306e\\u8ca0\\u3051','Vous avez perdu'],drawn:['Draw','Remis','Remise','\\u5f15\\u304d\\\
@@ -651,21 +651,21 @@ pub fn page_3() -> &'static str
      de stand','\\u5343\\u65e5\\u624b','quadruple r\\u00e9p\\u00e9tition'],Agreed:['by agreement','durch Vere\
      inbarung','in onderling overleg','\\u5408\\u610f','d\\u2019un commun accord'],Resigned:['by resignatio\
      n','durch Aufgabe','door opgave','\\u6295\\u4e86','par abandon'],Time:['on time','durch Zeit\\u00fcber\
-     schreitung','op tijd','\\u6642\\u9593\\u5207\\u308c','au temps'],Declared:['by the entered king','durch \
-     den eingetretenen K\\u00f6nig','door de koning in de promotiezone','\\u5165\\u7389\\u5ba3\\u8a00','par l\
-     \\u2019entr\\u00e9e du roi'],Recorded:['as recorded','laut Notation','volgens notatie','\\u68cb\\u8b5c\\\
-     u306b\\u3088\\u308b','selon la notation'],man:['man','Stein','schijf','\\u30de\\u30f3','pion'],king:['k\
-     ing','Dame','dam','\\u30ad\\u30f3\\u30b0','dame'],K:['king','K\\u00f6nig','koning','\\u7389','roi'],R:['\
-     rook','Turm','toren','\\u98db\\u8eca','tour'],B:['bishop','L\\u00e4ufer','loper','\\u89d2','fou'],G:['g\
-     old','Goldgeneral','gouden generaal','\\u91d1','g\\u00e9n\\u00e9ral d\\u2019or'],S:['silver','Silbergen\
-     eral','zilveren generaal','\\u9280','g\\u00e9n\\u00e9ral d\\u2019argent'],N:['knight','Springer','paard\
-     ','\\u6842\\u99ac','cavalier'],L:['lance','Lanze','lans','\\u9999\\u8eca','lance'],P:['pawn','Bauer','p\
-     ion','\\u6b69','pion'],'+R':['dragon','Drache','draak','\\u7adc','dragon'],'+B':['horse','Pferd','gep\
-     romoveerde loper','\\u99ac','cheval'],'+S':['promoted silver','bef\\u00f6rderter Silbergeneral','gepr\
-     omoveerde zilveren generaal','\\u6210\\u9280','g\\u00e9n\\u00e9ral d\\u2019argent promu'],'+N':['promote\
-     d knight','bef\\u00f6rderter Springer','gepromoveerd paard','\\u6210\\u6842','cavalier promu'],'+L':['\
-     promoted lance','bef\\u00f6rderte Lanze','gepromoveerde lans','\\u6210\\u9999','lance promue'],'+P':['\
-     tokin','Tokin','tokin','\\u3068\\u91d1','tokin']};const DAY=86400;\
+     schreitung','op tijd','\\u6642\\u9593\\u5207\\u308c','au temps'],Declared:['by declaration of the enter\
+     ed king','durch den eingetretenen K\\u00f6nig','door de koning in de promotiezone','\\u5165\\u7389\\u5b\
+     a3\\u8a00','par l\\u2019entr\\u00e9e du roi'],Recorded:['as recorded','laut Notation','volgens notatie\
+     ','\\u68cb\\u8b5c\\u306b\\u3088\\u308b','selon la notation'],man:['man','Stein','schijf','\\u30de\\u30f3',\
+     'pion'],king:['king','Dame','dam','\\u30ad\\u30f3\\u30b0','dame'],K:['king','K\\u00f6nig','koning','\\u7\
+     389','roi'],R:['rook','Turm','toren','\\u98db\\u8eca','tour'],B:['bishop','L\\u00e4ufer','loper','\\u89\
+     d2','fou'],G:['gold','Goldgeneral','gouden generaal','\\u91d1','g\\u00e9n\\u00e9ral d\\u2019or'],S:['si\
+     lver','Silbergeneral','zilveren generaal','\\u9280','g\\u00e9n\\u00e9ral d\\u2019argent'],N:['knight','\
+     Springer','paard','\\u6842\\u99ac','cavalier'],L:['lance','Lanze','lans','\\u9999\\u8eca','lance'],P:['\
+     pawn','Bauer','pion','\\u6b69','pion'],'+R':['dragon','Drache','draak','\\u7adc','dragon'],'+B':['hor\
+     se','Pferd','gepromoveerde loper','\\u99ac','cheval'],'+S':['promoted silver','bef\\u00f6rderter Silb\
+     ergeneral','gepromoveerde zilveren generaal','\\u6210\\u9280','g\\u00e9n\\u00e9ral d\\u2019argent promu'\
+     ],'+N':['promoted knight','bef\\u00f6rderter Springer','gepromoveerd paard','\\u6210\\u6842','cavalier \
+     promu'],'+L':['promoted lance','bef\\u00f6rderte Lanze','gepromoveerde lans','\\u6210\\u9999','lance p\
+     romue'],'+P':['tokin','Tokin','tokin','\\u3068\\u91d1','tokin']};const DAY=86400;\
      const UNITS={day:DAY,hour:3600,minute:60,second:1};let language=0;\
      function text(name,values,other){const columns=TEXTS[name]??TEXTS[other]??[String(name)];\
      return(columns[language]??columns[0]).replace(/\\{(\\w+)\\}/g,(_,it)=>values[it])}\
@@ -943,7 +943,7 @@ pub fn page_3() -> &'static str
      item(it,'noticeEnded','game')),...me.refused.map((it)=>{return{tag:`declined ${it.number}\
      `,words:text('noticeDeclined',{name:it.to,event:it.event}),place:''}}\
      ),...me.challenges.filter(toMe).map((it)=>{return{tag:`challenge ${it.from} ${it.number}\
-     `,words:`${text('challengesYou', "
+     `,words:`${text('challen"
 }
 
 /// Part 4 of the page, in ASCII.
@@ -951,9 +951,10 @@ pub fn page_3() -> &'static str
 pub fn page_4() -> &'static str
     ensures { result.now ≡ page_4 }
 {
-    "it)} ${it.event}`,place:''}})]}async function lookAtClub(names){if(!club||names.some((it)=>\
-     !kindOf(it))||Date.now()-received>LASTING){club=await ask('me/events');received=Date.now()}\
-     return club}async function lookAtHome(_,mine){await mine;\
+    "gesYou', it)} ${it.event}`,place:''}})]}\
+     async function lookAtClub(names){if(!club||names.some((it)=>!kindOf(it))||Date.now()-received>\
+     LASTING){club=await ask('me/events');received=Date.now()}return club}\
+     async function lookAtHome(_,mine){await mine;\
      await lookAtClub([...me.challenges,...me.refused].map((it)=>it.event));return()=>\
      {fill('title',text('home'));const isNear=me.games.some((it)=>Math.abs(secondsLeft(it))<2*MINUTE);\
      const now=JSON.stringify([{...me,moment:isNear?me.moment:minute()},club,text('code')]);\
@@ -1293,6 +1294,6 @@ pub fn policy() -> &'static str
     ensures { result.now ≡ policy }
 {
     "default-src 'none'; style-src 'sha256-5tpAp8X0/GF1op9K1QPJpxFYsNnUM4YvYJr2fAFpY20='; \
-     script-src 'sha256-QLWCdxmvXHt/xXhGFHwcrrw4Cx5CGhNqVKQJvX7ZVAw='; connect-src 'self'; \
+     script-src 'sha256-3yi3ofzVLp7GHx1rYqgJBfJa3Qfj0uRIsfxR3S6sq4w='; connect-src 'self'; \
      img-src data:; manifest-src data:; base-uri 'none'; form-action 'none'; frame-ancestors 'none'"
 }
