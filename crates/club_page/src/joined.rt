@@ -321,7 +321,7 @@ pub fn page_1() -> &'static str
      2c\\u8a9e','Fran\\u00e7ais'],languageName:['Language','Sprache','Taal','\\u8a00\\u8a9e','Langue'],yourN\
      ame:['Your name','Ihr Name','Uw naam','\\u540d\\u524d','Votre nom'],key:['Member key','Mitgliedsschl\\\
      u00fcssel','Lidsleutel','\\u4f1a\\u54e1\\u30ad\\u30fc','Cl\\u00e9 de membre'],keyHint:['The club\\u2019s \
-     officer gave you the key. Your password manager needs th"
+     officer gave you the key. Your password manager nee"
 }
 
 /// Part 2 of the page, in ASCII.
@@ -329,12 +329,12 @@ pub fn page_1() -> &'static str
 pub fn page_2() -> &'static str
     ensures { result.now ≡ page_2 }
 {
-    "e name to tell members apart.','Den Schl\\u00fcssel erhalten Sie vom Turnierleiter. Am Namen unters\
-     cheidet Ihr Passwortmanager mehrere Mitglieder.','De sleutel krijgt u van de wedstrijdleider. Aan d\
-     e naam herkent uw wachtwoordbeheer verschillende leden.','\\u30ad\\u30fc\\u306f\\u30af\\u30e9\\u30d6\\u306\
-     e\\u5e79\\u4e8b\\u304b\\u3089\\u53d7\\u3051\\u53d6\\u3063\\u305f\\u3082\\u306e\\u3067\\u3059\\u3002\\u540d\\u524d\\u\
-     306f\\u30d1\\u30b9\\u30ef\\u30fc\\u30c9\\u7ba1\\u7406\\u30c4\\u30fc\\u30eb\\u304c\\u4f1a\\u54e1\\u3092\\u533a\\u522\
-     5\\u3059\\u308b\\u305f\\u3081\\u306b\\u4f7f\\u3044\\u307e\\u3059\\u3002','La cl\\u00e9 vous est remise par le \
+    "ds the name to tell members apart.','Den Schl\\u00fcssel erhalten Sie vom Turnierleiter. Am Namen u\
+     nterscheidet Ihr Passwortmanager mehrere Mitglieder.','De sleutel krijgt u van de wedstrijdleider. \
+     Met de naam houdt uw wachtwoordmanager leden uit elkaar.','\\u30ad\\u30fc\\u306f\\u30af\\u30e9\\u30d6\\u30\
+     6e\\u5e79\\u4e8b\\u304b\\u3089\\u53d7\\u3051\\u53d6\\u3063\\u305f\\u3082\\u306e\\u3067\\u3059\\u3002\\u540d\\u524d\\\
+     u306f\\u30d1\\u30b9\\u30ef\\u30fc\\u30c9\\u7ba1\\u7406\\u30c4\\u30fc\\u30eb\\u304c\\u4f1a\\u54e1\\u3092\\u533a\\u52\
+     25\\u3059\\u308b\\u305f\\u3081\\u306b\\u4f7f\\u3044\\u307e\\u3059\\u3002','La cl\\u00e9 vous est remise par le \
      responsable du club. Le nom permet \\u00e0 votre gestionnaire de mots de passe de distinguer les mem\
      bres.'],otherName:['This key belongs to {name}. You are signed in as {name}\
      .','Dieser Schl\\u00fcssel geh\\u00f6rt {name}. Sie sind als {name} \
@@ -350,44 +350,44 @@ pub fn page_2() -> &'static str
      '\\u5bfe\\u5c40\\u4e00\\u89a7','Mes parties'],settings:['Settings','Einstellungen','Instellingen','\\u8a\
      2d\\u5b9a','R\\u00e9glages'],done:['Done','Fertig','Klaar','\\u9589\\u3058\\u308b','Termin\\u00e9'],confi\
      rmChoice:['Confirm each move before it is sent','Jeden Zug vor dem Senden best\\u00e4tigen','Elke ze\
-     t bevestigen voordat die wordt verzonden','\\u6307\\u3057\\u624b\\u3092\\u9001\\u4fe1\\u3059\\u308b\\u524d\\u\
-     306b\\u78ba\\u8a8d\\u3059\\u308b','Confirmer chaque coup avant l\\u2019envoi'],animateChoice:['Animate m\
-     oves','Z\\u00fcge animieren','Zetten animeren','\\u99d2\\u306e\\u52d5\\u304d\\u3092\\u30a2\\u30cb\\u30e1\\u30\
-     fc\\u30b7\\u30e7\\u30f3\\u3067\\u8868\\u793a\\u3059\\u308b','Animer les coups'],alertsChoice:['Notify me wh\
-     en something is waiting for me or a game ends, while this page is open in a tab','Mich benachrichti\
-     gen, wenn etwas auf mich wartet oder eine Partie endet, solange diese Seite in einem Tab ge\\u00f6ff\
-     net ist','Mij een melding sturen als er iets op mij wacht of een partij eindigt, zolang deze pagina \
-     in een tabblad open is','\\u624b\\u756a\\u30fb\\u6311\\u6226\\u30fb\\u7d42\\u5c40\\u3092\\u901a\\u77e5\\u3059\\u\
-     308b\\uff08\\u3053\\u306e\\u30da\\u30fc\\u30b8\\u304c\\u30bf\\u30d6\\u3067\\u958b\\u3044\\u3066\\u3044\\u308b\\u959\
-     3\\uff09','Me notifier quand quelque chose m\\u2019attend ou qu\\u2019une partie se termine, tant que \
-     cette page est ouverte dans un onglet'],soundChoice:['Play a sound in the same cases','In denselben \
-     F\\u00e4llen einen Ton abspielen','Daarbij een geluid afspelen','\\u540c\\u3058\\u5834\\u5408\\u306b\\u97f\
-     3\\u3092\\u9cf4\\u3089\\u3059','\\u00c9mettre un son dans les m\\u00eames cas'],alertsRefused:['The brows\
-     er does not allow notifications from this page.','Der Browser erlaubt dieser Seite keine Benachrich\
-     tigungen.','De browser staat meldingen van deze pagina niet toe.','\\u30d6\\u30e9\\u30a6\\u30b6\\u30fc\\u\
-     306e\\u8a2d\\u5b9a\\u3067\\u3053\\u306e\\u30da\\u30fc\\u30b8\\u306e\\u901a\\u77e5\\u304c\\u8a31\\u53ef\\u3055\\u308\
-     c\\u3066\\u3044\\u307e\\u305b\\u3093\\u3002','Le navigateur n\\u2019autorise pas les notifications de cett\
-     e page.'],lettersChoice:['Western letters on shogi pieces','Lateinische Buchstaben auf Shogi-Steine\
-     n','Westerse letters op shogistukken','\\u5c06\\u68cb\\u306e\\u99d2\\u3092\\u30a2\\u30eb\\u30d5\\u30a1\\u30d9\
-     \\u30c3\\u30c8\\u3067\\u8868\\u793a\\u3059\\u308b','Lettres latines sur les pi\\u00e8ces de shogi'],loading\
-     :['Loading\\u2026','Wird geladen\\u00a0\\u2026','Laden\\u2026','\\u8aad\\u307f\\u8fbc\\u307f\\u4e2d\\u2026','\
-     Chargement\\u2026'],missing:['The address may be wrong, or belong to another club.','Vielleicht ist \
-     die Adresse falsch oder geh\\u00f6rt zu einem anderen Club.','Misschien is het adres onjuist of van \
-     een andere club.','\\u30a2\\u30c9\\u30ec\\u30b9\\u304c\\u9593\\u9055\\u3063\\u3066\\u3044\\u308b\\u304b\\u3001\\u\
-     5225\\u306e\\u30af\\u30e9\\u30d6\\u306e\\u3082\\u306e\\u3067\\u3059\\u3002','L\\u2019adresse est peut-\\u00eatr\
-     e erron\\u00e9e ou celle d\\u2019un autre club.'],news:['Games awaiting your move: {moves}\
-     . Challenges: {challenges}.','Partien, in denen Sie am Zug sind: {moves}\
+     t bevestigen voordat deze wordt verzonden','\\u6307\\u3057\\u624b\\u3092\\u9001\\u4fe1\\u3059\\u308b\\u524d\\\
+     u306b\\u78ba\\u8a8d\\u3059\\u308b','Confirmer chaque coup avant l\\u2019envoi'],animateChoice:['Animate \
+     moves','Z\\u00fcge animieren','Zetten animeren','\\u99d2\\u306e\\u52d5\\u304d\\u3092\\u30a2\\u30cb\\u30e1\\u3\
+     0fc\\u30b7\\u30e7\\u30f3\\u3067\\u8868\\u793a\\u3059\\u308b','Animer les coups'],alertsChoice:['Notify me w\
+     hen something is waiting for me or a game ends, while this page is open in a tab','Mich benachricht\
+     igen, wenn etwas auf mich wartet oder eine Partie endet, solange diese Seite in einem Tab ge\\u00f6f\
+     fnet ist','Een melding geven als er iets op mij wacht of een partij is afgelopen, zolang deze pagin\
+     a in een tabblad openstaat','\\u624b\\u756a\\u30fb\\u6311\\u6226\\u30fb\\u7d42\\u5c40\\u3092\\u901a\\u77e5\\u30\
+     59\\u308b\\uff08\\u3053\\u306e\\u30da\\u30fc\\u30b8\\u304c\\u30bf\\u30d6\\u3067\\u958b\\u3044\\u3066\\u3044\\u308b\\\
+     u9593\\uff09','Me notifier quand quelque chose m\\u2019attend ou qu\\u2019une partie se termine, tant \
+     que cette page est ouverte dans un onglet'],soundChoice:['Play a sound in the same cases','In dense\
+     lben F\\u00e4llen einen Ton abspielen','In dezelfde gevallen een geluid afspelen','\\u540c\\u3058\\u583\
+     4\\u5408\\u306b\\u97f3\\u3092\\u9cf4\\u3089\\u3059','\\u00c9mettre un son dans les m\\u00eames cas'],alertsR\
+     efused:['The browser does not allow notifications from this page.','Der Browser erlaubt dieser Seit\
+     e keine Benachrichtigungen.','De browser staat meldingen van deze pagina niet toe.','\\u30d6\\u30e9\\u\
+     30a6\\u30b6\\u30fc\\u306e\\u8a2d\\u5b9a\\u3067\\u3053\\u306e\\u30da\\u30fc\\u30b8\\u306e\\u901a\\u77e5\\u304c\\u8a3\
+     1\\u53ef\\u3055\\u308c\\u3066\\u3044\\u307e\\u305b\\u3093\\u3002','Le navigateur n\\u2019autorise pas les not\
+     ifications de cette page.'],lettersChoice:['Western letters on shogi pieces','Lateinische Buchstabe\
+     n auf Shogi-Steinen','Latijnse letters op shogistukken','\\u5c06\\u68cb\\u306e\\u99d2\\u3092\\u30a2\\u30eb\
+     \\u30d5\\u30a1\\u30d9\\u30c3\\u30c8\\u3067\\u8868\\u793a\\u3059\\u308b','Lettres latines sur les pi\\u00e8ces \
+     de shogi'],loading:['Loading\\u2026','Wird geladen\\u00a0\\u2026','Laden\\u2026','\\u8aad\\u307f\\u8fbc\\u3\
+     07f\\u4e2d\\u2026','Chargement\\u2026'],missing:['The address may be wrong, or belong to another club.\
+     ','Vielleicht ist die Adresse falsch oder geh\\u00f6rt zu einem anderen Club.','Misschien is het adr\
+     es onjuist of van een andere club.','\\u30a2\\u30c9\\u30ec\\u30b9\\u304c\\u9593\\u9055\\u3063\\u3066\\u3044\\u\
+     308b\\u304b\\u3001\\u5225\\u306e\\u30af\\u30e9\\u30d6\\u306e\\u3082\\u306e\\u3067\\u3059\\u3002','L\\u2019adresse \
+     est peut-\\u00eatre erron\\u00e9e ou celle d\\u2019un autre club.'],news:['Games awaiting your move: {\
+     moves}. Challenges: {challenges}.','Partien, in denen Sie am Zug sind: {moves}\
      . Herausforderungen: {challenges}.','Partijen waarin u aan zet bent: {moves}\
      . Uitdagingen: {challenges}.','\\u624b\\u756a\\u306e\\u5bfe\\u5c40: {moves}\
      \\u3002\\u6311\\u6226: {challenges}\\u3002','Parties o\\u00f9 vous \\u00eates au trait\\u00a0: {moves}\
      . D\\u00e9fis\\u00a0: {challenges}\
-     .'],toClaim:['Opponent out of time','Zeit\\u00fcberschreitung des Gegners','Tegenstander heeft de ti\
-     jd overschreden','\\u76f8\\u624b\\u306e\\u6642\\u9593\\u5207\\u308c','Temps de l\\u2019adversaire d\\u00e9pa\
-     ss\\u00e9'],toAnswer:['Draw offers','Remisangebote','Remiseaanbiedingen','\\u5f15\\u304d\\u5206\\u3051\\u\
-     306e\\u63d0\\u6848','Propositions de remise'],toMove:['Your move','Sie sind am Zug','U bent aan zet',\
-     '\\u3042\\u306a\\u305f\\u306e\\u624b\\u756a','\\u00c0 vous de jouer'],toWait:['Opponent\\u2019s move','Gegn\
-     er am Zug','Tegenstander aan zet','\\u76f8\\u624b\\u306e\\u624b\\u756a','\\u00c0 l\\u2019adversaire de jou\
-     er'],noticeTurn:['Your turn against {name} ({event})','Sie sind am Zug gegen {name} ({event}\
+     .'],toClaim:['Opponent out of time','Zeit\\u00fcberschreitung des Gegners','Tijd tegenstander oversc\
+     hreden','\\u76f8\\u624b\\u306e\\u6642\\u9593\\u5207\\u308c','Temps de l\\u2019adversaire d\\u00e9pass\\u00e9'\
+     ],toAnswer:['Draw offers','Remisangebote','Remise aangeboden','\\u5f15\\u304d\\u5206\\u3051\\u306e\\u63d0\
+     \\u6848','Propositions de remise'],toMove:['Your move','Sie sind am Zug','U bent aan zet','\\u3042\\u3\
+     06a\\u305f\\u306e\\u624b\\u756a','\\u00c0 vous de jouer'],toWait:['Opponent\\u2019s move','Gegner am Zug'\
+     ,'Tegenstander aan zet','\\u76f8\\u624b\\u306e\\u624b\\u756a','\\u00c0 l\\u2019adversaire de jouer'],notic\
+     eTurn:['Your turn against {name} ({event})','Sie sind am Zug gegen {name} ({event}\
      )','U bent aan zet tegen {name} ({event})','{name}\\u3055\\u3093\\u3068\\u306e\\u5bfe\\u5c40\\uff08{event}\
      \\uff09\\uff1a\\u3042\\u306a\\u305f\\u306e\\u624b\\u756a\\u3067\\u3059','\\u00c0 vous de jouer contre {name} \
      ({event})'],noticeOver:['{name} is out of time ({event})','{name} \
@@ -413,7 +413,7 @@ pub fn page_2() -> &'static str
      \\u306b\\u6311\\u6226\\u3059\\u308b\\u304b\\u3001\\u5e79\\u4e8b\\u306b\\u5927\\u4f1a\\u3078\\u306e\\u53c2\\u52a0\\u3\
      092\\u7533\\u3057\\u8fbc\\u3093\\u3067\\u304f\\u3060\\u3055\\u3044\\u3002','Vous n\\u2019avez aucune partie en \
      cours. D\\u00e9fiez un membre ci-dessous, ou inscrivez-vous \\u00e0 un tournoi aupr\\u00e8s du respons\
-     able.'],youAre:['you play {side}','Sie haben {side}','u speelt met {side}\
+     able.'],youAre:['you play {side}','Sie haben {side}','u hebt {side}\
      ','\\u3042\\u306a\\u305f\\u306f{side}','vous jouez avec les {side}\
      '],game:['Game','Partie','Partij','\\u5bfe\\u5c40','Partie'],event:['Event','Turnier','Toernooi','\\u5\
      927\\u4f1a','Tournoi'],yourTurn:['Your turn','Sie sind am Zug','U bent aan zet','\\u3042\\u306a\\u305f\\\
@@ -513,7 +513,7 @@ pub fn page_2() -> &'static str
      challenges you:','{from} fordert Sie heraus:','{from} daagt u uit:','{from}\
      \\u3055\\u3093\\u304b\\u3089\\u306e\\u6311\\u6226\\uff1a','{from} \
      vous d\\u00e9fie\\u00a0:'],challenged:['You challenged {to}:','Sie haben {to} \
-     herausgefordert:','U daagt {to} uit:','{to}\
+     herausgefordert:','U hebt {to} uitgedaagd:','{to}\
      \\u3055\\u3093\\u3078\\u306e\\u6311\\u6226\\uff1a','Vous d\\u00e9fiez {to}\\u00a0:'],starts:['{event} \
      ({game}), {first} begins','{event} ({game}), {first} beginnt','{event} ({game}), {first} \
      begint','{event}\\uff08{game}\\uff09\\u3001\\u5148\\u624b\\u306f{first}','{event} ({game}), {first} \
@@ -545,12 +545,12 @@ pub fn page_2() -> &'static str
      etzter Zug','laatste zet','\\u76f4\\u524d\\u306e\\u624b','dernier coup'],tried:['to be confirmed','zu b\
      est\\u00e4tigen','te bevestigen','\\u672a\\u78ba\\u5b9a','\\u00e0 confirmer'],touched:['touched','ausgew\
      \\u00e4hlt','gekozen','\\u9078\\u629e\\u4e2d','choisi'],target:['may go here','kann hierher','kan hierh\
-     een','\\u79fb\\u52d5\\u3067\\u304d\\u308b','peut aller ici'],movable:['may move','spielbar','kan spelen'\
-     ,'\\u52d5\\u304b\\u305b\\u308b','peut jouer'],check:['in check','im Schach','staat schaak','\\u738b\\u624\
-     b','en \\u00e9chec'],which:['Which move?','Welcher Zug?','Welke zet?','\\u3069\\u306e\\u624b\\u306b\\u305\
-     7\\u307e\\u3059\\u304b\\uff1f','Quel coup\\u00a0?'],start:['Starting position','Anfangsstellung','Begins\
-     tand','\\u6700\\u521d\\u306e\\u5c40\\u9762','Position de d\\u00e9part'],back:['Previous move','Ein Zug zu\
-     r\\u00fcck','Vorige zet','\\u4e00\\u624b\\u623b\\u308b','Coup pr\\u00e9c\\u00e9dent'],on:['Next move','Ein \
+     een','\\u79fb\\u52d5\\u3067\\u304d\\u308b','peut aller ici'],movable:['may move','spielbar','speelbaar',\
+     '\\u52d5\\u304b\\u305b\\u308b','peut jouer'],check:['in check','im Schach','staat schaak','\\u738b\\u624b\
+     ','en \\u00e9chec'],which:['Which move?','Welcher Zug?','Welke zet?','\\u3069\\u306e\\u624b\\u306b\\u3057\
+     \\u307e\\u3059\\u304b\\uff1f','Quel coup\\u00a0?'],start:['Starting position','Anfangsstellung','Beginst\
+     and','\\u6700\\u521d\\u306e\\u5c40\\u9762','Position de d\\u00e9part'],back:['Previous move','Ein Zug zur\
+     \\u00fcck','Vorige zet','\\u4e00\\u624b\\u623b\\u308b','Coup pr\\u00e9c\\u00e9dent'],on:['Next move','Ein \
      Zug vor','Volgende zet','\\u4e00\\u624b\\u9032\\u3080','Coup suivant'],present:['Latest position','Neue\
      ste Stellung','Laatste stand','\\u6700\\u65b0\\u306e\\u5c40\\u9762','Derni\\u00e8re position'],flip:['Tur\
      n the board','Brett drehen','Bord draaien','\\u76e4\\u3092\\u53cd\\u8ee2','Retourner le plateau'],offer\
@@ -562,9 +562,9 @@ pub fn page_2() -> &'static str
      f\\u81ea\\u5206\\u306e\\u624b\\u756a\\u306e\\u3068\\u304d\\u3060\\u3051\\u3067\\u3059','On ne peut abandonner q\
      u\\u2019\\u00e0 son tour'],claim:['Claim the win on time','Sieg reklamieren','Winst op tijd claimen',\
      '\\u6642\\u9593\\u5207\\u308c\\u52dd\\u3061\\u3092\\u7533\\u8acb','R\\u00e9clamer le gain au temps'],declare:\
-     ['Declare the entered king','K\\u00f6nigseintritt erkl\\u00e4ren','Koning in promotiezone verklaren',\
-     '\\u5165\\u7389\\u5ba3\\u8a00','D\\u00e9clarer l\\u2019entr\\u00e9e du roi'],sure:['{what}?','{what}\
-     ?','{what}?','{what}\\uff1a\\u3088\\u308d\\u3057\\u3044\\u3067\\u3059\\u304b\\uff1f','{what}\
+     ['Declare the entered king','K\\u00f6nigseintritt erkl\\u00e4ren','Koningsintrede claimen','\\u5165\\u7\
+     389\\u5ba3\\u8a00','D\\u00e9clarer l\\u2019entr\\u00e9e du roi'],sure:['{what}?','{what}?','{what}\
+     ?','{what}\\uff1a\\u3088\\u308d\\u3057\\u3044\\u3067\\u3059\\u304b\\uff1f','{what}\
      \\u00a0?'],nextGame:['Next game ({count})','N\\u00e4chste Partie ({count})','Volgende partij ({count}\
      )','\\u6b21\\u306e\\u5bfe\\u5c40\\u3078\\uff08{count}\\uff09','Partie suivante ({count}\
      )'],cancel:['Cancel','Abbrechen','Annuleren','\\u30ad\\u30e3\\u30f3\\u30bb\\u30eb','Annuler'],record:['D\
@@ -573,49 +573,49 @@ pub fn page_2() -> &'static str
      \\u30d5\\u30c4','dames'],shogi:['shogi','Shogi','shogi','\\u5c06\\u68cb','shogi'],white:['white','Wei\\u\
      00df','wit','\\u767d','blancs'],black:['black','Schwarz','zwart','\\u9ed2','noirs'],sente:['black','S\
      chwarz','zwart','\\u5148\\u624b','noirs'],gote:['white','Wei\\u00df','wit','\\u5f8c\\u624b','blancs'],si\
-     lent:['The server does not answer','Der Server antwortet nicht','De server antwoordt niet','\\u30b5\\\
-     u30fc\\u30d0\\u30fc\\u304c\\u5fdc\\u7b54\\u3057\\u307e\\u305b\\u3093','Le serveur ne r\\u00e9pond pas'],refus\
-     ed:['The club refuses: {name} ({number})','Der Club lehnt ab: {name} ({number}\
+     lent:['The server does not answer','Der Server antwortet nicht','De server reageert niet','\\u30b5\\u\
+     30fc\\u30d0\\u30fc\\u304c\\u5fdc\\u7b54\\u3057\\u307e\\u305b\\u3093','Le serveur ne r\\u00e9pond pas'],refuse\
+     d:['The club refuses: {name} ({number})','Der Club lehnt ab: {name} ({number}\
      )','De club weigert: {name} ({number})','\\u62d2\\u5426\\u3055\\u308c\\u307e\\u3057\\u305f\\uff1a{name} \
      ({number})','Le club refuse\\u00a0: {name} ({number}\
      )'],illegal:['The rules forbid this move','Die Regeln verbieten diesen Zug','De spelregels verbiede\
      n deze zet','\\u305d\\u306e\\u624b\\u306f\\u53cd\\u5247\\u3067\\u3059','Les r\\u00e8gles interdisent ce coup\
      '],50:['No member has this key','Kein Mitglied hat diesen Schl\\u00fcssel','Geen lid heeft deze sleu\
      tel','\\u3053\\u306e\\u30ad\\u30fc\\u306e\\u4f1a\\u54e1\\u306f\\u3044\\u307e\\u305b\\u3093','Aucun membre n\\u20\
-     19a cette cl\\u00e9'],52:['No such event','Dieses Turnier gibt es nicht','Dat toernooi bestaat niet'\
+     19a cette cl\\u00e9'],52:['No such event','Dieses Turnier gibt es nicht','Dit toernooi bestaat niet'\
      ,'\\u305d\\u306e\\u5927\\u4f1a\\u306f\\u3042\\u308a\\u307e\\u305b\\u3093','Ce tournoi n\\u2019existe pas'],53:\
-     ['No such game','Diese Partie gibt es nicht','Die partij bestaat niet','\\u305d\\u306e\\u5bfe\\u5c40\\u3\
-     06f\\u3042\\u308a\\u307e\\u305b\\u3093','Cette partie n\\u2019existe pas'],54:['No such challenge','Diese \
-     Herausforderung gibt es nicht','Die uitdaging bestaat niet','\\u305d\\u306e\\u6311\\u6226\\u306f\\u3042\\u\
-     308a\\u307e\\u305b\\u3093','Ce d\\u00e9fi n\\u2019existe pas'],55:['You are not a player of this game','\
-     Sie spielen in dieser Partie nicht mit','U speelt deze partij niet','\\u3042\\u306a\\u305f\\u306e\\u5bfe\
-     \\u5c40\\u3067\\u306f\\u3042\\u308a\\u307e\\u305b\\u3093','Vous ne jouez pas cette partie'],56:['The game i\
-     s over','Die Partie ist zu Ende','De partij is afgelopen','\\u7d42\\u5c40\\u3057\\u3066\\u3044\\u307e\\u30\
-     59','La partie est finie'],57:['The game has moved on','Die Partie ist schon weiter','De partij is \
-     al verder','\\u5c40\\u9762\\u304c\\u9032\\u3093\\u3067\\u3044\\u307e\\u3059','La partie a avanc\\u00e9'],58:[\
-     'Something else was done already','Es ist schon etwas anderes geschehen','Er is al iets anders geda\
-     an','\\u5225\\u306e\\u64cd\\u4f5c\\u304c\\u5148\\u306b\\u884c\\u308f\\u308c\\u307e\\u3057\\u305f','Autre chose a \
-     d\\u00e9j\\u00e0 \\u00e9t\\u00e9 fait'],59:['Only your opponent can do that now','Das kann jetzt nur Ih\
-     r Gegner','Dat kan nu alleen uw tegenstander','\\u4eca\\u305d\\u308c\\u304c\\u3067\\u304d\\u308b\\u306e\\u30\
-     6f\\u76f8\\u624b\\u3060\\u3051\\u3067\\u3059','Seul l\\u2019adversaire peut le faire maintenant'],60:['You\
-     r time is up','Ihre Zeit ist abgelaufen','Uw tijd is om','\\u6642\\u9593\\u5207\\u308c\\u3067\\u3059','Vo\
-     tre temps est \\u00e9coul\\u00e9'],61:['Your opponent has time left','Ihr Gegner hat noch Zeit','Uw t\
-     egenstander heeft nog tijd','\\u76f8\\u624b\\u306e\\u6642\\u9593\\u306f\\u6b8b\\u3063\\u3066\\u3044\\u307e\\u30\
-     59','L\\u2019adversaire a encore du temps'],62:['The offer is no longer valid','Das Angebot gilt nic\
-     ht mehr','Het aanbod is vervallen','\\u63d0\\u6848\\u306f\\u7121\\u52b9\\u306b\\u306a\\u308a\\u307e\\u3057\\u3\
-     05f','L\\u2019offre n\\u2019est plus valable'],65:['Invalid value','Unzul\\u00e4ssiger Wert','Ongeldig\
-     e waarde','\\u5024\\u304c\\u4e0d\\u6b63\\u3067\\u3059','Valeur non valide'],66:['The club cannot hold mor\
-     e games','Der Club kann keine weiteren Partien aufnehmen','De club kan geen partijen meer opnemen',\
-     '\\u5bfe\\u5c40\\u6570\\u304c\\u4e0a\\u9650\\u306b\\u9054\\u3057\\u3066\\u3044\\u307e\\u3059','Le club ne peut p\
-     lus accueillir de parties'],67:['The entered king cannot be declared here','Der K\\u00f6nigseintritt \
-     kann hier nicht erkl\\u00e4rt werden','De koningsintrede kan hier niet worden geclaimd','\\u3053\\u305\
-     3\\u3067\\u306f\\u5165\\u7389\\u5ba3\\u8a00\\u306f\\u3067\\u304d\\u307e\\u305b\\u3093','L\\u2019entr\\u00e9e du r\
-     oi ne peut pas \\u00eatre d\\u00e9clar\\u00e9e ici'],72:['The club\\u2019s file cannot be used; \
+     ['No such game','Diese Partie gibt es nicht','Deze partij bestaat niet','\\u305d\\u306e\\u5bfe\\u5c40\\u\
+     306f\\u3042\\u308a\\u307e\\u305b\\u3093','Cette partie n\\u2019existe pas'],54:['No such challenge','Dies\
+     e Herausforderung gibt es nicht','Deze uitdaging bestaat niet','\\u305d\\u306e\\u6311\\u6226\\u306f\\u304\
+     2\\u308a\\u307e\\u305b\\u3093','Ce d\\u00e9fi n\\u2019existe pas'],55:['You are not a player of this game\
+     ','Sie spielen in dieser Partie nicht mit','U speelt deze partij niet','\\u3042\\u306a\\u305f\\u306e\\u5\
+     bfe\\u5c40\\u3067\\u306f\\u3042\\u308a\\u307e\\u305b\\u3093','Vous ne jouez pas cette partie'],56:['The gam\
+     e is over','Die Partie ist zu Ende','De partij is afgelopen','\\u7d42\\u5c40\\u3057\\u3066\\u3044\\u307e\\\
+     u3059','La partie est finie'],57:['The game has moved on','Die Partie ist schon weiter','De partij \
+     is al verder','\\u5c40\\u9762\\u304c\\u9032\\u3093\\u3067\\u3044\\u307e\\u3059','La partie a avanc\\u00e9'],5\
+     8:['Something else was done already','Es ist schon etwas anderes geschehen','Er is al iets anders g\
+     ebeurd','\\u5225\\u306e\\u64cd\\u4f5c\\u304c\\u5148\\u306b\\u884c\\u308f\\u308c\\u307e\\u3057\\u305f','Autre cho\
+     se a d\\u00e9j\\u00e0 \\u00e9t\\u00e9 fait'],59:['Only your opponent can do that now','Das kann jetzt n\
+     ur Ihr Gegner','Dat kan nu alleen uw tegenstander','\\u4eca\\u305d\\u308c\\u304c\\u3067\\u304d\\u308b\\u306\
+     e\\u306f\\u76f8\\u624b\\u3060\\u3051\\u3067\\u3059','Seul l\\u2019adversaire peut le faire maintenant'],60:\
+     ['Your time is up','Ihre Zeit ist abgelaufen','Uw tijd is om','\\u6642\\u9593\\u5207\\u308c\\u3067\\u3059\
+     ','Votre temps est \\u00e9coul\\u00e9'],61:['Your opponent has time left','Ihr Gegner hat noch Zeit',\
+     'Uw tegenstander heeft nog tijd','\\u76f8\\u624b\\u306e\\u6642\\u9593\\u306f\\u6b8b\\u3063\\u3066\\u3044\\u307\
+     e\\u3059','L\\u2019adversaire a encore du temps'],62:['The offer is no longer valid','Das Angebot gil\
+     t nicht mehr','Het aanbod is vervallen','\\u63d0\\u6848\\u306f\\u7121\\u52b9\\u306b\\u306a\\u308a\\u307e\\u30\
+     57\\u305f','L\\u2019offre n\\u2019est plus valable'],65:['Invalid value','Unzul\\u00e4ssiger Wert','Ong\
+     eldige waarde','\\u5024\\u304c\\u4e0d\\u6b63\\u3067\\u3059','Valeur non valide'],66:['The club cannot hol\
+     d more games','Der Club kann keine weiteren Partien aufnehmen','De club kan geen partijen meer opne\
+     men','\\u5bfe\\u5c40\\u6570\\u304c\\u4e0a\\u9650\\u306b\\u9054\\u3057\\u3066\\u3044\\u307e\\u3059','Le club ne p\
+     eut plus accueillir de parties'],67:['The entered king cannot be declared here','Der K\\u00f6nigsein\
+     tritt kann hier nicht erkl\\u00e4rt werden','De koningsintrede kan hier niet worden geclaimd','\\u305\
+     3\\u3053\\u3067\\u306f\\u5165\\u7389\\u5ba3\\u8a00\\u306f\\u3067\\u304d\\u307e\\u305b\\u3093','L\\u2019entr\\u00e9\
+     e du roi ne peut pas \\u00eatre d\\u00e9clar\\u00e9e ici'],72:['The club\\u2019s file cannot be used; \
      please tell the officer','Die Datei des Clubs ist nicht nutzbar; \
      bitte informieren Sie den Turnierleiter','Het bestand van de club is niet bruikbaar; \
      waarschuw de wedstrijdleider','\\u30af\\u30e9\\u30d6\\u306e\\u30c7\\u30fc\\u30bf\\u3092\\u5229\\u7528\\u3067\\u\
      304d\\u307e\\u305b\\u3093\\u3002\\u5e79\\u4e8b\\u306b\\u77e5\\u3089\\u305b\\u3066\\u304f\\u3060\\u3055\\u3044','Le \
-     fichier du club es"
+     fichier du club"
 }
 
 /// Part 3 of the page, in ASCII.
@@ -623,7 +623,7 @@ pub fn page_2() -> &'static str
 pub fn page_3() -> &'static str
     ensures { result.now ≡ page_3 }
 {
-    "t inutilisable\\u00a0; \
+    " est inutilisable\\u00a0; \
      pr\\u00e9venez le responsable'],73:['The club is unavailable','Der Club ist gerade nicht verf\\u00fcg\
      bar','De club is even niet beschikbaar','\\u30af\\u30e9\\u30d6\\u306f\\u73fe\\u5728\\u5229\\u7528\\u3067\\u30\
      4d\\u307e\\u305b\\u3093','Le club est momentan\\u00e9ment indisponible'],ending:['{who}: {why} \
@@ -651,22 +651,22 @@ pub fn page_3() -> &'static str
      perp\\u00e9tuel'],Fourfold:['fourfold repetition','vierfache Stellungswiederholung','viermaal dezelf\
      de stand','\\u5343\\u65e5\\u624b','quadruple r\\u00e9p\\u00e9tition'],Agreed:['by agreement','Vereinbaru\
      ng','in onderling overleg','\\u5408\\u610f','d\\u2019un commun accord'],Resigned:['by resignation','Au\
-     fgabe','door opgave','\\u6295\\u4e86','par abandon'],Time:['on time','Zeit\\u00fcberschreitung','op ti\
-     jd','\\u6642\\u9593\\u5207\\u308c','au temps'],Declared:['by declaration of the entered king','K\\u00f6n\
-     igseintritt','door de koning in de promotiezone','\\u5165\\u7389\\u5ba3\\u8a00','par l\\u2019entr\\u00e9e \
-     du roi'],Recorded:['as recorded','laut Notation','volgens notatie','\\u68cb\\u8b5c\\u306b\\u3088\\u308b'\
-     ,'selon la notation'],man:['man','Stein','schijf','\\u30de\\u30f3','pion'],king:['king','Dame','dam',\
-     '\\u30ad\\u30f3\\u30b0','dame'],K:['king','K\\u00f6nig','koning','\\u7389','roi'],R:['rook','Turm','tore\
-     n','\\u98db\\u8eca','tour'],B:['bishop','L\\u00e4ufer','loper','\\u89d2','fou'],G:['gold','Goldgeneral'\
-     ,'gouden generaal','\\u91d1','g\\u00e9n\\u00e9ral d\\u2019or'],S:['silver','Silbergeneral','zilveren ge\
-     neraal','\\u9280','g\\u00e9n\\u00e9ral d\\u2019argent'],N:['knight','Springer','paard','\\u6842\\u99ac','\
-     cavalier'],L:['lance','Lanze','lans','\\u9999\\u8eca','lance'],P:['pawn','Bauer','pion','\\u6b69','pio\
-     n'],'+R':['dragon','Drache','draak','\\u7adc','dragon'],'+B':['horse','Pferd','gepromoveerde loper',\
-     '\\u99ac','cheval'],'+S':['promoted silver','bef\\u00f6rderter Silbergeneral','gepromoveerde zilveren \
-     generaal','\\u6210\\u9280','g\\u00e9n\\u00e9ral d\\u2019argent promu'],'+N':['promoted knight','bef\\u00f\
-     6rderter Springer','gepromoveerd paard','\\u6210\\u6842','cavalier promu'],'+L':['promoted lance','be\
-     f\\u00f6rderte Lanze','gepromoveerde lans','\\u6210\\u9999','lance promue'],'+P':['tokin','Tokin','tok\
-     in','\\u3068\\u91d1','tokin']};const DAY=86400;const UNITS={day:DAY,hour:3600,minute:60,second:1};\
+     fgabe','opgave','\\u6295\\u4e86','par abandon'],Time:['on time','Zeit\\u00fcberschreitung','tijdsovers\
+     chrijding','\\u6642\\u9593\\u5207\\u308c','au temps'],Declared:['by declaration of the entered king','K\
+     \\u00f6nigseintritt','koningsintrede','\\u5165\\u7389\\u5ba3\\u8a00','par l\\u2019entr\\u00e9e du roi'],Re\
+     corded:['as recorded','laut Notation','volgens notatie','\\u68cb\\u8b5c\\u306b\\u3088\\u308b','selon la \
+     notation'],man:['man','Stein','schijf','\\u30de\\u30f3','pion'],king:['king','Dame','dam','\\u30ad\\u30\
+     f3\\u30b0','dame'],K:['king','K\\u00f6nig','koning','\\u7389','roi'],R:['rook','Turm','toren','\\u98db\\\
+     u8eca','tour'],B:['bishop','L\\u00e4ufer','loper','\\u89d2','fou'],G:['gold','Goldgeneral','gouden ge\
+     neraal','\\u91d1','g\\u00e9n\\u00e9ral d\\u2019or'],S:['silver','Silbergeneral','zilveren generaal','\\u\
+     9280','g\\u00e9n\\u00e9ral d\\u2019argent'],N:['knight','Springer','paard','\\u6842\\u99ac','cavalier'],\
+     L:['lance','Lanze','lans','\\u9999\\u8eca','lance'],P:['pawn','Bauer','pion','\\u6b69','pion'],'+R':['\
+     dragon','Drache','draak','\\u7adc','dragon'],'+B':['horse','Pferd','gepromoveerde loper','\\u99ac','c\
+     heval'],'+S':['promoted silver','bef\\u00f6rderter Silbergeneral','gepromoveerde zilveren generaal',\
+     '\\u6210\\u9280','g\\u00e9n\\u00e9ral d\\u2019argent promu'],'+N':['promoted knight','bef\\u00f6rderter S\
+     pringer','gepromoveerd paard','\\u6210\\u6842','cavalier promu'],'+L':['promoted lance','bef\\u00f6rde\
+     rte Lanze','gepromoveerde lans','\\u6210\\u9999','lance promue'],'+P':['tokin','Tokin','tokin','\\u306\
+     8\\u91d1','tokin']};const DAY=86400;const UNITS={day:DAY,hour:3600,minute:60,second:1};\
      let language=0;\
      function text(name,values,other){const columns=TEXTS[name]??TEXTS[other]??[String(name)];\
      return(columns[language]??columns[0]).replace(/\\{(\\w+)\\}/g,(_,it)=>values[it])}\
@@ -944,7 +944,7 @@ pub fn page_3() -> &'static str
      item(it,'noticeEnded','game')),...me.refused.map((it)=>{return{tag:`declined ${it.number}\
      `,words:text('noticeDeclined',{name:it.to,event:it.event}),place:''}}\
      ),...me.challenges.filter(toMe).map((it)=>{return{tag:`challenge ${it.from} ${it.number}\
-     `,words:`${text('challenge"
+     `,words:`${text('challengesYou"
 }
 
 /// Part 4 of the page, in ASCII.
@@ -952,7 +952,7 @@ pub fn page_3() -> &'static str
 pub fn page_4() -> &'static str
     ensures { result.now ≡ page_4 }
 {
-    "sYou', it)} ${it.event}`,place:''}})]}async function lookAtClub(names){if(!club||names.some((it)=>\
+    "', it)} ${it.event}`,place:''}})]}async function lookAtClub(names){if(!club||names.some((it)=>\
      !kindOf(it))||Date.now()-received>LASTING){club=await ask('me/events');received=Date.now()}\
      return club}async function lookAtHome(_,mine){await mine;\
      await lookAtClub([...me.challenges,...me.refused].map((it)=>it.event));return()=>\
@@ -1294,6 +1294,6 @@ pub fn policy() -> &'static str
     ensures { result.now ≡ policy }
 {
     "default-src 'none'; style-src 'sha256-5tpAp8X0/GF1op9K1QPJpxFYsNnUM4YvYJr2fAFpY20='; \
-     script-src 'sha256-QULVB51kO+9IcgQJBrPKjg8EsB1c4J5821VqaiwDDqI='; connect-src 'self'; \
+     script-src 'sha256-s066WqzK86TVeBSk2Elvwrl9AzHn4M75ixY2w0oNJ0k='; connect-src 'self'; \
      img-src data:; manifest-src data:; base-uri 'none'; form-action 'none'; frame-ancestors 'none'"
 }
