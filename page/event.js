@@ -7,6 +7,7 @@ import { span, text } from './words.js';
 
 const POINTS = { '2-0': [2, 0], '1-1': [1, 1], '0-2': [0, 2] };
 const pair = (game) => `${game.first} \u2013 ${game.second}`;
+const score = (game) => text('score', { pair: pair(game), result: game.result ?? text('running') });
 // A table of more entrants has no columns of single games.
 const WIDEST = 40;
 const STEP = 50;
@@ -40,8 +41,8 @@ const both = (one, other) => [one, other].sort().join(' ');
 function cell(games, name) {
   return make('td', { className: 'cell' }, ...games.map((it) => make('a', {
     href: `#game/${it.game}`,
-    title: `${pair(it)}: ${it.result ?? text('running')}`,
-    ariaLabel: `${text('game')} ${it.game}, ${pair(it)}: ${it.result ?? text('running')}`,
+    title: score(it),
+    ariaLabel: `${text('game')} ${it.game}${text('comma')}${score(it)}`,
     className: it.end ? '' : 'running',
   }, it.end ? String(POINTS[it.result][it.first === name ? 0 : 1]) : '\u2022')));
 }

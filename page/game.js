@@ -201,7 +201,7 @@ function paint() {
   paintPlayer('near', near());
   tick();
   written = game.moves.map((_, at) => spell(at));
-  fill('title', `${text('game')} ${game.game}, `, make('a', { href: `#event/${game.event}` }, game.event));
+  fill('title', `${text('game')} ${game.game}${text('comma')}`, make('a', { href: `#event/${game.event}` }, game.event));
   fill('state', ...state());
   fill('hint', hint());
   const isWaiting = !!(waiting && tried());

@@ -122,7 +122,7 @@ function paintClub() {
   fill('events', ...club.events.map((it) => make('li', {}, link('event', it.event), make('span', { className: 'faint' }, terms(it)))));
   const others = club.members.filter((it) => it !== me.member);
   fill('other', ...others.map((it) => make('option', {}, it)));
-  fill('cup', ...club.events.map((it) => make('option', { value: it.event }, `${it.event} (${text(it.game)})`)));
+  fill('cup', ...club.events.map((it) => make('option', { value: it.event }, text('eventGame', { event: it.event, game: text(it.game) }))));
   byId('challenge').hidden = !others[0] || !club.events[0];
 }
 

@@ -63,7 +63,7 @@ def whole_texts(room):
 
 SPOKEN = {
     "en": ("Your turn", "bert played Sx2b"), "de": ("Sie sind am Zug", "bert zog Sx2b"),
-    "nl": ("U bent aan zet", "bert speelde Sx2b"), "ja": ("あなたの番です", "bert △同　銀"),
+    "nl": ("U bent aan zet", "bert speelde Sx2b"), "ja": ("あなたの手番です", "bert △同　銀"),
     "fr": ("À vous de jouer", "bert a joué Sx2b"),
 }
 

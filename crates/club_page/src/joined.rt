@@ -321,7 +321,8 @@ pub fn page_1() -> &'static str
      2c\\u8a9e','Fran\\u00e7ais'],languageName:['Language','Sprache','Taal','\\u8a00\\u8a9e','Langue'],yourN\
      ame:['Your name','Ihr Name','Uw naam','\\u540d\\u524d','Votre nom'],key:['Member key','Mitgliedsschl\\\
      u00fcssel','Lidsleutel','\\u4f1a\\u54e1\\u30ad\\u30fc','Cl\\u00e9 de membre'],keyHint:['The club\\u2019s \
-     officer gave you the key. Your password manager nee"
+     officer gave you the key. Your password manager needs the name to tell members apart.','Den Schl\\u0\
+     0fcssel erhalten Sie vom Turnierleiter. Am Namen unterscheidet Ihr Passwortm"
 }
 
 /// Part 2 of the page, in ASCII.
@@ -329,19 +330,17 @@ pub fn page_1() -> &'static str
 pub fn page_2() -> &'static str
     ensures { result.now ≡ page_2 }
 {
-    "ds the name to tell members apart.','Den Schl\\u00fcssel erhalten Sie vom Turnierleiter. Am Namen u\
-     nterscheidet Ihr Passwortmanager mehrere Mitglieder.','De sleutel krijgt u van de wedstrijdleider. \
-     Met de naam houdt uw wachtwoordmanager leden uit elkaar.','\\u30ad\\u30fc\\u306f\\u30af\\u30e9\\u30d6\\u30\
-     6e\\u5e79\\u4e8b\\u304b\\u3089\\u53d7\\u3051\\u53d6\\u3063\\u305f\\u3082\\u306e\\u3067\\u3059\\u3002\\u540d\\u524d\\\
-     u306f\\u30d1\\u30b9\\u30ef\\u30fc\\u30c9\\u7ba1\\u7406\\u30c4\\u30fc\\u30eb\\u304c\\u4f1a\\u54e1\\u3092\\u533a\\u52\
-     25\\u3059\\u308b\\u305f\\u3081\\u306b\\u4f7f\\u3044\\u307e\\u3059\\u3002','La cl\\u00e9 vous est remise par le \
-     responsable du club. Le nom permet \\u00e0 votre gestionnaire de mots de passe de distinguer les mem\
-     bres.'],otherName:['This key belongs to {name}. You are signed in as {name}\
-     .','Dieser Schl\\u00fcssel geh\\u00f6rt {name}. Sie sind als {name} \
+    "anager mehrere Mitglieder.','De sleutel krijgt u van de wedstrijdleider. Met de naam houdt uw wach\
+     twoordmanager leden uit elkaar.','\\u30ad\\u30fc\\u306f\\u30af\\u30e9\\u30d6\\u306e\\u5e79\\u4e8b\\u304c\\u767\
+     a\\u884c\\u3057\\u307e\\u3059\\u3002\\u540d\\u524d\\u306f\\u3001\\u30d1\\u30b9\\u30ef\\u30fc\\u30c9\\u30de\\u30cd\\u\
+     30fc\\u30b8\\u30e3\\u30fc\\u304c\\u4f1a\\u54e1\\u3092\\u533a\\u5225\\u3059\\u308b\\u305f\\u3081\\u306b\\u4f7f\\u304\
+     4\\u307e\\u3059\\u3002','La cl\\u00e9 vous est remise par le responsable du club. Le nom permet \\u00e0 \
+     votre gestionnaire de mots de passe de distinguer les membres.'],otherName:['This key belongs to {n\
+     ame}. You are signed in as {name}.','Dieser Schl\\u00fcssel geh\\u00f6rt {name}. Sie sind als {name} \
      angemeldet.','Deze sleutel is van {name}. U bent aangemeld als {name}\
      .','\\u3053\\u306e\\u30ad\\u30fc\\u306f{name}\\u3055\\u3093\\u306e\\u3082\\u306e\\u3067\\u3059\\u3002{name}\
-     \\u3068\\u3057\\u3066\\u30ed\\u30b0\\u30a4\\u30f3\\u3057\\u307e\\u3057\\u305f\\u3002','Cette cl\\u00e9 est celle \
-     de {name}. Vous \\u00eates connect\\u00e9 en tant que {name}\
+     \\u3055\\u3093\\u3068\\u3057\\u3066\\u30ed\\u30b0\\u30a4\\u30f3\\u3057\\u307e\\u3057\\u305f\\u3002','Cette cl\\u00\
+     e9 est celle de {name}. Vous \\u00eates connect\\u00e9 en tant que {name}\
      .'],remember:['Stay signed in on this device','Auf diesem Ger\\u00e4t angemeldet bleiben','Aangemeld \
      blijven op dit apparaat','\\u3053\\u306e\\u7aef\\u672b\\u3067\\u30ed\\u30b0\\u30a4\\u30f3\\u3057\\u305f\\u307e\\\
      u307e\\u306b\\u3059\\u308b','Rester connect\\u00e9 sur cet appareil'],signIn:['Sign in','Anmelden','Aan\
@@ -357,29 +356,31 @@ pub fn page_2() -> &'static str
      hen something is waiting for me or a game ends, while this page is open in a tab','Mich benachricht\
      igen, wenn etwas auf mich wartet oder eine Partie endet, solange diese Seite in einem Tab ge\\u00f6f\
      fnet ist','Een melding geven als er iets op mij wacht of een partij is afgelopen, zolang deze pagin\
-     a in een tabblad openstaat','\\u624b\\u756a\\u30fb\\u6311\\u6226\\u30fb\\u7d42\\u5c40\\u3092\\u901a\\u77e5\\u30\
-     59\\u308b\\uff08\\u3053\\u306e\\u30da\\u30fc\\u30b8\\u304c\\u30bf\\u30d6\\u3067\\u958b\\u3044\\u3066\\u3044\\u308b\\\
-     u9593\\uff09','Me notifier quand quelque chose m\\u2019attend ou qu\\u2019une partie se termine, tant \
-     que cette page est ouverte dans un onglet'],soundChoice:['Play a sound in the same cases','In dense\
-     lben F\\u00e4llen einen Ton abspielen','In dezelfde gevallen een geluid afspelen','\\u540c\\u3058\\u583\
-     4\\u5408\\u306b\\u97f3\\u3092\\u9cf4\\u3089\\u3059','\\u00c9mettre un son dans les m\\u00eames cas'],alertsR\
-     efused:['The browser does not allow notifications from this page.','Der Browser erlaubt dieser Seit\
-     e keine Benachrichtigungen.','De browser staat meldingen van deze pagina niet toe.','\\u30d6\\u30e9\\u\
-     30a6\\u30b6\\u30fc\\u306e\\u8a2d\\u5b9a\\u3067\\u3053\\u306e\\u30da\\u30fc\\u30b8\\u306e\\u901a\\u77e5\\u304c\\u8a3\
-     1\\u53ef\\u3055\\u308c\\u3066\\u3044\\u307e\\u305b\\u3093\\u3002','Le navigateur n\\u2019autorise pas les not\
-     ifications de cette page.'],lettersChoice:['Western letters on shogi pieces','Lateinische Buchstabe\
-     n auf Shogi-Steinen','Latijnse letters op shogistukken','\\u5c06\\u68cb\\u306e\\u99d2\\u3092\\u30a2\\u30eb\
-     \\u30d5\\u30a1\\u30d9\\u30c3\\u30c8\\u3067\\u8868\\u793a\\u3059\\u308b','Lettres latines sur les pi\\u00e8ces \
-     de shogi'],loading:['Loading\\u2026','Wird geladen\\u00a0\\u2026','Laden\\u2026','\\u8aad\\u307f\\u8fbc\\u3\
-     07f\\u4e2d\\u2026','Chargement\\u2026'],missing:['The address may be wrong, or belong to another club.\
-     ','Vielleicht ist die Adresse falsch oder geh\\u00f6rt zu einem anderen Club.','Misschien is het adr\
-     es onjuist of van een andere club.','\\u30a2\\u30c9\\u30ec\\u30b9\\u304c\\u9593\\u9055\\u3063\\u3066\\u3044\\u\
-     308b\\u304b\\u3001\\u5225\\u306e\\u30af\\u30e9\\u30d6\\u306e\\u3082\\u306e\\u3067\\u3059\\u3002','L\\u2019adresse \
-     est peut-\\u00eatre erron\\u00e9e ou celle d\\u2019un autre club.'],news:['Games awaiting your move: {\
-     moves}. Challenges: {challenges}.','Partien, in denen Sie am Zug sind: {moves}\
+     a in een tabblad openstaat','\\u624b\\u756a\\u3084\\u6311\\u6226\\u306a\\u3069\\u304c\\u6765\\u305f\\u3068\\u30\
+     4d\\u3001\\u5bfe\\u5c40\\u304c\\u7d42\\u308f\\u3063\\u305f\\u3068\\u304d\\u306b\\u901a\\u77e5\\u3059\\u308b\\uff08\\\
+     u3053\\u306e\\u30da\\u30fc\\u30b8\\u3092\\u30bf\\u30d6\\u3067\\u958b\\u3044\\u3066\\u3044\\u308b\\u9593\\uff09','M\
+     e notifier quand quelque chose m\\u2019attend ou qu\\u2019une partie se termine, tant que cette page \
+     est ouverte dans un onglet'],soundChoice:['Play a sound in the same cases','In denselben F\\u00e4lle\
+     n einen Ton abspielen','In dezelfde gevallen een geluid afspelen','\\u540c\\u3058\\u3068\\u304d\\u306b\\u\
+     97f3\\u3092\\u9cf4\\u3089\\u3059','\\u00c9mettre un son dans les m\\u00eames cas'],alertsRefused:['The br\
+     owser does not allow notifications from this page.','Der Browser erlaubt dieser Seite keine Benachr\
+     ichtigungen.','De browser staat meldingen van deze pagina niet toe.','\\u30d6\\u30e9\\u30a6\\u30b6\\u30f\
+     c\\u304c\\u3053\\u306e\\u30da\\u30fc\\u30b8\\u306e\\u901a\\u77e5\\u3092\\u8a31\\u53ef\\u3057\\u3066\\u3044\\u307e\\u\
+     305b\\u3093\\u3002','Le navigateur n\\u2019autorise pas les notifications de cette page.'],lettersChoi\
+     ce:['Western letters on shogi pieces','Lateinische Buchstaben auf Shogi-Steinen','Latijnse letters \
+     op shogistukken','\\u5c06\\u68cb\\u306e\\u99d2\\u3092\\u30a2\\u30eb\\u30d5\\u30a1\\u30d9\\u30c3\\u30c8\\u3067\\u8\
+     868\\u793a\\u3059\\u308b','Lettres latines sur les pi\\u00e8ces de shogi'],loading:['Loading\\u2026','Wi\
+     rd geladen\\u00a0\\u2026','Laden\\u2026','\\u8aad\\u307f\\u8fbc\\u307f\\u4e2d\\u2026','Chargement\\u2026'],mi\
+     ssing:['The address may be wrong, or belong to another club.','Vielleicht ist die Adresse falsch od\
+     er geh\\u00f6rt zu einem anderen Club.','Misschien is het adres onjuist of van een andere club.','\\u\
+     30a2\\u30c9\\u30ec\\u30b9\\u304c\\u9593\\u9055\\u3063\\u3066\\u3044\\u308b\\u304b\\u3001\\u5225\\u306e\\u30af\\u30e\
+     9\\u30d6\\u306e\\u3082\\u306e\\u304b\\u3082\\u3057\\u308c\\u307e\\u305b\\u3093\\u3002','L\\u2019adresse est peut\
+     -\\u00eatre erron\\u00e9e ou celle d\\u2019un autre club.'],news:['Games awaiting your move: {moves}\
+     . Challenges: {challenges}.','Partien, in denen Sie am Zug sind: {moves}\
      . Herausforderungen: {challenges}.','Partijen waarin u aan zet bent: {moves}\
-     . Uitdagingen: {challenges}.','\\u624b\\u756a\\u306e\\u5bfe\\u5c40: {moves}\
-     \\u3002\\u6311\\u6226: {challenges}\\u3002','Parties o\\u00f9 vous \\u00eates au trait\\u00a0: {moves}\
+     . Uitdagingen: {challenges}.','\\u624b\\u756a\\u306e\\u5bfe\\u5c40\\uff1a{moves}\
+     \\u5c40\\u3002\\u6311\\u6226\\uff1a{challenges}\
+     \\u4ef6\\u3002','Parties o\\u00f9 vous \\u00eates au trait\\u00a0: {moves}\
      . D\\u00e9fis\\u00a0: {challenges}\
      .'],toClaim:['Opponent out of time','Zeit\\u00fcberschreitung des Gegners','Tijd tegenstander oversc\
      hreden','\\u76f8\\u624b\\u306e\\u6642\\u9593\\u5207\\u308c','Temps de l\\u2019adversaire d\\u00e9pass\\u00e9'\
@@ -417,10 +418,11 @@ pub fn page_2() -> &'static str
      ','\\u3042\\u306a\\u305f\\u306f{side}','vous jouez avec les {side}\
      '],game:['Game','Partie','Partij','\\u5bfe\\u5c40','Partie'],event:['Event','Turnier','Toernooi','\\u5\
      927\\u4f1a','Tournoi'],yourTurn:['Your turn','Sie sind am Zug','U bent aan zet','\\u3042\\u306a\\u305f\\\
-     u306e\\u756a\\u3067\\u3059','\\u00c0 vous de jouer'],turn:['{name} to move','{name} ist am Zug','{name} \
-     is aan zet','{name}\\u3055\\u3093\\u306e\\u756a\\u3067\\u3059','Au trait\\u00a0: {name}'],left:['{span} \
+     u306e\\u624b\\u756a\\u3067\\u3059','\\u00c0 vous de jouer'],turn:['{name} to move','{name} \
+     ist am Zug','{name} is aan zet','{name}\
+     \\u3055\\u3093\\u306e\\u624b\\u756a\\u3067\\u3059','Au trait\\u00a0: {name}'],left:['{span} \
      left','noch {span}','nog {span}','\\u6b8b\\u308a{span}','il reste {span}'],until:['Until {moment}\
-     , {left}.','Bis {moment}, {left}.','Tot {moment}, {left}.','\\u671f\\u9650 {moment}\\uff08{left}\
+     , {left}.','Bis {moment}, {left}.','Tot {moment}, {left}.','\\u671f\\u9650\\uff1a{moment}\\uff08{left}\
      \\uff09','Jusqu\\u2019au {moment}, {left}\
      .'],overMine:['Your time is up: your opponent may claim the win.','Ihre Zeit ist abgelaufen: Ihr Ge\
      gner kann den Sieg reklamieren.','Uw tijd is om: uw tegenstander kan de winst claimen.','\\u6642\\u95\
@@ -480,12 +482,15 @@ pub fn page_2() -> &'static str
      06b\\u306f\\u306a\\u308a\\u307e\\u305b\\u3093\\u3002','Peut-\\u00eatre non effectu\\u00e9\\u00a0: {why}\
      . R\\u00e9essayez\\u00a0; rien ne sera fait deux fois.'],retrying:['{why}. Trying again\\u2026','{why}\
      . Neuer Versuch l\\u00e4uft\\u00a0\\u2026','{why}. Nieuwe poging\\u2026','{why}\
-     \\u3002\\u518d\\u63a5\\u7d9a\\u4e2d\\u2026','{why}\
-     . Nouvel essai\\u2026'],running:['in progress','l\\u00e4uft','loopt','\\u5bfe\\u5c40\\u4e2d','en cours']\
-     ,runningGames:['Games in progress','Laufende Partien','Lopende partijen','\\u5bfe\\u5c40\\u4e2d','Part\
-     ies en cours'],endedGames:['Finished games','Beendete Partien','Afgelopen partijen','\\u7d42\\u4e86\\u\
-     3057\\u305f\\u5bfe\\u5c40','Parties termin\\u00e9es'],noEnded:['None yet.','Noch keine.','Nog geen.','\\\
-     u307e\\u3060\\u3042\\u308a\\u307e\\u305b\\u3093\\u3002','Aucune pour l\\u2019instant.'],older:['Older games \
+     \\u3002\\u518d\\u8a66\\u884c\\u4e2d\\u2026','{why}\
+     . Nouvel essai\\u2026'],comma:[', ',', ',', ','\\u3001',', '],score:['{pair}: {result}','{pair}\
+     : {result}','{pair}: {result}','{pair}\\uff1a{result}','{pair}\\u00a0: {result}'],eventGame:['{event} \
+     ({game})','{event} ({game})','{event} ({game})','{event}\\uff08{game}\\uff09','{event} ({game}\
+     )'],running:['in progress','l\\u00e4uft','loopt','\\u5bfe\\u5c40\\u4e2d','en cours'],runningGames:['Gam\
+     es in progress','Laufende Partien','Lopende partijen','\\u9032\\u884c\\u4e2d\\u306e\\u5bfe\\u5c40','Parti\
+     es en cours'],endedGames:['Finished games','Beendete Partien','Afgelopen partijen','\\u7d42\\u4e86\\u3\
+     057\\u305f\\u5bfe\\u5c40','Parties termin\\u00e9es'],noEnded:['None yet.','Noch keine.','Nog geen.','\\u\
+     307e\\u3060\\u3042\\u308a\\u307e\\u305b\\u3093\\u3002','Aucune pour l\\u2019instant.'],older:['Older games \
      are listed under their events ({count}).','\\u00c4ltere Partien stehen bei ihren Turnieren ({count}\
      ).','Oudere partijen staan bij hun toernooien ({count}\
      ).','\\u3053\\u308c\\u3088\\u308a\\u524d\\u306e\\u5bfe\\u5c40\\u306f\\u5404\\u5927\\u4f1a\\u306e\\u4e00\\u89a7\\u30\
@@ -511,12 +516,12 @@ pub fn page_2() -> &'static str
      6311\\u6226','D\\u00e9fis'],newChallenge:['New challenge','Neue Herausforderung','Nieuwe uitdaging','\
      \\u65b0\\u3057\\u3044\\u6311\\u6226','Nouveau d\\u00e9fi'],challengesYou:['{from} \
      challenges you:','{from} fordert Sie heraus:','{from} daagt u uit:','{from}\
-     \\u3055\\u3093\\u304b\\u3089\\u306e\\u6311\\u6226\\uff1a','{from} \
+     \\u3055\\u3093\\u304b\\u3089\\u306e\\u6311\\u6226','{from} \
      vous d\\u00e9fie\\u00a0:'],challenged:['You challenged {to}:','Sie haben {to} \
      herausgefordert:','U hebt {to} uitgedaagd:','{to}\
-     \\u3055\\u3093\\u3078\\u306e\\u6311\\u6226\\uff1a','Vous d\\u00e9fiez {to}\\u00a0:'],starts:['{event} \
-     ({game}), {first} begins','{event} ({game}), {first} beginnt','{event} ({game}), {first} \
-     begint','{event}\\uff08{game}\\uff09\\u3001\\u5148\\u624b\\u306f{first}','{event} ({game}), {first} \
+     \\u3055\\u3093\\u3078\\u306e\\u6311\\u6226','Vous d\\u00e9fiez {to}\\u00a0:'],starts:['{event} ({game}\
+     ), {first} begins','{event} ({game}), {first} beginnt','{event} ({game}), {first} begint','{event}\
+     \\uff08{game}\\uff09\\u3001\\u5148\\u624b\\u306f{first}\\u3055\\u3093','{event} ({game}), {first} \
      commence'],accepted:['accepted','angenommen','aangenomen','\\u6210\\u7acb','accept\\u00e9'],toGame:['T\
      o the game','Zur Partie','Naar de partij','\\u5bfe\\u5c40\\u3078','Voir la partie'],declined:['Decline\
      d challenges','Abgelehnte Herausforderungen','Afgewezen uitdagingen','\\u65ad\\u3089\\u308c\\u305f\\u631\
@@ -545,26 +550,26 @@ pub fn page_2() -> &'static str
      etzter Zug','laatste zet','\\u76f4\\u524d\\u306e\\u624b','dernier coup'],tried:['to be confirmed','zu b\
      est\\u00e4tigen','te bevestigen','\\u672a\\u78ba\\u5b9a','\\u00e0 confirmer'],touched:['touched','ausgew\
      \\u00e4hlt','gekozen','\\u9078\\u629e\\u4e2d','choisi'],target:['may go here','kann hierher','kan hierh\
-     een','\\u79fb\\u52d5\\u3067\\u304d\\u308b','peut aller ici'],movable:['may move','spielbar','speelbaar',\
-     '\\u52d5\\u304b\\u305b\\u308b','peut jouer'],check:['in check','im Schach','staat schaak','\\u738b\\u624b\
+     een','\\u3053\\u3053\\u306b\\u6307\\u305b\\u308b','peut aller ici'],movable:['may move','spielbar','speel\
+     baar','\\u6307\\u305b\\u308b','peut jouer'],check:['in check','im Schach','staat schaak','\\u738b\\u624b\
      ','en \\u00e9chec'],which:['Which move?','Welcher Zug?','Welke zet?','\\u3069\\u306e\\u624b\\u306b\\u3057\
      \\u307e\\u3059\\u304b\\uff1f','Quel coup\\u00a0?'],start:['Starting position','Anfangsstellung','Beginst\
-     and','\\u6700\\u521d\\u306e\\u5c40\\u9762','Position de d\\u00e9part'],back:['Previous move','Ein Zug zur\
-     \\u00fcck','Vorige zet','\\u4e00\\u624b\\u623b\\u308b','Coup pr\\u00e9c\\u00e9dent'],on:['Next move','Ein \
-     Zug vor','Volgende zet','\\u4e00\\u624b\\u9032\\u3080','Coup suivant'],present:['Latest position','Neue\
-     ste Stellung','Laatste stand','\\u6700\\u65b0\\u306e\\u5c40\\u9762','Derni\\u00e8re position'],flip:['Tur\
-     n the board','Brett drehen','Bord draaien','\\u76e4\\u3092\\u53cd\\u8ee2','Retourner le plateau'],offer\
-     :['Offer a draw','Remis anbieten','Remise aanbieden','\\u5f15\\u304d\\u5206\\u3051\\u3092\\u63d0\\u6848','\
-     Proposer la remise'],accept:['Accept the draw','Remis annehmen','Remise aannemen','\\u5f15\\u304d\\u52\
-     06\\u3051\\u306b\\u5fdc\\u3058\\u308b','Accepter la remise'],resign:['Resign','Aufgeben','Opgeven','\\u62\
-     95\\u4e86','Abandonner'],resignWhen:['You can resign when it is your turn','Aufgeben k\\u00f6nnen Sie\
-     , wenn Sie am Zug sind','Opgeven kan als u aan zet bent','\\u6295\\u4e86\\u3067\\u304d\\u308b\\u306e\\u306\
-     f\\u81ea\\u5206\\u306e\\u624b\\u756a\\u306e\\u3068\\u304d\\u3060\\u3051\\u3067\\u3059','On ne peut abandonner q\
-     u\\u2019\\u00e0 son tour'],claim:['Claim the win on time','Sieg reklamieren','Winst op tijd claimen',\
-     '\\u6642\\u9593\\u5207\\u308c\\u52dd\\u3061\\u3092\\u7533\\u8acb','R\\u00e9clamer le gain au temps'],declare:\
-     ['Declare the entered king','K\\u00f6nigseintritt erkl\\u00e4ren','Koningsintrede claimen','\\u5165\\u7\
-     389\\u5ba3\\u8a00','D\\u00e9clarer l\\u2019entr\\u00e9e du roi'],sure:['{what}?','{what}?','{what}\
-     ?','{what}\\uff1a\\u3088\\u308d\\u3057\\u3044\\u3067\\u3059\\u304b\\uff1f','{what}\
+     and','\\u958b\\u59cb\\u5c40\\u9762','Position de d\\u00e9part'],back:['Previous move','Ein Zug zur\\u00fc\
+     ck','Vorige zet','\\u4e00\\u624b\\u623b\\u308b','Coup pr\\u00e9c\\u00e9dent'],on:['Next move','Ein Zug vo\
+     r','Volgende zet','\\u4e00\\u624b\\u9032\\u3080','Coup suivant'],present:['Latest position','Neueste St\
+     ellung','Laatste stand','\\u6700\\u65b0\\u306e\\u5c40\\u9762','Derni\\u00e8re position'],flip:['Turn the \
+     board','Brett drehen','Bord draaien','\\u76e4\\u3092\\u53cd\\u8ee2','Retourner le plateau'],offer:['Off\
+     er a draw','Remis anbieten','Remise aanbieden','\\u5f15\\u304d\\u5206\\u3051\\u3092\\u63d0\\u6848','Propos\
+     er la remise'],accept:['Accept the draw','Remis annehmen','Remise aannemen','\\u5f15\\u304d\\u5206\\u30\
+     51\\u306b\\u5fdc\\u3058\\u308b','Accepter la remise'],resign:['Resign','Aufgeben','Opgeven','\\u6295\\u4e\
+     86','Abandonner'],resignWhen:['You can resign when it is your turn','Aufgeben k\\u00f6nnen Sie, wenn \
+     Sie am Zug sind','Opgeven kan als u aan zet bent','\\u6295\\u4e86\\u3067\\u304d\\u308b\\u306e\\u306f\\u81ea\
+     \\u5206\\u306e\\u624b\\u756a\\u306e\\u3068\\u304d\\u3060\\u3051\\u3067\\u3059','On ne peut abandonner qu\\u2019\
+     \\u00e0 son tour'],claim:['Claim the win on time','Sieg reklamieren','Winst op tijd claimen','\\u6642\
+     \\u9593\\u5207\\u308c\\u52dd\\u3061\\u3092\\u7533\\u8acb','R\\u00e9clamer le gain au temps'],declare:['Decla\
+     re the entered king','K\\u00f6nigseintritt erkl\\u00e4ren','Koningsintrede claimen','\\u5165\\u7389\\u5b\
+     a3\\u8a00','D\\u00e9clarer l\\u2019entr\\u00e9e du roi'],sure:['{what}?','{what}?','{what}?','{what}\
+     \\uff1a\\u3088\\u308d\\u3057\\u3044\\u3067\\u3059\\u304b\\uff1f','{what}\
      \\u00a0?'],nextGame:['Next game ({count})','N\\u00e4chste Partie ({count})','Volgende partij ({count}\
      )','\\u6b21\\u306e\\u5bfe\\u5c40\\u3078\\uff08{count}\\uff09','Partie suivante ({count}\
      )'],cancel:['Cancel','Abbrechen','Annuleren','\\u30ad\\u30e3\\u30f3\\u30bb\\u30eb','Annuler'],record:['D\
@@ -576,8 +581,8 @@ pub fn page_2() -> &'static str
      lent:['The server does not answer','Der Server antwortet nicht','De server reageert niet','\\u30b5\\u\
      30fc\\u30d0\\u30fc\\u304c\\u5fdc\\u7b54\\u3057\\u307e\\u305b\\u3093','Le serveur ne r\\u00e9pond pas'],refuse\
      d:['The club refuses: {name} ({number})','Der Club lehnt ab: {name} ({number}\
-     )','De club weigert: {name} ({number})','\\u62d2\\u5426\\u3055\\u308c\\u307e\\u3057\\u305f\\uff1a{name} \
-     ({number})','Le club refuse\\u00a0: {name} ({number}\
+     )','De club weigert: {name} ({number})','\\u62d2\\u5426\\u3055\\u308c\\u307e\\u3057\\u305f\\uff1a{name}\
+     \\uff08{number}\\uff09','Le club refuse\\u00a0: {name} ({number}\
      )'],illegal:['The rules forbid this move','Die Regeln verbieten diesen Zug','De spelregels verbiede\
      n deze zet','\\u305d\\u306e\\u624b\\u306f\\u53cd\\u5247\\u3067\\u3059','Les r\\u00e8gles interdisent ce coup\
      '],50:['No member has this key','Kein Mitglied hat diesen Schl\\u00fcssel','Geen lid heeft deze sleu\
@@ -600,22 +605,20 @@ pub fn page_2() -> &'static str
      e\\u306f\\u76f8\\u624b\\u3060\\u3051\\u3067\\u3059','Seul l\\u2019adversaire peut le faire maintenant'],60:\
      ['Your time is up','Ihre Zeit ist abgelaufen','Uw tijd is om','\\u6642\\u9593\\u5207\\u308c\\u3067\\u3059\
      ','Votre temps est \\u00e9coul\\u00e9'],61:['Your opponent has time left','Ihr Gegner hat noch Zeit',\
-     'Uw tegenstander heeft nog tijd','\\u76f8\\u624b\\u306e\\u6642\\u9593\\u306f\\u6b8b\\u3063\\u3066\\u3044\\u307\
-     e\\u3059','L\\u2019adversaire a encore du temps'],62:['The offer is no longer valid','Das Angebot gil\
-     t nicht mehr','Het aanbod is vervallen','\\u63d0\\u6848\\u306f\\u7121\\u52b9\\u306b\\u306a\\u308a\\u307e\\u30\
-     57\\u305f','L\\u2019offre n\\u2019est plus valable'],65:['Invalid value','Unzul\\u00e4ssiger Wert','Ong\
-     eldige waarde','\\u5024\\u304c\\u4e0d\\u6b63\\u3067\\u3059','Valeur non valide'],66:['The club cannot hol\
-     d more games','Der Club kann keine weiteren Partien aufnehmen','De club kan geen partijen meer opne\
-     men','\\u5bfe\\u5c40\\u6570\\u304c\\u4e0a\\u9650\\u306b\\u9054\\u3057\\u3066\\u3044\\u307e\\u3059','Le club ne p\
-     eut plus accueillir de parties'],67:['The entered king cannot be declared here','Der K\\u00f6nigsein\
-     tritt kann hier nicht erkl\\u00e4rt werden','De koningsintrede kan hier niet worden geclaimd','\\u305\
-     3\\u3053\\u3067\\u306f\\u5165\\u7389\\u5ba3\\u8a00\\u306f\\u3067\\u304d\\u307e\\u305b\\u3093','L\\u2019entr\\u00e9\
-     e du roi ne peut pas \\u00eatre d\\u00e9clar\\u00e9e ici'],72:['The club\\u2019s file cannot be used; \
-     please tell the officer','Die Datei des Clubs ist nicht nutzbar; \
+     'Uw tegenstander heeft nog tijd','\\u76f8\\u624b\\u306e\\u6301\\u3061\\u6642\\u9593\\u304c\\u6b8b\\u3063\\u306\
+     6\\u3044\\u307e\\u3059','L\\u2019adversaire a encore du temps'],62:['The offer is no longer valid','Das \
+     Angebot gilt nicht mehr','Het aanbod is vervallen','\\u63d0\\u6848\\u306f\\u7121\\u52b9\\u306b\\u306a\\u308\
+     a\\u307e\\u3057\\u305f','L\\u2019offre n\\u2019est plus valable'],65:['Invalid value','Unzul\\u00e4ssiger \
+     Wert','Ongeldige waarde','\\u5024\\u304c\\u4e0d\\u6b63\\u3067\\u3059','Valeur non valide'],66:['The club \
+     cannot hold more games','Der Club kann keine weiteren Partien aufnehmen','De club kan geen partijen \
+     meer opnemen','\\u5bfe\\u5c40\\u6570\\u304c\\u4e0a\\u9650\\u306b\\u9054\\u3057\\u3066\\u3044\\u307e\\u3059','Le \
+     club ne peut plus accueillir de parties'],67:['The entered king cannot be declared here','Der K\\u00\
+     f6nigseintritt kann hier nicht erkl\\u00e4rt werden','De koningsintrede kan hier niet worden geclaim\
+     d','\\u3053\\u3053\\u3067\\u306f\\u5165\\u7389\\u5ba3\\u8a00\\u306f\\u3067\\u304d\\u307e\\u305b\\u3093','L\\u2019e\
+     ntr\\u00e9e du roi ne peut pas \\u00eatre d\\u00e9clar\\u00e9e ici'],72:['The club\\u2019s file cannot b\
+     e used; please tell the officer','Die Datei des Clubs ist nicht nutzbar; \
      bitte informieren Sie den Turnierleiter','Het bestand van de club is niet bruikbaar; \
-     waarschuw de wedstrijdleider','\\u30af\\u30e9\\u30d6\\u306e\\u30c7\\u30fc\\u30bf\\u3092\\u5229\\u7528\\u3067\\u\
-     304d\\u307e\\u305b\\u3093\\u3002\\u5e79\\u4e8b\\u306b\\u77e5\\u3089\\u305b\\u3066\\u304f\\u3060\\u3055\\u3044','Le \
-     fichier du club"
+     waarschuw de wedstrijdleider','\\u30af\\u30e9"
 }
 
 /// Part 3 of the page, in ASCII.
@@ -623,13 +626,14 @@ pub fn page_2() -> &'static str
 pub fn page_3() -> &'static str
     ensures { result.now ≡ page_3 }
 {
-    " est inutilisable\\u00a0; \
+    "\\u30d6\\u306e\\u30c7\\u30fc\\u30bf\\u3092\\u5229\\u7528\\u3067\\u304d\\u307e\\u305b\\u3093\\u3002\\u5e79\\u4e8b\\u\
+     306b\\u77e5\\u3089\\u305b\\u3066\\u304f\\u3060\\u3055\\u3044','Le fichier du club est inutilisable\\u00a0; \
      pr\\u00e9venez le responsable'],73:['The club is unavailable','Der Club ist gerade nicht verf\\u00fcg\
      bar','De club is even niet beschikbaar','\\u30af\\u30e9\\u30d6\\u306f\\u73fe\\u5728\\u5229\\u7528\\u3067\\u30\
      4d\\u307e\\u305b\\u3093','Le club est momentan\\u00e9ment indisponible'],ending:['{who}: {why} \
      ({result})','{who}: {why} ({result})','{who}: {why} ({result})','{who}\\uff1a{why}\\uff08{result}\
      \\uff09','{who}\\u00a0: {why} ({result})'],won:['{name} won','{name} hat gewonnen','{name} \
-     heeft gewonnen','{name}\\u306e\\u52dd\\u3061','{name} \
+     heeft gewonnen','{name}\\u3055\\u3093\\u306e\\u52dd\\u3061','{name} \
      a gagn\\u00e9'],youWon:['You won','Sie haben gewonnen','U hebt gewonnen','\\u3042\\u306a\\u305f\\u306e\\u\
      52dd\\u3061','Vous avez gagn\\u00e9'],youLost:['You lost','Sie haben verloren','U hebt verloren','\\u3\
      042\\u306a\\u305f\\u306e\\u8ca0\\u3051','Vous avez perdu'],drawn:['Draw','Remis','Remise','\\u5f15\\u304d\\\
@@ -646,28 +650,27 @@ pub fn page_3() -> &'static str
      n gegen eine Dame','5 zetten met hooguit twee om \\u00e9\\u00e9n','2\\u679a\\u4ee5\\u4e0b\\u5bfe\\u30ad\\u3\
      0f3\\u30b01\\u679a\\u3067\\u53cc\\u65b95\\u624b','5 coups \\u00e0 deux pi\\u00e8ces au plus contre une dame\
      '],PlyLimit:['limit of 600 plies','Grenze von 600 Halbz\\u00fcgen','grens van 600 halve zetten','\\u6\
-     700\\u5927\\u624b\\u6570\\uff08600\\u624b\\uff09','limite de 600 demi-coups'],PerpetualCheck:['perpetual \
-     check','Dauerschach','eeuwig schaak','\\u9023\\u7d9a\\u738b\\u624b\\u306e\\u5343\\u65e5\\u624b','\\u00e9chec \
-     perp\\u00e9tuel'],Fourfold:['fourfold repetition','vierfache Stellungswiederholung','viermaal dezelf\
-     de stand','\\u5343\\u65e5\\u624b','quadruple r\\u00e9p\\u00e9tition'],Agreed:['by agreement','Vereinbaru\
-     ng','in onderling overleg','\\u5408\\u610f','d\\u2019un commun accord'],Resigned:['by resignation','Au\
-     fgabe','opgave','\\u6295\\u4e86','par abandon'],Time:['on time','Zeit\\u00fcberschreitung','tijdsovers\
-     chrijding','\\u6642\\u9593\\u5207\\u308c','au temps'],Declared:['by declaration of the entered king','K\
-     \\u00f6nigseintritt','koningsintrede','\\u5165\\u7389\\u5ba3\\u8a00','par l\\u2019entr\\u00e9e du roi'],Re\
-     corded:['as recorded','laut Notation','volgens notatie','\\u68cb\\u8b5c\\u306b\\u3088\\u308b','selon la \
-     notation'],man:['man','Stein','schijf','\\u30de\\u30f3','pion'],king:['king','Dame','dam','\\u30ad\\u30\
-     f3\\u30b0','dame'],K:['king','K\\u00f6nig','koning','\\u7389','roi'],R:['rook','Turm','toren','\\u98db\\\
-     u8eca','tour'],B:['bishop','L\\u00e4ufer','loper','\\u89d2','fou'],G:['gold','Goldgeneral','gouden ge\
-     neraal','\\u91d1','g\\u00e9n\\u00e9ral d\\u2019or'],S:['silver','Silbergeneral','zilveren generaal','\\u\
-     9280','g\\u00e9n\\u00e9ral d\\u2019argent'],N:['knight','Springer','paard','\\u6842\\u99ac','cavalier'],\
-     L:['lance','Lanze','lans','\\u9999\\u8eca','lance'],P:['pawn','Bauer','pion','\\u6b69','pion'],'+R':['\
-     dragon','Drache','draak','\\u7adc','dragon'],'+B':['horse','Pferd','gepromoveerde loper','\\u99ac','c\
-     heval'],'+S':['promoted silver','bef\\u00f6rderter Silbergeneral','gepromoveerde zilveren generaal',\
-     '\\u6210\\u9280','g\\u00e9n\\u00e9ral d\\u2019argent promu'],'+N':['promoted knight','bef\\u00f6rderter S\
-     pringer','gepromoveerd paard','\\u6210\\u6842','cavalier promu'],'+L':['promoted lance','bef\\u00f6rde\
-     rte Lanze','gepromoveerde lans','\\u6210\\u9999','lance promue'],'+P':['tokin','Tokin','tokin','\\u306\
-     8\\u91d1','tokin']};const DAY=86400;const UNITS={day:DAY,hour:3600,minute:60,second:1};\
-     let language=0;\
+     700\\u5927\\u624b\\u6570600\\u624b','limite de 600 demi-coups'],PerpetualCheck:['perpetual check','Daue\
+     rschach','eeuwig schaak','\\u9023\\u7d9a\\u738b\\u624b\\u306e\\u5343\\u65e5\\u624b','\\u00e9chec perp\\u00e9t\
+     uel'],Fourfold:['fourfold repetition','vierfache Stellungswiederholung','viermaal dezelfde stand','\
+     \\u5343\\u65e5\\u624b','quadruple r\\u00e9p\\u00e9tition'],Agreed:['by agreement','Vereinbarung','in ond\
+     erling overleg','\\u5408\\u610f','d\\u2019un commun accord'],Resigned:['by resignation','Aufgabe','opg\
+     ave','\\u6295\\u4e86','par abandon'],Time:['on time','Zeit\\u00fcberschreitung','tijdsoverschrijding',\
+     '\\u6642\\u9593\\u5207\\u308c','au temps'],Declared:['by declaration of the entered king','K\\u00f6nigse\
+     intritt','koningsintrede','\\u5165\\u7389\\u5ba3\\u8a00','par l\\u2019entr\\u00e9e du roi'],Recorded:['as \
+     recorded','laut Notation','volgens notatie','\\u68cb\\u8b5c\\u306b\\u3088\\u308b','selon la notation'],m\
+     an:['man','Stein','schijf','\\u30de\\u30f3','pion'],king:['king','Dame','dam','\\u30ad\\u30f3\\u30b0','d\
+     ame'],K:['king','K\\u00f6nig','koning','\\u7389','roi'],R:['rook','Turm','toren','\\u98db\\u8eca','tour\
+     '],B:['bishop','L\\u00e4ufer','loper','\\u89d2','fou'],G:['gold','Goldgeneral','gouden generaal','\\u9\
+     1d1','g\\u00e9n\\u00e9ral d\\u2019or'],S:['silver','Silbergeneral','zilveren generaal','\\u9280','g\\u00\
+     e9n\\u00e9ral d\\u2019argent'],N:['knight','Springer','paard','\\u6842\\u99ac','cavalier'],L:['lance','\
+     Lanze','lans','\\u9999\\u8eca','lance'],P:['pawn','Bauer','pion','\\u6b69','pion'],'+R':['dragon','Dra\
+     che','draak','\\u7adc','dragon'],'+B':['horse','Pferd','gepromoveerde loper','\\u99ac','cheval'],'+S'\
+     :['promoted silver','bef\\u00f6rderter Silbergeneral','gepromoveerde zilveren generaal','\\u6210\\u928\
+     0','g\\u00e9n\\u00e9ral d\\u2019argent promu'],'+N':['promoted knight','bef\\u00f6rderter Springer','ge\
+     promoveerd paard','\\u6210\\u6842','cavalier promu'],'+L':['promoted lance','bef\\u00f6rderte Lanze','\
+     gepromoveerde lans','\\u6210\\u9999','lance promue'],'+P':['tokin','Tokin','tokin','\\u3068\\u91d1','to\
+     kin']};const DAY=86400;const UNITS={day:DAY,hour:3600,minute:60,second:1};let language=0;\
      function text(name,values,other){const columns=TEXTS[name]??TEXTS[other]??[String(name)];\
      return(columns[language]??columns[0]).replace(/\\{(\\w+)\\}/g,(_,it)=>values[it])}\
      const isJapanese=()=>text('code')==='ja';const kindName=(kind)=>text(kind);const locale=()=>\
@@ -925,7 +928,8 @@ pub fn page_3() -> &'static str
      ,link('event',it.event),make('span',{className:'faint'},terms(it)))));\
      const others=club.members.filter((it)=>it!==me.member);fill('other',...others.map((it)=>\
      make('option',{},it)));fill('cup',...club.events.map((it)=>make('option',{value:it.event}\
-     ,`${it.event} (${text(it.game)})`)));byId('challenge').hidden=!others[0]||!club.events[0]}\
+     ,text('eventGame',{event:it.event,game:text(it.game)}))));\
+     byId('challenge').hidden=!others[0]||!club.events[0]}\
      async function lookAtEnded(){if(!byId('ended').open)return;const{games,more}=await ask('me/ended');\
      const faint=(...words)=>make('span',{className:'faint'},words.filter((it)=>it).join(' \\u00b7 '));\
      const rows=games.map((it)=>make('li',{}\
@@ -943,8 +947,7 @@ pub fn page_3() -> &'static str
      item(it,'noticeOffer',`offer ${it.ply}`)),...me.games.map((it)=>\
      item(it,'noticeEnded','game')),...me.refused.map((it)=>{return{tag:`declined ${it.number}\
      `,words:text('noticeDeclined',{name:it.to,event:it.event}),place:''}}\
-     ),...me.challenges.filter(toMe).map((it)=>{return{tag:`challenge ${it.from} ${it.number}\
-     `,words:`${text('challengesYou"
+     ),...me.challenges.filter(toMe).map((it)=>{return{"
 }
 
 /// Part 4 of the page, in ASCII.
@@ -952,9 +955,10 @@ pub fn page_3() -> &'static str
 pub fn page_4() -> &'static str
     ensures { result.now ≡ page_4 }
 {
-    "', it)} ${it.event}`,place:''}})]}async function lookAtClub(names){if(!club||names.some((it)=>\
-     !kindOf(it))||Date.now()-received>LASTING){club=await ask('me/events');received=Date.now()}\
-     return club}async function lookAtHome(_,mine){await mine;\
+    "tag:`challenge ${it.from} ${it.number}`,words:`${text('challengesYou', it)} ${it.event}`,place:''}\
+     })]}async function lookAtClub(names){if(!club||names.some((it)=>!kindOf(it))||Date.now()-received>\
+     LASTING){club=await ask('me/events');received=Date.now()}return club}\
+     async function lookAtHome(_,mine){await mine;\
      await lookAtClub([...me.challenges,...me.refused].map((it)=>it.event));return()=>\
      {fill('title',text('home'));const isNear=me.games.some((it)=>Math.abs(secondsLeft(it))<2*MINUTE);\
      const now=JSON.stringify([{...me,moment:isNear?me.moment:minute()},club,text('code')]);\
@@ -971,17 +975,19 @@ pub fn page_4() -> &'static str
      const terms={event:byId('cup').value,first:!byId('begins').selectedIndex,other:byId('other').value}\
      ;perform(()=>challenge(terms))};byId('ended').ontoggle=()=>lookAtEnded().catch(()=>{})}\
      const POINTS={'2-0':[2,0],'1-1':[1,1],'0-2':[0,2]};const pair=(game)=>`${game.first} \
-     \\u2013 ${game.second}`;const WIDEST=40;const STEP=50;const FEW=10;const MANY=500;let seenEvent='';\
-     let seenReplies='';let repaint=()=>{};let held={games:[]};let shownRows={};\
+     \\u2013 ${game.second}`;const score=(game)=>\
+     text('score',{pair:pair(game),result:game.result??text('running')});const WIDEST=40;const STEP=50;\
+     const FEW=10;const MANY=500;let seenEvent='';let seenReplies='';let repaint=()=>{};\
+     let held={games:[]};let shownRows={};\
      function ranked(words){return words.trim().split('\\n').slice(1).map((line)=>\
      line.trim().split(/\\s+/).slice(0,7))}function outcome(game){if(game.end)return[reason(game)];\
      const seconds=secondsLeft(game);\
      const left=seconds<0?text('over'):seconds<Infinity?text('left',{span:span(seconds)}):'';\
      return[text('turn',{name:game.turn}),left]}const both=(one,other)=>[one,other].sort().join(' ');\
      function cell(games,name){return make('td',{className:'cell'},...games.map((it)=>\
-     make('a',{href:`#game/${it.game}`,title:`${pair(it)}: ${it.result ?? text('running')}\
-     `,ariaLabel:`${text('game')} ${it.game}, ${pair(it)}: ${it.result ?? text('running')}\
-     `,className:it.end?'':'running'},it.end?String(POINTS[it.result][it.first===name?0:1]):'\\u2022')))}\
+     make('a',{href:`#game/${it.game}`,title:score(it),ariaLabel:`${text('game')} ${it.game}\
+     ${text('comma')}${score(it)}`,className:it.end?'':'running'}\
+     ,it.end?String(POINTS[it.result][it.first===name?0:1]):'\\u2022')))}\
      function crossTable(words,games,reader){const table=ranked(words);const names=table.map((it)=>\
      it[1]);const more=[...new Set(games.flatMap((it)=>[it.first,it.second]))].filter((it)=>\
      !names.includes(it));const rows=[...table,...more.map((it)=>['\\u2013',it,0,0,0,0,0])];\
@@ -1045,7 +1051,7 @@ pub fn page_4() -> &'static str
      const name=piece?text('piece',{side:text(rules.sides[side]),kind:kindName(kind)}):text('empty');\
      const found=Object.keys(marks).filter((it)=>\
      !cell.disabled&&marks[it].includes(cell.dataset.square));cell.className=found.join(' ');\
-     cell.ariaLabel=[place,name,...found.map((it)=>text(it))].join(', ');\
+     cell.ariaLabel=[place,name,...found.map((it)=>text(it))].join(text('comma'));\
      if(cell.value===piece+letters+near)return;cell.value=piece+letters+near;\
      cell.replaceChildren(...(piece?[picture(kind,side,side!==near,letters)]:[]))}\
      function paintBoard({board,hand}\
@@ -1176,7 +1182,7 @@ pub fn page_4() -> &'static str
      fill('steps',...made,Object.assign(flip,{ariaLabel:text('flip'),title:text('flip'),ariaPressed:isFl\
      ipped}))}function paint(){paintPosition();paintPlayer('far',1-near());paintPlayer('near',near());\
      tick();written=game.moves.map((_,at)=>spell(at));fill('title',`${text('game')} ${game.game}\
-     , `,make('a',{href:`#event/${game.event}`},game.event));fill('state',...state());\
+     ${text('comma')}`,make('a',{href:`#event/${game.event}`},game.event));fill('state',...state());\
      fill('hint',hint());const isWaiting=!!(waiting&&tried());byId('confirm').hidden=!isWaiting;\
      byId('confirm').dataset.move=isWaiting?spell(game.ply,waiting):'';\
      fill('confirm',...(isWaiting?[button(text('confirm'),()=>\
@@ -1294,6 +1300,6 @@ pub fn policy() -> &'static str
     ensures { result.now ≡ policy }
 {
     "default-src 'none'; style-src 'sha256-5tpAp8X0/GF1op9K1QPJpxFYsNnUM4YvYJr2fAFpY20='; \
-     script-src 'sha256-s066WqzK86TVeBSk2Elvwrl9AzHn4M75ixY2w0oNJ0k='; connect-src 'self'; \
+     script-src 'sha256-EuJg33mHAUOTTiKxE/0CdldmrsshSXvTpmUgfjwsV18='; connect-src 'self'; \
      img-src data:; manifest-src data:; base-uri 'none'; form-action 'none'; frame-ancestors 'none'"
 }
