@@ -29,6 +29,8 @@ CONTRAST = r"""(() => {
     }
     return Object.entries(found);
 })()"""
+# Japanese punctuation is full-width; French has a no-break space before these signs.
+STRAY = {"ja": r"/[:;?!,()]/", "fr": r"/(?<![\u00a0\u202f])[:;?!]/"}
 SHIFTS = """new PerformanceObserver((list) => {
     for (const it of list.getEntries()) window.shifts = (window.shifts ?? 0) + it.value;
 }).observe({ type: 'layout-shift', buffered: true });"""
@@ -50,7 +52,7 @@ def above_the_fold(room):
 
 
 def whole_texts(room):
-    """Each text exists in each language, with the same places for values."""
+    """Each text exists in each language, with the same places for values and the punctuation of the language."""
     page = room.browser.page()
     source = (TOP / "page/texts.js").read_text().replace("export const", "const")
     found = page.value(f"""(() => {{ {source}
@@ -58,6 +60,11 @@ def whole_texts(room):
         const isWhole = (row) => row.length === TEXTS.code.length && row.every((it) => it && holes(it) === holes(row[0]));
         return Object.entries(TEXTS).filter(([, row]) => !isWhole(row)).map(([name]) => name); }})()""")
     verdict("each text is in each language, with the same values", [], found)
+    for language, stray in STRAY.items():
+        found = page.value(f"""(() => {{ {source}
+            const at = TEXTS.code.indexOf('{language}');
+            return Object.keys(TEXTS).filter((name) => {stray}.test(TEXTS[name][at])); }})()""")
+        verdict(f"its punctuation is that of {language}", [], found)
     page.close()
 
 

@@ -340,64 +340,64 @@ pub fn page_2() -> &'static str
      angemeldet.','Deze sleutel is van {name}. U bent aangemeld als {name}\
      .','\\u3053\\u306e\\u30ad\\u30fc\\u306f{name}\\u3055\\u3093\\u306e\\u3082\\u306e\\u3067\\u3059\\u3002{name}\
      \\u3055\\u3093\\u3068\\u3057\\u3066\\u30ed\\u30b0\\u30a4\\u30f3\\u3057\\u307e\\u3057\\u305f\\u3002','Cette cl\\u00\
-     e9 est celle de {name}. Vous \\u00eates connect\\u00e9 en tant que {name}\
+     e9 appartient \\u00e0 {name}. Vous jouez sous le nom {name}\
      .'],remember:['Stay signed in on this device','Auf diesem Ger\\u00e4t angemeldet bleiben','Aangemeld \
      blijven op dit apparaat','\\u3053\\u306e\\u7aef\\u672b\\u3067\\u30ed\\u30b0\\u30a4\\u30f3\\u3057\\u305f\\u307e\\\
-     u307e\\u306b\\u3059\\u308b','Rester connect\\u00e9 sur cet appareil'],signIn:['Sign in','Anmelden','Aan\
-     melden','\\u30ed\\u30b0\\u30a4\\u30f3','Se connecter'],signOut:['Sign out','Abmelden','Afmelden','\\u30e\
-     d\\u30b0\\u30a2\\u30a6\\u30c8','Se d\\u00e9connecter'],home:['My games','Meine Partien','Mijn partijen',\
-     '\\u5bfe\\u5c40\\u4e00\\u89a7','Mes parties'],settings:['Settings','Einstellungen','Instellingen','\\u8a\
-     2d\\u5b9a','R\\u00e9glages'],done:['Done','Fertig','Klaar','\\u9589\\u3058\\u308b','Termin\\u00e9'],confi\
-     rmChoice:['Confirm each move before it is sent','Jeden Zug vor dem Senden best\\u00e4tigen','Elke ze\
-     t bevestigen voordat deze wordt verzonden','\\u6307\\u3057\\u624b\\u3092\\u9001\\u4fe1\\u3059\\u308b\\u524d\\\
-     u306b\\u78ba\\u8a8d\\u3059\\u308b','Confirmer chaque coup avant l\\u2019envoi'],animateChoice:['Animate \
-     moves','Z\\u00fcge animieren','Zetten animeren','\\u99d2\\u306e\\u52d5\\u304d\\u3092\\u30a2\\u30cb\\u30e1\\u3\
-     0fc\\u30b7\\u30e7\\u30f3\\u3067\\u8868\\u793a\\u3059\\u308b','Animer les coups'],alertsChoice:['Notify me w\
-     hen something is waiting for me or a game ends, while this page is open in a tab','Mich benachricht\
-     igen, wenn etwas auf mich wartet oder eine Partie endet, solange diese Seite in einem Tab ge\\u00f6f\
-     fnet ist','Een melding geven als er iets op mij wacht of een partij is afgelopen, zolang deze pagin\
-     a in een tabblad openstaat','\\u624b\\u756a\\u3084\\u6311\\u6226\\u306a\\u3069\\u304c\\u6765\\u305f\\u3068\\u30\
-     4d\\u3001\\u5bfe\\u5c40\\u304c\\u7d42\\u308f\\u3063\\u305f\\u3068\\u304d\\u306b\\u901a\\u77e5\\u3059\\u308b\\uff08\\\
-     u3053\\u306e\\u30da\\u30fc\\u30b8\\u3092\\u30bf\\u30d6\\u3067\\u958b\\u3044\\u3066\\u3044\\u308b\\u9593\\uff09','M\
-     e notifier quand quelque chose m\\u2019attend ou qu\\u2019une partie se termine, tant que cette page \
-     est ouverte dans un onglet'],soundChoice:['Play a sound in the same cases','In denselben F\\u00e4lle\
-     n einen Ton abspielen','In dezelfde gevallen een geluid afspelen','\\u540c\\u3058\\u3068\\u304d\\u306b\\u\
-     97f3\\u3092\\u9cf4\\u3089\\u3059','\\u00c9mettre un son dans les m\\u00eames cas'],alertsRefused:['The br\
-     owser does not allow notifications from this page.','Der Browser erlaubt dieser Seite keine Benachr\
-     ichtigungen.','De browser staat meldingen van deze pagina niet toe.','\\u30d6\\u30e9\\u30a6\\u30b6\\u30f\
-     c\\u304c\\u3053\\u306e\\u30da\\u30fc\\u30b8\\u306e\\u901a\\u77e5\\u3092\\u8a31\\u53ef\\u3057\\u3066\\u3044\\u307e\\u\
-     305b\\u3093\\u3002','Le navigateur n\\u2019autorise pas les notifications de cette page.'],lettersChoi\
-     ce:['Western letters on shogi pieces','Lateinische Buchstaben auf Shogi-Steinen','Latijnse letters \
-     op shogistukken','\\u5c06\\u68cb\\u306e\\u99d2\\u3092\\u30a2\\u30eb\\u30d5\\u30a1\\u30d9\\u30c3\\u30c8\\u3067\\u8\
-     868\\u793a\\u3059\\u308b','Lettres latines sur les pi\\u00e8ces de shogi'],loading:['Loading\\u2026','Wi\
-     rd geladen\\u00a0\\u2026','Laden\\u2026','\\u8aad\\u307f\\u8fbc\\u307f\\u4e2d\\u2026','Chargement\\u2026'],mi\
-     ssing:['The address may be wrong, or belong to another club.','Vielleicht ist die Adresse falsch od\
-     er geh\\u00f6rt zu einem anderen Club.','Misschien is het adres onjuist of van een andere club.','\\u\
-     30a2\\u30c9\\u30ec\\u30b9\\u304c\\u9593\\u9055\\u3063\\u3066\\u3044\\u308b\\u304b\\u3001\\u5225\\u306e\\u30af\\u30e\
-     9\\u30d6\\u306e\\u3082\\u306e\\u304b\\u3082\\u3057\\u308c\\u307e\\u305b\\u3093\\u3002','L\\u2019adresse est peut\
-     -\\u00eatre erron\\u00e9e ou celle d\\u2019un autre club.'],news:['Games awaiting your move: {moves}\
-     . Challenges: {challenges}.','Partien, in denen Sie am Zug sind: {moves}\
+     u307e\\u306b\\u3059\\u308b','Garder la session ouverte sur cet appareil'],signIn:['Sign in','Anmelden'\
+     ,'Aanmelden','\\u30ed\\u30b0\\u30a4\\u30f3','Se connecter'],signOut:['Sign out','Abmelden','Afmelden','\
+     \\u30ed\\u30b0\\u30a2\\u30a6\\u30c8','Se d\\u00e9connecter'],home:['My games','Meine Partien','Mijn parti\
+     jen','\\u5bfe\\u5c40\\u4e00\\u89a7','Mes parties'],settings:['Settings','Einstellungen','Instellingen',\
+     '\\u8a2d\\u5b9a','R\\u00e9glages'],done:['Done','Fertig','Klaar','\\u9589\\u3058\\u308b','Termin\\u00e9'],\
+     confirmChoice:['Confirm each move before it is sent','Jeden Zug vor dem Senden best\\u00e4tigen','El\
+     ke zet bevestigen voordat deze wordt verzonden','\\u6307\\u3057\\u624b\\u3092\\u9001\\u4fe1\\u3059\\u308b\\u\
+     524d\\u306b\\u78ba\\u8a8d\\u3059\\u308b','Confirmer chaque coup avant l\\u2019envoi'],animateChoice:['Ani\
+     mate moves','Z\\u00fcge animieren','Zetten animeren','\\u99d2\\u306e\\u52d5\\u304d\\u3092\\u30a2\\u30cb\\u30\
+     e1\\u30fc\\u30b7\\u30e7\\u30f3\\u3067\\u8868\\u793a\\u3059\\u308b','Animer les coups'],alertsChoice:['Notify \
+     me when something is waiting for me or a game ends, while this page is open in a tab','Mich benachr\
+     ichtigen, wenn etwas auf mich wartet oder eine Partie endet, solange diese Seite in einem Tab ge\\u0\
+     0f6ffnet ist','Een melding geven als er iets op mij wacht of een partij is afgelopen, zolang deze p\
+     agina in een tabblad openstaat','\\u624b\\u756a\\u3084\\u6311\\u6226\\u306a\\u3069\\u304c\\u6765\\u305f\\u3068\
+     \\u304d\\u3001\\u5bfe\\u5c40\\u304c\\u7d42\\u308f\\u3063\\u305f\\u3068\\u304d\\u306b\\u901a\\u77e5\\u3059\\u308b\\uf\
+     f08\\u3053\\u306e\\u30da\\u30fc\\u30b8\\u3092\\u30bf\\u30d6\\u3067\\u958b\\u3044\\u3066\\u3044\\u308b\\u9593\\uff09\
+     ','M\\u2019avertir quand quelque chose m\\u2019attend ou qu\\u2019une partie se termine, tant que cett\
+     e page est ouverte dans un onglet'],soundChoice:['Play a sound in the same cases','In denselben F\\u\
+     00e4llen einen Ton abspielen','In dezelfde gevallen een geluid afspelen','\\u540c\\u3058\\u3068\\u304d\\\
+     u306b\\u97f3\\u3092\\u9cf4\\u3089\\u3059','\\u00c9mettre un son dans les m\\u00eames cas'],alertsRefused:[\
+     'The browser does not allow notifications from this page.','Der Browser erlaubt dieser Seite keine \
+     Benachrichtigungen.','De browser staat meldingen van deze pagina niet toe.','\\u30d6\\u30e9\\u30a6\\u30\
+     b6\\u30fc\\u304c\\u3053\\u306e\\u30da\\u30fc\\u30b8\\u306e\\u901a\\u77e5\\u3092\\u8a31\\u53ef\\u3057\\u3066\\u3044\\\
+     u307e\\u305b\\u3093\\u3002','Le navigateur n\\u2019autorise pas les notifications de cette page.'],lett\
+     ersChoice:['Western letters on shogi pieces','Lateinische Buchstaben auf Shogi-Steinen','Latijnse l\
+     etters op shogistukken','\\u5c06\\u68cb\\u306e\\u99d2\\u3092\\u30a2\\u30eb\\u30d5\\u30a1\\u30d9\\u30c3\\u30c8\\u\
+     3067\\u8868\\u793a\\u3059\\u308b','Lettres latines sur les pi\\u00e8ces de shogi'],loading:['Loading\\u20\
+     26','Wird geladen\\u00a0\\u2026','Laden\\u2026','\\u8aad\\u307f\\u8fbc\\u307f\\u4e2d\\u2026','Chargement\\u20\
+     26'],missing:['The address may be wrong, or belong to another club.','Vielleicht ist die Adresse fa\
+     lsch oder geh\\u00f6rt zu einem anderen Club.','Misschien is het adres onjuist of van een andere clu\
+     b.','\\u30a2\\u30c9\\u30ec\\u30b9\\u304c\\u9593\\u9055\\u3063\\u3066\\u3044\\u308b\\u304b\\u3001\\u5225\\u306e\\u30\
+     af\\u30e9\\u30d6\\u306e\\u3082\\u306e\\u304b\\u3082\\u3057\\u308c\\u307e\\u305b\\u3093\\u3002','L\\u2019adresse e\
+     st peut-\\u00eatre erron\\u00e9e ou celle d\\u2019un autre club.'],news:['Games awaiting your move: {m\
+     oves}. Challenges: {challenges}.','Partien, in denen Sie am Zug sind: {moves}\
      . Herausforderungen: {challenges}.','Partijen waarin u aan zet bent: {moves}\
      . Uitdagingen: {challenges}.','\\u624b\\u756a\\u306e\\u5bfe\\u5c40\\uff1a{moves}\
      \\u5c40\\u3002\\u6311\\u6226\\uff1a{challenges}\
-     \\u4ef6\\u3002','Parties o\\u00f9 vous \\u00eates au trait\\u00a0: {moves}\
+     \\u4ef6\\u3002','Parties o\\u00f9 c\\u2019est \\u00e0 vous de jouer\\u00a0: {moves}\
      . D\\u00e9fis\\u00a0: {challenges}\
      .'],toClaim:['Opponent out of time','Zeit\\u00fcberschreitung des Gegners','Tijd tegenstander oversc\
-     hreden','\\u76f8\\u624b\\u306e\\u6642\\u9593\\u5207\\u308c','Temps de l\\u2019adversaire d\\u00e9pass\\u00e9'\
-     ],toAnswer:['Draw offers','Remisangebote','Remise aangeboden','\\u5f15\\u304d\\u5206\\u3051\\u306e\\u63d0\
-     \\u6848','Propositions de remise'],toMove:['Your move','Sie sind am Zug','U bent aan zet','\\u3042\\u3\
-     06a\\u305f\\u306e\\u624b\\u756a','\\u00c0 vous de jouer'],toWait:['Opponent\\u2019s move','Gegner am Zug'\
-     ,'Tegenstander aan zet','\\u76f8\\u624b\\u306e\\u624b\\u756a','\\u00c0 l\\u2019adversaire de jouer'],notic\
-     eTurn:['Your turn against {name} ({event})','Sie sind am Zug gegen {name} ({event}\
-     )','U bent aan zet tegen {name} ({event})','{name}\\u3055\\u3093\\u3068\\u306e\\u5bfe\\u5c40\\uff08{event}\
+     hreden','\\u76f8\\u624b\\u306e\\u6642\\u9593\\u5207\\u308c','Temps adverse \\u00e9coul\\u00e9'],toAnswer:['D\
+     raw offers','Remisangebote','Remise aangeboden','\\u5f15\\u304d\\u5206\\u3051\\u306e\\u63d0\\u6848','Propo\
+     sitions de nulle'],toMove:['Your move','Sie sind am Zug','U bent aan zet','\\u3042\\u306a\\u305f\\u306e\
+     \\u624b\\u756a','\\u00c0 vous de jouer'],toWait:['Opponent\\u2019s move','Gegner am Zug','Tegenstander \
+     aan zet','\\u76f8\\u624b\\u306e\\u624b\\u756a','\\u00c0 l\\u2019adversaire de jouer'],noticeTurn:['Your tu\
+     rn against {name} ({event})','Sie sind am Zug gegen {name} ({event})','U bent aan zet tegen {name} \
+     ({event})','{name}\\u3055\\u3093\\u3068\\u306e\\u5bfe\\u5c40\\uff08{event}\
      \\uff09\\uff1a\\u3042\\u306a\\u305f\\u306e\\u624b\\u756a\\u3067\\u3059','\\u00c0 vous de jouer contre {name} \
      ({event})'],noticeOver:['{name} is out of time ({event})','{name} \
      hat die Zeit \\u00fcberschritten ({event})','{name} heeft de tijd overschreden ({event})','{name}\
      \\u3055\\u3093\\u306f\\u6642\\u9593\\u5207\\u308c\\u3067\\u3059\\uff08{event}\\uff09','{name} \
-     a d\\u00e9pass\\u00e9 le temps ({event})'],noticeOffer:['{name} offers a draw ({event})','{name} \
+     a d\\u00e9pass\\u00e9 son temps ({event})'],noticeOffer:['{name} offers a draw ({event})','{name} \
      bietet Remis an ({event})','{name} biedt remise aan ({event})','{name}\
      \\u3055\\u3093\\u304c\\u5f15\\u304d\\u5206\\u3051\\u3092\\u63d0\\u6848\\u3057\\u3066\\u3044\\u307e\\u3059\\uff08{ev\
-     ent}\\uff09','{name} propose la remise ({event})'],noticeDeclined:['{name} \
+     ent}\\uff09','{name} propose la nulle ({event})'],noticeDeclined:['{name} \
      declined your challenge ({event})','{name} hat Ihre Herausforderung abgelehnt ({event})','{name} \
      heeft uw uitdaging afgewezen ({event})','{name}\
      \\u3055\\u3093\\u304c\\u6311\\u6226\\u3092\\u65ad\\u308a\\u307e\\u3057\\u305f\\uff08{event}\\uff09','{name} \
@@ -415,15 +415,14 @@ pub fn page_2() -> &'static str
      092\\u7533\\u3057\\u8fbc\\u3093\\u3067\\u304f\\u3060\\u3055\\u3044\\u3002','Vous n\\u2019avez aucune partie en \
      cours. D\\u00e9fiez un membre ci-dessous, ou inscrivez-vous \\u00e0 un tournoi aupr\\u00e8s du respons\
      able.'],youAre:['you play {side}','Sie haben {side}','u hebt {side}\
-     ','\\u3042\\u306a\\u305f\\u306f{side}','vous jouez avec les {side}\
+     ','\\u3042\\u306a\\u305f\\u306f{side}','vous avez les {side}\
      '],game:['Game','Partie','Partij','\\u5bfe\\u5c40','Partie'],event:['Event','Turnier','Toernooi','\\u5\
      927\\u4f1a','Tournoi'],yourTurn:['Your turn','Sie sind am Zug','U bent aan zet','\\u3042\\u306a\\u305f\\\
      u306e\\u624b\\u756a\\u3067\\u3059','\\u00c0 vous de jouer'],turn:['{name} to move','{name} \
-     ist am Zug','{name} is aan zet','{name}\
-     \\u3055\\u3093\\u306e\\u624b\\u756a\\u3067\\u3059','Au trait\\u00a0: {name}'],left:['{span} \
-     left','noch {span}','nog {span}','\\u6b8b\\u308a{span}','il reste {span}'],until:['Until {moment}\
-     , {left}.','Bis {moment}, {left}.','Tot {moment}, {left}.','\\u671f\\u9650\\uff1a{moment}\\uff08{left}\
-     \\uff09','Jusqu\\u2019au {moment}, {left}\
+     ist am Zug','{name} is aan zet','{name}\\u3055\\u3093\\u306e\\u624b\\u756a\\u3067\\u3059','\\u00c0 {name} \
+     de jouer'],left:['{span} left','noch {span}','nog {span}','\\u6b8b\\u308a{span}','il reste {span}\
+     '],until:['Until {moment}, {left}.','Bis {moment}, {left}.','Tot {moment}, {left}\
+     .','\\u671f\\u9650\\uff1a{moment}\\uff08{left}\\uff09','Jusqu\\u2019au {moment}, {left}\
      .'],overMine:['Your time is up: your opponent may claim the win.','Ihre Zeit ist abgelaufen: Ihr Ge\
      gner kann den Sieg reklamieren.','Uw tijd is om: uw tegenstander kan de winst claimen.','\\u6642\\u95\
      93\\u5207\\u308c\\u3067\\u3059\\u3002\\u76f8\\u624b\\u306f\\u52dd\\u3061\\u3092\\u7533\\u8acb\\u3067\\u304d\\u307e\\\
@@ -436,11 +435,11 @@ pub fn page_2() -> &'static str
      593\\u5207\\u308c','temps d\\u00e9pass\\u00e9'],offers:['{name} offers a draw','{name} \
      bietet Remis an','{name} biedt remise aan','{name}\
      \\u3055\\u3093\\u304c\\u5f15\\u304d\\u5206\\u3051\\u3092\\u63d0\\u6848\\u3057\\u3066\\u3044\\u307e\\u3059','{name} \
-     propose la remise'],yourOffer:['You have offered a draw. The offer is valid until the next move.','\
-     Sie haben Remis angeboten. Das Angebot gilt bis zum n\\u00e4chsten Zug.','U hebt remise aangeboden. \
-     Het aanbod geldt tot de volgende zet.','\\u5f15\\u304d\\u5206\\u3051\\u3092\\u63d0\\u6848\\u3057\\u307e\\u305\
-     7\\u305f\\u3002\\u6b21\\u306e\\u6307\\u3057\\u624b\\u307e\\u3067\\u6709\\u52b9\\u3067\\u3059\\u3002','Vous avez p\
-     ropos\\u00e9 la remise. L\\u2019offre vaut jusqu\\u2019au prochain coup.'],moved:['{name} \
+     propose la nulle'],yourOffer:['You have offered a draw. The offer is valid until the next move.','S\
+     ie haben Remis angeboten. Das Angebot gilt bis zum n\\u00e4chsten Zug.','U hebt remise aangeboden. H\
+     et aanbod geldt tot de volgende zet.','\\u5f15\\u304d\\u5206\\u3051\\u3092\\u63d0\\u6848\\u3057\\u307e\\u3057\
+     \\u305f\\u3002\\u6b21\\u306e\\u6307\\u3057\\u624b\\u307e\\u3067\\u6709\\u52b9\\u3067\\u3059\\u3002','Vous avez pr\
+     opos\\u00e9 la nulle. La proposition vaut jusqu\\u2019au prochain coup.'],moved:['{name} \
      played {move}','{name} zog {move}','{name} speelde {move}','{name} {move}','{name} \
      a jou\\u00e9 {move}\
      '],atStart:['The starting position','Die Anfangsstellung','De beginstand','\\u958b\\u59cb\\u5c40\\u9762\
@@ -459,7 +458,7 @@ pub fn page_2() -> &'static str
      66\\u304f\\u3060\\u3055\\u3044\\u3002','Vous \\u00eates en \\u00e9chec. Jouez une des pi\\u00e8ces marqu\\u0\
      0e9es.'],confirmHint:['{move}: send this move?','{move}: diesen Zug senden?','{move}\
      : deze zet verzenden?','{move}\\uff1a\\u9001\\u4fe1\\u3057\\u307e\\u3059\\u304b\\uff1f','{move}\
-     \\u00a0: envoyer ce coup\\u00a0?'],confirm:['Confirm move','Zug best\\u00e4tigen','Zet bevestigen','\\u\
+     \\u00a0: envoyer ce coup\\u202f?'],confirm:['Confirm move','Zug best\\u00e4tigen','Zet bevestigen','\\u\
      6307\\u3057\\u624b\\u3092\\u78ba\\u5b9a','Confirmer le coup'],takeBack:['Take back','Zur\\u00fccknehmen',\
      'Terugnemen','\\u53d6\\u308a\\u6d88\\u3059','Annuler le coup'],sending:['Sending\\u2026','Wird gesendet\\\
      u00a0\\u2026','Wordt verzonden\\u2026','\\u9001\\u4fe1\\u4e2d\\u2026','Envoi\\u2026'],unsent:['Game {game}\
@@ -480,10 +479,10 @@ pub fn page_2() -> &'static str
      \\u3042\\u308a\\u307e\\u3059\\uff08{why}\
      \\uff09\\u3002\\u3082\\u3046\\u4e00\\u5ea6\\u304a\\u8a66\\u3057\\u304f\\u3060\\u3055\\u3044\\u3002\\u4e8c\\u91cd\\u3\
      06b\\u306f\\u306a\\u308a\\u307e\\u305b\\u3093\\u3002','Peut-\\u00eatre non effectu\\u00e9\\u00a0: {why}\
-     . R\\u00e9essayez\\u00a0; rien ne sera fait deux fois.'],retrying:['{why}. Trying again\\u2026','{why}\
+     . R\\u00e9essayez\\u202f; rien ne sera fait deux fois.'],retrying:['{why}. Trying again\\u2026','{why}\
      . Neuer Versuch l\\u00e4uft\\u00a0\\u2026','{why}. Nieuwe poging\\u2026','{why}\
      \\u3002\\u518d\\u8a66\\u884c\\u4e2d\\u2026','{why}\
-     . Nouvel essai\\u2026'],comma:[', ',', ',', ','\\u3001',', '],score:['{pair}: {result}','{pair}\
+     . Nouvelle tentative\\u2026'],comma:[', ',', ',', ','\\u3001',', '],score:['{pair}: {result}','{pair}\
      : {result}','{pair}: {result}','{pair}\\uff1a{result}','{pair}\\u00a0: {result}'],eventGame:['{event} \
      ({game})','{event} ({game})','{event} ({game})','{event}\\uff08{game}\\uff09','{event} ({game}\
      )'],running:['in progress','l\\u00e4uft','loopt','\\u5bfe\\u5c40\\u4e2d','en cours'],runningGames:['Gam\
@@ -506,9 +505,9 @@ pub fn page_2() -> &'static str
      '],scoring:['a win counts 2, a draw 1; a dot is a game in progress','Sieg 2 Punkte, Remis 1; \
      \\u2022 ist eine laufende Partie','winst telt 2, remise 1; \
      \\u2022 is een lopende partij','\\u52dd\\u30612\\u70b9\\u3001\\u5f15\\u304d\\u5206\\u30511\\u70b9\\u3002\\u2022\
-     \\u306f\\u5bfe\\u5c40\\u4e2d','gain 2 points, remise 1\\u00a0; \
+     \\u306f\\u5bfe\\u5c40\\u4e2d','gain 2 points, nulle 1\\u202f; \
      \\u2022 marque une partie en cours'],search:['Search by name','Nach Namen suchen','Zoeken op naam','\
-     \\u540d\\u524d\\u3067\\u691c\\u7d22','Rechercher un nom'],more:['Show more ({count}\
+     \\u540d\\u524d\\u3067\\u691c\\u7d22','Rechercher par nom'],more:['Show more ({count}\
      )','Mehr anzeigen ({count})','Meer tonen ({count})','\\u3082\\u3063\\u3068\\u898b\\u308b\\uff08{count}\
      \\uff09','Afficher plus ({count}\
      )'],none:['None found.','Nichts gefunden.','Niets gevonden.','\\u898b\\u3064\\u304b\\u308a\\u307e\\u305b\\\
@@ -519,9 +518,10 @@ pub fn page_2() -> &'static str
      \\u3055\\u3093\\u304b\\u3089\\u306e\\u6311\\u6226','{from} \
      vous d\\u00e9fie\\u00a0:'],challenged:['You challenged {to}:','Sie haben {to} \
      herausgefordert:','U hebt {to} uitgedaagd:','{to}\
-     \\u3055\\u3093\\u3078\\u306e\\u6311\\u6226','Vous d\\u00e9fiez {to}\\u00a0:'],starts:['{event} ({game}\
-     ), {first} begins','{event} ({game}), {first} beginnt','{event} ({game}), {first} begint','{event}\
-     \\uff08{game}\\uff09\\u3001\\u5148\\u624b\\u306f{first}\\u3055\\u3093','{event} ({game}), {first} \
+     \\u3055\\u3093\\u3078\\u306e\\u6311\\u6226','Vous avez d\\u00e9fi\\u00e9 {to}\\u00a0:'],starts:['{event} \
+     ({game}), {first} begins','{event} ({game}), {first} beginnt','{event} ({game}), {first} \
+     begint','{event}\\uff08{game}\\uff09\\u3001\\u5148\\u624b\\u306f{first}\\u3055\\u3093','{event} ({game}\
+     ), {first} \
      commence'],accepted:['accepted','angenommen','aangenomen','\\u6210\\u7acb','accept\\u00e9'],toGame:['T\
      o the game','Zur Partie','Naar de partij','\\u5bfe\\u5c40\\u3078','Voir la partie'],declined:['Decline\
      d challenges','Abgelehnte Herausforderungen','Afgewezen uitdagingen','\\u65ad\\u3089\\u308c\\u305f\\u631\
@@ -541,36 +541,36 @@ pub fn page_2() -> &'static str
      pour la partie'],place:['Place','Platz','Plaats','\\u9806\\u4f4d','Rang'],name:['Name','Name','Naam',\
      '\\u540d\\u524d','Nom'],points:['Points','Punkte','Punten','\\u70b9','Points'],played:['Played','Gespi\
      elt','Gespeeld','\\u5c40\\u6570','Jou\\u00e9es'],wins:['Won','Siege','Winst','\\u52dd','Gagn\\u00e9es'],\
-     draws:['Drawn','Remis','Remise','\\u5206','Remises'],losses:['Lost','Niederlagen','Verlies','\\u6557'\
-     ,'Perdues'],moveCount:['{count} moves','{count} Z\\u00fcge','{count} zetten','{count}\
-     \\u624b','{count} coups'],oneMove:['{count} move','{count} Zug','{count} zet','{count}\
-     \\u624b','{count} coup'],empty:['empty','leer','leeg','\\u7a7a\\u304d','vide'],piece:['{side} {kind}\
-     ','{kind} ({side})','{kind} van {side}','{side}\\u306e{kind}','{kind} ({side}\
+     draws:['Drawn','Remis','Remise','\\u5206','Nulles'],losses:['Lost','Niederlagen','Verlies','\\u6557',\
+     'Perdues'],moveCount:['{count} moves','{count} Z\\u00fcge','{count} zetten','{count}\\u624b','{count} \
+     coups'],oneMove:['{count} move','{count} Zug','{count} zet','{count}\\u624b','{count} \
+     coup'],empty:['empty','leer','leeg','\\u7a7a\\u304d','vide'],piece:['{side} {kind}','{kind} ({side}\
+     )','{kind} van {side}','{side}\\u306e{kind}','{kind} ({side}\
      )'],hand:['in hand','in der Hand','in de hand','\\u6301\\u3061\\u99d2','en main'],last:['last move','l\
      etzter Zug','laatste zet','\\u76f4\\u524d\\u306e\\u624b','dernier coup'],tried:['to be confirmed','zu b\
      est\\u00e4tigen','te bevestigen','\\u672a\\u78ba\\u5b9a','\\u00e0 confirmer'],touched:['touched','ausgew\
-     \\u00e4hlt','gekozen','\\u9078\\u629e\\u4e2d','choisi'],target:['may go here','kann hierher','kan hierh\
-     een','\\u3053\\u3053\\u306b\\u6307\\u305b\\u308b','peut aller ici'],movable:['may move','spielbar','speel\
-     baar','\\u6307\\u305b\\u308b','peut jouer'],check:['in check','im Schach','staat schaak','\\u738b\\u624b\
-     ','en \\u00e9chec'],which:['Which move?','Welcher Zug?','Welke zet?','\\u3069\\u306e\\u624b\\u306b\\u3057\
-     \\u307e\\u3059\\u304b\\uff1f','Quel coup\\u00a0?'],start:['Starting position','Anfangsstellung','Beginst\
-     and','\\u958b\\u59cb\\u5c40\\u9762','Position de d\\u00e9part'],back:['Previous move','Ein Zug zur\\u00fc\
-     ck','Vorige zet','\\u4e00\\u624b\\u623b\\u308b','Coup pr\\u00e9c\\u00e9dent'],on:['Next move','Ein Zug vo\
-     r','Volgende zet','\\u4e00\\u624b\\u9032\\u3080','Coup suivant'],present:['Latest position','Neueste St\
-     ellung','Laatste stand','\\u6700\\u65b0\\u306e\\u5c40\\u9762','Derni\\u00e8re position'],flip:['Turn the \
-     board','Brett drehen','Bord draaien','\\u76e4\\u3092\\u53cd\\u8ee2','Retourner le plateau'],offer:['Off\
-     er a draw','Remis anbieten','Remise aanbieden','\\u5f15\\u304d\\u5206\\u3051\\u3092\\u63d0\\u6848','Propos\
-     er la remise'],accept:['Accept the draw','Remis annehmen','Remise aannemen','\\u5f15\\u304d\\u5206\\u30\
-     51\\u306b\\u5fdc\\u3058\\u308b','Accepter la remise'],resign:['Resign','Aufgeben','Opgeven','\\u6295\\u4e\
-     86','Abandonner'],resignWhen:['You can resign when it is your turn','Aufgeben k\\u00f6nnen Sie, wenn \
-     Sie am Zug sind','Opgeven kan als u aan zet bent','\\u6295\\u4e86\\u3067\\u304d\\u308b\\u306e\\u306f\\u81ea\
-     \\u5206\\u306e\\u624b\\u756a\\u306e\\u3068\\u304d\\u3060\\u3051\\u3067\\u3059','On ne peut abandonner qu\\u2019\
-     \\u00e0 son tour'],claim:['Claim the win on time','Sieg reklamieren','Winst op tijd claimen','\\u6642\
-     \\u9593\\u5207\\u308c\\u52dd\\u3061\\u3092\\u7533\\u8acb','R\\u00e9clamer le gain au temps'],declare:['Decla\
-     re the entered king','K\\u00f6nigseintritt erkl\\u00e4ren','Koningsintrede claimen','\\u5165\\u7389\\u5b\
-     a3\\u8a00','D\\u00e9clarer l\\u2019entr\\u00e9e du roi'],sure:['{what}?','{what}?','{what}?','{what}\
+     \\u00e4hlt','gekozen','\\u9078\\u629e\\u4e2d','s\\u00e9lection'],target:['may go here','kann hierher','k\
+     an hierheen','\\u3053\\u3053\\u306b\\u6307\\u305b\\u308b','peut aller ici'],movable:['may move','spielbar\
+     ','speelbaar','\\u6307\\u305b\\u308b','jouable'],check:['in check','im Schach','staat schaak','\\u738b\\\
+     u624b','en \\u00e9chec'],which:['Which move?','Welcher Zug?','Welke zet?','\\u3069\\u306e\\u624b\\u306b\\\
+     u3057\\u307e\\u3059\\u304b\\uff1f','Quel coup\\u202f?'],start:['Starting position','Anfangsstellung','Be\
+     ginstand','\\u958b\\u59cb\\u5c40\\u9762','Position de d\\u00e9part'],back:['Previous move','Ein Zug zur\\\
+     u00fcck','Vorige zet','\\u4e00\\u624b\\u623b\\u308b','Coup pr\\u00e9c\\u00e9dent'],on:['Next move','Ein Z\
+     ug vor','Volgende zet','\\u4e00\\u624b\\u9032\\u3080','Coup suivant'],present:['Latest position','Neues\
+     te Stellung','Laatste stand','\\u6700\\u65b0\\u306e\\u5c40\\u9762','Derni\\u00e8re position'],flip:['Turn \
+     the board','Brett drehen','Bord draaien','\\u76e4\\u3092\\u53cd\\u8ee2','Retourner le plateau'],offer:[\
+     'Offer a draw','Remis anbieten','Remise aanbieden','\\u5f15\\u304d\\u5206\\u3051\\u3092\\u63d0\\u6848','Pr\
+     oposer la nulle'],accept:['Accept the draw','Remis annehmen','Remise aannemen','\\u5f15\\u304d\\u5206\\\
+     u3051\\u306b\\u5fdc\\u3058\\u308b','Accepter la nulle'],resign:['Resign','Aufgeben','Opgeven','\\u6295\\u\
+     4e86','Abandonner'],resignWhen:['You can resign when it is your turn','Aufgeben k\\u00f6nnen Sie, we\
+     nn Sie am Zug sind','Opgeven kan als u aan zet bent','\\u6295\\u4e86\\u3067\\u304d\\u308b\\u306e\\u306f\\u8\
+     1ea\\u5206\\u306e\\u624b\\u756a\\u306e\\u3068\\u304d\\u3060\\u3051\\u3067\\u3059','On ne peut abandonner qu\\u2\
+     019\\u00e0 son tour'],claim:['Claim the win on time','Sieg reklamieren','Winst op tijd claimen','\\u6\
+     642\\u9593\\u5207\\u308c\\u52dd\\u3061\\u3092\\u7533\\u8acb','R\\u00e9clamer le gain au temps'],declare:['De\
+     clare the entered king','K\\u00f6nigseintritt erkl\\u00e4ren','Koningsintrede claimen','\\u5165\\u7389\\\
+     u5ba3\\u8a00','D\\u00e9clarer l\\u2019entr\\u00e9e du roi'],sure:['{what}?','{what}?','{what}?','{what}\
      \\uff1a\\u3088\\u308d\\u3057\\u3044\\u3067\\u3059\\u304b\\uff1f','{what}\
-     \\u00a0?'],nextGame:['Next game ({count})','N\\u00e4chste Partie ({count})','Volgende partij ({count}\
+     \\u202f?'],nextGame:['Next game ({count})','N\\u00e4chste Partie ({count})','Volgende partij ({count}\
      )','\\u6b21\\u306e\\u5bfe\\u5c40\\u3078\\uff08{count}\\uff09','Partie suivante ({count}\
      )'],cancel:['Cancel','Abbrechen','Annuleren','\\u30ad\\u30e3\\u30f3\\u30bb\\u30eb','Annuler'],record:['D\
      ownload the record','Notation herunterladen','Notatie downloaden','\\u68cb\\u8b5c\\u3092\\u4fdd\\u5b58',\
@@ -608,17 +608,17 @@ pub fn page_2() -> &'static str
      'Uw tegenstander heeft nog tijd','\\u76f8\\u624b\\u306e\\u6301\\u3061\\u6642\\u9593\\u304c\\u6b8b\\u3063\\u306\
      6\\u3044\\u307e\\u3059','L\\u2019adversaire a encore du temps'],62:['The offer is no longer valid','Das \
      Angebot gilt nicht mehr','Het aanbod is vervallen','\\u63d0\\u6848\\u306f\\u7121\\u52b9\\u306b\\u306a\\u308\
-     a\\u307e\\u3057\\u305f','L\\u2019offre n\\u2019est plus valable'],65:['Invalid value','Unzul\\u00e4ssiger \
-     Wert','Ongeldige waarde','\\u5024\\u304c\\u4e0d\\u6b63\\u3067\\u3059','Valeur non valide'],66:['The club \
-     cannot hold more games','Der Club kann keine weiteren Partien aufnehmen','De club kan geen partijen \
-     meer opnemen','\\u5bfe\\u5c40\\u6570\\u304c\\u4e0a\\u9650\\u306b\\u9054\\u3057\\u3066\\u3044\\u307e\\u3059','Le \
-     club ne peut plus accueillir de parties'],67:['The entered king cannot be declared here','Der K\\u00\
-     f6nigseintritt kann hier nicht erkl\\u00e4rt werden','De koningsintrede kan hier niet worden geclaim\
-     d','\\u3053\\u3053\\u3067\\u306f\\u5165\\u7389\\u5ba3\\u8a00\\u306f\\u3067\\u304d\\u307e\\u305b\\u3093','L\\u2019e\
-     ntr\\u00e9e du roi ne peut pas \\u00eatre d\\u00e9clar\\u00e9e ici'],72:['The club\\u2019s file cannot b\
-     e used; please tell the officer','Die Datei des Clubs ist nicht nutzbar; \
+     a\\u307e\\u3057\\u305f','La proposition n\\u2019est plus valable'],65:['Invalid value','Unzul\\u00e4ssig\
+     er Wert','Ongeldige waarde','\\u5024\\u304c\\u4e0d\\u6b63\\u3067\\u3059','Valeur non valide'],66:['The cl\
+     ub cannot hold more games','Der Club kann keine weiteren Partien aufnehmen','De club kan geen parti\
+     jen meer opnemen','\\u5bfe\\u5c40\\u6570\\u304c\\u4e0a\\u9650\\u306b\\u9054\\u3057\\u3066\\u3044\\u307e\\u3059',\
+     'Le club ne peut plus accueillir de parties'],67:['The entered king cannot be declared here','Der K\
+     \\u00f6nigseintritt kann hier nicht erkl\\u00e4rt werden','De koningsintrede kan hier niet worden gec\
+     laimd','\\u3053\\u3053\\u3067\\u306f\\u5165\\u7389\\u5ba3\\u8a00\\u306f\\u3067\\u304d\\u307e\\u305b\\u3093','L\\u2\
+     019entr\\u00e9e du roi ne peut pas \\u00eatre d\\u00e9clar\\u00e9e ici'],72:['The club\\u2019s file cann\
+     ot be used; please tell the officer','Die Datei des Clubs ist nicht nutzbar; \
      bitte informieren Sie den Turnierleiter','Het bestand van de club is niet bruikbaar; \
-     waarschuw de wedstrijdleider','\\u30af\\u30e9"
+     waarschuw de wedstrijdleider','\\u30af\\u30e"
 }
 
 /// Part 3 of the page, in ASCII.
@@ -626,8 +626,8 @@ pub fn page_2() -> &'static str
 pub fn page_3() -> &'static str
     ensures { result.now ≡ page_3 }
 {
-    "\\u30d6\\u306e\\u30c7\\u30fc\\u30bf\\u3092\\u5229\\u7528\\u3067\\u304d\\u307e\\u305b\\u3093\\u3002\\u5e79\\u4e8b\\u\
-     306b\\u77e5\\u3089\\u305b\\u3066\\u304f\\u3060\\u3055\\u3044','Le fichier du club est inutilisable\\u00a0; \
+    "9\\u30d6\\u306e\\u30c7\\u30fc\\u30bf\\u3092\\u5229\\u7528\\u3067\\u304d\\u307e\\u305b\\u3093\\u3002\\u5e79\\u4e8b\\\
+     u306b\\u77e5\\u3089\\u305b\\u3066\\u304f\\u3060\\u3055\\u3044','Le fichier du club est inutilisable\\u202f; \
      pr\\u00e9venez le responsable'],73:['The club is unavailable','Der Club ist gerade nicht verf\\u00fcg\
      bar','De club is even niet beschikbaar','\\u30af\\u30e9\\u30d6\\u306f\\u73fe\\u5728\\u5229\\u7528\\u3067\\u30\
      4d\\u307e\\u305b\\u3093','Le club est momentan\\u00e9ment indisponible'],ending:['{who}: {why} \
@@ -637,40 +637,40 @@ pub fn page_3() -> &'static str
      a gagn\\u00e9'],youWon:['You won','Sie haben gewonnen','U hebt gewonnen','\\u3042\\u306a\\u305f\\u306e\\u\
      52dd\\u3061','Vous avez gagn\\u00e9'],youLost:['You lost','Sie haben verloren','U hebt verloren','\\u3\
      042\\u306a\\u305f\\u306e\\u8ca0\\u3051','Vous avez perdu'],drawn:['Draw','Remis','Remise','\\u5f15\\u304d\\\
-     u5206\\u3051','Remise'],NoMove:['no move left','kein Zug mehr m\\u00f6glich','geen zet meer mogelijk'\
-     ,'\\u6307\\u305b\\u308b\\u624b\\u304c\\u306a\\u3044','plus de coup possible'],Mate:['checkmate','Matt','ma\
-     t','\\u8a70\\u307f','mat'],Repetition:['threefold repetition','dreifache Stellungswiederholung','drie\
-     maal dezelfde stand','\\u540c\\u4e00\\u5c40\\u97623\\u56de','triple r\\u00e9p\\u00e9tition'],KingMoves:['2\
-     5 king moves without a capture','25 Damenz\\u00fcge ohne Schlag','25 damzetten zonder slag','\\u30ad\\\
-     u30f3\\u30b0\\u306e\\u624b\\u306e\\u307f\\u30fb\\u99d2\\u53d6\\u308a\\u306a\\u3057\\u3067\\u53cc\\u65b925\\u624b',\
-     '25 coups de dames sans prise'],ThreeToOne:['16 moves with three pieces against a king','16 Z\\u00fc\
-     ge mit drei Steinen gegen eine Dame','16 zetten met drie om \\u00e9\\u00e9n','3\\u679a\\u5bfe\\u30ad\\u30\
-     f3\\u30b01\\u679a\\u3067\\u53cc\\u65b916\\u624b','16 coups \\u00e0 trois pi\\u00e8ces contre une dame'],Two\
-     ToOne:['5 moves with at most two pieces against a king','5 Z\\u00fcge mit h\\u00f6chstens zwei Steine\
-     n gegen eine Dame','5 zetten met hooguit twee om \\u00e9\\u00e9n','2\\u679a\\u4ee5\\u4e0b\\u5bfe\\u30ad\\u3\
-     0f3\\u30b01\\u679a\\u3067\\u53cc\\u65b95\\u624b','5 coups \\u00e0 deux pi\\u00e8ces au plus contre une dame\
-     '],PlyLimit:['limit of 600 plies','Grenze von 600 Halbz\\u00fcgen','grens van 600 halve zetten','\\u6\
-     700\\u5927\\u624b\\u6570600\\u624b','limite de 600 demi-coups'],PerpetualCheck:['perpetual check','Daue\
-     rschach','eeuwig schaak','\\u9023\\u7d9a\\u738b\\u624b\\u306e\\u5343\\u65e5\\u624b','\\u00e9chec perp\\u00e9t\
-     uel'],Fourfold:['fourfold repetition','vierfache Stellungswiederholung','viermaal dezelfde stand','\
-     \\u5343\\u65e5\\u624b','quadruple r\\u00e9p\\u00e9tition'],Agreed:['by agreement','Vereinbarung','in ond\
-     erling overleg','\\u5408\\u610f','d\\u2019un commun accord'],Resigned:['by resignation','Aufgabe','opg\
-     ave','\\u6295\\u4e86','par abandon'],Time:['on time','Zeit\\u00fcberschreitung','tijdsoverschrijding',\
-     '\\u6642\\u9593\\u5207\\u308c','au temps'],Declared:['by declaration of the entered king','K\\u00f6nigse\
-     intritt','koningsintrede','\\u5165\\u7389\\u5ba3\\u8a00','par l\\u2019entr\\u00e9e du roi'],Recorded:['as \
-     recorded','laut Notation','volgens notatie','\\u68cb\\u8b5c\\u306b\\u3088\\u308b','selon la notation'],m\
-     an:['man','Stein','schijf','\\u30de\\u30f3','pion'],king:['king','Dame','dam','\\u30ad\\u30f3\\u30b0','d\
-     ame'],K:['king','K\\u00f6nig','koning','\\u7389','roi'],R:['rook','Turm','toren','\\u98db\\u8eca','tour\
-     '],B:['bishop','L\\u00e4ufer','loper','\\u89d2','fou'],G:['gold','Goldgeneral','gouden generaal','\\u9\
-     1d1','g\\u00e9n\\u00e9ral d\\u2019or'],S:['silver','Silbergeneral','zilveren generaal','\\u9280','g\\u00\
-     e9n\\u00e9ral d\\u2019argent'],N:['knight','Springer','paard','\\u6842\\u99ac','cavalier'],L:['lance','\
-     Lanze','lans','\\u9999\\u8eca','lance'],P:['pawn','Bauer','pion','\\u6b69','pion'],'+R':['dragon','Dra\
-     che','draak','\\u7adc','dragon'],'+B':['horse','Pferd','gepromoveerde loper','\\u99ac','cheval'],'+S'\
-     :['promoted silver','bef\\u00f6rderter Silbergeneral','gepromoveerde zilveren generaal','\\u6210\\u928\
-     0','g\\u00e9n\\u00e9ral d\\u2019argent promu'],'+N':['promoted knight','bef\\u00f6rderter Springer','ge\
-     promoveerd paard','\\u6210\\u6842','cavalier promu'],'+L':['promoted lance','bef\\u00f6rderte Lanze','\
-     gepromoveerde lans','\\u6210\\u9999','lance promue'],'+P':['tokin','Tokin','tokin','\\u3068\\u91d1','to\
-     kin']};const DAY=86400;const UNITS={day:DAY,hour:3600,minute:60,second:1};let language=0;\
+     u5206\\u3051','Nulle'],NoMove:['no move left','kein Zug mehr m\\u00f6glich','geen zet meer mogelijk',\
+     '\\u6307\\u305b\\u308b\\u624b\\u304c\\u306a\\u3044','plus de coup possible'],Mate:['checkmate','Matt','mat\
+     ','\\u8a70\\u307f','mat'],Repetition:['threefold repetition','dreifache Stellungswiederholung','driem\
+     aal dezelfde stand','\\u540c\\u4e00\\u5c40\\u97623\\u56de','triple r\\u00e9p\\u00e9tition'],KingMoves:['25 \
+     king moves without a capture','25 Damenz\\u00fcge ohne Schlag','25 damzetten zonder slag','\\u30ad\\u3\
+     0f3\\u30b0\\u306e\\u624b\\u306e\\u307f\\u30fb\\u99d2\\u53d6\\u308a\\u306a\\u3057\\u3067\\u53cc\\u65b925\\u624b','2\
+     5 coups de dames sans prise'],ThreeToOne:['16 moves with three pieces against a king','16 Z\\u00fcge \
+     mit drei Steinen gegen eine Dame','16 zetten met drie om \\u00e9\\u00e9n','3\\u679a\\u5bfe\\u30ad\\u30f3\\\
+     u30b01\\u679a\\u3067\\u53cc\\u65b916\\u624b','16 coups \\u00e0 trois pi\\u00e8ces contre une dame'],TwoToO\
+     ne:['5 moves with at most two pieces against a king','5 Z\\u00fcge mit h\\u00f6chstens zwei Steinen g\
+     egen eine Dame','5 zetten met hooguit twee om \\u00e9\\u00e9n','2\\u679a\\u4ee5\\u4e0b\\u5bfe\\u30ad\\u30f3\
+     \\u30b01\\u679a\\u3067\\u53cc\\u65b95\\u624b','5 coups \\u00e0 deux pi\\u00e8ces au plus contre une dame'],\
+     PlyLimit:['limit of 600 plies','Grenze von 600 Halbz\\u00fcgen','grens van 600 halve zetten','\\u6700\
+     \\u5927\\u624b\\u6570600\\u624b','limite de 600 demi-coups'],PerpetualCheck:['perpetual check','Dauersc\
+     hach','eeuwig schaak','\\u9023\\u7d9a\\u738b\\u624b\\u306e\\u5343\\u65e5\\u624b','\\u00e9chec perp\\u00e9tuel\
+     '],Fourfold:['fourfold repetition','vierfache Stellungswiederholung','viermaal dezelfde stand','\\u5\
+     343\\u65e5\\u624b','quadruple r\\u00e9p\\u00e9tition'],Agreed:['by agreement','Vereinbarung','in onderl\
+     ing overleg','\\u5408\\u610f','d\\u2019un commun accord'],Resigned:['by resignation','Aufgabe','opgave\
+     ','\\u6295\\u4e86','abandon'],Time:['on time','Zeit\\u00fcberschreitung','tijdsoverschrijding','\\u6642\
+     \\u9593\\u5207\\u308c','temps d\\u00e9pass\\u00e9'],Declared:['by declaration of the entered king','K\\u0\
+     0f6nigseintritt','koningsintrede','\\u5165\\u7389\\u5ba3\\u8a00','entr\\u00e9e du roi'],Recorded:['as re\
+     corded','laut Notation','volgens notatie','\\u68cb\\u8b5c\\u306b\\u3088\\u308b','selon la notation'],man\
+     :['man','Stein','schijf','\\u30de\\u30f3','pion'],king:['king','Dame','dam','\\u30ad\\u30f3\\u30b0','dam\
+     e'],K:['king','K\\u00f6nig','koning','\\u7389','roi'],R:['rook','Turm','toren','\\u98db\\u8eca','tour']\
+     ,B:['bishop','L\\u00e4ufer','loper','\\u89d2','fou'],G:['gold','Goldgeneral','gouden generaal','\\u91d\
+     1','g\\u00e9n\\u00e9ral d\\u2019or'],S:['silver','Silbergeneral','zilveren generaal','\\u9280','g\\u00e9\
+     n\\u00e9ral d\\u2019argent'],N:['knight','Springer','paard','\\u6842\\u99ac','cavalier'],L:['lance','La\
+     nze','lans','\\u9999\\u8eca','lance'],P:['pawn','Bauer','pion','\\u6b69','pion'],'+R':['dragon','Drach\
+     e','draak','\\u7adc','dragon'],'+B':['horse','Pferd','gepromoveerde loper','\\u99ac','cheval'],'+S':[\
+     'promoted silver','bef\\u00f6rderter Silbergeneral','gepromoveerde zilveren generaal','\\u6210\\u9280'\
+     ,'g\\u00e9n\\u00e9ral d\\u2019argent promu'],'+N':['promoted knight','bef\\u00f6rderter Springer','gepr\
+     omoveerd paard','\\u6210\\u6842','cavalier promu'],'+L':['promoted lance','bef\\u00f6rderte Lanze','ge\
+     promoveerde lans','\\u6210\\u9999','lance promue'],'+P':['tokin','Tokin','tokin','\\u3068\\u91d1','toki\
+     n']};const DAY=86400;const UNITS={day:DAY,hour:3600,minute:60,second:1};let language=0;\
      function text(name,values,other){const columns=TEXTS[name]??TEXTS[other]??[String(name)];\
      return(columns[language]??columns[0]).replace(/\\{(\\w+)\\}/g,(_,it)=>values[it])}\
      const isJapanese=()=>text('code')==='ja';const kindName=(kind)=>text(kind);const locale=()=>\
@@ -1300,6 +1300,6 @@ pub fn policy() -> &'static str
     ensures { result.now ≡ policy }
 {
     "default-src 'none'; style-src 'sha256-5tpAp8X0/GF1op9K1QPJpxFYsNnUM4YvYJr2fAFpY20='; \
-     script-src 'sha256-EuJg33mHAUOTTiKxE/0CdldmrsshSXvTpmUgfjwsV18='; connect-src 'self'; \
+     script-src 'sha256-dPdk8kFR6GWXKYTxfqBkBwjRis9CIGNRx1bVLW1sN98='; connect-src 'self'; \
      img-src data:; manifest-src data:; base-uri 'none'; form-action 'none'; frame-ancestors 'none'"
 }
