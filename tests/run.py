@@ -24,7 +24,7 @@ import time
 
 sys.path[0] = str(pathlib.Path(__file__).resolve().parent)
 from gate import build
-from lib.club import PERFT, STORE_SCRIPTS, TESTS, TOP
+from lib.club import PERFT, SCRIPTS, TESTS, TOP
 
 LANES = max(2, len(os.sched_getaffinity(0)))
 COUNTS = re.compile(r"^(\d+) passed, (\d+) failed", re.MULTILINE)
@@ -53,9 +53,9 @@ TESTS_OF_PROGRAM = [
     Test("page/page.py --real", 900),
     Test("page/page.py --firefox", 1800, is_whole=True),
     Test("gate/edits_self_test.py", 600, is_whole=True),
-    Test("crash/courses.py", 1200, needs=STORE_SCRIPTS),
-    Test("crash/out_of_memory_store.py", 1200, needs=STORE_SCRIPTS),
-    Test("cli/limits.py", 1200, needs=STORE_SCRIPTS),
+    Test("crash/courses.py", 1200, needs=SCRIPTS),
+    Test("crash/out_of_memory_store.py", 1200, needs=SCRIPTS),
+    Test("cli/limits.py", 1200, needs=SCRIPTS),
     Test("server/unavailable.py"),
     Test("server/control_socket.py"),
     Test("fuzz/main.py"),

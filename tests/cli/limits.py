@@ -8,12 +8,11 @@ record of 65,536 bytes and one of a byte more, and a game of shogi of 600 plies,
 After every twentieth command the club is closed and opened again, and no row may have changed.
 """
 import pathlib
-import subprocess
 import sys
 
 sys.path[0] = str(pathlib.Path(__file__).resolve().parents[1])
 from games.long import shogi_line
-from lib.club import STORE_SCRIPTS
+from lib.club import run_requests
 from lib.report import exit_status, result
 
 MEMBERS, EVENTS, GAMES, CHALLENGES, RECORD = 200, 50, 5000, 9999, 65536
@@ -133,7 +132,7 @@ def main():
                          ("challenges", numbers_of_challenges()), ("records", long_records()), ("plies", longest_game())):
         lines = list(script)
         given = "".join(f"{it}\n" for it in lines)
-        ran = subprocess.run([STORE_SCRIPTS], input=given, capture_output=True, text=True)
+        ran = run_requests(given)
         holds = ran.returncode == 0 and ran.stdout == f"{len(lines)} lines hold\n"
         result(holds, f"a club works up to its limit of {name} ({len(lines)} lines)",
                f"{ran.returncode} {ran.stdout[-2000:]} {ran.stderr[-400:]}")

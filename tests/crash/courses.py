@@ -8,11 +8,10 @@ A program of tests runs them. A course that was stopped nowhere fails.
 import concurrent.futures
 import pathlib
 import re
-import subprocess
 import sys
 
 sys.path[0] = str(pathlib.Path(__file__).resolve().parents[1])
-from lib.club import STORE_SCRIPTS, TESTS
+from lib.club import TESTS, run_requests
 from lib.report import exit_status, result
 
 SCRIPT = TESTS / "crash/courses.txt"
@@ -32,7 +31,7 @@ def name_of(course):
 
 def run(course):
     """What the program prints for a course, at how many calls it was stopped, and whether all lines hold."""
-    ran = subprocess.run([STORE_SCRIPTS], input=course, capture_output=True, text=True)
+    ran = run_requests(course)
     lines = sum(1 for it in course.splitlines() if it and not it.startswith("#"))
     found = STOPS.fullmatch(ran.stderr)
     stops = int(found[1]) if found else 0

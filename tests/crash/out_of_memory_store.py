@@ -14,15 +14,14 @@ import os
 import pathlib
 import re
 import shutil
-import subprocess
 import sys
 import tempfile
 
 sys.path[0] = str(pathlib.Path(__file__).resolve().parents[1])
-from lib.club import STORE_SCRIPTS, TESTS, build_fail_malloc
+from lib.club import TESTS, build_fail_malloc, lines_of_script, run_requests
 from lib.report import exit_status, result, skip
 
-SCRIPT, COURSES = STORE_SCRIPTS.parents[1] / "stdin", TESTS / "crash/courses.txt"
+COURSES = TESTS / "crash/courses.txt"
 FAULTS, REOPEN = ("73 Store", "75 Memory"), "74 Reopen"
 OWN = "memory allocation failed"  # of the program of tests, and not of the club
 GOT = re.compile(r"line (\d+): .* \.\. got (.*)")
@@ -43,8 +42,7 @@ def commands():
 
 def first_schema():
     """The line of the script that makes a database of schema 1."""
-    lines = SCRIPT.read_text(encoding="utf-8").splitlines()
-    return next(it for it in lines if it.startswith("sql CREATE TABLE") and "INSERT INTO meta VALUES(1,1," in it)
+    return next(it for it in lines_of_script("storage") if it.startswith("sql CREATE TABLE") and "INSERT INTO meta VALUES(1,1," in it)
 
 
 def again(outcome):
@@ -80,8 +78,7 @@ class Command:
         """The process, and how many allocations it made."""
         counted = f"{self.room}/counted.{os.getpid()}"
         environment = os.environ | {"LD_PRELOAD": f"{self.room}/fail_malloc.so", "REFUSE": str(number), "COUNTED": counted}
-        ran = subprocess.run([STORE_SCRIPTS], input="".join(f"{it}\n" for it in lines), capture_output=True, text=True,
-                             cwd=self.room, env=environment)
+        ran = run_requests("".join(f"{it}\n" for it in lines), cwd=self.room, env=environment)
         return ran, int(pathlib.Path(counted).read_text())
 
     def is_well(self, ran):

@@ -3,7 +3,7 @@
 
     python3 tests/games/models.py [--games N]
 
-Known counts are the lines of crates/rules/stdin that count sequences of moves. The other programs are bench/draughts.c
+Known counts are the lines of crates/scripts/stdin that count sequences of moves. The other programs are bench/draughts.c
 and fairy-stockfish. At each position of N random games of each kind (by default 20 of draughts and 8 of shogi) the
 plain C program must count the same moves, and fairy-stockfish must list the same. Pawn drops that mate do not count,
 since fairy-stockfish 11.1 lists them as legal. What is not installed is skipped.

@@ -30,8 +30,7 @@ PROGRAMS = {
         "- `print_counts`: a line for each legal move in order, with its text and its count, and then the total.",
     ],
     "club": [],
-    "rules": [],
-    "store_scripts": [],
+    "scripts": [],
 }
 WITHOUT = {"club_tests"}  # libraries that guarantee nothing
 HEAD = """# Contracts, crate by crate

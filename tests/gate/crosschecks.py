@@ -14,16 +14,15 @@ import sys
 
 sys.path[0] = str(pathlib.Path(__file__).resolve().parents[1])
 from cli import at_rest, batch, import_files, scripts
-from lib.club import DATA, RECORDS, TESTS, TOP
+from lib.club import DATA, RECORDS, TESTS, TOP, lines_of_script
 from lib.report import exit_status, result
 
 DOCUMENT = "docs/crosschecks.md"
 BEGIN = "<!-- The table of counts, made by tests/gate/crosschecks.py --write -->"
 END = "<!-- The end of the table -->"
-QUESTIONS = TOP / "crates/rules/stdin"
 NO_TESTS = "text", "read", "copy", "change"  # first words of lines of tests/cli/scripts that compare nothing
 
-# The subjects of questions: the first word, or the first two, of a line of crates/rules/stdin. The first that fits counts.
+# The subjects of questions: the first word, or the first two, of a question. The first that fits counts.
 SUBJECTS = (
     ("counts of move sequences", "club-draughts lines|club-shogi lines"),
     ("declarations of an entered king", "shogi declares"),
@@ -37,9 +36,9 @@ SUBJECTS = (
 
 
 def questions():
-    """The questions of crates/rules/stdin, each in one line."""
+    """The questions of crates/scripts/stdin, each in one line."""
     found, begun = [], ""
-    for line in QUESTIONS.read_text().splitlines():
+    for line in lines_of_script("rules"):
         if line.endswith("\\") and not line.startswith("#"):
             begun += line[:-1]
             continue
@@ -91,11 +90,11 @@ def said(counts):
 def rows():
     """The rows of the table: what is counted, the number, and the file."""
     subjects = collections.Counter(map(subject, questions()))
-    yield "Questions about rules, texts and records", len(questions()), "`crates/rules/stdin`"
+    yield "Questions about rules, texts and records", len(questions()), "`crates/scripts/stdin`"
     for name, _ in SUBJECTS:
         yield f"– {name}", subjects[name], ""
-    yield "Greatest known depth of draughts, from the opening", depth_of_opening("draughts"), "`crates/rules/stdin`"
-    yield "Greatest known depth of shogi, from the opening", depth_of_opening("shogi"), "`crates/rules/stdin`"
+    yield "Greatest known depth of draughts, from the opening", depth_of_opening("draughts"), "`crates/scripts/stdin`"
+    yield "Greatest known depth of shogi, from the opening", depth_of_opening("shogi"), "`crates/scripts/stdin`"
     yield "Records that are imported as they are", said(ending_counts(RECORDS)), "`tests/data/records`"
     yield "Files in dialects of other programs", said(ending_counts(import_files.FOREIGN)), "`tests/data/foreign`"
     cases, _ = import_files.read_cases()

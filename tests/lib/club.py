@@ -20,7 +20,7 @@ DATA = TESTS / "data"
 RECORDS = DATA / "records"
 PROGRAM = str(pathlib.Path(os.environ.get("CLUB", TOP / "build/club")).resolve())
 # Programs of tests, which `rt ci` builds from crates of the same names.
-STORE_SCRIPTS = TOP / "crates/store_scripts/out/store_scripts"
+SCRIPTS = TOP / "crates/scripts/out/scripts"
 PERFT = TOP / "crates/perft/out/perft"
 
 TABLES = "meta members events event_rules challenges moves games seen scores".split()
@@ -107,6 +107,17 @@ def create(file="c.db", budget=86400):
     for words in (*TWO_MEMBERS, f"event cup draughts {budget} 0", "seat g cup anna bert"):
         status, printed = club(file, *words.split())
         assert status == 0, (words, printed)
+
+
+def lines_of_script(heading):
+    """The lines of the script under this heading, `rules` or `storage`, in crates/scripts/stdin."""
+    _, _, rest = (TOP / "crates/scripts/stdin").read_text(encoding="utf-8").partition(f"== {heading}\n")
+    return rest.partition("\n== ")[0].splitlines()
+
+
+def run_requests(script, program=SCRIPTS, **how):
+    """Runs a script of requests to the store."""
+    return subprocess.run([program], input=f"== storage\n{script}", capture_output=True, text=True, **how)
 
 
 def move(file, ply):
