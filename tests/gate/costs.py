@@ -46,6 +46,13 @@ def read_output(text):
     return rows, totals
 
 
+def measured():
+    """The rows of the document's table, by crate."""
+    text = DOCUMENT.read_text(encoding="utf-8") if DOCUMENT.exists() else ""
+    cells = (re.findall(r"[\w.]+", line) for line in text.splitlines() if re.match(r"\| `\w+` \| \d+ \|", line))
+    return {name: (*map(int, numbers[:4]), float(numbers[4])) for name, *numbers in cells}
+
+
 def longest_chain(rows):
     """The crates that stand on one another, lowest first, whose proofs take the most seconds together."""
     libraries = all_libraries()

@@ -7,20 +7,26 @@ of them go into one copy of the crate, which is checked once. An edit is refused
 it changes is refused. That a function calls another which is not proved says nothing yet: such an edit waits for the
 next round, without those that were refused. What no round tells is tried alone, as the kit's `rt must-fail` does: edits
 of specs/ or of a table that is no function, and edits that no goal of their own function refuses. Such an edit may name
-the function whose proof it breaks by a line `# seen by: MODULE::NAME`, which spares it the rest of the crate.
+the function whose proof it breaks by a line `# seen by: MODULE::NAME`, which spares it the rest of the crate; or the file
+of lemmas, by `# seen by: proofs/NAME.antt`.
 """
 import os
+import pathlib
 import re
 import shutil
 import subprocess
 import sys
 import tempfile
+import threading
+import time
 
 sys.path[0] = os.path.dirname(os.path.dirname(os.path.abspath(__file__)))
 from lib import kit
 
 # The result of an edit, in the words of the kit's newer script.
 REFUSED, MISSED, BAD = "refused", "missed", "bad"
+
+LONG = 300  # seconds of a check, after which it is told of
 
 HEAD = re.compile(r"^(\s*)(?:pub(?:\([^)]*\))? )?(?:const )?(?:unsafe )?fn (\w+)")
 IMPL = re.compile(r"^impl\b")
@@ -190,23 +196,47 @@ def next_round(edits, sources):
 
 
 class Trial:
-    """The tries of one crate's edits, each over what those before it proved."""
+    """The tries of one crate's edits, each over what those before it proved. A check that ended is told to `say`."""
 
-    def __init__(self, rt, crate, kept, files):
-        self.rt, self.crate, self.kept = rt, crate, kept
+    def __init__(self, rt, crate, kept, files, say):
+        self.rt, self.crate, self.kept, self.say = rt, crate, kept, say
         self.sources = Sources(crate.folder)
+        self.shared = set()  # names of a type and a method that are those of two functions
         self.edits = [Edit(file, self.sources) for file in files]
         self.found = {}
 
     def only(self, edits):
         """The flags that have a check look at the functions of these edits alone."""
         paths = sorted({place.path() for edit in edits for place in edit.places})
-        return [] if any("+" in it for it in paths) else [word for it in paths for word in ("--only", it)]
+        if any("+" in it for it in paths):
+            return []
+        return [word for it in paths for word in ("--only", self.known_path(it))]
+
+    def known_path(self, path):
+        """The path by which a check knows a function. That of a method begins with the module of its type, which may be
+        another than that of its `impl`: so a method goes by the names of its type and its own, if no other has both."""
+        short = "::".join(path.split("::")[-2:])
+        return short if short[0].isupper() and short not in self.shared else path
+
+    def timed(self, what, call, *words):
+        """What the call returns, once its seconds are told. A check that goes on for long is told of meanwhile."""
+        began, alarm = time.monotonic(), threading.Timer(LONG, self.say, (f"{LONG:6.0f} s  and going on: {what}",))
+        alarm.daemon = True
+        alarm.start()
+        found = call(*words)
+        alarm.cancel()
+        self.say(f"{time.monotonic() - began:6.0f} s  {what}")
+        return found
 
     def checked(self, texts, edits):
-        ran = self.rt.checked(self.crate, texts, ["--jobs", "1", *self.only(edits)], self.kept)
+        names = ", ".join(sorted(os.path.basename(edit.file).removesuffix(".edit") for edit in edits))
+        ran = self.timed(names, self.rt.checked, self.crate, texts, ["--jobs", "1", *self.only(edits)], self.kept)
+        several = ran.returncode == 2 and re.search(r"several functions are named `([^`]+)`", ran.stdout)
+        if several and several[1] not in self.shared:
+            self.shared.add(several[1])
+            return self.checked(texts, edits)
         if ran.returncode == 2 and re.search(r"has no function|several functions", ran.stdout):
-            ran = self.rt.checked(self.crate, texts, ["--jobs", "1"], self.kept)
+            ran = self.timed("the whole crate", self.rt.checked, self.crate, texts, ["--jobs", "1"], self.kept)
         return ran
 
     def round(self, edits):
@@ -240,10 +270,13 @@ class Trial:
                 return left
 
     def alone(self, edit):
-        if edit.seen_by and self.is_seen(edit):
+        name = f"{os.path.basename(edit.file).removesuffix('.edit')} alone"
+        if edit.seen_by and self.timed(f"{name}, in {edit.seen_by}", self.is_seen, edit):
             return REFUSED, f"{self.label(edit)}: refused, as it must be, by a goal of {edit.seen_by}"
-        tried = self.by_the_kit(edit, self.kept)
-        return tried if tried[0] in getattr(self.rt, "SETTLED", [REFUSED]) else self.by_the_kit(edit, None)
+        tried = self.timed(name, self.by_the_kit, edit, self.kept)
+        if tried[0] in getattr(self.rt, "SETTLED", [REFUSED]):
+            return tried
+        return self.timed(f"{name}, from nothing", self.by_the_kit, edit, None)
 
     def by_the_kit(self, edit, kept):
         """The result of one edit by the kit's own script, over what was proved so far or from nothing."""
@@ -253,16 +286,32 @@ class Trial:
         return kind, text
 
     def is_seen(self, edit):
-        """Whether the function that the edit names is refused, over what was proved so far, for a goal of its own."""
+        """Whether what the edit names is refused, over what was proved so far: a function, for a goal of its own, or a
+        file of lemmas."""
         texts, why = self.rt.read_edit(edit.file, self.crate.folder)
         if why:
             return False
+        if edit.seen_by.startswith("proofs/"):
+            return self.is_seen_in_lemmas(edit, texts)
         ran = self.rt.checked(self.crate, texts, ["--jobs", "1", "--only", edit.seen_by], self.kept)
         lines = ran.stdout.split("\n")
         is_read = not any(self.rt.unread(it, texts) for it in lines)
         is_goal = any(GOAL.match(it) or OF_PROOFS.match(it) and not OF_ANOTHER.search(it) for it in lines)
         named = re.search(rf"^fn \w+::{re.escape(edit.seen_by)}: (not proved|no proof)", ran.stdout, re.M)
         return ran.returncode == 1 and is_read and is_goal and bool(named)
+
+    def is_seen_in_lemmas(self, edit, texts):
+        """The same for a file of lemmas. A check reads it where the proof of some function imports it."""
+        module = edit.seen_by.removesuffix(".antt").replace("/", ".")
+        answers = sorted(pathlib.Path(self.crate.folder, "proofs").glob("*/**/Answers.antt"), key=lambda it: it.stat().st_size)
+        host = next(it.relative_to(self.crate.folder) for it in answers if "+" not in str(it))
+        imported = f"use Rattle.{self.crate.name}.{module} as seen_by\n{self.sources.text(str(host))}"
+        function = "::".join(host.parent.parts[1:])
+        ran = self.rt.checked(self.crate, {**texts, str(host): imported}, ["--jobs", "1", "--only", function], self.kept)
+        lines = ran.stdout.split("\n")
+        is_read = not any(self.rt.unread(it, texts) for it in lines)
+        errors = [it for it in lines if it.removeprefix("./").startswith(f"{edit.seen_by}:") and OF_PROOFS.match(it)]
+        return is_read and any(not OF_ANOTHER.search(it) for it in errors)
 
     def results(self):
         """What each edit came to, in their order."""
@@ -271,14 +320,14 @@ class Trial:
         return [self.found[edit.file] for edit in self.edits]
 
 
-def tried(rt, crate, files, start=None):
+def tried(rt, crate, files, start=None, say=lambda line: None):
     """What the edits in these files come to, over a copy of what a check kept in the folder start, if there is one."""
     with tempfile.TemporaryDirectory(prefix=f"rt-edits-{os.getpid()}-") as room:
         if start and os.path.isdir(start):
             shutil.copytree(start, f"{room}/kept")
         else:
             os.mkdir(f"{room}/kept")
-        return Trial(rt, crate, f"{room}/kept", files).results()
+        return Trial(rt, crate, f"{room}/kept", files, say).results()
 
 
 def main(names):
@@ -295,7 +344,7 @@ def main(names):
         if any(below.build_rlib(["--jobs", "1"], anew=False) for below in crate.below()):
             return 1
         files, bad = rt.edits_of(crate)
-        for kind, text in tried(rt, crate, files, f"{crate.folder}/out/incremental"):
+        for kind, text in tried(rt, crate, files, f"{crate.folder}/out/incremental", lambda line: print(line, flush=True)):
             print(text, flush=True)
             worst |= kind not in (REFUSED, getattr(rt, "AT_LIMIT", REFUSED))
         for file in bad:

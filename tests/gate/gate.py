@@ -6,6 +6,9 @@ of must-fail/ there is one task a crate, tests/gate/edits.py, in the same lanes.
 that this was written for, edits are tried as the kit does it, and a line says so; --plain asks for that. --anew proves
 and tries all again, whatever earlier runs kept.
 
+The lanes take the longest chain of tasks first, as many at a time as fit into the memory. The kit reckons both from
+the lines of a crate. Here they are what a run before has measured: the table in docs/proving/costs.md.
+
 For the seconds it reads /proc every half second for the prover's processes in this folder, and for those that try
 edits: which crate they check, whether its proofs, its tests or its edits, and their processor time. The crate that
 costs most is printed first.
@@ -19,7 +22,7 @@ import threading
 import time
 
 sys.path[0] = os.path.dirname(os.path.dirname(os.path.abspath(__file__)))
-from gate import edits
+from gate import costs, edits
 from lib import kit
 
 TICKS = os.sysconf("SC_CLK_TCK")
@@ -103,10 +106,20 @@ def is_known(rt):
     return has and list(inspect.signature(rt.add_edits).parameters) == WANTED
 
 
+SLOW = 60  # seconds of a check for edits, which the output of the gate names
+
+
+def tell_slow(crate, line):
+    """Prints the line of a check for edits, which begins with its seconds, if it was slow."""
+    if int(line.split()[0]) >= SLOW:
+        print(f"rt: {crate.name}: {line.strip()}", flush=True)
+
+
 def tried_in_rounds(crate, files, flags):
     """What takes the place of the older script's `must_fail_all`: whether each edit is refused, and what to print."""
     del flags
-    return [(kind == edits.REFUSED, text) for kind, text in edits.tried(kit.load(), crate, files)]
+    tried = edits.tried(kit.load(), crate, files, say=lambda line: tell_slow(crate, line))
+    return [(kind == edits.REFUSED, text) for kind, text in tried]
 
 
 def add_rounds(rt):
@@ -136,7 +149,7 @@ def add_rounds(rt):
             new = [it for it in files if it not in known()]
             if not is_well(given, len(new)):
                 return None
-            found = dict(zip(new, edits.tried(rt, crate, new))) if new else {}
+            found = dict(zip(new, edits.tried(rt, crate, new, say=lambda line: tell_slow(crate, line)))) if new else {}
             for file, (kind, text) in found.items():
                 if kind in rt.SETTLED and kept.is_untouched(crate) and name_of(file) == begun["names"][file]:
                     kept.keep_tried(begun["names"][file], kind, text)
@@ -150,9 +163,35 @@ def add_rounds(rt):
     return add
 
 
+SECONDS_A_LINE = 0.1  # of a proof, or of all edits, in a crate that no run has measured
+
+
+def planned(tasks, rows):
+    """The tasks with the seconds and the bytes that a run before has measured in place of those of the kit."""
+    found = {}
+    for key, (waits, lines, needs, call) in tasks.items():
+        crate, kind = key[:2]
+        row = rows.get(crate)
+        if row is None:
+            found[key] = waits, lines * SECONDS_A_LINE, needs, call
+            continue
+        seconds = row[("proof", "tests", "edits").index(kind)]
+        # a process has had 1.3 times the memory of the run before, on another machine
+        found[key] = waits, seconds, min(needs, 1.3e9 * row[4] + 0.5e9), call
+    return found
+
+
+def plan_by_costs(rt):
+    """Has the kit's lanes go by measured costs."""
+    in_lanes, rows = rt.in_lanes, costs.measured()
+    rt.in_lanes = lambda tasks: in_lanes(planned(tasks, rows))
+
+
 def prove(words):
     """Runs `rt ci`, and returns its status."""
     rt = kit.load()
+    if list(inspect.signature(rt.in_lanes).parameters) == ["tasks"]:
+        plan_by_costs(rt)
     if "--plain" not in words and not is_known(rt):
         print("note: tests/gate/gate.py does not know this kit's script, so edits are tried one at a time")
     elif "--plain" not in words and kit.is_older(rt):

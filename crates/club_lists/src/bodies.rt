@@ -19,8 +19,7 @@ use std::alloc::{AllocError, Global};
 fn moves_value(alloc: Global, rows: &[String]) -> Result<Value, AllocError>
     ensures { IfOk result (λ value. view value ≡ moves_data (texts_view rows.now)) }
 {
-    let moves = text_array(alloc, rows)?;
-    json!(in alloc; {"moves": moves})
+    json!(in alloc; {"moves": text_array(alloc, rows)?})
 }
 
 /// The legal moves of a game as a JSON object, in the order of the list.
@@ -83,23 +82,17 @@ fn seconds_pair(alloc: Global, first: u64, second: u64) -> Result<Value, AllocEr
 pub(crate) fn game_value(alloc: Global, id: u64, game: &GameShown) -> Result<Value, AllocError>
     ensures { IfOk result (λ value. view value ≡ game_data id (game_view game.now)) }
 {
-    let ply = ply_value(&game.moves);
-    let end = end_or_null(alloc, game.end)?;
-    let left = seconds_pair(alloc, game.left_first, game.left_second)?;
-    let moves = text_array(alloc, &game.moves)?;
-    let offer = offer_or_null(alloc, &game.offer)?;
-    let score = score_or_null(alloc, game.result)?;
     json!(in alloc; {
-        "end": end,
+        "end": end_or_null(alloc, game.end)?,
         "event": game.event.as_str(),
         "first": game.first.as_str(),
         "game": id,
-        "left": left,
-        "moves": moves,
-        "offer": offer,
-        "ply": ply,
+        "left": seconds_pair(alloc, game.left_first, game.left_second)?,
+        "moves": text_array(alloc, &game.moves)?,
+        "offer": offer_or_null(alloc, &game.offer)?,
+        "ply": ply_value(&game.moves),
         "position": game.position.as_str(),
-        "result": score,
+        "result": score_or_null(alloc, game.result)?,
         "second": game.second.as_str()
     })
 }

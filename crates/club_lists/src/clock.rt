@@ -100,16 +100,14 @@ pub(crate) fn clock_value(
     ensures { IfOk result (λ value. view value ≡
         clock_data (members_of members.now) moment (summary_of game.now)) }
 {
-    let deadline = running_deadline(game);
-    let turn = running_turn(alloc, members, game)?;
     json!(in alloc; {
-        "deadline": deadline,
+        "deadline": running_deadline(game),
         "game": game.id,
         "left": [game.left_first, game.left_second],
         "moment": moment.seconds(),
         "now": [first_now(game, moment), second_now(game, moment)],
         "since": game.since.seconds(),
-        "turn": turn
+        "turn": running_turn(alloc, members, game)?
     })
 }
 

@@ -46,17 +46,15 @@ fn ended_value(
     ensures { IfOk result (λ value. view value ≡
         ended_data (members_of members.now) (events_of events.now) (summary_of game.now)) }
 {
-    let end = end_value(alloc, game)?;
-    let score = result_value(alloc, game)?;
     json!(in alloc; {
-        "end": end,
+        "end": end_value(alloc, game)?,
         "ended": end_moment(game),
         "event": event_name(events, game.event),
         "first": member_name(members, game.first),
         "game": game.id,
         "kind": kind_name(events, game),
         "ply": game.plies,
-        "result": score,
+        "result": result_value(alloc, game)?,
         "second": member_name(members, game.second)
     })
 }
@@ -120,9 +118,12 @@ fn ended_games_value(
     ensures { IfOk result (λ value. view value ≡ ended_games_data (members_of members.now) (events_of events.now)
         name.now moment (summaries_of games.now)) }
 {
-    let more = count_ended(members, name, games).saturating_sub(MOST_ENDED);
-    let newest = newest_ended(alloc, members, events, name, games)?;
-    json!(in alloc; {"games": newest, "member": name, "moment": moment.seconds(), "more": more})
+    json!(in alloc; {
+        "games": newest_ended(alloc, members, events, name, games)?,
+        "member": name,
+        "moment": moment.seconds(),
+        "more": count_ended(members, name, games).saturating_sub(MOST_ENDED)
+    })
 }
 
 /// The newest ended games of the member with this name, at most 200, and the number of the others, as a JSON object

@@ -64,19 +64,15 @@ fn event_game_value(
     ensures { IfOk result (λ value. view value ≡
         event_game_data (members_of members.now) (summary_of game.now)) }
 {
-    let deadline = running_deadline(game);
-    let end = end_value(alloc, game)?;
-    let score = result_value(alloc, game)?;
-    let turn = running_turn(alloc, members, game)?;
     json!(in alloc; {
-        "deadline": deadline,
-        "end": end,
+        "deadline": running_deadline(game),
+        "end": end_value(alloc, game)?,
         "first": member_name(members, game.first),
         "game": game.id,
         "ply": game.plies,
-        "result": score,
+        "result": result_value(alloc, game)?,
         "second": member_name(members, game.second),
-        "turn": turn
+        "turn": running_turn(alloc, members, game)?
     })
 }
 
@@ -118,8 +114,7 @@ fn event_games_value(
     ensures { IfOk result (λ value. view value ≡
         event_games_data (members_of members.now) (events_of events.now) name.now (summaries_of games.now)) }
 {
-    let listed = games_of_event(alloc, members, events, name, games)?;
-    json!(in alloc; {"games": listed})
+    json!(in alloc; {"games": games_of_event(alloc, members, events, name, games)?})
 }
 
 /// The games of the event with this name, as a JSON object.
@@ -195,9 +190,7 @@ fn challenge_choices(
     ensures { IfOk result (λ value. view value ≡
         challenge_choices key.now (members_of members.now) (events_of events.now)) }
 {
-    let all = event_values(alloc, events)?;
-    let others = other_names(alloc, key, members)?;
-    json!(in alloc; {"events": all, "members": others})
+    json!(in alloc; {"events": event_values(alloc, events)?, "members": other_names(alloc, key, members)?})
 }
 
 /// All events, and all members except the one with this key, as a JSON object.
@@ -253,16 +246,14 @@ fn own_game_value(
         own_game_data (members_of members.now) (events_of events.now) (running_view running.now)) }
 {
     let game = &running.entry;
-    let last = last_value(alloc, &running.last)?;
-    let offer = offer_value(alloc, members, game)?;
     json!(in alloc; {
         "deadline": deadline_value(game),
         "event": event_name(events, game.event),
         "first": member_name(members, game.first),
         "game": game.id,
         "kind": kind_name(events, game),
-        "last": last,
-        "offer": offer,
+        "last": last_value(alloc, &running.last)?,
+        "offer": offer_value(alloc, members, game)?,
         "ply": game.plies,
         "position": running.position.as_str(),
         "second": member_name(members, game.second),

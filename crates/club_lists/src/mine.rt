@@ -226,15 +226,12 @@ fn my_games_value(
     ensures { IfOk result (λ value. view value ≡ my_games_data (members_of members.now) (events_of events.now)
         name.now moment own.now.challenges.items (running_views own.now.running.items)) }
 {
-    let shown = shown_challenges(alloc, members, events, name, &own.challenges)?;
-    let games = own_game_values(alloc, members, events, &own.running)?;
-    let refused = newest_refused(alloc, members, events, name, &own.challenges)?;
     json!(in alloc; {
-        "challenges": shown,
-        "games": games,
+        "challenges": shown_challenges(alloc, members, events, name, &own.challenges)?,
+        "games": own_game_values(alloc, members, events, &own.running)?,
         "member": name,
         "moment": moment.seconds(),
-        "refused": refused
+        "refused": newest_refused(alloc, members, events, name, &own.challenges)?
     })
 }
 

@@ -44,11 +44,12 @@ fn page_value(
         (clock_data (members_of members.now) moment (summary_of page.summary))
         (game_data page.summary.id (game_view page.shown)) (game_name page.kind) (texts_view page.legal.items)) }
 {
-    let clock = clock_value(alloc, members, &page.summary, moment)?;
-    let game = game_value(alloc, u64::from(page.summary.id), &page.shown)?;
-    let legal = text_array(alloc, &page.legal)?;
-    let kind = game_name(page.kind);
-    json!(in alloc; {"clock": clock, "game": game, "kind": kind, "legal": legal})
+    json!(in alloc; {
+        "clock": clock_value(alloc, members, &page.summary, moment)?,
+        "game": game_value(alloc, u64::from(page.summary.id), &page.shown)?,
+        "kind": game_name(page.kind),
+        "legal": text_array(alloc, &page.legal)?
+    })
 }
 
 /// A game with its clock at a timestamp, its kind and its legal moves, as a JSON object.
