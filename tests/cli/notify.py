@@ -22,7 +22,7 @@ import tempfile
 import threading
 
 sys.path[0] = str(pathlib.Path(__file__).resolve().parents[1])
-from lib.club import FAST, PROGRAM, WAIT, club
+from lib.club import FAST, PROGRAM, TOP, WAIT, club
 from lib.report import check, exit_status, result, skip
 from lib.server import free_port, serve
 from lib.tool import Tool
@@ -467,6 +467,18 @@ def texts():
               for name, row in TEXTS.items()}
     check("each text is in each language, with the same values", [],
           [name for name, row in fields.items() if len(row) != len(LANGUAGES) or any(it != row[0] for it in row)])
+    ends = page_texts("NoMove", "Recorded")
+    check("a mail names each end as the page does", ends, {name: TEXTS.get(name) for name in ends})
+
+
+def page_texts(first, last):
+    """The texts of the page from one name to another, except for those of checkmate, which no mail tells apart."""
+    source = (TOP / "page/texts.js").read_text(encoding="utf-8")
+    part = source[source.index(f"  {first}: ["):]
+    part = part[:part.index("],", part.index(f"  {last}: [")) + 1]
+    rows = re.findall(r"^  (\w+): \[(.*?)\]", part, re.MULTILINE | re.DOTALL)
+    texts = {name: tuple(json.loads(f'"{it}"') for it in re.findall(r"'([^']*)'", row)) for name, row in rows}
+    return {name: row for name, row in texts.items() if name != "Mate"}
 
 
 def main():

@@ -9,7 +9,7 @@ TEXTS = {
         "Your turn against {opponent} ({event}, game {game})",
         "Sie sind am Zug gegen {opponent} ({event}, Partie {game})",
         "U bent aan zet tegen {opponent} ({event}, partij {game})",
-        "{opponent}さんとの対局：あなたの番です（{event}、対局{game}）",
+        "{opponent}さんとの対局：あなたの手番です（{event}、対局{game}）",
         "À vous de jouer contre {opponent} ({event}, partie {game})"),
     "left": (
         "Less than two days left against {opponent} ({event}, game {game})",
@@ -65,26 +65,34 @@ TEXTS = {
         "La page du club : {url}"),
     "draughts": ("Draughts", "Dame", "Dammen", "国際ドラフツ", "Dames"),
     "shogi": ("Shogi", "Shogi", "Shogi", "将棋", "Shogi"),
-    "NoMove": ("no move left", "kein Zug mehr möglich", "geen zet meer mogelijk", "指せる手がない",
-               "plus de coup possible"),
-    "Repetition": ("threefold repetition", "dreifache Stellungswiederholung", "driemaal dezelfde stand", "同一局面3回",
-                   "triple répétition"),
-    "KingMoves": ("25 moves by kings only", "25 Züge nur mit Damen", "25 zetten met alleen dammen", "成駒のみ25手",
-                  "25 coups de dames sans prise"),
-    "ThreeToOne": ("three pieces against a king", "drei Steine gegen eine Dame", "drie om één", "三対一",
-                   "trois pièces contre une dame"),
-    "TwoToOne": ("two pieces against a king", "zwei Steine gegen eine Dame", "twee om één", "二対一",
-                 "deux pièces contre une dame"),
-    "PlyLimit": ("limit of 600 plies", "Grenze von 600 Halbzügen", "grens van 600 halve zetten", "最長手数（600手）",
-                 "limite de 600 demi-coups"),
+    "NoMove": (
+        "no move left", "kein Zug mehr möglich", "geen zet meer mogelijk", "指せる手がない",
+        "plus de coup possible"),
+    "Repetition": (
+        "threefold repetition", "dreifache Stellungswiederholung", "driemaal dezelfde stand", "同一局面3回",
+        "triple répétition"),
+    "KingMoves": (
+        "25 king moves without a capture", "25 Damenzüge ohne Schlag", "25 damzetten zonder slag",
+        "キングの手のみ・駒取りなしで双方25手", "25 coups de dames sans prise"),
+    "ThreeToOne": (
+        "16 moves with three pieces against a king", "16 Züge mit drei Steinen gegen eine Dame",
+        "16 zetten met drie om één", "3枚対キング1枚で双方16手", "16 coups à trois pièces contre une dame"),
+    "TwoToOne": (
+        "5 moves with at most two pieces against a king", "5 Züge mit höchstens zwei Steinen gegen eine Dame",
+        "5 zetten met hooguit twee om één", "2枚以下対キング1枚で双方5手",
+        "5 coups à deux pièces au plus contre une dame"),
+    "PlyLimit": (
+        "limit of 600 plies", "Grenze von 600 Halbzügen", "grens van 600 halve zetten", "最大手数600手",
+        "limite de 600 demi-coups"),
     "PerpetualCheck": ("perpetual check", "Dauerschach", "eeuwig schaak", "連続王手の千日手", "échec perpétuel"),
-    "Fourfold": ("fourfold repetition", "vierfache Stellungswiederholung", "viermaal dezelfde stand", "千日手",
-                 "quadruple répétition"),
-    "Agreed": ("by agreement", "durch Vereinbarung", "in onderling overleg", "合意", "d’un commun accord"),
-    "Resigned": ("by resignation", "durch Aufgabe", "door opgave", "投了", "par abandon"),
-    "Time": ("on time", "durch Zeitüberschreitung", "op tijd", "時間切れ", "au temps"),
-    "Declared": ("by the entered king", "durch den eingetretenen König", "door de koning in de promotiezone", "入玉宣言",
-                 "par l’entrée du roi"),
+    "Fourfold": (
+        "fourfold repetition", "vierfache Stellungswiederholung", "viermaal dezelfde stand", "千日手",
+        "quadruple répétition"),
+    "Agreed": ("by agreement", "Vereinbarung", "in onderling overleg", "合意", "d’un commun accord"),
+    "Resigned": ("by resignation", "Aufgabe", "opgave", "投了", "abandon"),
+    "Time": ("on time", "Zeitüberschreitung", "tijdsoverschrijding", "時間切れ", "temps dépassé"),
+    "Declared": (
+        "by declaration of the entered king", "Königseintritt", "koningsintrede", "入玉宣言", "entrée du roi"),
     "Recorded": ("as recorded", "laut Notation", "volgens notatie", "棋譜による", "selon la notation"),
 }
 
