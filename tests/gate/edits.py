@@ -10,6 +10,7 @@ of specs/ or of a table that is no function, and edits that no goal of their own
 the function whose proof it breaks by a line `# seen by: MODULE::NAME`, which spares it the rest of the crate; or the file
 of lemmas, by `# seen by: proofs/NAME.antt`.
 """
+import collections
 import os
 import pathlib
 import re
@@ -27,6 +28,9 @@ from lib import kit
 REFUSED, MISSED, BAD = "refused", "missed", "bad"
 
 LONG = 300  # seconds of a check, after which it is told of
+# How many edits of a crate go into one check. A check holds all that it searched for until it ends: fifteen edits of
+# club_session took 10 GB.
+AT_A_TIME = {"store": 7, "club_orders": 8, "club_session": 5}
 
 HEAD = re.compile(r"^(\s*)(?:pub(?:\([^)]*\))? )?(?:const )?(?:unsafe )?fn (\w+)")
 IMPL = re.compile(r"^impl\b")
@@ -182,10 +186,13 @@ def is_refused(edit, folders, lines):
     )
 
 
-def next_round(edits, sources):
-    """The texts of a copy of the crate with as many of the edits as change different functions, and these edits."""
+def next_round(edits, sources, most=None):
+    """The texts of a copy of the crate with as many of the edits as change different functions, or as the most that a
+    check may take, and these edits."""
     texts, taken, functions = {}, [], set()
     for edit in edits:
+        if len(taken) == most:
+            break
         if not edit.stands_in_bodies() or edit.functions() & functions:
             continue
         made = edit.put_into(texts, sources)
@@ -239,12 +246,9 @@ class Trial:
             ran = self.timed("the whole crate", self.rt.checked, self.crate, texts, ["--jobs", "1"], self.kept)
         return ran
 
-    def round(self, edits):
-        """Tries the edits at once, and returns those that are told to be refused. Where the copy does not reach the
-        prover, it tries each half of them."""
-        texts, taken = next_round(edits, self.sources)
-        if not taken:
-            return []
+    def round(self, texts, taken):
+        """Tries the edits in these texts at once, and returns those that are told to be refused. Where the copy does not
+        reach the prover, it tries each half of them."""
         ran = self.checked(texts, taken)
         lines = ran.stdout.split("\n")
         is_read = not any(self.rt.unread(it, texts) for it in lines)
@@ -254,20 +258,23 @@ class Trial:
         if ran.returncode == 0 or len(taken) == 1:
             return []
         half = len(taken) // 2
-        return self.round(taken[:half]) + self.round(taken[half:])
+        return [edit for part in (taken[:half], taken[half:]) for edit in self.round(*next_round(part, self.sources))]
 
     def label(self, edit):
         return f"must-fail {self.crate.name}/{os.path.basename(edit.file)}"
 
     def in_rounds(self):
-        left = list(self.edits)
+        left, tries = list(self.edits), collections.Counter()
         while True:
-            refused = self.round(left)
+            left.sort(key=lambda edit: tries[edit.file])
+            texts, taken = next_round(left, self.sources, AT_A_TIME.get(self.crate.name))
+            refused = self.round(texts, taken) if taken else []
             for edit in refused:
                 self.found[edit.file] = REFUSED, f"{self.label(edit)}: refused, as it must be, by a goal of its function"
             left = [edit for edit in left if edit not in refused]
-            if not refused:
+            if not refused and all(tries[edit.file] for edit in taken):
                 return left
+            tries.update(edit.file for edit in taken)
 
     def alone(self, edit):
         name = f"{os.path.basename(edit.file).removesuffix('.edit')} alone"
