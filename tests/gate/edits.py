@@ -1,5 +1,5 @@
 #!/usr/bin/env python3
-"""Tries the must-fail edits of crates many at a time: `tests/gate/edits.py CRATE ..`, over what `rt check` proved there.
+"""Tries the must-fail edits of crates many at a time: `edits.py CRATE ..`, over what `rt check` proved there.
 
 Each file of crates/NAME/must-fail/ is an edit that the prover must refuse. A proof rests on the contracts of what a
 function calls and never on their bodies, so edits of the bodies of different functions say nothing of one another: all
@@ -7,8 +7,8 @@ of them go into one copy of the crate, which is checked once. An edit is refused
 it changes is refused. That a function calls another which is not proved says nothing yet: such an edit waits for the
 next round, without those that were refused. What no round tells is tried alone, as the kit's `rt must-fail` does: edits
 of specs/ or of a table that is no function, and edits that no goal of their own function refuses. Such an edit may name
-the function whose proof it breaks by a line `# seen by: MODULE::NAME`, which spares it the rest of the crate; or the file
-of lemmas, by `# seen by: proofs/NAME.antt`.
+the function whose proof it breaks by a line `# seen by: MODULE::NAME`, or the file of lemmas by
+`# seen by: proofs/NAME.antt`, which spares it the rest of the crate.
 """
 import collections
 import os
@@ -43,8 +43,8 @@ OF_ANOTHER = re.compile(r"which was (not admitted|rejected)|has no field|is not 
 
 
 class Place:
-    """The function whose body an edit changes: its file, its lines there with what stands over its head, and the folder of
-    its proof."""
+    """The function whose body an edit changes: its file, its lines there with what stands over its head, and the folder
+    of its proof."""
 
     def __init__(self, file, first, last, folder):
         self.file, self.first, self.last, self.folder = file, first, last, folder
@@ -247,8 +247,8 @@ class Trial:
         return ran
 
     def round(self, texts, taken):
-        """Tries the edits in these texts at once, and returns those that are told to be refused. Where the copy does not
-        reach the prover, it tries each half of them."""
+        """Tries the edits in these texts at once, and returns those that are refused. Where the copy does not reach the
+        prover, it tries each half of them."""
         ran = self.checked(texts, taken)
         lines = ran.stdout.split("\n")
         is_read = not any(self.rt.unread(it, texts) for it in lines)
@@ -270,7 +270,8 @@ class Trial:
             texts, taken = next_round(left, self.sources, AT_A_TIME.get(self.crate.name))
             refused = self.round(texts, taken) if taken else []
             for edit in refused:
-                self.found[edit.file] = REFUSED, f"{self.label(edit)}: refused, as it must be, by a goal of its function"
+                text = f"{self.label(edit)}: refused, as it must be, by a goal of its function"
+                self.found[edit.file] = REFUSED, text
             left = [edit for edit in left if edit not in refused]
             if not refused and all(tries[edit.file] for edit in taken):
                 return left
@@ -310,11 +311,13 @@ class Trial:
     def is_seen_in_lemmas(self, edit, texts):
         """The same for a file of lemmas. A check reads it where the proof of some function imports it."""
         module = edit.seen_by.removesuffix(".antt").replace("/", ".")
-        answers = sorted(pathlib.Path(self.crate.folder, "proofs").glob("*/**/Answers.antt"), key=lambda it: it.stat().st_size)
-        host = next(it.relative_to(self.crate.folder) for it in answers if "+" not in str(it))
+        answers = pathlib.Path(self.crate.folder, "proofs").glob("*/**/Answers.antt")
+        least = min((it for it in answers if "+" not in str(it)), key=lambda it: (it.stat().st_size, it))
+        host = least.relative_to(self.crate.folder)
         imported = f"use Rattle.{self.crate.name}.{module} as seen_by\n{self.sources.text(str(host))}"
         function = "::".join(host.parent.parts[1:])
-        ran = self.rt.checked(self.crate, {**texts, str(host): imported}, ["--jobs", "1", "--only", function], self.kept)
+        flags = ["--jobs", "1", "--only", function]
+        ran = self.rt.checked(self.crate, {**texts, str(host): imported}, flags, self.kept)
         lines = ran.stdout.split("\n")
         is_read = not any(self.rt.unread(it, texts) for it in lines)
         errors = [it for it in lines if it.removeprefix("./").startswith(f"{edit.seen_by}:") and OF_PROOFS.match(it)]
@@ -351,7 +354,8 @@ def main(names):
         if any(below.build_rlib(["--jobs", "1"], anew=False) for below in crate.below()):
             return 1
         files, bad = rt.edits_of(crate)
-        for kind, text in tried(rt, crate, files, f"{crate.folder}/out/incremental", lambda line: print(line, flush=True)):
+        start = f"{crate.folder}/out/incremental"
+        for kind, text in tried(rt, crate, files, start, lambda line: print(line, flush=True)):
             print(text, flush=True)
             worst |= kind not in (REFUSED, getattr(rt, "AT_LIMIT", REFUSED))
         for file in bad:

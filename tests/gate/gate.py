@@ -2,9 +2,9 @@
 """Runs the kit's `rt ci`, with edits tried in rounds, and then prints the processor seconds of each crate.
 
 The verdict on every crate, on its tests and on what programs print is the kit's own. In place of a check for each edit
-of must-fail/ there is one task a crate, tests/gate/edits.py, in the same lanes. Where a kit's script is another than the one
-that this was written for, edits are tried as the kit does it, and a line says so; --plain asks for that. --anew proves
-and tries all again, whatever earlier runs kept.
+of must-fail/ there is one task a crate, tests/gate/edits.py, in the same lanes. Where a kit's script is another than the
+one that this was written for, edits are tried as the kit does it, and a line says so; --plain asks for that. --anew
+proves and tries all again, whatever earlier runs kept.
 
 The lanes take the longest chain of tasks first, as many at a time as fit into the memory. The kit reckons both from
 the lines of a crate. Here they are what a run before has measured: the table in docs/proving/costs.md.
@@ -176,8 +176,8 @@ def planned(tasks, rows):
             found[key] = waits, lines * SECONDS_A_LINE, needs, call
             continue
         seconds = row[("proof", "tests", "edits").index(kind)]
-        # a process has had 1.3 times the memory of the run before, on another machine
-        found[key] = waits, seconds, min(needs, 1.3e9 * row[4] + 0.5e9), call
+        # another machine and other sources take up to 1.6 times the memory
+        found[key] = waits, seconds, min(needs, 1.6e9 * row[4] + 0.5e9), call
     return found
 
 
