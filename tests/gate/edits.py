@@ -30,7 +30,7 @@ REFUSED, MISSED, BAD = "refused", "missed", "bad"
 LONG = 300  # seconds of a check, after which it is told of
 # How many edits of a crate go into one check. A check holds all that it searched for until it ends: fifteen edits of
 # club_session took 10 GB.
-AT_A_TIME = {"store": 7, "club_orders": 8, "club_session": 5}
+AT_A_TIME = {"store": 5, "club_orders": 8, "club_session": 5}
 
 HEAD = re.compile(r"^(\s*)(?:pub(?:\([^)]*\))? )?(?:const )?(?:unsafe )?fn (\w+)")
 IMPL = re.compile(r"^impl\b")
