@@ -53,6 +53,17 @@ class Place:
         """The name that a check prints, without the crate's."""
         return self.folder.replace("/", "::")
 
+    def method(self):
+        """The names of a method's type and its own, or nothing for another function. The module before them is that of
+        the type, which may be another than that of the `impl`."""
+        names = self.folder.split("/")[-2:]
+        return "/".join(names) if names[0][:1].isupper() else None
+
+    def has_proof_in(self, folders):
+        """Whether its proof is in one of these folders."""
+        method = self.method()
+        return self.folder in folders or method is not None and any(f"/{it}".endswith(f"/{method}") for it in folders)
+
 
 class Edit:
     """A file of must-fail/: its lines `file`, `old`, `new`, and where they stand in the crate's files."""
@@ -181,7 +192,7 @@ def goals_refused(said):
 def is_refused(edit, folders, lines):
     """Whether a goal of a function that the edit changes is refused."""
     return any(
-        place.folder in folders or any(file == place.file and place.first <= at <= place.last for file, at in lines)
+        place.has_proof_in(folders) or any(file == place.file and place.first <= at <= place.last for file, at in lines)
         for place in edit.places
     )
 
@@ -214,16 +225,13 @@ class Trial:
 
     def only(self, edits):
         """The flags that have a check look at the functions of these edits alone."""
-        paths = sorted({place.path() for edit in edits for place in edit.places})
-        if any("+" in it for it in paths):
-            return []
-        return [word for it in paths for word in ("--only", self.known_path(it))]
+        paths = sorted({self.known_path(place) for edit in edits for place in edit.places})
+        return [] if any("+" in it for it in paths) else [word for it in paths for word in ("--only", it)]
 
-    def known_path(self, path):
-        """The path by which a check knows a function. That of a method begins with the module of its type, which may be
-        another than that of its `impl`: so a method goes by the names of its type and its own, if no other has both."""
-        short = "::".join(path.split("::")[-2:])
-        return short if short[0].isupper() and short not in self.shared else path
+    def known_path(self, place):
+        """The path by which a check knows a function: the whole one, or the end of a method's, if no other has it."""
+        short = (place.method() or "").replace("/", "::")
+        return short if short and short not in self.shared else place.path()
 
     def timed(self, what, call, *words):
         """What the call returns, once its seconds are told. A check that goes on for long is told of meanwhile."""
