@@ -2,9 +2,9 @@
 """Runs the kit's `rt ci`, with edits tried in rounds, and then prints the processor seconds of each crate.
 
 The verdict on every crate, on its tests and on what programs print is the kit's own. In place of a check for each edit
-of must-fail/ there is one task a crate, tests/gate/edits.py, in the same lanes. Where a kit's script is another than the
-one that this was written for, edits are tried as the kit does it, and a line says so; --plain asks for that. --anew
-proves and tries all again, whatever earlier runs kept.
+of must-fail/ there is one task a crate, tests/gate/edits.py, in the same lanes. Where a kit's script is another than
+the one that this was written for, edits are tried as the kit does it, and a line says so; --plain asks for that.
+--anew proves and tries all again, whatever earlier runs kept.
 
 The lanes take the longest chain of tasks first, as many at a time as fit into the memory. The kit reckons both from
 the lines of a crate. Here they are what a run before has measured: the table in docs/proving/costs.md.
@@ -163,7 +163,7 @@ def add_rounds(rt):
     return add
 
 
-SECONDS_A_LINE = 0.1  # of a proof, or of all edits, in a crate that no run has measured
+SECONDS_A_LINE = 0.4  # in a crate that no run has measured: too much, so that it is not left to the end
 
 
 def planned(tasks, rows):
