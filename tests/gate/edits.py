@@ -59,10 +59,10 @@ class Place:
         names = self.folder.split("/")[-2:]
         return "/".join(names) if names[0][:1].isupper() else None
 
-    def has_proof_in(self, folders):
-        """Whether its proof is in one of these folders."""
+    def has_proof_in(self, folders, methods):
+        """Whether its proof is in one of these folders. Each of the methods is the only one of its type and name."""
         method = self.method()
-        return self.folder in folders or method is not None and any(f"/{it}".endswith(f"/{method}") for it in folders)
+        return self.folder in folders or method in methods and any(f"/{it}".endswith(f"/{method}") for it in folders)
 
 
 class Edit:
@@ -189,10 +189,11 @@ def goals_refused(said):
     return folders, lines
 
 
-def is_refused(edit, folders, lines):
+def is_refused(edit, folders, lines, methods):
     """Whether a goal of a function that the edit changes is refused."""
     return any(
-        place.has_proof_in(folders) or any(file == place.file and place.first <= at <= place.last for file, at in lines)
+        place.has_proof_in(folders, methods)
+        or any(file == place.file and place.first <= at <= place.last for file, at in lines)
         for place in edit.places
     )
 
@@ -233,6 +234,14 @@ class Trial:
         short = (place.method() or "").replace("/", "::")
         return short if short and short not in self.shared else place.path()
 
+    def methods(self, edits):
+        """The methods that the edits change and that a check knew by the names of their types and their own: so no two
+        functions have both."""
+        if not self.only(edits):
+            return set()
+        found = {place.method() for edit in edits for place in edit.places} - {None}
+        return {it for it in found if it.replace("/", "::") not in self.shared}
+
     def timed(self, what, call, *words):
         """What the call returns, once its seconds are told. A check that goes on for long is told of meanwhile."""
         began, alarm = time.monotonic(), threading.Timer(LONG, self.say, (f"{LONG:6.0f} s  and going on: {what}",))
@@ -262,7 +271,7 @@ class Trial:
         is_read = not any(self.rt.unread(it, texts) for it in lines)
         if ran.returncode == 1 and is_read and re.search(r"^(logic=not-proved|only=)", ran.stdout, re.M):
             found = goals_refused(ran.stdout)
-            return [edit for edit in taken if is_refused(edit, *found)]
+            return [edit for edit in taken if is_refused(edit, *found, self.methods(taken))]
         if ran.returncode == 0 or len(taken) == 1:
             return []
         half = len(taken) // 2
