@@ -8,7 +8,8 @@ ghost use Rattle.store_tables.specs.Reading.{Reads};
 ghost use Rattle.club_rows.specs.Club.{ClubState, IsClub, tables};
 ghost use Rattle.club_requests.specs.declared.questions.Question.TheVariants as question;
 ghost use Rattle.club_answers.specs.Found.{IsFound, IsFoundAs};
-ghost use Rattle.club_answers.specs.AnswerTexts.{join_lines, IsLegalText, IsNoGame, IsTableText, IsNoEvent, IsMembersText};
+ghost use Rattle.club_answers.specs.AnswerTexts.{join_lines, IsLegalText, IsNoGame, IsTableText, IsNoEvent};
+ghost use Rattle.club_answers.specs.AnswerTexts.{IsMembersText};
 
 use crate::boards::board;
 use crate::bodies::{game_body, moves_body};

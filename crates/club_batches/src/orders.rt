@@ -55,7 +55,8 @@ fn bad_words(alloc: Global, number: u64, bad: &BadWords) -> BadWords
 fn no_text(alloc: Global, bytes: &[u8], place: usize) -> BadWords
     requires place { place ≡ utf8_valid_len bytes.now }
     requires few { length bytes.now ≤ most_bytes }
-    ensures { IsErrorWith (λ message. message ≡ line_error (no_text_line bytes.now) (codes "a word is not UTF-8\n")) result }
+    ensures { IsErrorWith (λ message. message ≡ line_error (no_text_line bytes.now)
+        (codes "a word is not UTF-8\n")) result }
 {
     let before = bytes.get(..place).unwrap_or(bytes);
     let ends = before.iter().filter(|byte| **byte == b'\n').count();
@@ -97,7 +98,8 @@ fn words_of<'a>(alloc: Global, line: &'a str) -> Result<Vec<&'a str>, AllocError
 
 fn order_of(alloc: Global, number: u64, line: &str) -> Result<BatchLine, BadWords>
     ensures ok { IfOk result (IsOrder (record { number = number; text = line.now })) }
-    ensures err { IfErr result (IsErrorWith (SaysOfLine number (IsNoOrder (record { number = number; text = line.now })))) }
+    ensures err { IfErr result (IsErrorWith (SaysOfLine number
+        (IsNoOrder (record { number = number; text = line.now })))) }
 {
     let words = words_of(alloc, line)?;
     let order = match read_line(alloc, words.as_slice()) {

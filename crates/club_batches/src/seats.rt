@@ -178,9 +178,9 @@ fn seated(
 ///
 /// # Errors
 ///
-/// - `SeatError::Refused` with `BadValue` if there are fewer than 2 or more than 32 players, a name is invalid or occurs
-///   twice, or a key is invalid; with `UnknownEvent` if the event's name is invalid. The number of players is tested
-///   first, then the event's name, the members' names, and the keys.
+/// - `SeatError::Refused` with `BadValue` if there are fewer than 2 or more than 32 players, a name is invalid or
+///   occurs twice, or a key is invalid; with `UnknownEvent` if the event's name is invalid. The number of players is
+///   tested first, then the event's name, the members' names, and the keys.
 /// - `SeatError::Memory` if out of memory.
 ///
 /// # Guarantees

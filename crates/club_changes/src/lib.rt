@@ -1,6 +1,7 @@
 //! Computes what a command changes in the tables: its outcome and the rows to upsert, without any I/O.
-//! Calls fail with `Memory` if out of memory, and with `InconsistentRows` if the given rows or values are not those of a legal
-//! club.
+//!
+//! Calls fail with `Memory` if out of memory, and with `InconsistentRows` if the given rows or values are not those of
+//! a legal club.
 //!
 //! # Guarantees
 //!

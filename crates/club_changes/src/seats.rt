@@ -72,7 +72,8 @@ pub fn seated_rows(
     ensures running { IfOk result (λ changes.
         started_scores (events_of events.now) (option_map (λ k. k.now) key.entry) new.pairing moment
         ≡ []) }
-    ensures unfit { IsErrOf result ChangeFault.InconsistentRows → place (events_of events.now) new.pairing.event ≡ None }
+    ensures unfit { IsErrOf result ChangeFault.InconsistentRows →
+        place (events_of events.now) new.pairing.event ≡ None }
 {
     let event = event_at(events, new.pairing.event)?;
     let changes = seat_in(alloc, event.game, terms_of(event), new, key, moment)?;

@@ -129,7 +129,8 @@ pub(crate) fn name_untyped<S: Alter>(
     judged: Vec<GameTableRow>,
 ) -> OpenFault
     ensures reads { Reads false (state S.Store conn.old) (state S.Store conn.new) }
-    ensures possible_faults { HasCleanDisk (state S.Store conn.new) → HasClubTables (state S.Store conn.old).now.schema →
+    ensures possible_faults { HasCleanDisk (state S.Store conn.new) →
+        HasClubTables (state S.Store conn.old).now.schema →
         (s : ClubState) → HasPeople s rows → HaveIds (record rows { games = judged }) →
         NamesUntyped rows (record rows { games = judged }) (state S.Store conn.old).now result }
     ensures faults { HasCleanDisk (state S.Store conn.new) → HasClubTables (state S.Store conn.old).now.schema →
@@ -203,8 +204,9 @@ fn before_scores(wrong: Option<Table>) -> Option<Table>
 ///
 /// # Guarantees
 ///
-/// `held`: a database that passes holds a legal club. `accepts_sound`: a legal club passes, unless a call fails or memory runs
-/// out. `reason_is_right`, `first`: the error is true of the rows, and a damaged table is the first wrong one.
+/// `held`: a database that passes holds a legal club. `accepts_sound`: a legal club passes, unless a call fails or
+/// memory runs out. `reason_is_right`, `first`: the error is true of the rows, and a damaged table is the first wrong
+/// one.
 pub fn check_database<S: Alter>(alloc: Global, conn: &mut Connection<S>) -> Result<(), OpenFault>
     ensures reads { Reads (is_ok result) (state S.Store conn.old) (state S.Store conn.new) }
     ensures found { HasCleanDisk (state S.Store conn.new) → OnOk result (IsOpened (state S.Store conn.old) → (s : _) ×
@@ -250,8 +252,8 @@ pub fn check_database<S: Alter>(alloc: Global, conn: &mut Connection<S>) -> Resu
 ///
 /// # Guarantees
 ///
-/// `held`: the rows returned are those of the legal club in the database. `accepts_sound`: a legal club of an accepted version
-/// passes, unless a call fails or memory runs out.
+/// `held`: the rows returned are those of the legal club in the database. `accepts_sound`: a legal club of an accepted
+/// version passes, unless a call fails or memory runs out.
 pub fn check_schemas<S: Alter>(
     alloc: Global,
     conn: &mut Connection<S>,

@@ -14,7 +14,8 @@ ghost use Rattle.store_tables.specs.Tables.{schema_number, meta, members, events
 ghost use Rattle.store_tables.specs.declared.names.Version.TheVariants.{First, Current};
 ghost use Rattle.store_tables.specs.Tables.{standing};
 ghost use Rattle.store_tables.specs.declared.names.Table.TheVariants.{Meta, Members, Events};
-ghost use Rattle.club_check.specs.ReasonIsRight.{IsMetaRead, IsOneMeta, HasTypes, HoldsNone, ReasonIsRight, IsRightFault, NamesTable};
+ghost use Rattle.club_check.specs.ReasonIsRight.{IsMetaRead, IsOneMeta, HasTypes, HoldsNone, ReasonIsRight};
+ghost use Rattle.club_check.specs.ReasonIsRight.{IsRightFault, NamesTable};
 ghost use Rattle.club_check.specs.ReasonIsRight.{AreRead, AreRulesRead, IsNumberFrom, NamesSchema, undeclared_row};
 ghost use Rattle.club_check.specs.ReasonIsRight.{ArePeopleRead};
 ghost use Rattle.club_check.specs.Places.{NamesRows};

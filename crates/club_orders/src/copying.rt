@@ -17,8 +17,8 @@ use std::alloc::Global;
 use store::StoreFault;
 use store_sql::{CopyFault, copy_tables};
 
-/// Copies a verified club into an empty database, in one transaction with one commit. The club is only read.
-/// Reports `Report::Copied`, or `Report::BackupFailed` if writing the copy failed, or `Report::StoreFailed` if reading the club
+/// Copies a verified club into an empty database, in one transaction with one commit. The club is only read. Reports
+/// `Report::Copied`, or `Report::BackupFailed` if writing the copy failed, or `Report::StoreFailed` if reading the club
 /// failed or memory ran out.
 ///
 /// # Guarantees

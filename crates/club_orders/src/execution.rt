@@ -237,9 +237,10 @@ pub fn verify<S: Alter>(alloc: Global, conn: Connection<S>) -> (Report, Connecti
 /// # Guarantees
 ///
 /// - `answer`, `given`, `asked`: the reported outcomes and the text written are those of the club's specification.
-/// - `history`: whatever a crash leaves is reached by the earlier history and this task, beside the same foreign tables.
-///   Only an upgrade changes the schema.
-/// - `next_state`: from a legal state, whatever a crash leaves is that state or the next one; the next one after success.
+/// - `history`: whatever a crash leaves is reached by the earlier history and this task, beside the same foreign
+///   tables. Only an upgrade changes the schema.
+/// - `next_state`: from a legal state, whatever a crash leaves is that state or the next one; the next one after
+///   success.
 /// - `begun`, `behind`: after the creation of a club, or a crash in it, there is an empty club of schema 2 or no club.
 /// - `creation`, `empty`, `existing`: a club is created, or the report says that there is one or that a call failed. An
 ///   existing club is unchanged.
@@ -288,7 +289,8 @@ pub fn act<S: Alter, W: Write>(
         HasClubTables (state S.Store conn).now.schema → IfVerify task.now (result.0 ≡ Report.Sound →
         HoldClub (state S.Store conn).committed.trees) }
     // The schema of an accepted file is equivalent to a club's, whatever `CREATE` statements made it.
-    ensures shape { IfAccepted task.now result.0 (λ version. is_of_club version (state S.Store conn).now.schema ≡ true) }
+    ensures shape { IfAccepted task.now result.0 (λ version.
+        is_of_club version (state S.Store conn).now.schema ≡ true) }
     ensures refuses { HasCleanDisk (state S.Store result.1) → IfOpensClub task.now (IfUnopened result.0
         (IsRefusal (state S.Store conn) (state S.Store result.1))) }
     ensures older { HasCleanDisk (state S.Store result.1) → Opens (state S.Store conn) → IsLive (state S.Store conn) →

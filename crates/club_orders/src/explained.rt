@@ -137,10 +137,10 @@ fn second_line(explains: bool, explanation: Option<Explanation>) -> &'static str
     }
 }
 
-/// A report on a task, as it is to be printed.
+/// The report on a task, with what its printing needs.
 #[derive(Clone, Copy)]
 pub struct TaskReport<'a> {
-    /// What was to be done.
+    /// The task.
     pub task: &'a Task,
     /// How it ended.
     pub report: &'a Report,
@@ -148,9 +148,8 @@ pub struct TaskReport<'a> {
     pub explains: bool,
 }
 
-/// Prints a report as `print` does and returns the same exit status.
-/// If it is to be explained, a refusal or fault is followed on standard error by a line that says what it means for the
-/// task and what to do.
+/// Prints a report as `print` does and returns the same exit status. With `explains`, a second line on standard error
+/// says what a refusal or fault means for the task and what to do.
 pub fn print_explained<O: Write, E: Write>(
     line: String,
     given: &TaskReport<'_>,

@@ -112,7 +112,8 @@ pub(crate) trait Execute {
         IsAnswer task s moment bytes bytes (Unopened fault) };
 
     /// If the club was not opened, its tables stay.
-    ghost unchanged: { (task : Self) (them : Neighbours) (s : ClubState) (moment : ℕ) (fault : OpenFault) (trees : Trees) →
+    ghost unchanged: { (task : Self) (them : Neighbours) (s : ClubState) (moment : ℕ) (fault : OpenFault)
+        (trees : Trees) →
         LeavesBeside them (tables s) trees → Leaves task them s moment (Unopened fault) trees };
 
     /// If the club was not opened, the history has no new step.

@@ -5,7 +5,8 @@ ghost use Rattle.club_orders.specs.declared.report.Report.{Report};
 ghost use Rattle.club_orders.specs.declared.report.Report.TheVariants.{InUse, Unopened};
 ghost use Rattle.club_program.specs.declared.course.AfterSession.TheVariants.{GoesOn, WaitsForFile, Unavailable};
 ghost use Rattle.http_desk.specs.declared.faults.ClubFault.{ClubFault};
-ghost use Rattle.http_desk.specs.declared.faults.ClubFault.TheVariants.{Foreign, Schema, Damaged, Store, Reopen, Memory};
+ghost use Rattle.http_desk.specs.declared.faults.ClubFault.TheVariants.{Foreign, Schema, Damaged, Store, Reopen};
+ghost use Rattle.http_desk.specs.declared.faults.ClubFault.TheVariants.{Memory};
 ghost use Rattle.club_check.specs.declared.fault.OpenFault.{OpenFault};
 
 use club_orders::Report;

@@ -3,11 +3,12 @@
 //!
 //! # Guarantees
 //!
-//! - `is_printed_alike` (`answered`, `shown`, `refused`): the definitions of what a server answers and of what a command
-//!   over the file reports agree: the same text, stream and status. What is printed is tested.
+//! - `is_printed_alike` (`answered`, `shown`, `refused`): the definitions of what a server answers and of what a
+//!   command over the file reports agree: the same text, stream and status. What is printed is tested.
 //! - `after_session` (`again`, `told`, `waits`, `foreign`, `failed`): after a serving session, and after a failed call,
 //!   the club is opened again. A file that another program holds is waited for. Else requests get the fault.
-//! - `parse_words` (`ok`, `err`): what is parsed are the words, with the file in place of a `--` and the word behind it.
+//! - `parse_words` (`ok`, `err`): what is parsed are the words, with the file in place of a `--` and the word behind
+//!   it.
 //! - `run`, `read_bytes`: the exit status is 0 to 3. One byte more than a record's limit is read, so that a longer one
 //!   is noticed.
 #![tactic(auto)]

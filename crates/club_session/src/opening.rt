@@ -122,7 +122,8 @@ fn names_no_file(file: &str) -> bool {
 /// # Errors
 ///
 /// - `Report::InUse`: another program has locked the file.
-/// - `Report::Unopened(OpenFault::Foreign)`: there is no club; never if one is to be created. Nothing was touched.
+/// - `Report::Unopened(OpenFault::Foreign)`: there is no club; never if one is to be created. No file was
+///   changed.
 /// - `Report::NotOpened`: the path names no database file, or opening failed.
 pub(crate) fn open_with_retries<S: RepeatableStart>(
     rt: &HostRuntime,
@@ -157,8 +158,8 @@ pub(crate) fn open_with_retries<S: RepeatableStart>(
 ///
 /// # Errors
 ///
-/// `Report::BackupFailed` if anything exists at the path, or the file cannot be created or opened. An existing file is not
-/// touched.
+/// `Report::BackupFailed` if anything exists at the path, or the file cannot be created or opened. An existing file is
+/// not touched.
 pub(crate) fn open_new<S: Start>(
     rt: &HostRuntime,
     file: &str,

@@ -55,7 +55,8 @@ fn purpose_of(task: &Task) -> OpenMode
 /// # Errors
 ///
 /// - `Report::InUse`: another program has locked the file.
-/// - `Report::Unopened(OpenFault::Foreign)`: there is no club; never if one is to be created. Nothing was touched.
+/// - `Report::Unopened(OpenFault::Foreign)`: there is no club; never if one is to be created. No file was
+///   changed.
 /// - `Report::NotOpened`: the path names no database file, or opening failed.
 pub fn open_files<S: RepeatableStart>(
     rt: &HostRuntime,
@@ -81,9 +82,10 @@ pub fn open_files<S: RepeatableStart>(
 ///
 /// - `given_back`, `unopened`: the store is returned if the files were opened. Otherwise the report is that of the
 ///   opening, and nothing was done.
-/// - `history`: whatever a crash leaves, the next opening finds a state that the earlier history and this order lead to,
-///   beside the same foreign tables. Only an upgrade changes the schema.
-/// - `next_state`: from a legal state, whatever a crash leaves is that state or the next one; the next one after success.
+/// - `history`: whatever a crash leaves, the next opening finds a state that the earlier history and this order lead
+///   to, beside the same foreign tables. Only an upgrade changes the schema.
+/// - `next_state`: from a legal state, whatever a crash leaves is that state or the next one; the next one after
+///   success.
 /// - `begun`, `behind`: after the creation of a club, or a crash in it, there is an empty club of schema 2 or no club.
 /// - `creation`, `empty`, `existing`: a club is created, or the report says that there is one or that a call failed. An
 ///   existing club is unchanged.

@@ -188,7 +188,7 @@ fn look(rt: &HostRuntime, file: &str) -> PathKind {
 /// - `Report::Unopened(OpenFault::Foreign)`: there is no club, and none is to be created.
 /// - `Report::NotOpened`: not a database file, or not accessible.
 ///
-/// Nothing was touched in either case.
+/// Both leave all files as they were.
 pub(crate) fn prepare(rt: &HostRuntime, file: &str, purpose: OpenMode) -> Result<(), Report>
     ensures { IfErr result (λ report.
         (report ≡ NotOpened) ⊎ ((report ≡ Unopened Foreign) × (purpose ≢ Making))) }

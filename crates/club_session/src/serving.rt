@@ -79,11 +79,11 @@ fn fault_after(has_failed: bool) -> Option<ClubFault>
 ///
 /// # Guarantees
 ///
-/// - `history`: any crash leaves a state that the history leads to, with commands of members and of the officer added, in
-///   the schema that was there.
+/// - `history`: any crash leaves a state that the history leads to, with commands of members and of the officer added,
+///   in the schema that was there.
 /// - `stands`: without a fault none of these commands was cut off, and the club is of schema 2.
-/// - `acknowledged`: any crash leaves a state to which the requests and orders lead that `visits` served, in order. Each
-///   reply that was sent is the one that the state before it determines, and its effect is in.
+/// - `acknowledged`: any crash leaves a state to which the requests and orders lead that `visits` served, in order.
+///   Each reply that was sent is the one that the state before it determines, and its effect is in.
 /// - `answered`: without a fault this state is the same, whatever a crash leaves.
 /// - `told`: the reported fault is a right one; an unopened file stays as it was.
 /// - `accepts_sound`: for a sound club file the fault is `Reopen`, `Store` or `Memory`.
@@ -106,8 +106,8 @@ pub fn serve_club<S: Alter, V: Connections>(
         (version ≡ Current) × IsHistoryOn from Current them sessions (state S.Store result.1) }
     ensures told { HasCleanDisk (state S.Store result.1) →
         IsReportedFault (state S.Store conn) (state S.Store result.1) result.0 }
-    // Whatever a crash leaves is a state to which the items lead that were served, in order. So it has the effect of each
-    // acknowledged one.
+    // Whatever a crash leaves is a state to which the items lead that were served, in order. So it has the effect of
+    // each acknowledged one.
     ensures acknowledged { (before : List Served) → V.HasServed visits.old before → (items : List Served) ×
         V.HasServed visits.new (before ++ items) × (HasCleanDisk (state S.Store result.1) →
         Opens (state S.Store conn) → IsLive (state S.Store conn) →
@@ -124,7 +124,8 @@ pub fn serve_club<S: Alter, V: Connections>(
         IfOpened result.0 (HoldClub (state S.Store conn).committed.trees) }
     // The tables' shape decides whether they are a club's, not the text of their CREATE statements.
     ensures shape { IfOpened result.0 (is_of_club Current (state S.Store conn).now.schema ≡ true) }
-    ensures accepts_sound { HasCleanDisk (state S.Store result.1) → Opens (state S.Store conn) → IsLive (state S.Store conn) →
+    ensures accepts_sound { HasCleanDisk (state S.Store result.1) → Opens (state S.Store conn) →
+        IsLive (state S.Store conn) →
         (s : ClubState) → IsClub s → HasState s (state S.Store conn).committed.trees →
         IfSome result.0 IsOfClub }
 {

@@ -33,8 +33,8 @@ use store_files::close;
 ///
 /// # Guarantees
 ///
-/// - `history`: whatever a crash leaves, the next opening finds a state that the earlier history and commands of members
-///   and of the officer lead to, in the schema that was there.
+/// - `history`: whatever a crash leaves, the next opening finds a state that the earlier history and commands of
+///   members and of the officer lead to, in the schema that was there.
 /// - `whole`: without a fault none of these commands was cut off, and the club is of schema 2.
 /// - `acknowledged`: whatever a crash leaves, the next opening finds a state to which the requests and orders lead that
 ///   `visits` served, in order. Each reply that was sent is the one that the state before it determines, and its effect

@@ -229,8 +229,8 @@ impl<'a> ControlListener<'a> {
     /// # Errors
     ///
     /// - `AddrInUse` if another server listens on it.
-    /// - An `io::Error` if a socket that stands there cannot be asked, or if the socket cannot be made or registered, or
-    ///   if out of memory.
+    /// - An `io::Error` if an existing socket at this path cannot be tested, if the socket cannot be created or
+    ///   registered, or if out of memory.
     pub fn open(rt: &'a HostRuntime, file: &str, poll: &Poll) -> io::Result<ControlListener<'a>> {
         let path = socket_path(rt.alloc(), file)?;
         remove_stale(rt, path.as_str())?;

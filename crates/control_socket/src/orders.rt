@@ -166,7 +166,8 @@ pub fn serve_order<W: Write, C: ClubService>(
     ensures obeys { C.IsClean club.new → (s : C.State) → C.Stands club.old s →
         HasRunOperation C.club (C.Stands club.new) (C.Leaves club.new) s moment errand.now }
     ensures tells { C.IsClean club.new → (s : C.State) → C.Stands club.old s →
-        HasSentAnswer C.club (C.Stands club.new) s moment errand.now (W.contents writer.old) (W.contents writer.new) result }
+        HasSentAnswer C.club (C.Stands club.new) s moment errand.now (W.contents writer.old) (W.contents writer.new)
+        result }
     ensures shut { (fault : ClubFault) → C.IsShut club.old fault → (result ≡ Err NotDone) ×
         (W.contents writer.new ≡ W.contents writer.old) × C.IsShut club.new fault }
 {

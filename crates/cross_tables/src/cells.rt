@@ -100,7 +100,8 @@ pub fn cells_of(
 ) -> Result<Vec<Cell>, Memory>
     ensures cells { IfOk result (λ cells. cells.items ≡ map (λ s. cell_of rows.now member s.member) standings.now) }
     // The member's own rows are enough.
-    ensures own { IfOk result (λ cells. (all : List OpponentScore) → rows.now ≡ filter (λ row. row.member == member) all →
+    ensures own { IfOk result (λ cells. (all : List OpponentScore) →
+        rows.now ≡ filter (λ row. row.member == member) all →
         cells.items ≡ map (λ s. cell_of all member s.member) standings.now) }
 {
     let cells = cells_against(alloc, member, standings.as_slice(), rows)?;

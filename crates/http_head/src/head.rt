@@ -7,7 +7,8 @@ ghost use Rattle.std.specs.Str.Parse.{digits_value};
 ghost use Rattle.httparse.specs.Grammar.{RequestHead};
 ghost use Rattle.httparse.specs.Spans.{IsWithin, IsHeaderWithin, span_bytes, header_bytes};
 ghost use Rattle.http_head.specs.Framing.{scan_start, end_from};
-ghost use Rattle.http_head.specs.Head.{is_name, field_occurrence, is_number, number_of, named_length, has_good_host, is_absent};
+ghost use Rattle.http_head.specs.Head.{is_name, field_occurrence, is_number, number_of, named_length, has_good_host};
+ghost use Rattle.http_head.specs.Head.{is_absent};
 ghost use Rattle.http_head.specs.Head.{single_value, body_length, outline_from, outline_of, IsReadAs};
 ghost use Rattle.http_head.specs.HeadViews.{occurrence_view, outline_result};
 

@@ -2,7 +2,8 @@
 ghost use Rattle.std.specs.Prelude.{◌≡◌, Ok, length};
 ghost use Rattle.http_head.specs.Head.{ParsedHead as outline};
 ghost use Rattle.http_head.specs.HeadViews.{outline_view};
-ghost use Rattle.http_head.specs.Request.{Sees, ParseState as seen, body_seen, skip_line_breaks, begin_with_head, asks_head};
+ghost use Rattle.http_head.specs.Request.{Sees, ParseState as seen, body_seen, skip_line_breaks, begin_with_head};
+ghost use Rattle.http_head.specs.Request.{asks_head};
 ghost use Rattle.http_head.specs.RequestViews.{seen_view};
 
 use crate::framing::Scan;

@@ -19,7 +19,7 @@ use std::time::{Duration, Instant};
 // that its socket file still exists.
 const HELD_SECONDS: u64 = 2;
 
-/// The longest lease of the file: longer than a command takes over a large club.
+/// The longest lease of the file, in seconds. A command over a large club takes less.
 pub(crate) const LEASE_SECONDS: u64 = 15;
 
 /// The hold of a server on its file, and the control socket by which others request the file or send orders.

@@ -7,7 +7,8 @@ ghost use Rattle.squares.specs.Sides.{same_side};
 ghost use Rattle.shogi_moves.specs.Rules.{may_land, may_promote};
 ghost use Rattle.shogi_moves.specs.Search.{piece_reaches};
 ghost use Rattle.shogi_moves.specs.Layouts.{position_of};
-ghost use Rattle.shogi_moves.specs.Computed.{goes, is_free, is_movement, drops_unheld, stuck_after, fails_to_promote, drops_dead};
+ghost use Rattle.shogi_moves.specs.Computed.{goes, is_free, is_movement, drops_unheld, stuck_after, fails_to_promote};
+ghost use Rattle.shogi_moves.specs.Computed.{drops_dead};
 ghost use Rattle.shogi_moves.specs.Computed.{holds_pawn, pawn_on_file, drops_pawn, drops_second_pawn, is_pseudo};
 
 use crate::layout::{Layout, dropped_role};

@@ -133,7 +133,8 @@ pub fn create<S: Alter>(_alloc: Global, conn: Connection<S>) -> Result<Club<S>, 
     }
 }
 
-/// Opens the club of schema 2 in the connection's database, after checking every row (`check_database`). Changes nothing.
+/// Opens the club of schema 2 in the connection's database, after checking every row (`check_database`). Changes
+/// nothing.
 ///
 /// # Errors
 ///
@@ -141,7 +142,8 @@ pub fn create<S: Alter>(_alloc: Global, conn: Connection<S>) -> Result<Club<S>, 
 ///
 /// # Guarantees
 ///
-/// `held`: the database holds a legal club. `accepts_sound`: a legal club is accepted, unless a call fails or memory runs out.
+/// `held`: the database holds a legal club. `accepts_sound`: a legal club is accepted, unless a call fails or memory
+/// runs out.
 pub fn adopt<S: Alter>(alloc: Global, conn: Connection<S>) -> Result<Club<S>, Unopened<S>>
     requires { conn.in_transaction ≡ false }
     ensures ready { IfOk result (λ club. club.needs_reopening ≡ false) }
@@ -243,8 +245,8 @@ impl<S: Alter> Club<S> {
     ///
     /// # Guarantees
     ///
-    /// `answer`, `step`: the outcome and the new state are those of the club's specification. `fault`, `after_crash`: after
-    /// an error or a crash the file holds the state before or after the command. The tables stay in schema 2.
+    /// `answer`, `step`: the outcome and the new state are those of the club's specification. `fault`, `after_crash`:
+    /// after an error or a crash the file holds the state before or after the command. The tables stay in schema 2.
     pub fn apply(
         &mut self,
         alloc: Global,

@@ -49,9 +49,8 @@ fn of_current(meta: &MetaRow) -> MetaRow
 /// # Guarantees
 ///
 /// `done`, `already`: the connection holds the same state in schema 2. `history`: the result names the schema that was
-/// found. `fault`, `after_crash`: after an error or a crash
-/// the file is of schema 1 or of schema 2, with the same state. `kept`: only `Store` may leave a changed file. `shape`: a
-/// file that is no club's is rejected.
+/// found. `fault`, `after_crash`: after an error or a crash the file is of schema 1 or of schema 2, with the same
+/// state. `kept`: only `Store` may leave a changed file. `shape`: a file that is no club's is rejected.
 pub fn upgrade<S: Alter>(
     alloc: Global,
     conn: Connection<S>,

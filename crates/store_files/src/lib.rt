@@ -78,8 +78,8 @@ pub fn close_club<D: Disk + Drop>(club: Club<FileStore<D>>) -> FileStore<D>
 ///
 /// # Guarantees
 ///
-/// `history`: whatever a crash leaves, the next opening finds a state that the earlier sessions and this one lead to, in
-/// the same schema. `kept`: after an error, one that the earlier sessions lead to.
+/// `history`: whatever a crash leaves, the next opening finds a state that the earlier sessions and this one lead to,
+/// in the same schema. `kept`: after an error, one that the earlier sessions lead to.
 pub fn serve_session<D: Disk + Drop>(
     alloc: Global,
     conn: Connection<FileStore<D>>,
@@ -106,7 +106,8 @@ pub fn serve_session<D: Disk + Drop>(
     ensures idle { IfErr result (λ unopened. unopened.conn.in_transaction ≡ false) }
     ensures known { IfErr result (λ unopened. doubt (file_state conn).is_clean ≤ doubt
         (file_state unopened.conn).is_clean) }
-    ensures accepts_sound { IfErr result (λ unopened. HasCleanDisk (file_state unopened.conn) → Opens (file_state conn) →
+    ensures accepts_sound { IfErr result (λ unopened. HasCleanDisk (file_state unopened.conn) →
+        Opens (file_state conn) →
         IsLive (file_state conn) →
         (s : ClubState) → IsClub s → HasState s (file_state conn).committed.trees →
         (unopened.fault ≡ OpenFault.Store) ⊎ (unopened.fault ≡ OpenFault.Memory)) }

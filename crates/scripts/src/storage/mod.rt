@@ -26,8 +26,8 @@ fn reported(rt: &HostRuntime, text: &str) -> anyhow::Result<RunReport> {
     Ok(report)
 }
 
-/// Runs a script and prints its report; whether every line holds. The number of injected crashes goes to standard error,
-/// so that the expected output does not depend on it.
+/// Runs a script and prints its report; whether every line holds. The number of injected crashes goes to standard
+/// error, so that the expected output does not depend on it.
 pub fn holds(rt: &HostRuntime, script: &str) -> anyhow::Result<bool> {
     let report = reported(rt, script)?;
     println!(rt; "{}", report.summary(rt.alloc())?.as_str())?;

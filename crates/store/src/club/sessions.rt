@@ -1,6 +1,7 @@
 //! Serving sessions of a club, each over what the earlier ones left in the file.
 
-ghost use Rattle.std.specs.Prelude.{◌≡◌, ◌≤◌, ◌⊎◌, ◌+◌, ◌++◌, ◌∷◌, [], false, true, Some, None, IsSome, IfSome, IfOk, IfErr};
+ghost use Rattle.std.specs.Prelude.{◌≡◌, ◌≤◌, ◌⊎◌, ◌+◌, ◌++◌, ◌∷◌, [], false, true, Some, None, IsSome, IfSome, IfOk};
+ghost use Rattle.std.specs.Prelude.{IfErr};
 ghost use Rattle.std.specs.Prelude.{map, length, take};
 ghost use Rattle.sqlite.specs.State.{HasCleanDisk, Opens, IsLive};
 ghost use Rattle.sqlite.specs.Held.{state};
@@ -25,8 +26,8 @@ impl<S: Alter> Club<S> {
     ///
     /// # Guarantees
     ///
-    /// `history`: whatever a crash leaves is reached by the earlier sessions and this one, in schema 2. `stands`: without a fault
-    /// the open club is, too, so the next session can follow.
+    /// `history`: whatever a crash leaves is reached by the earlier sessions and this one, in schema 2. `stands`:
+    /// without a fault the open club is, too, so the next session can follow.
     pub fn session(&mut self, alloc: Global, requests: &[Request]) -> Run
         ensures shut { self.old.needs_reopening ≡ true → (result.fault ≡ Some StoreFault.Reopen) ×
             (result.outcomes.items ≡ []) × (self.new ≡ self.old) }
@@ -71,8 +72,9 @@ impl<S: Alter> Club<S> {
 ///
 /// # Guarantees
 ///
-/// `history`: whatever a crash leaves is reached by the earlier sessions and this one, in the same schema. `kept`: after an
-/// error, by the earlier sessions. `stands`: only a club of schema 2 is served. `accepts_sound`: a legal club is opened, unless a call fails or memory runs out.
+/// `history`: whatever a crash leaves is reached by the earlier sessions and this one, in the same schema. `kept`:
+/// after an error, by the earlier sessions. `stands`: only a club of schema 2 is served. `accepts_sound`: a legal club
+/// is opened, unless a call fails or memory runs out.
 pub fn resume<S: Alter>(
     alloc: Global,
     conn: Connection<S>,
@@ -84,8 +86,8 @@ pub fn resume<S: Alter>(
     ensures stays_open { IfOk result (λ resumed. resumed.0.fault ≡ None → resumed.1.needs_reopening ≡ false) }
     ensures ends { IfOk result (λ resumed. IsSome resumed.0.fault → resumed.1.needs_reopening ≡ true) }
     // Never `Reopen`: the club was opened just now.
-    ensures possible_faults { IfOk result (λ resumed. IfSome resumed.0.fault (λ fault. (fault ≡ StoreFault.Store) ⊎ (fault ≡
-        StoreFault.Memory))) }
+    ensures possible_faults { IfOk result (λ resumed. IfSome resumed.0.fault (λ fault.
+        (fault ≡ StoreFault.Store) ⊎ (fault ≡ StoreFault.Memory))) }
     ensures within { IfOk result (λ resumed. length resumed.0.outcomes.items ≤ length requests.now) }
     ensures whole { IfOk result (λ resumed. resumed.0.fault ≡ None →
         length resumed.0.outcomes.items ≡ length requests.now) }
@@ -109,7 +111,8 @@ pub fn resume<S: Alter>(
     ensures idle { IfErr result (λ unopened. unopened.conn.in_transaction ≡ false) }
     ensures known { IfErr result (λ unopened. doubt (state S.Store conn).is_clean ≤ doubt
         (state S.Store unopened.conn).is_clean) }
-    ensures accepts_sound { IfErr result (λ unopened. HasCleanDisk (state S.Store unopened.conn) → Opens (state S.Store conn) →
+    ensures accepts_sound { IfErr result (λ unopened. HasCleanDisk (state S.Store unopened.conn) →
+        Opens (state S.Store conn) →
         IsLive (state S.Store conn) →
         (s : ClubState) → IsClub s → HasState s (state S.Store conn).committed.trees →
         (unopened.fault ≡ OpenFault.Store) ⊎ (unopened.fault ≡ OpenFault.Memory)) }
