@@ -31,7 +31,7 @@ ORDERS = [*TWO_MEMBERS, "event cup draughts 86400 0", "event fuji shogi 86400 60
           "seat h fuji bert anna", "move 2 1 7g7f",
           *(f"move 1 {ply} {text}" for ply, text in enumerate(DRAUGHTS_MOVES, 1))]
 NO_COPY = (3, "store 77 Output")
-LINE = "FILE2 has to be a new name, that of no log, in a folder where it can be made and has room"
+LINE = "FILE2 must be a new name, not that of a log, in a folder that can be written and has room"
 
 
 def create(file="c.db"):

@@ -14,6 +14,8 @@ use Rattle.club_orders.specs.declared.causes.WrongValue.{WrongValue}
 use Rattle.club_orders.specs.declared.causes.WrongValue.TheVariants as value
 use Rattle.club_orders.specs.declared.causes.ExplainedFault.{ExplainedFault}
 use Rattle.club_orders.specs.declared.causes.ExplainedFault.TheVariants as fault
+use Rattle.club_orders.specs.declared.causes.FileFault.{FileFault}
+use Rattle.club_orders.specs.declared.causes.FileFault.TheVariants as file
 use Rattle.club_orders.specs.declared.causes.Explanation.{Explanation}
 use Rattle.club_orders.specs.declared.causes.Explanation.TheVariants as explanation
 use Rattle.club_orders.specs.declared.texts.TheConstants.{UNKNOWN_KEY, NOT_ALLOWED, UNKNOWN_EVENT, UNKNOWN_GAME}
@@ -29,7 +31,9 @@ use Rattle.club_orders.specs.declared.texts.TheConstants.{UNFINISHED, RESULT_DIF
 use Rattle.club_orders.specs.declared.texts.TheConstants.{EVENT_NAME, BUDGET, INCREMENT, GAME_KEY, SAME_PLAYER}
 use Rattle.club_orders.specs.declared.texts.TheConstants.{UNKNOWN_PLAYER, RECORD_LENGTH, NO_PART, PLAYER_OR_RECORD}
 use Rattle.club_orders.specs.declared.texts.TheConstants.{MOVE_TEXT, LISTED_MEMBER, NO_CLUB, NOT_EMPTY, OLDER_SCHEMA}
-use Rattle.club_orders.specs.declared.texts.TheConstants.{LATER_SCHEMA, DAMAGED, IN_USE, NOT_OPENED, STORE, REOPEN}
+use Rattle.club_orders.specs.declared.texts.TheConstants.{LATER_SCHEMA, DAMAGED, IN_USE, NO_DATABASE, NO_FOLDER}
+use Rattle.club_orders.specs.declared.texts.TheConstants.{DENIED, READ_ONLY, LINKED, JOURNAL, FOREIGN_LOG, NOT_OPENED}
+use Rattle.club_orders.specs.declared.texts.TheConstants.{STORE, REOPEN}
 use Rattle.club_orders.specs.declared.texts.TheConstants.{MEMORY, NO_CLOCK, NO_RECORD, NO_PORT, NO_OUTPUT}
 use Rattle.club_orders.specs.declared.texts.TheConstants.{NO_COPY}
 
@@ -100,6 +104,17 @@ value_line value.PlayerOrRecord = PLAYER_OR_RECORD.now
 value_line value.MoveText = MOVE_TEXT.now
 value_line value.ListedMember = LISTED_MEMBER.now
 
+-- why a file was not opened
+abbrev pub file_line : FileFault → List ℕ
+file_line file.NoDatabase = NO_DATABASE.now
+file_line file.NoFolder = NO_FOLDER.now
+file_line file.Denied = DENIED.now
+file_line file.ReadOnly = READ_ONLY.now
+file_line file.Linked = LINKED.now
+file_line file.Journal = JOURNAL.now
+file_line file.ForeignLog = FOREIGN_LOG.now
+file_line file.Failed = NOT_OPENED.now
+
 -- faults of the file, memory, input and output
 abbrev pub fault_line : ExplainedFault → List ℕ
 fault_line fault.NoClub = NO_CLUB.now
@@ -108,7 +123,7 @@ fault_line fault.OlderSchema = OLDER_SCHEMA.now
 fault_line fault.LaterSchema = LATER_SCHEMA.now
 fault_line fault.Damaged = DAMAGED.now
 fault_line fault.InUse = IN_USE.now
-fault_line fault.NotOpened = NOT_OPENED.now
+fault_line (fault.NotOpened cause) = file_line cause
 fault_line fault.Store = STORE.now
 fault_line fault.Reopen = REOPEN.now
 fault_line fault.Memory = MEMORY.now

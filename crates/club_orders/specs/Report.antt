@@ -56,7 +56,7 @@ report_text BackupFailed = codes "store 77 Output\n"
 report_text (Unopened fault) = codes "store " ++ open_fault_text fault ++ codes "\n"
 report_text (StoreFailed fault) = codes "store " ++ store_fault_text fault ++ codes "\n"
 report_text InUse = codes "store 73 Store\n"
-report_text NotOpened = codes "store 73 Store\n"
+report_text (NotOpened cause) = codes "store 73 Store\n"
 report_text NoClock = codes "store 76 Input\n"
 report_text InputFailed = codes "store 76 Input\n"
 report_text (Listening port) = codes "listening 127.0.0.1:" ++ decimal port ++ codes "\n"
@@ -84,7 +84,7 @@ report_status BackupFailed = 3
 report_status (Unopened fault) = 3
 report_status (StoreFailed fault) = 3
 report_status InUse = 3
-report_status NotOpened = 3
+report_status (NotOpened cause) = 3
 report_status NoClock = 3
 report_status InputFailed = 3
 report_status (Listening port) = 0
@@ -103,6 +103,17 @@ pub record IsFaultTold (report : Report) (before now : Option (List ℕ)) : Type
   pub is_text : IsFaultText report text
   pub count : ℕ
   pub written : Appends before now (take count text)
+
+-- the report on a file that was not opened: another program uses it, or it cannot be opened
+abbrev pub IsNotOpened : Report → Type 0
+IsNotOpened InUse = Unit {0}
+IsNotOpened (NotOpened cause) = Unit {0}
+IsNotOpened _ = ⊥
+
+-- the result of a session that did not begin: its files were not opened, or hold no club
+abbrev pub IsUnopened : {A : Type 0} → Result A Report → Type 0
+IsUnopened (Ok a) = ⊥
+IsUnopened (Err report) = IsNotOpened report ⊎ (report ≡ Unopened open_fault.Foreign)
 
 -- ---- effect on the history of the club
 

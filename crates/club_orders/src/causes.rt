@@ -41,6 +41,27 @@ pub enum WrongValue {
     ListedMember,
 }
 
+/// Why a file was not opened, although no other program holds it.
+#[derive(Clone, Copy, Debug, PartialEq, Eq)]
+pub enum FileFault {
+    /// It is no database.
+    NoDatabase,
+    /// The folder of its path does not exist.
+    NoFolder,
+    /// The user may not read and write it, its log or its folder.
+    Denied,
+    /// Its file system cannot be written.
+    ReadOnly,
+    /// It, or its log, has a second name (a hard link), or is no regular file.
+    Linked,
+    /// Another program left a rollback journal beside it.
+    Journal,
+    /// Its write-ahead log belongs to another user, or more users may read or write the log than the file.
+    ForeignLog,
+    /// A call of the system failed for another reason.
+    Failed,
+}
+
 /// The fault of an order that is not caused by one of its values, with the number that is printed for it.
 #[derive(Clone, Copy, Debug, PartialEq, Eq)]
 pub enum ExplainedFault {
@@ -57,7 +78,7 @@ pub enum ExplainedFault {
     /// 73: another program has locked the file.
     InUse,
     /// 73: the file cannot be opened.
-    NotOpened,
+    NotOpened(FileFault),
     /// 73: a database call failed.
     Store,
     /// 74: an earlier database call failed, so the file must be opened again.

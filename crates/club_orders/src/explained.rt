@@ -85,7 +85,7 @@ fn report_explained(task: &Task, report: &Report) -> Option<Explanation>
         Report::OutputFailed => Some(Explanation::Fault(ExplainedFault::NoOutput)),
         Report::BackupFailed => Some(Explanation::Fault(ExplainedFault::NoCopy)),
         Report::InUse => Some(Explanation::Fault(ExplainedFault::InUse)),
-        Report::NotOpened => Some(Explanation::Fault(ExplainedFault::NotOpened)),
+        Report::NotOpened(cause) => Some(Explanation::Fault(ExplainedFault::NotOpened(*cause))),
         Report::NoClock => Some(Explanation::Fault(ExplainedFault::NoClock)),
         Report::InputFailed => Some(Explanation::Fault(ExplainedFault::NoRecord)),
         Report::PortUnavailable => Some(Explanation::Fault(ExplainedFault::NoPort)),

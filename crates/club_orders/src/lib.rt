@@ -30,7 +30,7 @@ mod texts;
 mod written;
 
 pub use batched::{BatchResults, print_batch};
-pub use causes::{ExplainedFault, Explanation, WrongValue, explain_refusal};
+pub use causes::{ExplainedFault, Explanation, FileFault, WrongValue, explain_refusal};
 pub use copying::back_up;
 pub use execution::{act, verify};
 pub use explained::{TaskReport, print_explained};

@@ -5,6 +5,7 @@ ghost use Rattle.std.specs.Io.KnownBytes.{Appends};
 ghost use Rattle.club_orders.specs.Report.{report_status, report_text, IsFaultTold};
 
 use crate::batched::{BatchResults, write_fault};
+use crate::causes::FileFault;
 use crate::written::write_out;
 use club_requests::Outcome;
 use std::alloc::AllocError;
@@ -53,7 +54,7 @@ pub enum Report {
     /// The file was not opened: another program uses it.
     InUse,
     /// The file was not opened for another reason.
-    NotOpened,
+    NotOpened(FileFault),
     /// The system clock is missing or outside 0..=253402300799.
     NoClock,
     /// The record to import cannot be read.
@@ -87,7 +88,7 @@ impl Report {
             Report::Unopened(_) => FAULT,
             Report::StoreFailed(_) => FAULT,
             Report::InUse => FAULT,
-            Report::NotOpened => FAULT,
+            Report::NotOpened(_) => FAULT,
             Report::NoClock => FAULT,
             Report::InputFailed => FAULT,
             Report::Listening(_) => DONE,
@@ -116,7 +117,7 @@ fn write_report(text: &mut String, report: &Report) -> Result<(), AllocError>
         Report::Unopened(fault) => writeln!(text, "store {fault}"),
         Report::StoreFailed(fault) => writeln!(text, "store {fault}"),
         Report::InUse => writeln!(text, "store 73 Store"),
-        Report::NotOpened => writeln!(text, "store 73 Store"),
+        Report::NotOpened(_) => writeln!(text, "store 73 Store"),
         Report::NoClock => writeln!(text, "store 76 Input"),
         Report::InputFailed => writeln!(text, "store 76 Input"),
         Report::Listening(port) => writeln!(text, "listening 127.0.0.1:{port}"),

@@ -1,9 +1,9 @@
 //! The texts of the explanations: one line per number; for 65, 70, 71, 73 and 76 one line per cause.
 
 ghost use Rattle.std.specs.Prelude.{◌≡◌};
-ghost use Rattle.club_orders.specs.Lines.{fault_line, move_line, record_line, refusal_line, value_line};
+ghost use Rattle.club_orders.specs.Lines.{fault_line, file_line, move_line, record_line, refusal_line, value_line};
 
-use crate::causes::{ExplainedFault, WrongValue};
+use crate::causes::{ExplainedFault, FileFault, WrongValue};
 use club_requests::Refusal;
 use club_rules::{GameKind, MoveRefusal, RecordFormat, RecordRefusal};
 
@@ -13,175 +13,199 @@ use club_rules::{GameKind, MoveRefusal, RecordFormat, RecordRefusal};
 const UNKNOWN_KEY: &str = "no member has this key\n";
 // 51
 const NOT_ALLOWED: &str =
-    "this command is not yours to give: some are the officer's, some a player's\n";
+    "you may not give this command: some are for the officer only, others for a player of the \
+    game\n";
 // 52
-const UNKNOWN_EVENT: &str = "no event has this name; 'events' lists them\n";
+const UNKNOWN_EVENT: &str = "there is no event of this name; 'events' lists them\n";
 // 53
-const UNKNOWN_GAME: &str = "no game has this number; 'games' lists them\n";
+const UNKNOWN_GAME: &str = "there is no game with this number; 'games' lists them\n";
 // 54
-const UNKNOWN_CHALLENGE: &str = "there is no challenge of this number by you, or to you\n";
+const UNKNOWN_CHALLENGE: &str = "there is no challenge with this number by you or to you\n";
 // 55
-const NOT_A_PLAYER: &str = "you play neither side of this game\n";
+const NOT_A_PLAYER: &str = "you are not a player of this game\n";
 // 56
-const GAME_OVER: &str = "the game has ended; 'games' says how\n";
+const GAME_OVER: &str = "the game has ended; 'games' shows its result\n";
 // 57
-const WRONG_PLY: &str = "PLY is 0 or not due yet; 'games' says how many plies were played\n";
+const WRONG_PLY: &str =
+    "PLY is 0, or moves before it are missing; 'games' shows how many plies were played\n";
 // 58
 const CONFLICT: &str =
-    "another move stands at this PLY, or another game under this KEY; 'games' lists the keys\n";
+    "another move was played at this PLY, or this KEY belongs to another game; 'games' lists the \
+    keys\n";
 // 59
-const NOT_YOUR_TURN: &str = "the other side is to move\n";
+const NOT_YOUR_TURN: &str = "it is the other side's turn\n";
 // 60
-const OUT_OF_TIME: &str = "the side to move has used up its time; 'sweep' ends such games\n";
+const OUT_OF_TIME: &str = "the side to move has no time left; 'sweep' ends such games\n";
 // 61
-const TIME_LEFT: &str = "the side to move has time left; 'games' says until when\n";
+const TIME_LEFT: &str = "the side to move still has time; 'games' shows its deadline\n";
 // 62
-const NO_OFFER: &str = "the other side has offered no draw at this ply\n";
+const NO_OFFER: &str = "there is no draw offer by the other side at this ply\n";
 // 63
-const NOT_IN_THIS_GAME: &str = "in this game no draw is agreed on\n";
+const NOT_IN_THIS_GAME: &str = "a draw cannot be agreed in this game\n";
 // 64
 const NAME_TAKEN: &str =
-    "the name is in use with other values, or another member has the key; choose another\n";
+    "the name is taken with other values, or another member has this key; choose another\n";
 // 65
-const BAD_VALUE: &str =
-    "a value is outside its limits; --help behind the word says what they are\n";
+const BAD_VALUE: &str = "a value is not allowed: --help after the command shows the limits\n";
 // 66
-const FULL: &str = "the club has no room for it: it holds 200 members, 50 events and 5000 games\n";
+const FULL: &str = "the club is full: it holds 200 members, 50 events and 5,000 games\n";
 // 67
-const NOT_DECLARABLE: &str = "the side to move may not declare that it has won\n";
+const NOT_DECLARABLE: &str = "the side to move may not declare a win in this position\n";
 
 // Refusals of a move by the rules of the games, 10 to 19, and of its text, 20, 21 and 30.
 
 // 10 and 13
-const NO_SUCH_MOVE: &str = "no piece may move so; 'legal' lists the moves of a game\n";
+const NO_SUCH_MOVE: &str = "no piece can move this way; 'legal' lists the legal moves\n";
 // 11
-const MUST_CAPTURE: &str =
-    "a capture is possible and has to be played; 'legal' lists the captures\n";
+const MUST_CAPTURE: &str = "captures are compulsory; 'legal' lists them\n";
 // 12
-const NOT_LONGEST: &str =
-    "another capture takes more pieces and has to be played; 'legal' lists it\n";
+const NOT_LONGEST: &str = "another capture takes more pieces and is compulsory; 'legal' lists it\n";
 // 14
 const NOT_IN_HAND: &str = "the side to move has no such piece in hand\n";
 // 15
 const MUST_PROMOTE: &str =
-    "the piece could not move on from there, so it has to promote: write + behind the move\n";
+    "the piece could not move again from there, so it must promote: add + to the move\n";
 // 16
-const DEAD_DROP: &str = "the piece could not move on from there, so it may not be dropped there\n";
+const DEAD_DROP: &str = "the piece could not move from there, so it cannot be dropped there\n";
 // 17
-const TWO_PAWNS: &str = "the side to move has an unpromoted pawn on this file already\n";
+const TWO_PAWNS: &str = "the side to move already has an unpromoted pawn on this file (nifu)\n";
 // 18
-const KING_ATTACKED: &str = "the king of the side to move would be attacked after this move\n";
+const KING_ATTACKED: &str = "after this move the king of the side to move would be in check\n";
 // 19
-const DROP_MATE: &str = "a pawn may not be dropped where that mates\n";
+const DROP_MATE: &str = "a pawn drop may not give mate (uchifuzume)\n";
 // 20
 const NO_DRAUGHTS_MOVE: &str =
-    "moves are written as 32-28, captures as 28x19; so many bytes of the text are right as the number says\n";
+    "a move is written as 32-28, a capture as 28x19; the number says how many bytes of the text \
+    are right\n";
 // 30
 const NO_SHOGI_MOVE: &str =
-    "moves are written as 7g7f, 8h2b+ or P*5e; so many bytes of the text are right as the number says\n";
+    "a move is written as 7g7f, 8h2b+ or P*5e; the number says how many bytes of the text are \
+    right\n";
 // 21
-const AMBIGUOUS: &str =
-    "several captures are written so: name the squares between as well, as in 46x37x26x12\n";
+const AMBIGUOUS: &str = "several captures fit: add the squares between, as in 46x37x26x12\n";
 
 // Refusals of an imported record: 20 to 27 for PDN, 40 to 46 for CSA.
 
 // 20
-const NO_PDN: &str = "RECORD is no PDN from that byte on, the first byte being 0\n";
+const NO_PDN: &str = "RECORD is not PDN from this byte on (the first byte is 0)\n";
 // 40
-const NO_CSA: &str = "RECORD is no CSA in that line, the first line being 1\n";
+const NO_CSA: &str = "RECORD is not CSA in this line (the first line is 1)\n";
 // 41
 const NO_VERSION: &str = "RECORD does not begin with V2, V2.1 or V2.2\n";
 // 23
-const OTHER_TYPE: &str = "the tag GameType of RECORD is not 20, which is international draughts\n";
+const OTHER_TYPE: &str = "the tag GameType of RECORD is not 20 (international draughts)\n";
 // 24 and 42
-const OTHER_OPENING: &str = "the game of RECORD does not begin as the club's games do\n";
+const OTHER_OPENING: &str =
+    "the game in RECORD does not start from the initial position of the club's games\n";
 // 21
 const AMBIGUOUS_PLY: &str =
-    "several captures are written as RECORD has that ply: name the squares between as well\n";
+    "at this ply several captures fit what RECORD says: add the squares between\n";
 // 22 and 43
 const ILLEGAL: &str =
-    "RECORD has at that ply, the first number, a move against the rules, which the second number names\n";
+    "at this ply (the first number) RECORD has an illegal move; the second number is the reason\n";
 // 26 and 45
-const AFTER_END: &str = "RECORD goes on at that ply, before which the rules had ended the game\n";
+const AFTER_END: &str = "RECORD has a move at this ply, but the game had ended before it\n";
 // 25 and 44
-const UNFINISHED: &str =
-    "RECORD does not say how the game ended, and only games that have ended are imported\n";
+const UNFINISHED: &str = "RECORD has no result, and only finished games are imported\n";
 // 27 and 46
-const RESULT_DIFFERS: &str =
-    "the result of RECORD is not that of the rules, or not that of its own tag\n";
+const RESULT_DIFFERS: &str = "the result in RECORD contradicts the rules or its own Result tag\n";
 
 // Refused values (65), by value.
 
-const MEMBER_NAME: &str = "NAME has to be 1 to 24 letters, digits, '.', '_' or '-'\n";
+const MEMBER_NAME: &str =
+    "this value is not allowed: NAME must be 1 to 24 letters, digits, '.', '_' or '-'\n";
 
-const MEMBER_KEY: &str = "KEY, the member's secret, has to be 8 to 64 letters and digits\n";
+const MEMBER_KEY: &str =
+    "this value is not allowed: KEY, the member's secret, must be 8 to 64 letters and digits\n";
 
-const EVENT_NAME: &str = "NAME, of the event, has to be 1 to 24 letters, digits, '.', '_' or '-'\n";
+const EVENT_NAME: &str =
+    "this value is not allowed: NAME of the event must be 1 to 24 letters, digits, '.', '_' or \
+    '-'\n";
 
-const BUDGET: &str = "BUDGET has to be 1 to 31536000 seconds\n";
+const BUDGET: &str =
+    "this value is not allowed: BUDGET must be 1 to 31,536,000 seconds; 1209600 is 14 days\n";
 
-const INCREMENT: &str = "INCREMENT has to be 0 to 2592000 seconds\n";
+const INCREMENT: &str =
+    "this value is not allowed: INCREMENT must be 0 to 2,592,000 seconds; 86400 is one day\n";
 
 const GAME_KEY: &str =
-    "KEY, the game's label, has to be 1 to 24 letters, digits, '.', '_' or '-'\n";
+    "this value is not allowed: KEY of the game must be 1 to 24 letters, digits, '.', '_' or '-'\n";
 
-const SAME_PLAYER: &str = "FIRST and SECOND are one member\n";
+const SAME_PLAYER: &str = "FIRST and SECOND are the same member\n";
 
-const UNKNOWN_PLAYER: &str = "FIRST or SECOND is no member; 'members' lists them\n";
+const UNKNOWN_PLAYER: &str = "FIRST or SECOND is not a member; 'members' lists them\n";
 
-const RECORD_LENGTH: &str = "RECORD has more than 65536 bytes\n";
+const RECORD_LENGTH: &str = "RECORD is longer than 65,536 bytes\n";
 
-const NO_PART: &str = "--part counts from 1\n";
+const NO_PART: &str = "--part starts at 1\n";
 
 const PLAYER_OR_RECORD: &str =
-    "FIRST or SECOND is no member, RECORD has no such part, or EVENT is of the other game\n";
+    "FIRST or SECOND is not a member, RECORD has no such part, or EVENT is of the other game\n";
 
-const MOVE_TEXT: &str = "TEXT has more than 200 bytes\n";
+const MOVE_TEXT: &str = "TEXT is longer than 200 bytes\n";
 
-const LISTED_MEMBER: &str = "--member names nobody; 'members' lists them\n";
+const LISTED_MEMBER: &str = "--member names no member; 'members' lists them\n";
 
 // Faults of the file, memory, input and output, 70 to 77.
 
 // 70
 const NO_CLUB: &str =
-    "FILE holds no club, or is not there: look at the path; 'init' makes a club\n";
+    "FILE does not exist or holds no club: check its path, or create a club with 'init'\n";
 // 70, of init
-const NOT_EMPTY: &str =
-    "FILE holds tables already: 'init' makes a club in a new or an empty file\n";
+const NOT_EMPTY: &str = "FILE already has tables: 'init' needs a new or an empty file\n";
 // 71, schema 1
 const OLDER_SCHEMA: &str =
-    "an earlier version of the program made FILE: copy it, and then give 'upgrade'\n";
+    "an earlier version of the program made FILE: back it up, then run 'upgrade'\n";
 // 71
-const LATER_SCHEMA: &str = "a later version of the program made FILE: take that one\n";
+const LATER_SCHEMA: &str = "a later version of the program made FILE: use that version\n";
 // 72
-const DAMAGED: &str = "another program has changed rows of this table: bring back a backup\n";
+const DAMAGED: &str = "another program has changed rows of this table: restore a backup\n";
 // 73
 const IN_USE: &str =
-    "another program holds the file: a desk, a word that takes long, an open prompt of sqlite3 that \
-    has read it, or a backup\n";
+    "another program has locked FILE: a server, a long command, a backup, or sqlite3 with an open \
+    transaction\n";
 // 73
-const NOT_OPENED: &str = "FILE is no database, may not be read and written, or is in no folder\n";
+const NO_DATABASE: &str = "FILE is not a database: check its path\n";
+// 73
+const NO_FOLDER: &str = "the folder of FILE does not exist: check its path\n";
+// 73
+const DENIED: &str =
+    "you may not read and write FILE, its log or its folder: run the command as the file's owner\n";
+// 73
+const READ_ONLY: &str = "the disk of FILE cannot be written: copy FILE to another disk\n";
+// 73
+const LINKED: &str =
+    "FILE or its log (FILE-wal) has a second name, or is no regular file: remove the other name\n";
+// 73
+const JOURNAL: &str =
+    "another program left a rollback journal (FILE-journal): open FILE once with sqlite3\n";
+// 73
+const FOREIGN_LOG: &str =
+    "the log (FILE-wal) is another user's, or more users may read or write it than FILE: somebody \
+    may have put it there; remove it, and run 'verify'\n";
+// 73
+const NOT_OPENED: &str = "FILE could not be opened: check the disk, and run the command again\n";
 // 73
 const STORE: &str =
-    "FILE could not be read or written: look at the free space, and give the word again\n";
+    "FILE could not be read or written: check the free space, then run the command again\n";
 // 74
-const REOPEN: &str = "an earlier call failed: give the word again\n";
+const REOPEN: &str = "an earlier call failed: run the command again\n";
 // 75
-const MEMORY: &str =
-    "the machine had no memory left: close other programs, and give the word again\n";
+const MEMORY: &str = "out of memory: close other programs, then run the command again\n";
 // 76
-const NO_CLOCK: &str = "the machine's clock cannot be read: set it, or give --now\n";
+const NO_CLOCK: &str =
+    "the system clock cannot be read or is out of range: set it, or give --now\n";
 // 76
-const NO_RECORD: &str = "RECORD cannot be read: look at its path\n";
+const NO_RECORD: &str = "RECORD or ORDERS cannot be read: check its path\n";
 // 76
 const NO_PORT: &str =
-    "the desk cannot listen on PORT: another program does, or the port is not for you\n";
+    "the server cannot listen on PORT: another program uses it, or you may not use this port\n";
 // 77
 const NO_OUTPUT: &str =
-    "what was to be printed could not be written; what was ordered is done, and may be given again\n";
+    "the output could not be written; the command was executed, and may be repeated\n";
 // 77
 const NO_COPY: &str =
-    "FILE2 has to be a new name, that of no log, in a folder where it can be made and has room\n";
+    "FILE2 must be a new name, not that of a log, in a folder that can be written and has room\n";
 
 /// The explanation of a refusal.
 pub(crate) fn refusal_line(refusal: Refusal) -> &'static str
@@ -272,6 +296,22 @@ pub(crate) fn value_line(value: WrongValue) -> &'static str
     }
 }
 
+// The explanation of a file that was not opened.
+fn file_line(fault: FileFault) -> &'static str
+    ensures { result.now ≡ file_line fault }
+{
+    match fault {
+        FileFault::NoDatabase => NO_DATABASE,
+        FileFault::NoFolder => NO_FOLDER,
+        FileFault::Denied => DENIED,
+        FileFault::ReadOnly => READ_ONLY,
+        FileFault::Linked => LINKED,
+        FileFault::Journal => JOURNAL,
+        FileFault::ForeignLog => FOREIGN_LOG,
+        FileFault::Failed => NOT_OPENED,
+    }
+}
+
 /// The explanation of a fault.
 pub(crate) fn fault_line(fault: ExplainedFault) -> &'static str
     ensures { result.now ≡ fault_line fault }
@@ -283,7 +323,7 @@ pub(crate) fn fault_line(fault: ExplainedFault) -> &'static str
         ExplainedFault::LaterSchema => LATER_SCHEMA,
         ExplainedFault::Damaged => DAMAGED,
         ExplainedFault::InUse => IN_USE,
-        ExplainedFault::NotOpened => NOT_OPENED,
+        ExplainedFault::NotOpened(cause) => file_line(cause),
         ExplainedFault::Store => STORE,
         ExplainedFault::Reopen => REOPEN,
         ExplainedFault::Memory => MEMORY,

@@ -13,9 +13,8 @@ ghost use Rattle.store_tables.specs.Reading.{OnlyReads};
 ghost use Rattle.club_rows.specs.Club.{ClubState, tables};
 ghost use Rattle.store_files.specs.Finds.{HaveNoTables};
 ghost use Rattle.club_check.specs.declared.fault.OpenFault.TheVariants.{Foreign};
-ghost use Rattle.club_orders.specs.declared.report.Report.TheVariants.{Copied, InUse, NotOpened, BackupFailed};
-ghost use Rattle.club_orders.specs.declared.report.Report.TheVariants.{Unopened};
-ghost use Rattle.club_orders.specs.Report.{IfUnopened, IsOfCopy, OnlyUnopened};
+ghost use Rattle.club_orders.specs.declared.report.Report.TheVariants.{Copied, BackupFailed, Unopened};
+ghost use Rattle.club_orders.specs.Report.{IfUnopened, IsNotOpened, IsOfCopy, OnlyUnopened};
 ghost use Rattle.club_orders.specs.Refused.{IsOlder};
 ghost use Rattle.club_session.specs.Copied.{HasCopyOf, HasCopyOrNone};
 ghost use Rattle.club_session.specs.Found.{AreFilesOf, AreFirstFilesOf, AreKept, AreRefused, AreSound, IsBackedUp};
@@ -125,8 +124,8 @@ pub fn back_up<S: RepeatableStart, T: Start>(
     start: S,
     copy_start: T,
 ) -> (BackupResult<FileFrom<T>>, Option<FileStore<FileFrom<S>>>)
-    ensures unopened { result.1 ≡ None → (result.0.copy ≡ None) × (((result.0.report ≡ InUse) ⊎
-        (result.0.report ≡ NotOpened)) ⊎ (result.0.report ≡ Unopened Foreign)) }
+    ensures unopened { result.1 ≡ None → (result.0.copy ≡ None) × (IsNotOpened result.0.report ⊎
+        (result.0.report ≡ Unopened Foreign)) }
     ensures kept { IfSome result.1 (λ store. IsClean (store_view store) →
         AreKept (image_at S.Start) (store_state store).may_leave) }
     ensures refuses { IfSome result.1 (λ store. IsClean (store_view store) → IfUnopened result.0.report

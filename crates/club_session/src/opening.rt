@@ -7,12 +7,13 @@ ghost use Rattle.sqlite.specs.Held.{IsNew};
 ghost use Rattle.sqlite.specs.Start.{FindsIn};
 ghost use Rattle.sqlite.specs.Files.{file_state, IsOpened};
 ghost use Rattle.club_check.specs.declared.fault.OpenFault.TheVariants.{Foreign};
-ghost use Rattle.club_orders.specs.declared.report.Report.TheVariants.{InUse, NotOpened, BackupFailed, Unopened};
+ghost use Rattle.club_orders.specs.declared.report.Report.TheVariants.{BackupFailed, Unopened};
+ghost use Rattle.club_orders.specs.Report.{IsNotOpened};
 ghost use Rattle.club_session.specs.declared.preflight.OpenMode.TheVariants.{Making};
 
 use crate::cache_size::cache_pages;
-use crate::preflight::{OpenMode, make_new, prepare};
-use club_orders::Report;
+use crate::preflight::{OpenMode, fault_of, make_new, prepare};
+use club_orders::{FileFault, Report};
 use sqlite::{Connection, FileFrom, FileStore, Options};
 use sqlite_disk::{Start, Wary};
 use sqlite_std_file::{OpenError, open};
@@ -68,7 +69,7 @@ fn turns_for(purpose: OpenMode) -> u8 {
 
 // The options of the connection.
 fn options(rt: &HostRuntime, file: &str, purpose: OpenMode) -> Result<Options, Report>
-    ensures { IfErr result (λ report. (report ≡ InUse) ⊎ (report ≡ NotOpened)) }
+    ensures { IfErr result IsNotOpened }
 {
     match RandomState::new(rt) {
         Ok(state) => {
@@ -77,7 +78,16 @@ fn options(rt: &HostRuntime, file: &str, purpose: OpenMode) -> Result<Options, R
             options.cache_pages = cache_pages(rt, file, purpose);
             Ok(options)
         }
-        Err(_) => Err(Report::NotOpened),
+        Err(error) => Err(Report::NotOpened(fault_of(&error))),
+    }
+}
+
+// Why the kit's `open` failed.
+fn opening_fault(error: &OpenError) -> FileFault {
+    match error {
+        OpenError::HotJournal => FileFault::Journal,
+        OpenError::Io(error) => fault_of(error),
+        OpenError::Busy | OpenError::OutOfMemory => FileFault::Failed,
     }
 }
 
@@ -91,12 +101,12 @@ fn open_once<S: Start>(
     ensures opened { IfOk result (λ c. HasCleanDisk (file_state c) → IsOpened c) }
     ensures found { IfOk result (λ c. HasCleanDisk (file_state c) → FindsIn (image_at S.Start) (file_state c)) }
     ensures fresh { IfOk result IsNew }
-    ensures unopened { IfErr result (λ report. (report ≡ InUse) ⊎ (report ≡ NotOpened)) }
+    ensures unopened { IfErr result IsNotOpened }
 {
     let files = match open(rt, file, start) {
         Ok(files) => files,
         Err(OpenError::Busy) => return Err(Report::InUse),
-        Err(_) => return Err(Report::NotOpened),
+        Err(error) => return Err(Report::NotOpened(opening_fault(&error))),
     };
     let options = match options(rt, file, purpose) {
         Ok(options) => options,
@@ -107,7 +117,7 @@ fn open_once<S: Start>(
             conn.set_clock(rt);
             Ok(conn)
         }
-        Err(_) => Err(Report::NotOpened),
+        Err(_) => Err(Report::NotOpened(FileFault::Failed)),
     }
 }
 
@@ -124,7 +134,7 @@ fn names_no_file(file: &str) -> bool {
 /// - `Report::InUse`: another program has locked the file.
 /// - `Report::Unopened(OpenFault::Foreign)`: there is no club; never if one is to be created. No file was
 ///   changed.
-/// - `Report::NotOpened`: the path names no database file, or opening failed.
+/// - `Report::NotOpened`: the path names no database file, its log may not be trusted, or opening failed.
 pub(crate) fn open_with_retries<S: RepeatableStart>(
     rt: &HostRuntime,
     file: &str,
@@ -134,11 +144,11 @@ pub(crate) fn open_with_retries<S: RepeatableStart>(
     ensures opened { IfOk result (λ c. HasCleanDisk (file_state c) → IsOpened c) }
     ensures found { IfOk result (λ c. HasCleanDisk (file_state c) → FindsIn (image_at S.Start) (file_state c)) }
     ensures fresh { IfOk result IsNew }
-    ensures unopened { IfErr result (λ report. ((report ≡ InUse) ⊎ (report ≡ NotOpened)) ⊎
+    ensures unopened { IfErr result (λ report. IsNotOpened report ⊎
         ((report ≡ Unopened Foreign) × (purpose ≢ Making))) }
 {
     if names_no_file(file) {
-        return Err(Report::NotOpened);
+        return Err(Report::NotOpened(FileFault::NoDatabase));
     }
     prepare(rt, file, purpose)?;
     for _ in 0..turns_for(purpose) {

@@ -16,7 +16,8 @@ ghost use Rattle.club_changes.specs.Steps.{club_step};
 ghost use Rattle.store_files.specs.Finds.{IsFoundIn, AreReachable, HaveNoTables, AreWithoutClub};
 ghost use Rattle.cli.specs.declared.words.Task.TheVariants.{Init};
 ghost use Rattle.club_check.specs.declared.fault.OpenFault.TheVariants.{Foreign};
-ghost use Rattle.club_orders.specs.declared.report.Report.TheVariants.{InUse, NotOpened, Sound, Unopened};
+ghost use Rattle.club_orders.specs.declared.report.Report.TheVariants.{Sound, Unopened};
+ghost use Rattle.club_orders.specs.Report.{IsNotOpened};
 ghost use Rattle.club_session.specs.declared.preflight.OpenMode.TheVariants.{Making};
 ghost use Rattle.club_orders.specs.Batches.{AnswersBatch};
 ghost use Rattle.club_orders.specs.Report.{given, Answers, IfRequest, IfAsk, IfBatch, IfVerify};
@@ -57,7 +58,7 @@ fn purpose_of(task: &Task) -> OpenMode
 /// - `Report::InUse`: another program has locked the file.
 /// - `Report::Unopened(OpenFault::Foreign)`: there is no club; never if one is to be created. No file was
 ///   changed.
-/// - `Report::NotOpened`: the path names no database file, or opening failed.
+/// - `Report::NotOpened`: the path names no database file, its log may not be trusted, or opening failed.
 pub fn open_files<S: RepeatableStart>(
     rt: &HostRuntime,
     order: &Order,
@@ -66,7 +67,7 @@ pub fn open_files<S: RepeatableStart>(
     ensures opened { IfOk result (λ c. HasCleanDisk (file_state c) → IsOpened c) }
     ensures found { IfOk result (λ c. HasCleanDisk (file_state c) → FindsIn (image_at S.Start) (file_state c)) }
     ensures fresh { IfOk result IsNew }
-    ensures unopened { IfErr result (λ report. ((report ≡ InUse) ⊎ (report ≡ NotOpened)) ⊎
+    ensures unopened { IfErr result (λ report. IsNotOpened report ⊎
         ((report ≡ Unopened Foreign) × (order.entry.now.task ≢ Init))) }
 {
     match open_with_retries(rt, order.file.as_str(), purpose_of(&order.task), start) {

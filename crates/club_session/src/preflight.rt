@@ -3,13 +3,16 @@
 
 ghost use Rattle.std.specs.Prelude.{◌≡◌, ◌≢◌, ◌⊎◌, ◌<◌, IfErr, IfSome};
 ghost use Rattle.club_check.specs.declared.fault.OpenFault.TheVariants.{Foreign};
-ghost use Rattle.club_orders.specs.declared.report.Report.TheVariants.{NotOpened, Unopened};
+ghost use Rattle.club_orders.specs.declared.report.Report.TheVariants.{Unopened};
+ghost use Rattle.club_orders.specs.Report.{IsNotOpened};
 ghost use Rattle.club_session.specs.declared.preflight.OpenMode.TheVariants.{Making};
 
-use club_orders::Report;
-use std::fs::{File, OpenOptions, metadata, remove_file, symlink_metadata};
-use std::io::{ErrorKind, Read};
-use std::os::unix::fs::OpenOptionsExt;
+use club_orders::{FileFault, Report};
+use std::fs::{
+    File, Metadata, OpenOptions, canonicalize, metadata, remove_file, symlink_metadata,
+};
+use std::io::{Error, ErrorKind, Read};
+use std::os::unix::fs::{MetadataExt, OpenOptionsExt};
 use store::OpenFault;
 
 /// The mode in which files are opened.
@@ -33,8 +36,8 @@ enum PathKind {
     Database,
     /// A SQLite database without a log, in which no table of a club is listed.
     Foreign,
-    /// Not a database file, or not accessible.
-    Other,
+    /// Not a database file, not accessible, or with a log that may be another user's.
+    Other(FileFault),
 }
 
 // The magic header of a SQLite database (file format, section 1.3.1).
@@ -94,6 +97,48 @@ fn sidecar_exists(rt: &HostRuntime, file: &str, end: &str) -> bool {
     }
 }
 
+// The bits of a mode by which others than the owner read and write a file.
+const SHARED: u32 = 0o066;
+
+// The bit of a mode by which the group writes a file.
+const GROUP_WRITES: u32 = 0o020;
+
+// The user id of root, who can write the file anyway.
+const ROOT: u32 = 0;
+
+// Whether a log was made by somebody who may write the file: its owner, root, or its group if that may; and whether
+// nobody may read or write the log who may not do so with the file.
+fn is_log_of(log: &Metadata, file: &Metadata) -> bool {
+    let is_groups = file.mode() & GROUP_WRITES != 0 && log.gid() == file.gid();
+    let is_theirs = log.uid() == file.uid() || log.uid() == ROOT || is_groups;
+    is_theirs && log.is_file() && log.nlink() == 1 && log.mode() & SHARED & !file.mode() == 0
+}
+
+// Whether the log beside a file, if there is one, may be read as the file's own: SQLite takes what stands in a log for
+// the content of the file. The log is beside the file that the path leads to.
+fn is_log_trusted(rt: &HostRuntime, file: &str, found: &Metadata) -> bool {
+    let Ok(real) = canonicalize(rt, file) else {
+        return false;
+    };
+    let Ok(path) = format!(in rt.alloc(); "{}-wal", real.as_str()) else {
+        return false;
+    };
+    match symlink_metadata(rt, path.as_str()) {
+        Ok(log) => is_log_of(&log, found),
+        Err(error) => error.kind() == ErrorKind::NotFound,
+    }
+}
+
+/// Why a call on a file failed.
+pub(crate) fn fault_of(error: &Error) -> FileFault {
+    match error.kind() {
+        ErrorKind::PermissionDenied => FileFault::Denied,
+        ErrorKind::ReadOnlyFilesystem => FileFault::ReadOnly,
+        ErrorKind::Unsupported => FileFault::Linked,
+        _ => FileFault::Failed,
+    }
+}
+
 // Whether the file has no log, so that it alone is the database.
 fn is_at_rest(rt: &HostRuntime, file: &str) -> bool {
     !sidecar_exists(rt, file, "-wal") && !sidecar_exists(rt, file, "-journal")
@@ -108,6 +153,14 @@ fn beginning_of(rt: &HostRuntime, file: &str, most: u64) -> Vec<u8> {
             bytes
         }
         Err(_) => bytes,
+    }
+}
+
+// Why a file does not begin like a database: it cannot be read, or is none.
+fn reading_fault(rt: &HostRuntime, file: &str) -> FileFault {
+    match File::open(rt, file) {
+        Ok(_) => FileFault::NoDatabase,
+        Err(error) => fault_of(&error),
     }
 }
 
@@ -160,7 +213,7 @@ fn kind_of(rt: &HostRuntime, file: &str) -> PathKind {
         return if sidecar_exists(rt, file, "-wal") {
             PathKind::Database
         } else {
-            PathKind::Other
+            PathKind::Other(reading_fault(rt, file))
         };
     }
     match first_page(bytes.as_slice()) {
@@ -169,15 +222,30 @@ fn kind_of(rt: &HostRuntime, file: &str) -> PathKind {
     }
 }
 
+// The kind of a path with a regular file.
+fn kind_of_file(rt: &HostRuntime, file: &str, found: &Metadata) -> PathKind {
+    if found.nlink() != 1 {
+        return PathKind::Other(FileFault::Linked);
+    }
+    if !is_log_trusted(rt, file, found) {
+        return PathKind::Other(FileFault::ForeignLog);
+    }
+    if found.len() != 0 {
+        kind_of(rt, file)
+    } else if sidecar_exists(rt, file, "-wal") {
+        PathKind::Database
+    } else {
+        PathKind::Nothing
+    }
+}
+
 fn look(rt: &HostRuntime, file: &str) -> PathKind {
     match metadata(rt, file) {
-        Ok(found) if !found.is_file() => PathKind::Other,
-        Ok(found) if found.len() == 0 && sidecar_exists(rt, file, "-wal") => PathKind::Database,
-        Ok(found) if found.len() == 0 => PathKind::Nothing,
-        Ok(_) => kind_of(rt, file),
-        Err(error) if error.kind() == ErrorKind::NotFound && has_folder(rt, file) =>
-            PathKind::Nothing,
-        Err(_) => PathKind::Other,
+        Ok(found) if found.is_file() => kind_of_file(rt, file, &found),
+        Ok(_) => PathKind::Other(FileFault::NoDatabase),
+        Err(error) if error.kind() != ErrorKind::NotFound => PathKind::Other(fault_of(&error)),
+        Err(_) if has_folder(rt, file) => PathKind::Nothing,
+        Err(_) => PathKind::Other(FileFault::NoFolder),
     }
 }
 
@@ -186,16 +254,16 @@ fn look(rt: &HostRuntime, file: &str) -> PathKind {
 /// # Errors
 ///
 /// - `Report::Unopened(OpenFault::Foreign)`: there is no club, and none is to be created.
-/// - `Report::NotOpened`: not a database file, or not accessible.
+/// - `Report::NotOpened`: not a database file, not accessible, or with a log that may be another user's.
 ///
 /// Both leave all files as they were.
 pub(crate) fn prepare(rt: &HostRuntime, file: &str, purpose: OpenMode) -> Result<(), Report>
     ensures { IfErr result (λ report.
-        (report ≡ NotOpened) ⊎ ((report ≡ Unopened Foreign) × (purpose ≢ Making))) }
+        IsNotOpened report ⊎ ((report ≡ Unopened Foreign) × (purpose ≢ Making))) }
 {
     match look(rt, file) {
         PathKind::Database => Ok(()),
-        PathKind::Other => Err(Report::NotOpened),
+        PathKind::Other(fault) => Err(Report::NotOpened(fault)),
         PathKind::Nothing if purpose == OpenMode::Making => {
             // If this fails, the opening reports why.
             let _made = make_private(rt, file);

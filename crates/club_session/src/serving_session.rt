@@ -7,8 +7,7 @@ ghost use Rattle.sqlite_store.specs.FileStore.{state as store_state, view as sto
 ghost use Rattle.sqlite_trees.specs.View.{IsClean};
 ghost use Rattle.store_tables.specs.declared.names.Version.TheVariants.{Current};
 ghost use Rattle.store_files.specs.Finds.{AreReachable};
-ghost use Rattle.club_check.specs.declared.fault.OpenFault.TheVariants.{Foreign};
-ghost use Rattle.club_orders.specs.declared.report.Report.TheVariants.{InUse, NotOpened, Unopened};
+ghost use Rattle.club_orders.specs.Report.{IsUnopened};
 ghost use Rattle.club_rows.specs.Club.{ClubState};
 ghost use Rattle.http_desk.specs.declared.faults.ClubFault as desk_fault;
 ghost use Rattle.server.specs.declared.connections.Served.{Served};
@@ -51,8 +50,7 @@ pub fn serve_files<S: RepeatableStart, V: Connections>(
     Result<Option<ClubFault>, Report>,
     Option<FileStore<FileFrom<S>>>,
 )
-    ensures unopened { result.1 ≡ None →
-        ((result.0 ≡ Err InUse) ⊎ (result.0 ≡ Err NotOpened)) ⊎ (result.0 ≡ Err (Unopened Foreign)) }
+    ensures unopened { result.1 ≡ None → IsUnopened result.0 }
     ensures history { IfSome result.1 (λ store. IsClean (store_view store) →
         (from : _) (versions : _) (them : _) (sessions : _) →
         AreReachable from versions them sessions (image_at S.Start) →
