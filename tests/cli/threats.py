@@ -20,13 +20,20 @@ import sys
 import tempfile
 
 sys.path[0] = str(pathlib.Path(__file__).resolve().parents[1])
-from lib.club import FAST, PROGRAM, TOP, WAIT, club, create
+from lib.club import FAST, PROGRAM, TOP, WAIT, club, create, run
 from lib.report import check, exit_status, result, skip
 from lib.server import free_port, serve
 
 OWNER, OTHER = 61001, 65534  # the numbers of users, and of their groups
 SOCKET, KEY = "c.db-desk", "keyanna1"
 IS_ROOT = os.geteuid() == 0
+EXPLAINED = {
+    "second.db": "FILE or its log (FILE-wal) has a second name, or is no regular file: remove the other name",
+    "text.db": "FILE is not a database: check its path",
+    "folder.db": "FILE is not a database: check its path",
+    "journal.db": "another program left a rollback journal (FILE-journal): open FILE once with sqlite3",
+    "nowhere/c.db": "the folder of FILE does not exist: check its path",
+}
 
 
 def as_user(number, call):
@@ -101,21 +108,52 @@ def modes_of_files():
 
 
 def planted_logs():
-    """Whoever may write into the folder replaces the club by a log: docs/operating.md asks for mode 700."""
+    """A log that another user may have put beside the file is not read: it would replace the club."""
     create("c.db")
     club("other.db", "init")
     club("other.db", "member", "mallory", "keymallory")
+    before = pathlib.Path("c.db").read_bytes()
     with contextlib.closing(sqlite3.connect("other.db", isolation_level=None)) as database:
         database.execute("PRAGMA journal_mode = wal")
         database.execute("PRAGMA wal_autocheckpoint = 0")
         database.execute("VACUUM")
         shutil.copyfile("other.db-wal", "c.db-wal")
-    check("a planted log replaces the club, and `verify` prints sound", ((0, "sound"), (0, "member 1 mallory")),
-          (club("c.db", "verify"), club("c.db", "members")))
+    refused = 3, "store 73 Store"
+    os.chmod("c.db-wal", 0o644)
+    check("a log that more users may read than the file is refused", [refused] * 3,
+          [club("c.db", *words) for words in (["members"], ["verify"], ["init"])])
+    check("an explanation names the log", True, "FILE-wal" in run(["--explain", "c.db", "members"])[2])
+    if IS_ROOT:
+        os.chmod("c.db-wal", 0o600)
+        os.chown("c.db", OWNER, OWNER)
+        os.chown("c.db-wal", OTHER, OTHER)
+        check("a log of another user than the file's is refused", refused, club("c.db", "members"))
+        os.chown("c.db", os.getuid(), os.getgid())
+    else:
+        skip("a log of another user than the file's is refused", "only root can become another user")
+    os.symlink("other.db", "link")
+    os.replace("link", "c.db-wal")
+    check("a link in the place of a log is refused", refused, club("c.db", "members"))
+    os.remove("c.db-wal")
+    check("the refused logs changed nothing", (before, (0, "member 1 anna\nmember 2 bert")),
+          (pathlib.Path("c.db").read_bytes(), club("c.db", "members")))
     os.chmod(".", 0o700)
     if IS_ROOT:
         check("in a folder of mode 700 another user plants none", "EACCES",
               as_user(OTHER, lambda: pathlib.Path(os.getcwd(), "c.db-wal").write_bytes(b"") and None))
+
+
+def unopened_files():
+    """--explain says why a file was not opened."""
+    create("c.db")
+    os.link("c.db", "second.db")
+    pathlib.Path("text.db").write_text("no database")
+    shutil.copy("c.db", "journal.db")
+    pathlib.Path("journal.db-journal").write_bytes(b"x")
+    os.mkdir("folder.db")
+    check("each file that is not opened has an explanation of its own",
+          {it: (3, "", f"store 73 Store\n{why}\n") for it, why in EXPLAINED.items()},
+          {it: run(["--explain", it, "members"]) for it in EXPLAINED})
 
 
 def sticky_folders():
@@ -217,7 +255,7 @@ def keys_of_members():
     check("the program takes such a key", (0, "accepted member 3"), club("c.db", "member", "dora", made))
 
 
-PARTS = modes_of_files, planted_logs, sticky_folders, ports, requests, keys_of_members
+PARTS = modes_of_files, planted_logs, unopened_files, sticky_folders, ports, requests, keys_of_members
 
 if __name__ == "__main__":
     for part in PARTS:
