@@ -18,7 +18,7 @@ from lib.club import create, is_within, run
 from lib.report import check, exit_status
 from lib.server import SHOW_GAME, receive, serve, unavailable
 
-HOLDERS = "another program has locked FILE: a server, a long command, a backup, or sqlite3 with an open transaction"
+HOLDERS = "another program has locked FILE: a server, a long command, a backup, or an open prompt of sqlite3"
 
 
 def reply(server, sent):
