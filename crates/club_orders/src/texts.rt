@@ -162,8 +162,8 @@ const LATER_SCHEMA: &str = "a later version of the program made FILE: use that v
 const DAMAGED: &str = "another program has changed rows of this table: restore a backup\n";
 // 73
 const IN_USE: &str =
-    "another program has locked FILE: a server, a long command, a backup, or sqlite3 with an open \
-    transaction\n";
+    "another program has locked FILE: a server, a long command, a backup, or an open prompt of \
+    sqlite3\n";
 // 73
 const NO_DATABASE: &str = "FILE is not a database: check its path\n";
 // 73
