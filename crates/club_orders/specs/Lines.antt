@@ -32,8 +32,8 @@ use Rattle.club_orders.specs.declared.texts.TheConstants.{EVENT_NAME, BUDGET, IN
 use Rattle.club_orders.specs.declared.texts.TheConstants.{UNKNOWN_PLAYER, RECORD_LENGTH, NO_PART, PLAYER_OR_RECORD}
 use Rattle.club_orders.specs.declared.texts.TheConstants.{MOVE_TEXT, LISTED_MEMBER, NO_CLUB, NOT_EMPTY, OLDER_SCHEMA}
 use Rattle.club_orders.specs.declared.texts.TheConstants.{LATER_SCHEMA, DAMAGED, IN_USE, NO_DATABASE, NO_FOLDER}
-use Rattle.club_orders.specs.declared.texts.TheConstants.{DENIED, READ_ONLY, LINKED, JOURNAL, FOREIGN_LOG, NOT_OPENED}
-use Rattle.club_orders.specs.declared.texts.TheConstants.{STORE, REOPEN}
+use Rattle.club_orders.specs.declared.texts.TheConstants.{DENIED, READ_ONLY, LINKED, JOURNAL, FOREIGN_LOG, LONG_NAME}
+use Rattle.club_orders.specs.declared.texts.TheConstants.{NOT_OPENED, STORE, REOPEN}
 use Rattle.club_orders.specs.declared.texts.TheConstants.{MEMORY, NO_CLOCK, NO_RECORD, NO_PORT, NO_OUTPUT}
 use Rattle.club_orders.specs.declared.texts.TheConstants.{NO_COPY}
 
@@ -113,6 +113,7 @@ file_line file.ReadOnly = READ_ONLY.now
 file_line file.Linked = LINKED.now
 file_line file.Journal = JOURNAL.now
 file_line file.ForeignLog = FOREIGN_LOG.now
+file_line file.LongName = LONG_NAME.now
 file_line file.Failed = NOT_OPENED.now
 
 -- faults of the file, memory, input and output

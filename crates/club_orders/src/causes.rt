@@ -58,6 +58,8 @@ pub enum FileFault {
     Journal,
     /// Its write-ahead log belongs to another user, or more users may read or write the log than the file.
     ForeignLog,
+    /// Its name leaves no room for those of its logs.
+    LongName,
     /// A call of the system failed for another reason.
     Failed,
 }

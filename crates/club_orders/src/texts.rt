@@ -184,6 +184,8 @@ const FOREIGN_LOG: &str =
     "the log (FILE-wal) is another user's, or more users may read or write it than FILE: somebody \
     may have put it there; remove it, and run 'verify'\n";
 // 73
+const LONG_NAME: &str = "the name of FILE is too long for a log beside it: take a shorter one\n";
+// 73
 const NOT_OPENED: &str = "FILE could not be opened: check the disk, and run the command again\n";
 // 73
 const STORE: &str =
@@ -308,6 +310,7 @@ fn file_line(fault: FileFault) -> &'static str
         FileFault::Linked => LINKED,
         FileFault::Journal => JOURNAL,
         FileFault::ForeignLog => FOREIGN_LOG,
+        FileFault::LongName => LONG_NAME,
         FileFault::Failed => NOT_OPENED,
     }
 }

@@ -2,15 +2,15 @@
 
 ghost use Rattle.std.specs.Prelude.{◌≤◌};
 
-use crate::orders::run_order;
+use crate::orders::{run_order, run_order_on_file};
 use crate::printing::{print_report, print_text, refuse_words};
-use crate::records::{read_batch, read_record};
+use crate::records::{read_batch, read_record, without_mark};
 use cli::{BadWords, Batch, BatchOptions, BatchOrder, Order, RoundRobin, Task, give_text};
 use clocks::Moment;
 use club_batches::{
     BatchLine, SeatError, batch_for, push_order, read_orders, seat_lines, seats_of,
 };
-use club_orders::Report;
+use club_orders::{DONE, Report};
 use club_requests::Outcome;
 use server::clock;
 use std::alloc::AllocError;
@@ -74,7 +74,7 @@ fn add_order(
 // The batch in a text, with the records that it imports.
 fn batch_in(rt: &HostRuntime, path: &str, moment: Moment) -> Result<Batch, Unbegun> {
     let text = read_batch(rt, path)?;
-    let orders = read_orders(rt.alloc(), text.as_slice())?;
+    let orders = read_orders(rt.alloc(), without_mark(text.as_slice()))?;
     let mut batch = batch_for(rt.alloc(), Vec::new(rt.alloc()));
     for order in orders {
         add_order(rt, &mut batch, order, moment)?;
@@ -144,13 +144,42 @@ fn print_seats(rt: &HostRuntime, batch: &Batch, explains: bool) -> u8
     }
 }
 
+// Opens the file of a round robin and changes nothing.
+fn open_without_orders(rt: &HostRuntime, robin: RoundRobin) -> Result<(), Report> {
+    let Some(moment) = robin.now.or(clock(rt)) else {
+        return Err(Report::NoClock);
+    };
+    let batch = batch_for(rt.alloc(), Vec::new(rt.alloc()));
+    let report = run_order_on_file(rt, &order_for(robin.file, moment, batch, robin.explains));
+    if report.status() == DONE {
+        Ok(())
+    } else {
+        Err(report)
+    }
+}
+
+// Prints why a round robin was not seated. A fault of the file comes before a refusal.
+fn print_unseated(rt: &HostRuntime, robin: RoundRobin, unbegun: Unbegun) -> u8
+    ensures { result ≤ 3 }
+{
+    let explains = robin.explains;
+    let is_refusal = matches!(unbegun, Unbegun::Report(Report::Answered(_)));
+    if !is_refusal || robin.is_dry {
+        return print_unbegun(rt, unbegun, explains);
+    }
+    match open_without_orders(rt, robin) {
+        Ok(()) => print_unbegun(rt, unbegun, explains),
+        Err(report) => print_report(rt, &Task::Verify, &report, explains),
+    }
+}
+
 /// Seats a round robin, or prints its commands for a dry run; returns the exit status.
 pub(crate) fn run_round_robin(rt: &HostRuntime, robin: RoundRobin) -> u8
     ensures { result ≤ 3 }
 {
     let (moment, batch) = match seats_at(rt, &robin) {
         Ok(seats) => seats,
-        Err(unbegun) => return print_unbegun(rt, unbegun, robin.explains),
+        Err(unbegun) => return print_unseated(rt, robin, unbegun),
     };
     if robin.is_dry {
         return print_seats(rt, &batch, robin.explains);

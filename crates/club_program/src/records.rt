@@ -1,6 +1,7 @@
 //! Input files: the record of a game, and the lines of a batch.
 
 ghost use Rattle.std.specs.Prelude.{◌≡◌, IfOk, IfSome, take};
+ghost use Rattle.club_program.specs.ByteOrderMark.{without_mark};
 
 use cli::Order;
 use club_batches::BATCH_BYTES;
@@ -13,6 +14,16 @@ const RECORD_BYTES: u64 = 65_537;
 
 // The most bytes read of a batch: one more than allowed.
 const ORDERS_BYTES: u64 = BATCH_BYTES as u64 + 1;
+
+/// A text without the byte order mark of UTF-8 that it begins with.
+pub(crate) fn without_mark(text: &[u8]) -> &[u8]
+    ensures { result.now ≡ without_mark text.now }
+{
+    match text {
+        [a, b, c, rest @ ..] if *a == 0xef && *b == 0xbb && *c == 0xbf => rest,
+        _ => text,
+    }
+}
 
 // Reads at most `most` bytes.
 fn read_bytes<I: Read + Drop>(rt: &HostRuntime, input: I, most: u64) -> Result<Vec<u8>, Report>

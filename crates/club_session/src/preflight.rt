@@ -89,6 +89,15 @@ fn has_folder(rt: &HostRuntime, file: &str) -> bool {
     }
 }
 
+// Whether the names of the logs beside a new file are short enough.
+fn has_room_for_logs(file: &str) -> bool {
+    let name = match file.rsplit_once('/') {
+        Some((_, name)) => name,
+        None => file,
+    };
+    LOGS.iter().all(|end| name.len() + end.len() <= LONGEST_NAME)
+}
+
 // Whether the file with this suffix exists; true if out of memory.
 fn sidecar_exists(rt: &HostRuntime, file: &str, end: &str) -> bool {
     match format!(in rt.alloc(); "{file}{end}") {
@@ -100,18 +109,32 @@ fn sidecar_exists(rt: &HostRuntime, file: &str, end: &str) -> bool {
 // The bits of a mode by which others than the owner read and write a file.
 const SHARED: u32 = 0o066;
 
-// The bit of a mode by which the group writes a file.
+// The bits of a mode by which the group, and everybody, writes a file.
 const GROUP_WRITES: u32 = 0o020;
+
+const ALL_WRITE: u32 = 0o002;
+
+// The longest name of a file on Linux, in bytes.
+const LONGEST_NAME: usize = 255;
 
 // The user id of root, who can write the file anyway.
 const ROOT: u32 = 0;
 
-// Whether a log was made by somebody who may write the file: its owner, root, or its group if that may; and whether
-// nobody may read or write the log who may not do so with the file.
+// Whether a user and a group may have written a file: as its owner, as root, as its group, or as anybody.
+fn may_write(file: &Metadata, log: &Metadata) -> bool {
+    log.uid() == file.uid()
+        || log.uid() == ROOT
+        || (file.mode() & GROUP_WRITES != 0 && log.gid() == file.gid())
+        || file.mode() & ALL_WRITE != 0
+}
+
+// Whether a log was made by somebody who may write the file, and nobody may read or write it who may not do so with
+// the file.
 fn is_log_of(log: &Metadata, file: &Metadata) -> bool {
-    let is_groups = file.mode() & GROUP_WRITES != 0 && log.gid() == file.gid();
-    let is_theirs = log.uid() == file.uid() || log.uid() == ROOT || is_groups;
-    is_theirs && log.is_file() && log.nlink() == 1 && log.mode() & SHARED & !file.mode() == 0
+    may_write(file, log)
+        && log.is_file()
+        && log.nlink() == 1
+        && log.mode() & SHARED & !file.mode() == 0
 }
 
 // Whether the log beside a file, if there is one, may be read as the file's own: SQLite takes what stands in a log for
@@ -264,6 +287,8 @@ pub(crate) fn prepare(rt: &HostRuntime, file: &str, purpose: OpenMode) -> Result
     match look(rt, file) {
         PathKind::Database => Ok(()),
         PathKind::Other(fault) => Err(Report::NotOpened(fault)),
+        PathKind::Nothing if purpose == OpenMode::Making && !has_room_for_logs(file) =>
+            Err(Report::NotOpened(FileFault::LongName)),
         PathKind::Nothing if purpose == OpenMode::Making => {
             // If this fails, the opening reports why.
             let _made = make_private(rt, file);
