@@ -128,10 +128,24 @@ def refusals(folder):
     check("a dry round robin with a name twice is refused", (1, "", "refused 65 BadValue\n"),
             give(folder, ["round-robin", "--dry", "x", "autumn", "anna", "anna"]))
     check("a refused round robin changes no row", before, all_rows(folder))
+    with tempfile.TemporaryDirectory(dir=FAST) as empty:
+        words = ["round-robin", "x", "autumn", "anna", "anna"]
+        check("a fault of the file comes before the refusal of a round robin", (3, "", "store 70 Foreign\n"),
+              give(empty, words))
+        check("a dry run opens no file", (1, "", "refused 65 BadValue\n"), give(empty, [*words[:1], "--dry", *words[1:]]))
     for words in ["round-robin", "x", "autumn", "anna"], ["round-robin", "x", "autumn", *(f"m{i}" for i in range(33))]:
         status, out, err = give(folder, words)
         check(f"a round robin of {len(words) - 3} players is a usage error",
               (2, "", True), (status, out, err.startswith("error: ")))
+
+
+def byte_order_mark(folder):
+    mark = "\ufeff"
+    check("a batch may begin with a byte order mark", (0, "1 repeated member 1\n", ""),
+          give(folder, ["batch", "-"], f"{mark}member anna keyanna1\n"))
+    status, out, err = give(folder, ["batch", "-"], f"sweep\n{mark}sweep\n")
+    check("a byte order mark in the middle of a batch is a usage error",
+          (2, "", True), (status, out, err.startswith("error: line 2: ")))
 
 
 def bad_lines(folder):
@@ -205,6 +219,7 @@ def main():
         members_and_events(folder)
         round_robins(folder)
         refusals(folder)
+        byte_order_mark(folder)
         bad_lines(folder)
         records(folder)
         no_output(folder)

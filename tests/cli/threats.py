@@ -27,6 +27,7 @@ from lib.server import free_port, serve
 OWNER, OTHER = 61001, 65534  # the numbers of users, and of their groups
 SOCKET, KEY = "c.db-desk", "keyanna1"
 IS_ROOT = os.geteuid() == 0
+LONG_NAME = "the name of FILE is too long for a log beside it: take a shorter one"
 EXPLAINED = {
     "second.db": "FILE or its log (FILE-wal) has a second name, or is no regular file: remove the other name",
     "text.db": "FILE is not a database: check its path",
@@ -156,6 +157,15 @@ def unopened_files():
           {it: run(["--explain", it, "members"]) for it in EXPLAINED})
 
 
+def long_names():
+    """`init` makes nothing where the names of the logs would be too long."""
+    for length in 247, 248, 251, 252:
+        name = "n" * length
+        expected = (0, "ready\n", "", [name]) if length == 247 else (3, "", f"store 73 Store\n{LONG_NAME}\n", [])
+        check(f"`init` of a name of {length} bytes", expected, (*run(["--explain", name, "init"]), os.listdir(".")))
+        pathlib.Path(name).unlink(missing_ok=True)
+
+
 def sticky_folders():
     """A dead socket of another user in a folder like /tmp cannot be replaced: the server runs without one."""
     if not IS_ROOT:
@@ -255,7 +265,7 @@ def keys_of_members():
     check("the program takes such a key", (0, "accepted member 3"), club("c.db", "member", "dora", made))
 
 
-PARTS = modes_of_files, planted_logs, unopened_files, sticky_folders, ports, requests, keys_of_members
+PARTS = modes_of_files, planted_logs, unopened_files, long_names, sticky_folders, ports, requests, keys_of_members
 
 if __name__ == "__main__":
     for part in PARTS:
