@@ -5,17 +5,21 @@
 """
 import os
 import pathlib
+import shutil
 import socket
 import stat
+import subprocess
 import sys
 import tempfile
+import time
 
 sys.path[0] = str(pathlib.Path(__file__).resolve().parents[1])
-from lib.club import build_preload, club, create
-from lib.report import check, exit_status
-from lib.server import SHOW_GAME, serve
+from lib.club import PROGRAM, WAIT, build_preload, club, create, is_within
+from lib.report import check, exit_status, result, skip
+from lib.server import SHOW_GAME, free_port, serve
 
 SOCKET, FOLDER = "c.db-desk", "c.db-sk"
+OWNER, OTHER, GROUP = 61001, 61002, 61003  # the numbers of two users, and of a group
 
 
 def shown(server):
@@ -68,6 +72,67 @@ def folders():
     check("a folder of somebody else stays", "kept", pathlib.Path(FOLDER, "kept").read_text())
 
 
+def is_served(server, log, file):
+    """Whether the server executes a command that names the file by this path."""
+    before = log.stat().st_size
+    printed = club(file, "members")
+    return printed == (0, "member 1 anna\nmember 2 bert") and log.stat().st_size > before
+
+
+def paths():
+    """Every path to the file leads to the same control socket."""
+    os.symlink("c.db", "link.db")
+    deep = pathlib.Path(*["deep" * 10] * 4).resolve()
+    deep.mkdir(parents=True)
+    os.symlink(deep, "short")
+    log = pathlib.Path("log")
+    for name, file, others in (
+            ("a link", "link.db", ["c.db", os.path.abspath("c.db"), "./../" + os.path.basename(os.getcwd()) + "/link.db"]),
+            ("a path of more than 107 bytes", f"{deep}/c.db", ["short/c.db", os.path.relpath(f"{deep}/c.db")])):
+        if not os.path.exists(file):
+            shutil.copy("c.db", file)
+        socket_path = pathlib.Path(f"{os.path.realpath(file)}-desk")
+        socket_path.unlink(missing_ok=True)
+        with open(log, "wb") as stream, serve(file, "--log", stderr=stream) as server:
+            check(f"a server over {name} makes its socket beside the file", True, socket_path.is_socket())
+            check(f"a server over {name} executes the commands of every path to the file",
+                  [True] * (len(others) + 1), [is_served(server, log, it) for it in (file, *others)])
+    check("there is no other socket", [], sorted(str(it) for it in pathlib.Path(".").glob("link*-desk")))
+
+
+def groups():
+    """An officer of the group that may write the file commands the server of the file's owner."""
+    name = "an officer of the file's group commands the owner's server"
+    if os.geteuid():
+        skip(name, "only root can become another user")
+        return
+    os.mkdir("group", 0o2770)
+    os.chown("group", OWNER, GROUP)
+    os.chmod("group", 0o2770)
+    shutil.copy("c.db", "group/c.db")
+    os.chown("group/c.db", OWNER, GROUP)
+    os.chmod("group/c.db", 0o660)
+    shutil.copy(PROGRAM, "program")
+    os.chmod("program", 0o755)
+    user = {"user": OWNER, "group": OWNER, "extra_groups": [GROUP]}
+    port = free_port()
+    with subprocess.Popen(["./program", "group/c.db", "serve", str(port)], stdout=subprocess.PIPE, **user) as server:
+        try:
+            server.stdout.readline()
+            found = os.stat(f"group/{SOCKET}")
+            check("the socket has the file's group and mode 660", (GROUP, 0o660), (found.st_gid, stat.S_IMODE(found.st_mode)))
+            began = time.monotonic()
+            ran = subprocess.run(["./program", "group/c.db", "members"], capture_output=True, text=True, timeout=WAIT,
+                                 check=False, user=OTHER, group=OTHER, extra_groups=[GROUP])
+            check(name, (0, "member 1 anna\nmember 2 bert\n", ""), (ran.returncode, ran.stdout, ran.stderr))
+            result(is_within(3, began), "that takes less than the wait for a locked file")
+            ran = subprocess.run(["./program", "group/c.db", "members"], capture_output=True, text=True, timeout=WAIT,
+                                 check=False, user=OTHER, group=OTHER, extra_groups=[])
+            check("nobody else does", 3, ran.returncode)
+        finally:
+            server.kill()
+
+
 def main():
     with tempfile.TemporaryDirectory() as folder:
         os.chmod(folder, 0o755)
@@ -75,6 +140,8 @@ def main():
         create()
         addresses()
         folders()
+        paths()
+        groups()
     return exit_status()
 
 

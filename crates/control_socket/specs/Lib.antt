@@ -1,6 +1,7 @@
 pub mod Answers
 pub mod Asking
 pub mod Holding
+pub mod Modes
 pub mod Orders
 pub mod Peers
 pub mod Printed

@@ -15,8 +15,8 @@
 //! - `print_answered` (`printed`, `small`): the command line prints exactly that, with its status, or a prefix if its
 //!   stream fails.
 //! - `should_release`: the file is released on request as soon as no request is queued from its opening.
-//! - `owner_alone`, `is_trusted`: the socket has mode 0600. A socket is trusted only if it belongs to the file's owner
-//!   or to root.
+//! - `socket_permissions`, `is_trusted`: the socket has mode 600, or 660 if the group may read and write the file. A
+//!   socket is trusted only if it belongs to the file's owner or to root.
 #![tactic(auto)]
 
 mod answers;
@@ -27,6 +27,7 @@ mod hold;
 mod listener;
 mod orders;
 mod peers;
+mod places;
 mod reading;
 mod writing;
 

@@ -3,7 +3,6 @@
 //! A lease lasts until its holder disconnects.
 
 ghost use Rattle.std.specs.Prelude.{◌≡◌, ◌≢◌, ◌++◌, None, IfOk, codes, string_bytes, true};
-ghost use Rattle.std.specs.Fs.{permissions_mode};
 ghost use Rattle.control_socket.specs.Received.{HasReceived};
 ghost use Rattle.control_socket.specs.Wishes.{IsHeard};
 ghost use Rattle.control_socket.specs.declared.control_requests.ControlRequest.TheVariants as wish_is;
@@ -12,14 +11,15 @@ use crate::control_requests::{ControlRequest, parse_request};
 use crate::frames::{FILE, MOST_SAID};
 use crate::orders::Operation;
 use crate::peers::connect;
+use crate::places::{FilePlace, socket_permissions};
 use clocks::Moment;
 use mio::unix::SourceFd;
 use mio::{Interest, Poll, Token};
 use std::alloc::{AllocError, Global};
-use std::fs::{DirBuilder, Permissions, metadata};
+use std::fs::{DirBuilder, metadata};
 use std::io::{ErrorKind, Read, Write};
 use std::os::fd::AsRawFd;
-use std::os::unix::fs::{DirBuilderExt, FileTypeExt, MetadataExt, PermissionsExt};
+use std::os::unix::fs::{DirBuilderExt, FileTypeExt, MetadataExt, chown};
 use std::os::unix::net::{UnixListener, UnixStream};
 use std::time::Duration;
 use std::{fs, io};
@@ -146,6 +146,8 @@ pub struct PendingOrder {
 #[derive(Drop)]
 pub struct ControlListener<'a> {
     rt: &'a HostRuntime,
+    // What the path goes through.
+    _place: FilePlace,
     path: String,
     // The inode of the socket file, to notice a replacement.
     number: Option<u64>,
@@ -157,12 +159,6 @@ pub struct ControlListener<'a> {
     asking: Vec<UnixStream>,
     // The holder of the lease.
     lease_holder: Option<UnixStream>,
-}
-
-fn owner_alone() -> Permissions
-    ensures { permissions_mode result ≡ 0o600 }
-{
-    Permissions::from_mode(0o600)
 }
 
 // Makes a folder that only its owner can enter, in place of one that a server which was killed left with its socket.
@@ -179,22 +175,31 @@ fn make_private(rt: &HostRuntime, folder: &str, socket: &str) -> io::Result<()> 
     }
 }
 
-// Listens at a path, and gives the socket its permissions (mode 600) and then a second path.
-fn listen_at(rt: &HostRuntime, socket: &str, path: &str) -> io::Result<UnixListener> {
+// Gives a socket the group of a file, where this process may, and the permissions that follow from the file's mode.
+fn share_with_group(rt: &HostRuntime, file: &str, socket: &str) -> io::Result<()> {
+    let found = metadata(rt, file)?;
+    let _denied = chown(rt, socket, None, Some(found.gid()));
+    let is_groups = metadata(rt, socket)?.gid() == found.gid();
+    let mode = if is_groups { found.mode() } else { 0 };
+    fs::set_permissions(rt, socket, socket_permissions(mode))
+}
+
+// Listens at a path, and gives the socket its permissions and then a second path.
+fn listen_at(rt: &HostRuntime, file: &str, socket: &str, path: &str) -> io::Result<UnixListener> {
     let listener = UnixListener::bind(rt, socket)?;
-    fs::set_permissions(rt, socket, owner_alone())?;
+    share_with_group(rt, file, socket)?;
     listener.set_nonblocking(true)?;
     fs::hard_link(rt, socket, path)?;
     Ok(listener)
 }
 
-// Listens at the path of the control socket of a file, where nothing stands. Nobody but the owner can connect at any
-// time: the socket is made in a folder that only its owner can enter.
+// Listens at the path of the control socket of a file, where nothing stands. Nobody can connect before the socket has
+// its permissions: it is made in a folder that only its owner can enter.
 fn listen_alone(rt: &HostRuntime, file: &str, path: &str) -> io::Result<UnixListener> {
     let folder = private_folder(rt.alloc(), file)?;
     let socket = format!(in rt.alloc(); "{folder}/s")?;
     make_private(rt, folder.as_str(), socket.as_str())?;
-    let listener = listen_at(rt, socket.as_str(), path);
+    let listener = listen_at(rt, file, socket.as_str(), path);
     let _cleared = fs::remove_file(rt, socket.as_str());
     let _cleared = fs::remove_dir(rt, folder.as_str());
     listener
@@ -232,12 +237,14 @@ impl<'a> ControlListener<'a> {
     /// - An `io::Error` if an existing socket at this path cannot be tested, if the socket cannot be created or
     ///   registered, or if out of memory.
     pub fn open(rt: &'a HostRuntime, file: &str, poll: &Poll) -> io::Result<ControlListener<'a>> {
-        let path = socket_path(rt.alloc(), file)?;
+        let place = FilePlace::find(rt, file)?;
+        let path = socket_path(rt.alloc(), place.file())?;
         remove_stale(rt, path.as_str())?;
-        let listener = listen_alone(rt, file, path.as_str())?;
+        let listener = listen_alone(rt, place.file(), path.as_str())?;
         let number = socket_at(rt, path.as_str());
         let door = ControlListener {
             rt,
+            _place: place,
             path,
             number,
             listener,

@@ -4,6 +4,7 @@ ghost use Rattle.std.specs.Prelude.{◌≡◌};
 ghost use Rattle.control_socket.specs.Peers.{is_trusted};
 
 use crate::listener::socket_path;
+use crate::places::FilePlace;
 use std::fs::{metadata, symlink_metadata};
 use std::os::unix::fs::MetadataExt;
 use std::os::unix::net::UnixStream;
@@ -32,7 +33,8 @@ fn is_owners(rt: &HostRuntime, file: &str, socket: &str) -> bool {
 /// Connects to the server that holds a file. `None` if there is none, or if its control socket belongs to another user
 /// than the file's owner or root: such a server would receive keys, and could answer that an order was done.
 pub(crate) fn connect(rt: &HostRuntime, file: &str) -> Option<UnixStream> {
-    let path = socket_path(rt.alloc(), file).ok()?;
+    let place = FilePlace::find(rt, file).ok()?;
+    let path = socket_path(rt.alloc(), place.file()).ok()?;
     if !is_owners(rt, file, path.as_str()) {
         return None;
     }
