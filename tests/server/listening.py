@@ -76,7 +76,7 @@ def is_served(server, log, file):
     """Whether the server executes a command that names the file by this path."""
     before = log.stat().st_size
     printed = club(file, "members")
-    return printed == (0, "member 1 anna\nmember 2 bert") and log.stat().st_size > before
+    return printed == (0, "member 1 anna\nmember 2 bert") and server.wait_until(lambda: log.stat().st_size > before)
 
 
 def paths():
