@@ -5,12 +5,13 @@ ghost use Rattle.std.specs.Prelude.{◌≤◌};
 use crate::orders::{run_order, run_order_on_file};
 use crate::printing::{print_report, print_text, refuse_words};
 use crate::records::{read_batch, read_record, without_mark};
+use crate::served_batch::{PreparedBatch, SentBatch, send_batch, status_with};
 use cli::{BadWords, Batch, BatchOptions, BatchOrder, Order, RoundRobin, Task, give_text};
 use clocks::Moment;
 use club_batches::{
     BatchLine, SeatError, batch_for, push_order, read_orders, seat_lines, seats_of,
 };
-use club_orders::{DONE, Report};
+use club_orders::{DONE, FAULT, Report};
 use club_requests::Outcome;
 use server::clock;
 use std::alloc::AllocError;
@@ -72,9 +73,8 @@ fn add_order(
 }
 
 // The batch in a text, with the records that it imports.
-fn batch_in(rt: &HostRuntime, path: &str, moment: Moment) -> Result<Batch, Unbegun> {
-    let text = read_batch(rt, path)?;
-    let orders = read_orders(rt.alloc(), without_mark(text.as_slice()))?;
+fn batch_in(rt: &HostRuntime, text: &[u8], moment: Moment) -> Result<Batch, Unbegun> {
+    let orders = read_orders(rt.alloc(), text)?;
     let mut batch = batch_for(rt.alloc(), Vec::new(rt.alloc()));
     for order in orders {
         add_order(rt, &mut batch, order, moment)?;
@@ -100,10 +100,19 @@ fn order_for(file: String, moment: Moment, batch: Batch, explains: bool) -> Orde
     }
 }
 
-fn batch_order(rt: &HostRuntime, words: BatchOptions) -> Result<Order, Unbegun> {
+fn prepared_batch(rt: &HostRuntime, words: BatchOptions) -> Result<PreparedBatch, Unbegun> {
     let moment = moment_for(rt, words.now)?;
-    let batch = batch_in(rt, words.orders.as_str(), moment)?;
-    Ok(order_for(words.file, moment, batch, words.explains))
+    let text = read_batch(rt, words.orders.as_str())?;
+    let text = without_mark(text.as_slice());
+    let mut lines = Vec::new(rt.alloc());
+    lines.extend_from_slice(text)?;
+    Ok(PreparedBatch {
+        file: words.file,
+        moment,
+        batch: batch_in(rt, text, moment)?,
+        lines,
+        explains: words.explains,
+    })
 }
 
 // The batch that seats a round robin.
@@ -123,13 +132,56 @@ fn print_unbegun(rt: &HostRuntime, unbegun: Unbegun, explains: bool) -> u8
     }
 }
 
+// The commands of a batch from an index on.
+fn rest_of(rt: &HostRuntime, batch: Batch, from: usize) -> Result<Batch, AllocError> {
+    if from == 0 {
+        return Ok(batch);
+    }
+    let mut rest = batch_for(rt.alloc(), Vec::new(rt.alloc()));
+    for (place, request) in batch.requests.into_iter().enumerate() {
+        if place >= from {
+            let number = batch.numbers.get(place).copied().unwrap_or(0);
+            push_order(&mut rest, number, request.command, request.moment)?;
+        }
+    }
+    Ok(rest)
+}
+
+// Executes the commands of a batch from an index on over the file; returns the exit status.
+fn run_rest(rt: &HostRuntime, given: PreparedBatch, from: usize) -> u8
+    ensures { result ≤ 3 }
+{
+    let explains = given.explains;
+    match rest_of(rt, given.batch, from) {
+        Ok(rest) => run_order(rt, &order_for(given.file, given.moment, rest, explains)),
+        Err(_) => print_report(rt, &Task::Verify, &Report::NoMemory, explains),
+    }
+}
+
+// Executes a batch: on the running server as far as that answers, and the rest over the file.
+fn run_prepared(rt: &HostRuntime, given: PreparedBatch) -> u8
+    ensures { result ≤ 3 }
+{
+    if given.explains {
+        return run_rest(rt, given, 0);
+    }
+    match send_batch(rt, &given) {
+        SentBatch::Ended(status) => status.min(FAULT),
+        SentBatch::Answered(count, has_refusal) => {
+            let is_whole = count != 0 && count >= given.batch.requests.len();
+            let rest = if is_whole { DONE } else { run_rest(rt, given, count) };
+            status_with(has_refusal, rest)
+        }
+    }
+}
+
 /// Executes a batch of commands; returns the exit status.
 pub(crate) fn run_batch(rt: &HostRuntime, words: BatchOptions) -> u8
     ensures { result ≤ 3 }
 {
     let explains = words.explains;
-    match batch_order(rt, words) {
-        Ok(order) => run_order(rt, &order),
+    match prepared_batch(rt, words) {
+        Ok(given) => run_prepared(rt, given),
         Err(unbegun) => print_unbegun(rt, unbegun, explains),
     }
 }
@@ -184,5 +236,17 @@ pub(crate) fn run_round_robin(rt: &HostRuntime, robin: RoundRobin) -> u8
     if robin.is_dry {
         return print_seats(rt, &batch, robin.explains);
     }
-    run_order(rt, &order_for(robin.file, moment, batch, robin.explains))
+    match seat_lines(rt.alloc(), &batch) {
+        Ok(lines) => run_prepared(
+            rt,
+            PreparedBatch {
+                file: robin.file,
+                moment,
+                batch,
+                lines: lines.into_bytes(),
+                explains: robin.explains,
+            },
+        ),
+        Err(_) => print_report(rt, &Task::Verify, &Report::NoMemory, robin.explains),
+    }
 }

@@ -21,6 +21,7 @@ mod on_server;
 mod orders;
 mod printing;
 mod records;
+mod served_batch;
 mod service;
 mod words;
 
