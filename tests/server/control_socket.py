@@ -7,6 +7,7 @@ its control socket, and releases the file to a command that needs it itself.
 import contextlib
 import os
 import pathlib
+import shutil
 import signal
 import socket
 import stat
@@ -19,7 +20,7 @@ import time
 sys.path[0] = str(pathlib.Path(__file__).resolve().parents[1])
 import lib.club
 from lib.club import PROGRAM, TWO_MEMBERS, is_within
-from lib.report import check, exit_status, skip
+from lib.report import check, exit_status, result, skip
 from lib.server import SHOW_GAME, free_port, serve
 
 SOCKET = "c.db-desk"
@@ -110,6 +111,83 @@ def commands_and_queries():
     check("no key is in the log", False, "key" in pathlib.Path("log").read_text())
 
 
+def make_club():
+    for words in CREATE:
+        lib.club.club("c.db", *words.split())
+
+
+@contextlib.contextmanager
+def asking(server, statuses, waits):
+    """A client that sends one request after another, and how long it waits for each reply."""
+    done = threading.Event()
+
+    def ask():
+        while not done.is_set():
+            began = time.monotonic()
+            statuses.append(shown(server))
+            waits.append(time.monotonic() - began)
+
+    member = threading.Thread(target=ask)
+    member.start()
+    try:
+        yield
+    finally:
+        done.set()
+        member.join()
+
+
+def batches():
+    """The server executes the commands of a batch and of a round robin one by one, with requests between."""
+    with tempfile.TemporaryDirectory() as folder, contextlib.chdir(folder):
+        make_club()
+        shutil.copy("c.db", "alone.db")
+        orders = "".join(f"member b{it} keybatch{it}\n" for it in range(150))
+        orders += "# a comment\n\nmember anna keyother1\nevent spring draughts 3600 0\n"
+        orders += "import-pdn old9 spring anna bert game.pdn\nsweep\n"
+        pathlib.Path("orders").write_text(orders)
+        pathlib.Path("game.pdn").write_text("1. 32-28 19-23 2-0\n")
+        steps = (("batch", "orders"), ("round-robin", "r", "spring", "anna", "bert", "b1", "b2"),
+                 ("round-robin", "s", "spring", "anna", "nobody"))
+        expected = [lib.club.run(["alone.db", *it]) for it in steps]
+        waits, statuses = [], []
+        with open("log", "wb") as log, serve("c.db", "--log", stderr=log) as server:
+            with asking(server, statuses, waits):
+                printed = [lib.club.run(["c.db", *it]) for it in steps]
+            time.sleep(0.1)
+        check("a batch and round robins print the same beside a server", expected, printed)
+        check("requests are served during a batch", {200}, set(statuses))
+        result(len(waits) > 20 and max(waits) < 1, "no request waits for the batch", f"{max(waits):.2f} s")
+        lines = [line.split()[1:] for line in pathlib.Path("log").read_text().splitlines()]
+        names = [line[1] for line in lines if line[0] == "officer"]
+        check("each command of a batch is in the log", [151, 1, 1, 1, 6],
+              [names.count(it) for it in ("member", "event", "import-pdn", "sweep", "seat")])
+        check("the club is the same as without a server", lib.club.read_tables("alone.db"),
+              lib.club.read_tables("c.db"))
+
+
+def killed_batches():
+    """If the server is killed during a batch, the rest of it is executed over the file."""
+    with tempfile.TemporaryDirectory() as folder, contextlib.chdir(folder), serve_new_club() as server:
+        with subprocess.Popen(lib.club.command_line(["c.db", "batch", "-"]), stdin=subprocess.PIPE,
+                              stdout=subprocess.PIPE, text=True) as command:
+            command.stdin.write("".join(f"event e{it} shogi 3600 0\n" for it in range(40)))
+            command.stdin.close()
+            lines = [command.stdout.readline()]
+            server.process.kill()
+            lines += command.stdout
+        check("a batch is executed whole although its server is killed",
+              [(str(it), "event") for it in range(1, 41)], [(it.split()[0], it.split()[2]) for it in lines])
+        check("each of its commands is accepted or repeated", set(),
+              {it.split()[1] for it in lines} - {"accepted", "repeated"})
+
+
+@contextlib.contextmanager
+def serve_new_club():
+    make_club()
+    with serve("c.db") as server:
+        yield server
+
+
 def killed_servers():
     """A server that is killed while it executes a command: the command is lost or done, and can be repeated."""
     results = []
@@ -165,7 +243,7 @@ def two_servers():
 
 
 def long_paths():
-    """If the path is too long for a socket's address the server releases the file from time to time."""
+    """A path that is too long for a socket's address is replaced by one through the folder's descriptor."""
     folder = pathlib.Path("a" * 60, "b" * 60)
     folder.mkdir(parents=True)
     file = str(folder / "c.db")
@@ -174,6 +252,7 @@ def long_paths():
     with serve(file, now=None) as server, busy(server, statuses):
         time.sleep(0.5)
         check("a command works beside a server with a long path", (0, "sound"), club(file, "verify"))
+        check("a server with a long path has a control socket", True, os.path.exists(folder / SOCKET))
     check("a server with a long path answers requests", True, statuses.count(200) > 10)
 
 
@@ -212,7 +291,7 @@ def end_of_server():
     check("a server that ends removes its control socket", False, os.path.exists(SOCKET))
 
 
-PARTS = (commands_and_queries, commands_beside_requests, killed_servers, dead_sockets, two_servers, long_paths,
+PARTS = (commands_and_queries, commands_beside_requests, batches, killed_batches, killed_servers, dead_sockets, two_servers, long_paths,
          foreign_sockets, end_of_server)
 
 
