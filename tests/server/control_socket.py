@@ -291,8 +291,8 @@ def end_of_server():
     check("a server that ends removes its control socket", False, os.path.exists(SOCKET))
 
 
-PARTS = (commands_and_queries, commands_beside_requests, batches, killed_batches, killed_servers, dead_sockets, two_servers, long_paths,
-         foreign_sockets, end_of_server)
+PARTS = (commands_and_queries, commands_beside_requests, batches, killed_batches, killed_servers, dead_sockets,
+         two_servers, long_paths, foreign_sockets, end_of_server)
 
 
 def main():
