@@ -7,6 +7,9 @@ A name is resolved as the checker does it: by the binders around it, the definit
   fields and what its model says; a trait names what its ghosts say.
 - A lemma, which the prover checks, is not followed. It has to be named as one: most definitions that are neither
   `abbrev` nor `unfoldable` are lemmas, but not all.
+- A description is a lemma of proofs/ whose statement says that there is exactly one value with a property. It is
+  followed by its statement alone, since the prover checks the value, and no other value meets the statement. Another
+  name of proofs/ is not found.
 - A name of the kit, or one that the checker generates, is a key ("kit", module, name) and is not followed.
 """
 import bisect
@@ -93,7 +96,7 @@ class Definition:
     """A definition, a `module _ (..)` head, or an item of Rust."""
 
     key: tuple  # crate, path of the file below crates/, name
-    kind: str  # record, data, abbrev, unfoldable, abstract, lemma, axiom, parameters; type, trait, constant
+    kind: str  # record, data, abbrev, unfoldable, abstract, lemma, axiom, description, parameters; type, trait, constant
     first: int = 0  # lines of the file, from 1
     last: int = 0
     lines: int = 0  # without comments and blank lines
@@ -251,6 +254,38 @@ class SpecFile:
         return None
 
 
+def result_of(statement):
+    """What is behind the last arrow of a statement `NAME : A → (x : B) → C`."""
+    text = re.split(r"\s:\s", statement, maxsplit=1)[1]
+    depth = start = 0
+    for it in re.finditer(r"[(){}\[\]→]", text):
+        depth += (it[0] in "({[") - (it[0] in ")}]")
+        if it[0] == "→" and depth == 0:
+            start = it.end()
+    return text[start:]
+
+
+class ProofFile(SpecFile):
+    """A file of proofs/, of which only the descriptions can be named: lemmas `.. → TheOnly P`, by their statements."""
+
+    def parse(self):
+        super().parse()
+        resolve = Resolver(self.tree, self, self.scope)
+        found = {}
+        for name, it in self.definitions.items():
+            if it.kind == "parameters":
+                found[name] = it
+            elif it.kind in ("abbrev", "unfoldable", "abstract"):
+                statement = clauses(it.source)[0]
+                words = WORD.findall(result_of(statement))
+                if words and words[0] in self.scope.items and resolve(words[0]) == self.tree.description:
+                    it.kind, it.source = "description", statement
+                    it.lines = len(statement.split("\n"))
+                    it.last = it.first + it.lines - 1
+                    found[name] = it
+        self.definitions, self.constructor_of, self.odd = found, {}, []
+
+
 # ---- Rust
 
 RUST_ITEM = r"^[ ]*(?:pub(?:\([^)]*\))? )?(struct|enum|trait|type|const|static|fn|union)\s+{name}\b"
@@ -325,9 +360,10 @@ def flattened(use):
 class Tree:
     """All specs and sources of a repository, and from each definition the ones that it names."""
 
-    def __init__(self, top, lemmas=()):
+    def __init__(self, top, lemmas=(), description=None):
         self.top, self.crates = top, top / "crates"
         self.lemmas = frozenset(lemmas)  # (file below crates/, name)
+        self.description = description  # the key of the record that says that there is exactly one value
         self.crate_names = {it.name for it in self.crates.iterdir() if it.is_dir()}
         self.specs, self.rust = {}, {}
         for crate in sorted(self.crate_names):
@@ -340,6 +376,7 @@ class Tree:
                 name = str(path.relative_to(self.crates))
                 self.rust[name] = RustFile(self, crate, name)
         self.by_path = {it.path: it for it in self.specs.values()}
+        self.proofs = {}
         self.types = {}
         self.found, self.unresolved = {}, collections.Counter()
 
@@ -349,8 +386,9 @@ class Tree:
         if crate not in self.crate_names:
             return "kit", path.replace(".specs", "", 1), name
         part, _, module = rest.partition(".")
-        if part != "specs":
-            return None  # of proofs/: a definition in specs/ should name nothing there
+        if part == "proofs":
+            file = self.proof_file(crate, module)
+            return file and file.find(name)
         if module == "declared" or module.startswith("declared."):
             return self.rust_item(crate, module.removeprefix("declared").lstrip("."), name)
         if module.startswith("contracts."):
@@ -362,6 +400,15 @@ class Tree:
         if (crate, outer) in self.specs:
             return self.specs[crate, outer].find(owner)
         return None
+
+    def proof_file(self, crate, module):
+        """The file of a module of proofs/, if there is one."""
+        if (crate, module) not in self.proofs:
+            path = f"{crate}/proofs/{module.replace('.', '/')}.antt"
+            self.proofs[crate, module] = None
+            if (self.crates / path).exists():
+                self.proofs[crate, module] = self.by_path[path] = ProofFile(self, crate, path)
+        return self.proofs[crate, module]
 
     def rust_item(self, crate, module, name):
         """The key of a Rust item: a type by its module's last name, a variant, or a constant."""

@@ -33,6 +33,8 @@ LEMMAS = {
     ("club_session/specs/ServedStates.antt", "served_stays"),
     ("masks/specs/Words.antt", "word_back"),
 }
+# That there is exactly one value with a property: what a definition by description rests on.
+DESCRIPTION = "squares", "squares/specs/TheOnly.antt", "TheOnly"
 GAMES = "both_games"  # a parameter of the headline: the rules and texts of both games
 
 # The order in which a reader meets the subjects, and the crates of each.
@@ -407,6 +409,8 @@ say. A contract is made of definitions, and these definitions have to be read. T
 - A type of Rust means its fields, or its model if it has one. The types of a crate follow its definitions.
 - A later promise lists only what it adds. A long list has a row for each file, with the lines where definitions are.
 - Lemmas are left out, because the prover checks them. Names of the kit are listed by module, and not followed.
+- A row of a file of proofs/ is a description: the lemma that there is exactly one value with a property (`TheOnly`). A
+  definition that takes this value says the property, whatever computes it. So the row is its statement alone.
 - The heads `module _ (..)` count as lines and not as definitions.
 
 ## What else is trusted
@@ -486,7 +490,7 @@ def differences(old, new):
 
 
 def main():
-    tree = Tree(TOP, LEMMAS)
+    tree = Tree(TOP, LEMMAS, DESCRIPTION)
     try:
         text = document(tree, PROMISES)
     except LookupError as missing:

@@ -103,6 +103,64 @@ pub fn play(board: &Board, by: u32) -> u32
 }
 """,
 }
+# The same with a definition by description: the last move is what `IsLast` determines, whatever computes it.
+LEMMA = "ends/proofs/EndLemmas.antt"
+DESCRIPTION = "ends", "ends/specs/TheOnly.antt", "TheOnly"
+DESCRIBED = {
+    **FILES,
+    "game/specs/Last.antt": """\
+-- Last moves.
+use Rattle.std.specs.Prelude.{ℕ}
+use Rattle.ends.proofs.Proved.{last-move}
+
+-- The last move.
+abbrev pub last : ℕ → ℕ
+last n = (last-move n).value
+""",
+    RULES: FILES[RULES].replace("use ", "use Rattle.game.specs.Last.{last}\nuse ", 1).replace(
+        "within : (n : ℕ) →", "within : (n : ℕ) → last n ≡ n →"),
+    "ends/specs/TheOnly.antt": """\
+use Rattle.std.specs.Prelude.{◌≡◌}
+
+-- Exactly one value has the property.
+pub record TheOnly {A : Type 0} (Is : A → Type 0) : Type 0 where
+  pub value : A
+  pub is : Is value
+""",
+    "ends/specs/Ends.antt": """\
+use Rattle.std.specs.Prelude.{ℕ, ◌≡◌}
+
+-- The last of so many moves.
+abbrev pub IsLast : ℕ → ℕ → Type 0
+IsLast n m = m ≡ n
+
+-- The other last.
+abbrev pub IsOther : ℕ → ℕ → Type 0
+IsOther n m = n ≡ m
+""",
+    "ends/specs/Computed.antt": """\
+use Rattle.std.specs.Prelude.{ℕ}
+
+-- The computed last move.
+abbrev pub computed : ℕ → ℕ
+computed n = n
+""",
+    "ends/proofs/Proved.antt": "pub use Rattle.ends.proofs.EndLemmas.{last-move, helper}\n",
+    LEMMA: """\
+use Rattle.std.proofs.Common.{refl, ℕ}
+use Rattle.ends.specs.Computed.{computed}
+use Rattle.ends.specs.Ends.{IsLast, IsOther}
+use Rattle.ends.specs.TheOnly.{TheOnly}
+
+pub helper : (n : ℕ) → IsLast n n
+helper n = refl
+
+-- there is one last move
+abbrev pub last-move : (n : ℕ)
+    → TheOnly (IsLast n)
+last-move n = record { value = computed n; is = helper n }
+""",
+}
 PROMISES = (Promise("Legal moves", "Each move is legal.", (Root("game/src/lib.rt", "play", "legal"),)),)
 LEMMAS = {(RULES, "largest_is")}
 LISTED = {"added", "fits", "IsLegal", "largest", "bound", "Kind", "Size", "total", "Board", "Piece"}
@@ -116,19 +174,46 @@ def text_of(files, promises=PROMISES):
             path = top / "crates" / name
             path.parent.mkdir(parents=True, exist_ok=True)
             path.write_text(text, encoding="utf-8")
-        tree = Tree(top, LEMMAS)
+        tree = Tree(top, LEMMAS, DESCRIPTION)
         return document(tree, promises), list(faults(tree))
 
 
-def changed(old, new, file=RULES):
+def changed(old, new, file=RULES, files=None):
     """The files with one change."""
-    assert old in FILES[file], old
-    return {**FILES, file: FILES[file].replace(old, new, 1)}
+    files = files or FILES
+    assert old in files[file], old
+    return {**files, file: files[file].replace(old, new, 1)}
+
+
+def rows_of(text):
+    """The name, lines and comment of each row."""
+    return re.findall(r"^\| `([^`]+)` \| `(?:specs|src|proofs)/[^`]+` \| (\d+) \| (.*) \|$", text, re.M)
+
+
+def check_descriptions():
+    text, wrong = text_of(DESCRIBED)
+    rows = {name: (int(lines), comment) for name, lines, comment in rows_of(text)}
+    check("a definition by description names the property, and not what computes its value",
+          LISTED | {"last", "last-move", "IsLast", "TheOnly"}, set(rows))
+    check("each name is found, with a description", [], wrong)
+    check("the row of a description is its statement", (2, "there is one last move"), rows["last-move"])
+    check("the document does not change with another value that is proved", text,
+          text_of(changed("value = computed n", "value = n", LEMMA, DESCRIBED))[0])
+    result(text_of(changed("TheOnly (IsLast n)", "TheOnly (IsOther n)", LEMMA, DESCRIBED))[0] != text,
+           "the document changes with another property in a description")
+    for what, files in (
+        ("a lemma that is no description", {name: it.replace("last-move", "helper") if "Last" in name else it
+                                            for name, it in DESCRIBED.items()}),
+        ("a function of proofs/", changed("    → TheOnly (IsLast n)", "    → ℕ", LEMMA, DESCRIBED)),
+        ("a description of another record", changed("ends.specs.TheOnly.{", "ends.specs.Ends.{", LEMMA, DESCRIBED)),
+    ):
+        name = "helper" if "lemma" in what else "last-move"
+        check(f"{what} is reported", [f"crates/game/specs/Last.antt: {name} is not found"], text_of(files)[1])
 
 
 def main():
     text, wrong = text_of(FILES)
-    rows = re.findall(r"^\| `([^`]+)` \| `(?:specs|src)/[^`]+` \| (\d+) \| (.*) \|$", text, re.M)
+    rows = rows_of(text)
     check("the document lists what a clause names, through imports, aliases, constructors, fields and parameters",
           LISTED, {name for name, _, _ in rows})
     check("each name is found", [], wrong)
@@ -166,6 +251,7 @@ def main():
           text_of(changed("largest = 9", "largest = lost"))[1])
     check("a line that cannot be read is reported", "crates/game/specs/Rules.antt:20: an odd line",
           text_of(changed("largest = 9", "largest = 9\n\nan odd line"))[1][0])
+    check_descriptions()
     try:
         text_of(changed("ensures legal", "ensures is_legal", "game/src/lib.rt"))
         result(False, "a clause that is gone is reported")

@@ -11,15 +11,16 @@ use Rattle.squares.specs.ShogiSamePosition.{same_shogi_position}
 use Rattle.squares.specs.ShogiSets.{ShogiPosition}
 use Rattle.shogi_moves.specs.declared.checking.Illegal.{Illegal}
 use Rattle.shogi_moves.specs.declared.checking.Illegal.TheVariants as illegal
-use Rattle.shogi_moves.specs.Computed.{check_of}
+use Rattle.shogi_moves.specs.Check.{Answer}
 use Rattle.shogi_moves.specs.Rules.{play}
 use Rattle.shogi_moves.specs.Listing.{move_cmp}
+use Rattle.shogi_moves.proofs.Proved.{check-answer, declare-answer}
 use Rattle.shogi_repetition.specs.declared.ends.SEnd.{SEnd}
 use Rattle.shogi_repetition.specs.declared.ends.SEnd.TheVariants as shogi_end
 use Rattle.shogi_repetition.specs.declared.tails.Tail.{Tail}
-use Rattle.shogi_repetition.specs.Computed.{end_of}
 use Rattle.shogi_repetition.specs.Ends.{outcome_of}
 use Rattle.shogi_repetition.specs.Tails.{no_checks, next_tail, end_by}
+use Rattle.shogi_repetition.proofs.Proved.{line-end}
 use Rattle.sfen.specs.SfenGrammar.{IsSfenText}
 use Rattle.sfen.specs.SfenText.{position_text}
 use Rattle.sfen.specs.UsiReading.{usi_reach, usi_reading}
@@ -30,9 +31,20 @@ use Rattle.club_rules.specs.declared.names.EndName.TheVariants as name
 use Rattle.club_rules.specs.declared.refusals.MoveRefusal.{MoveRefusal}
 use Rattle.club_rules.specs.declared.refusals.MoveRefusal.TheVariants.{NoSuchMove, NotInHand, MustPromote, DeadDrop}
 use Rattle.club_rules.specs.declared.refusals.MoveRefusal.TheVariants.{TwoPawns, KingAttacked, DropMate, BadText}
-use Rattle.shogi_moves.specs.Declaring.{can_declare}
 use Rattle.club_rules.specs.GameRules.{GameRules}
 use Rattle.club_rules.specs.MoveRefusal.{refused_by}
+
+-- the answer of a move check: the only one that the rules allow
+abbrev pub move_answer : ShogiPosition → SMove → Answer
+move_answer p m = (check-answer p m).value
+
+-- the end of a line of moves, if its last ply ends it: the only one that the rules allow
+abbrev pub end_after : ShogiPosition → List SMove → Option SEnd
+end_after start ms = (line-end start ms).value
+
+-- whether the side to move may declare a win: the Boolean that is true exactly if the rule allows it
+abbrev pub may_declare : ShogiPosition → Bool
+may_declare p = (declare-answer p).value
 
 -- the club's refusal of an illegal move of shogi
 abbrev pub refusal_of : Illegal → MoveRefusal
@@ -77,7 +89,7 @@ abbrev pub shogi : GameRules ShogiPosition SMove SEnd Tail
 shogi = record {
   start = opening;
   turn = λ p. p.turn;
-  check = λ p m. refused_by refusal_of (check_of p m);
+  check = λ p m. refused_by refusal_of (move_answer p m);
   move_order = move_cmp;
   same = same_move;
   same_position = same_shogi_position;
@@ -85,7 +97,7 @@ shogi = record {
   read_move = λ p text. move_read (usi_reading text) (usi_reach text);
   write_move = λ p m. usi_text m;
   write_position = position_text;
-  judge = end_of;
+  judge = end_after;
   track_start = λ p. no_checks;
   track_next = λ track before m after. next_tail track after;
   track_end = end_by;
@@ -94,5 +106,5 @@ shogi = record {
   outcome = outcome_of;
   end_name = name_of;
   has_draw_offers = false;
-  can_declare = can_declare;
+  can_declare = may_declare;
 }

@@ -33,7 +33,7 @@ use Rattle.shogi_moves.proofs.Proved.{check_of-legal, has_move-is, play-sound, R
 use Rattle.shogi_repetition.specs.declared.ends.SEnd.{SEnd}
 use Rattle.shogi_repetition.specs.declared.ends.SEnd.TheVariants as shogi_end
 use Rattle.shogi_repetition.specs.declared.tails.Tail.{Tail}
-use Rattle.shogi_repetition.specs.Computed.{end_of, first_end, is_in_check, repetition, stands_four_times}
+use Rattle.shogi_repetition.specs.Computed.{end_of, first_end, repetition, stands_four_times}
 use Rattle.shogi_repetition.specs.Line as line
 use Rattle.shogi_repetition.specs.Tails.{tail_of, tail_after, end_by, times_stood}
 use Rattle.shogi_repetition.proofs.Proved.{tail-begins, tail-goes-on, ends-by-tail}

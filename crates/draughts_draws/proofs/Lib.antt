@@ -1,4 +1,5 @@
 pub mod CountLemmas
+pub mod EndLemmas
 pub mod KingLemmas
 pub mod Proved
 pub mod SizeLemmas

@@ -1,6 +1,6 @@
 -- The ends of a game of international draughts, with the FMJD's numbers; all of them are automatic.
-use Rattle.std.specs.Prelude.{ℕ, ◌-◌, ◌==◌, ◌&&◌, ◌||◌, nat_le, not, if◌then◌else◌, Bool, false, Option, Some, None}
-use Rattle.std.specs.Prelude.{List, length, count_by, drop}
+use Rattle.std.specs.Prelude.{◌≡◌, ◌⊎◌, ℕ, ◌-◌, ◌==◌, ◌&&◌, ◌||◌, nat_le, not, if◌then◌else◌, Bool, false, IsTrue}
+use Rattle.std.specs.Prelude.{Option, Some, None, List, [], ◌∷◌, length, count_by, drop}
 use Rattle.std.specs.List.{list_all, range_with_len, zip}
 use Rattle.std.specs.FinMap as map
 use Rattle.std.specs.FinSet as set
@@ -13,11 +13,17 @@ use Rattle.squares.specs.declared.draughts.moves.DMove.{DMove}
 use Rattle.squares.specs.Sides.{same_side, loses}
 use Rattle.squares.specs.DraughtsBoard.{Position}
 use Rattle.squares.specs.DraughtsSamePosition.{same_position}
+use Rattle.draughts_moves.specs.Legal.{HasMove}
 use Rattle.draughts_moves.specs.Search.{has_move}
+use Rattle.draughts_moves.proofs.Proved.{move-answer}
 use Rattle.draughts_draws.specs.declared.ends.DEnd.{DEnd}
 use Rattle.draughts_draws.specs.declared.ends.DEnd.TheVariants.{NoMove, Repetition, KingMoves, ThreeToOne, TwoToOne}
 use Rattle.draughts_draws.specs.declared.ends.DEnd.TheVariants.{PlyLimit}
 use Rattle.draughts_draws.specs.Line.{last_position, positions}
+
+-- Whether the side to move has a legal move: the Boolean that is true exactly if it has one.
+abbrev pub can_move : Position → Bool
+can_move p = (move-answer p).value
 
 -- Whether the last position, with its side to move, occurs for the third time.
 unfoldable pub stands_thrice : Position → List Position → Bool
@@ -81,7 +87,30 @@ is_two_to_one p =
 unfoldable pub ends_with : ℕ → (Position → Bool) → List Position → Bool
 ends_with count class ps = nat_le count (length ps) && list_all class (drop (length ps - count) ps)
 
--- The first end that holds, from the last position, all positions and all moves of a history, and nothing else.
+-- A history meets the condition of this end, whether or not it also meets that of another.
+abbrev pub Meets : Position → List DMove → DEnd → Type 0
+Meets start ms NoMove = HasMove (last_position start ms) → ⊥
+Meets start ms Repetition = IsTrue (stands_thrice (last_position start ms) (positions start ms))
+Meets start ms KingMoves = IsTrue (are_king_moves (positions start ms) ms)
+Meets start ms ThreeToOne = IsTrue (ends_with 33 is_three_to_one (positions start ms))
+Meets start ms TwoToOne = IsTrue (ends_with 11 is_two_to_one (positions start ms))
+Meets start ms PlyLimit = length ms ≡ 600
+
+-- The first of these ends whose condition a history meets; none if it meets no condition.
+abbrev pub IsFirstOf : Position → List DMove → List DEnd → Option DEnd → Type 0
+IsFirstOf start ms [] found = found ≡ None
+IsFirstOf start ms (end ∷ ends) found = (Meets start ms end × (found ≡ Some end))
+    ⊎ ((Meets start ms end → ⊥) × IsFirstOf start ms ends found)
+
+-- The ends in their order: if several conditions are met, the first counts.
+abbrev pub ends_in_order : List DEnd
+ends_in_order = NoMove ∷ Repetition ∷ KingMoves ∷ ThreeToOne ∷ TwoToOne ∷ PlyLimit ∷ []
+
+-- The end of a history, if its last ply ends it.
+abbrev pub EndsSo : Position → List DMove → Option DEnd → Type 0
+EndsSo start ms = IsFirstOf start ms ends_in_order
+
+-- The first end that holds, computed from the last position, all positions and all moves of a history.
 unfoldable pub first_end : Position → List Position → List DMove → Option DEnd
 first_end last ps ms =
     if not (has_move last)
@@ -94,7 +123,7 @@ first_end last ps ms =
     then Some ThreeToOne
     else if ends_with 11 is_two_to_one ps then Some TwoToOne else if length ms == 600 then Some PlyLimit else None
 
--- The end of a history, if its last ply ends it.
+-- The computed end of a history.
 unfoldable pub end_of : Position → List DMove → Option DEnd
 end_of start ms = first_end (last_position start ms) (positions start ms) ms
 

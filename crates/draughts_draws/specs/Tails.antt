@@ -7,7 +7,6 @@ use Rattle.squares.specs.declared.draughts.moves.DMove.{DMove}
 use Rattle.squares.specs.DraughtsBoard.{Position}
 use Rattle.squares.specs.DraughtsSamePosition.{same_position}
 use Rattle.draughts_moves.specs.Legal.{play}
-use Rattle.draughts_moves.specs.Search.{has_move}
 use Rattle.draughts_draws.specs.declared.ends.DEnd.{DEnd}
 use Rattle.draughts_draws.specs.declared.ends.DEnd.TheVariants.{NoMove, Repetition, KingMoves, ThreeToOne, TwoToOne}
 use Rattle.draughts_draws.specs.declared.ends.DEnd.TheVariants.{PlyLimit}
@@ -15,7 +14,7 @@ use Rattle.draughts_draws.specs.declared.tails.Class.{Class}
 use Rattle.draughts_draws.specs.declared.tails.Class.TheVariants as class
 use Rattle.draughts_draws.specs.declared.tails.Tail.{Tail}
 use Rattle.draughts_draws.specs.Line.{last_position, positions}
-use Rattle.draughts_draws.specs.Ends.{is_king_move, is_three_to_one, is_two_to_one, end_of}
+use Rattle.draughts_draws.specs.Ends.{can_move, is_king_move, is_three_to_one, is_two_to_one, end_of}
 
 -- Whether the position has the material of this class of endings.
 abbrev pub in_class : Class → Position → Bool
@@ -83,7 +82,7 @@ end_or None later = later
 -- The end of a history with this tail and last position, from the number of plies and the repetition count.
 unfoldable pub end_by : Tail → Position → ℕ → ℕ → Option DEnd
 end_by tail last plies times =
-    if not (has_move last)
+    if not (can_move last)
     then Some NoMove
     else if nat_le 3 times
     then Some Repetition

@@ -1,3 +1,4 @@
+pub mod AnswerLemmas
 pub mod Basics
 pub mod CheckLemmas
 pub mod ClearLemmas

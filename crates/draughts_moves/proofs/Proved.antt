@@ -1,4 +1,5 @@
 -- What is proved of the moves of draughts, for the proofs of crates above.
+pub use Rattle.draughts_moves.proofs.AnswerLemmas.{check-answer, move-answer}
 pub use Rattle.draughts_moves.proofs.CheckLemmas.{check_of-is, is_positive}
 pub use Rattle.draughts_moves.proofs.CountLemmas.{len-counted}
 pub use Rattle.draughts_moves.proofs.JumpLemmas.{jumps-complete, jumps-sound}

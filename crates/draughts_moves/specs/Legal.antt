@@ -58,6 +58,7 @@ pub record IsShortCapture (p : Position) (m : DMove) : Type 0 where
 abbrev pub Legal : Position → DMove → Type 0
 Legal p m = LegalCapture p m.from m.to m.taken ⊎ ((HasCapture p → ⊥) × IsQuiet p m)
 
+-- A position with a legal move.
 abbrev pub HasMove : Position → Type 0
 HasMove p = (m : DMove) × Legal p m
 

@@ -6,5 +6,5 @@ pub use Rattle.pdn.proofs.FenOneLemmas.{fen-one, fen-well}
 pub use Rattle.pdn.proofs.GrammarLemmas.{one_digit, read_form-text, two_digits}
 pub use Rattle.pdn.proofs.LandingLemmas.{Route-on}
 pub use Rattle.pdn.proofs.OffsetLemmas.{le_or_more}
-pub use Rattle.pdn.proofs.ReadingValueLemmas.{reading-err, reading-ok}
-pub use Rattle.pdn.proofs.ValueLemmas.{text-is, text-one}
+pub use Rattle.pdn.proofs.ReadingValueLemmas.{reading-answer, reading-err, reading-ok}
+pub use Rattle.pdn.proofs.ValueLemmas.{text-answer, text-is, text-one}

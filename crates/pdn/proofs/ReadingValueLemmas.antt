@@ -9,6 +9,7 @@ use Rattle.std.proofs.lemmas.Bool.{and_parts, eqb-true, eq-eqb}
 use Rattle.squares.specs.declared.draughts.piece.DPiece.{DPiece}
 use Rattle.squares.specs.declared.draughts.moves.DMove.{DMove}
 use Rattle.squares.specs.DraughtsBoard.{Position}
+use Rattle.squares.specs.TheOnly.{TheOnly}
 use Rattle.squares.specs.In.{In, In-map, In-Contains, Contains-In, list_any-found, list_any-finds}
 use Rattle.draughts_moves.specs.declared.checking.Illegal.{Illegal}
 use Rattle.draughts_moves.specs.declared.checking.Illegal.TheVariants.{NoSuchMove, MustCapture, NotLongest}
@@ -24,10 +25,10 @@ use Rattle.pdn.specs.declared.faults.MoveFault.TheVariants as fault
 use Rattle.pdn.specs.Forms.{Form, FormReading, quiet, capture, read_form}
 use Rattle.pdn.specs.Passing.{passes}
 use Rattle.pdn.specs.Choice.{same_move, IsChoice, IsTie}
-use Rattle.pdn.specs.MoveValue.{legal_moves, routes_in, does_fit, Choosing, choose, some_fit, Reading, chosen, checked}
+use Rattle.pdn.specs.MoveValue.{legal_moves, routes_in, does_fit, Choosing, choose, some_fit, chosen, checked}
 use Rattle.pdn.specs.MoveValue.{form_reading, with_form, move_reading}
 use Rattle.pdn.specs.ReadMove.{Fits, SomeFits, NoneFits, StandsFor, IsAmbiguous, IsRefused, IsFormFault, IsRead}
-use Rattle.pdn.specs.ReadMove.{HasReadFault}
+use Rattle.pdn.specs.ReadMove.{HasReadFault, Reading, IsReadingOf}
 use Rattle.pdn.proofs.ChoiceLemmas.{same_move-same, same_move-itself}
 use Rattle.pdn.proofs.PassingLemmas.{route-fits, fits-passes}
 use Rattle.pdn.proofs.ReadingLemmas as reading
@@ -213,11 +214,6 @@ form-read p (capture from middle to) = capture-read p from middle to
     (choose-is (Fits p from middle to) (does_fit p from middle to) (does_fit-fits p from middle to)
     (fits-does_fit p from middle to) (legal_moves p))
 
--- what the function's answer says of the text
-abbrev IsReadingOf : Position → List ℕ → Reading → Type 0
-IsReadingOf p text (Ok m) = IsRead p text m
-IsReadingOf p text (Err e) = HasReadFault p text e × (e ≢ fault.Memory)
-
 of_form : (p : Position) (text : List ℕ) (form : Form) → read_form text ≡ Ok form → (r : Reading) → IsReadBy p form r
     → IsReadingOf p text r
 unfolding IsReadBy
@@ -231,7 +227,7 @@ of_text : (p : Position) (text : List ℕ) (r : FormReading) → read_form text 
 of_text p text (Ok form) e = of_form p text form e (form_reading p form) (form-read p form)
 of_text p text (Err offset) e = (e, λ memory. cc)
 
-reading-is : (p : Position) (text : List ℕ) → IsReadingOf p text (move_reading p text)
+pub reading-is : (p : Position) (text : List ℕ) → IsReadingOf p text (move_reading p text)
 unfolding move_reading
 reading-is p text = of_text p text (read_form text) refl
 
@@ -289,3 +285,11 @@ module _ (p : Position) (text : List ℕ) where
   pub reading-err : (e : MoveFault) → (move_reading p text ≡ Err e) ↔ (HasReadFault p text e × (e ≢ fault.Memory))
   reading-err e =
       (λ is. subst (IsReadingOf p text) is (reading-is p text), to_err (move_reading p text) e (reading-is p text))
+
+  pub reading-one : (r : Reading) → IsReadingOf p text r → r ≡ move_reading p text
+  reading-one (Ok m) h = sym ((reading-ok m).1 h)
+  reading-one (Err e) h = sym ((reading-err e).1 h)
+
+  -- a text has one reading
+  abbrev pub reading-answer : TheOnly (IsReadingOf p text)
+  reading-answer = record { value = move_reading p text; is = reading-is p text; only = reading-one }

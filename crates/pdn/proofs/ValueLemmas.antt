@@ -16,6 +16,7 @@ use Rattle.squares.specs.DraughtsBoard.{Position}
 use Rattle.squares.specs.DraughtsMarks.{nat_eq_other}
 use Rattle.squares.specs.In.{In, list_any-found, list_any-finds}
 use Rattle.squares.specs.OrderedLists.{put_all}
+use Rattle.squares.specs.TheOnly.{TheOnly}
 use Rattle.squares.specs.PutLemmas.{put_all-sorted, put_all-in, put_all-has}
 use Rattle.draughts_moves.specs.Capture.{Capture, without}
 use Rattle.draughts_moves.specs.Search.{own_at, most}
@@ -23,7 +24,8 @@ use Rattle.draughts_moves.specs.Routes.{route_cmp, landings_of}
 use Rattle.draughts_moves.specs.Legal.{Legal}
 use Rattle.draughts_moves.proofs.Proved.{moves-sound, moves-complete, IsMost-most, Capture-len, own_at-own, own_at-is}
 use Rattle.draughts_moves.proofs.Proved.{route_cmp-total, landings_of-sound, landings_of-complete}
-use Rattle.pdn.specs.MoveText.{HasRival, IsFirstRoute, IsMoveText, is_like, quiet_text, capture_text, short, long}
+use Rattle.pdn.specs.MoveText.{HasRival, IsFirstRoute, IsMoveText, IsUnrouted, IsWritten, is_like, quiet_text}
+use Rattle.pdn.specs.MoveText.{capture_text, short, long}
 use Rattle.pdn.specs.MoveText as written
 use Rattle.pdn.specs.MoveValue.{legal_moves, routes_in, first_of, named, move_text}
 use Rattle.pdn.proofs.WritingLemmas.{is_like-rival, rival-is_like, first_least, Legal-Capture}
@@ -153,16 +155,19 @@ no-rival : (p : Position) (m : DMove) (b : Bool) → list_any (is_like m) (legal
 no-rival p m true e none = absurd (none (found-rival p m e))
 no-rival p m false e none = refl
 
-pub text-one : (p : Position) (m : DMove) (text : List ℕ) → Legal p m → IsMoveText p m text → text ≡ move_text p m
-text-one p m text legal (written.quiet none is) = is ∙ sym (text-quiet p m (ap set.len none ∙ set.len-empty nat_cmp))
-text-one p m text legal (short takes none is) = is
+one-text : (p : Position) (m : DMove) (text : List ℕ) → IsMoveText p m text → text ≡ move_text p m
+one-text p m text (written.quiet none is) = is ∙ sym (text-quiet p m (ap set.len none ∙ set.len-empty nat_cmp))
+one-text p m text (short takes none is) = is
     ∙ sym (text-short p m takes (no-rival p m (list_any (is_like m) (legal_moves p)) refl none))
-text-one p m text legal (long takes rival landings first is) =
+one-text p m text (long takes rival landings first is) =
     is
     ∙ ap (capture_text m.from)
     (one-first p m landings (first_of (ordered p m) (m.to ∷ [])) first
     (first-route p m (m.to ∷ []) (ordered p m) refl landings first.route))
     ∙ sym (text-long p m takes (rival-found p m rival))
+
+pub text-one : (p : Position) (m : DMove) (text : List ℕ) → Legal p m → IsMoveText p m text → text ≡ move_text p m
+text-one p m text legal = one-text p m text
 
 not_rival : (p : Position) (m : DMove) → list_any (is_like m) (legal_moves p) ≡ false → HasRival p m → ⊥
 not_rival p m e w = let found = rival-found p m w in cc
@@ -185,3 +190,56 @@ text-is p m legal =
             | false ↦ λ none. short takes (not_rival p m none) (text-short p m takes none)
           ] refl
     ] refl
+
+-- ---- any move
+
+module _ (p : Position) (m : DMove) where
+  -- the text of a capture that should name its route, by its routes in order
+  abbrev by_routes : List (List ℕ) → List ℕ
+  by_routes routes = capture_text m.from (first_of routes (m.to ∷ []))
+
+  routed : (routes : List (List ℕ)) → ordered p m ≡ routes → m.taken ≢ set.empty → HasRival p m
+      → IsWritten p m (by_routes routes)
+  routed [] e takes rival =
+      inr (
+        record {
+          takes = takes;
+          rival = rival;
+          no_route = λ ls c. subst (In ls) e (Capture-ordered p m ls c);
+        },
+        refl,
+      )
+  routed (r ∷ rs) e takes rival =
+      let route = ordered-Capture p m r (subst (In r) (sym e) (inl refl)) in
+      inl (long takes rival r (first-route p m (m.to ∷ []) (r ∷ rs) e r route) refl)
+
+  unrouted : (routes : List (List ℕ)) → ordered p m ≡ routes → IsUnrouted p m → routes ≡ []
+  unrouted [] e none = refl
+  unrouted (r ∷ rs) e none = absurd (none.no_route r (ordered-Capture p m r (subst (In r) (sym e) (inl refl))))
+
+  pub written-is : IsWritten p m (move_text p m)
+  written-is =
+      elim (nat_eq (set.len m.taken) 0) as (λ b. nat_eq (set.len m.taken) 0 ≡ b → IsWritten p m (move_text p m)) [
+        | true ↦ λ e.
+            let none : set.len m.taken ≡ 0 = eqb-true (set.len m.taken) 0 e in
+            inl (written.quiet (set.empty_of_len m.taken none) (text-quiet p m none))
+        | false ↦ λ e.
+            let takes : m.taken ≢ set.empty = λ none. let zero_len =
+            eq-eqb (set.len m.taken) 0 (ap set.len none ∙ set.len-empty nat_cmp) in cc in
+            elim (list_any (is_like m) (legal_moves p)) as (λ b. list_any (is_like m) (legal_moves p) ≡ b
+            → IsWritten p m (move_text p m)) [
+              | true ↦ λ found.
+                  subst (IsWritten p m) (sym (text-long p m takes found))
+                  (routed (ordered p m) refl takes (found-rival p m found))
+              | false ↦ λ none. inl (short takes (not_rival p m none) (text-short p m takes none))
+            ] refl
+      ] refl
+
+  pub written-one : (text : List ℕ) → IsWritten p m text → text ≡ move_text p m
+  written-one text (inl w) = one-text p m text w
+  written-one text (inr w) = w.1 ∙ sym (ap by_routes (unrouted (ordered p m) refl w.0))
+      ∙ sym (text-long p m w.0.takes (rival-found p m w.0.rival))
+
+  -- a move has one text
+  abbrev pub text-answer : TheOnly (IsWritten p m)
+  text-answer = record { value = move_text p m; is = written-is; only = written-one }

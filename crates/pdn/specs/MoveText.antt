@@ -1,6 +1,6 @@
 -- The written text of a move: a quiet move has a hyphen between its squares, a capture an `x` before each landing
 -- square that is named.
-use Rattle.std.specs.Prelude.{◌≡◌, ◌≢◌, ◌==◌, ◌&&◌, not, Bool, ℕ, List, [], ◌∷◌, ◌++◌}
+use Rattle.std.specs.Prelude.{◌≡◌, ◌≢◌, ◌⊎◌, ◌==◌, ◌&&◌, not, Bool, ℕ, List, [], ◌∷◌, ◌++◌}
 use Rattle.std.specs.FinSet as set
 use Rattle.std.specs.declared.cmp.Ordering.TheVariants.{Greater}
 use Rattle.squares.specs.declared.draughts.moves.DMove.{DMove}
@@ -54,3 +54,14 @@ pub data IsMoveText (p : Position) (m : DMove) (text : List ℕ) : Type 0 where
   short : m.taken ≢ set.empty → (HasRival p m → ⊥) → text ≡ capture_text m.from (m.to ∷ []) → IsMoveText p m text
   long : m.taken ≢ set.empty → HasRival p m → (landings : List ℕ) → IsFirstRoute p m landings
       → text ≡ capture_text m.from landings → IsMoveText p m text
+
+-- A capture that no route makes, so that it is not legal, while a legal move has its origin and destination.
+pub record IsUnrouted (p : Position) (m : DMove) : Type 0 where
+  pub takes : m.taken ≢ set.empty
+  pub rival : HasRival p m
+  pub no_route : (landings : List ℕ) → Capture p m.from landings m.taken m.to → ⊥
+
+-- The written text of any move, which for a legal move is `IsMoveText`. A capture that should name its route and has
+-- none is written with its origin and destination.
+abbrev pub IsWritten : Position → DMove → List ℕ → Type 0
+IsWritten p m text = IsMoveText p m text ⊎ (IsUnrouted p m × (text ≡ capture_text m.from (m.to ∷ [])))

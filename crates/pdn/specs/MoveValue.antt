@@ -19,6 +19,7 @@ use Rattle.pdn.specs.declared.faults.MoveFault.TheVariants as fault
 use Rattle.pdn.specs.Forms.{Form, FormReading, quiet, capture, read_form}
 use Rattle.pdn.specs.Passing.{passes}
 use Rattle.pdn.specs.Choice.{same_move}
+pub use Rattle.pdn.specs.ReadMove.{Reading}
 use Rattle.pdn.specs.MoveText.{is_like, quiet_text, capture_text}
 
 -- the legal moves, possibly with duplicates
@@ -68,10 +69,6 @@ some_fit p from middle to = list_any (λ n. list_any (does_fit p from middle to)
 -- the fault of a text that denotes an illegal move
 abbrev pub illegal : Illegal → MoveFault
 illegal cause = fault.Illegal cause
-
--- The result of reading a move: the move, or the fault of its text.
-abbrev pub Reading : Type 0
-Reading = Result DMove MoveFault
 
 -- the move that was chosen; if none was, `some` says whether a capture that is not the longest matches
 abbrev pub chosen : Bool → Choosing → Reading

@@ -1,5 +1,5 @@
 -- The move that a text denotes in a position.
-use Rattle.std.specs.Prelude.{◌≡◌, ◌≢◌, ℕ, List, [], ◌∷◌, ◌++◌, Ok, Err}
+use Rattle.std.specs.Prelude.{◌≡◌, ◌≢◌, ℕ, List, [], ◌∷◌, ◌++◌, Result, Ok, Err}
 use Rattle.squares.specs.declared.draughts.moves.DMove.{DMove}
 use Rattle.squares.specs.DraughtsBoard.{Position}
 use Rattle.draughts_moves.specs.declared.checking.Illegal.{Illegal}
@@ -7,7 +7,7 @@ use Rattle.draughts_moves.specs.declared.checking.Illegal.TheVariants.{NoSuchMov
 use Rattle.draughts_moves.specs.Capture.{Capture}
 use Rattle.draughts_moves.specs.Legal.{IsShortCapture, Legal}
 use Rattle.draughts_moves.specs.Listing.{step_to}
-use Rattle.draughts_moves.specs.Check.{check_of}
+use Rattle.draughts_moves.proofs.Proved.{check-answer}
 use Rattle.pdn.specs.declared.faults.MoveFault.{MoveFault}
 use Rattle.pdn.specs.declared.faults.MoveFault.TheVariants as fault
 use Rattle.pdn.specs.Forms.{Form, quiet, capture, read_form}
@@ -48,7 +48,7 @@ IsAmbiguous p (capture from middle to) = (m : DMove) × (n : DMove) × Legal p m
 
 -- the reason why a text denotes no legal move
 abbrev pub IsRefused : Position → Form → Illegal → Type 0
-IsRefused p (quiet from to) cause = check_of p (step_to from to) ≡ Err cause
+IsRefused p (quiet from to) cause = (check-answer p (step_to from to)).value ≡ Err cause
 IsRefused p (capture from middle to) NoSuchMove = NoneFits p from middle to × (ShortFits p from middle to → ⊥)
 IsRefused p (capture from middle to) MustCapture = ⊥
 IsRefused p (capture from middle to) NotLongest = NoneFits p from middle to × ShortFits p from middle to
@@ -70,3 +70,12 @@ HasReadFault p text fault.Memory = Unit {0}
 HasReadFault p text (fault.BadText offset) = read_form text ≡ Err offset
 HasReadFault p text fault.Ambiguous = (form : Form) × (read_form text ≡ Ok form) × IsAmbiguous p form
 HasReadFault p text (fault.Illegal cause) = (form : Form) × (read_form text ≡ Ok form) × IsRefused p form cause
+
+-- The result of reading a move: the move, or the fault of its text.
+abbrev pub Reading : Type 0
+Reading = Result DMove MoveFault
+
+-- The result of reading a text: the move that is read, or a fault other than out of memory.
+abbrev pub IsReadingOf : Position → List ℕ → Reading → Type 0
+IsReadingOf p text (Ok m) = IsRead p text m
+IsReadingOf p text (Err e) = HasReadFault p text e × (e ≢ fault.Memory)

@@ -1,3 +1,4 @@
+pub mod AnswerLemmas
 pub mod AttackLemmas
 pub mod CheckLemmas
 pub mod DeclareLemmas

@@ -1,6 +1,6 @@
 -- The rules as computable tests.
-use Rattle.std.specs.Prelude.{ℕ, Bool, true, false, not, ◌&&◌, ◌||◌, ◌==◌, nat_lt, is_none, Option, Some, None, Result}
-use Rattle.std.specs.Prelude.{Ok, Err, List, [], ◌∷◌, if◌then◌else◌}
+use Rattle.std.specs.Prelude.{ℕ, Bool, true, false, not, ◌&&◌, ◌||◌, ◌==◌, nat_lt, is_none, Option, Some, None, Ok}
+use Rattle.std.specs.Prelude.{Err, List, [], ◌∷◌, if◌then◌else◌}
 use Rattle.std.specs.Option.{option_map_or}
 use Rattle.std.specs.List.{list_any}
 use Rattle.std.specs.FinMap as map
@@ -19,6 +19,7 @@ use Rattle.squares.specs.ShogiGeometry.{file_of}
 use Rattle.shogi_moves.specs.declared.checking.Illegal.{Illegal}
 use Rattle.shogi_moves.specs.declared.checking.Illegal.TheVariants as illegal
 use Rattle.shogi_moves.specs.Search.{all_squares, piece_reaches, king_attacked}
+use Rattle.shogi_moves.specs.Check.{Answer}
 use Rattle.shogi_moves.specs.Rules.{may_promote, is_stuck, may_land, held, dropped_role, target, board_after, play}
 use Rattle.shogi_moves.specs.Rules.{rules_in_order}
 
@@ -152,10 +153,6 @@ broken p m illegal.DeadDrop = drops_dead p m
 broken p m illegal.TwoPawns = drops_second_pawn p m
 broken p m illegal.KingAttacked = leaves_king p m
 broken p m illegal.DropMate = mates_by_pawn p m
-
--- The answer of a move check: the move is legal, or the reason why it is not.
-abbrev pub Answer : Type 0
-Answer = Result (Unit {0}) Illegal
 
 -- The first of the rules that fails the test.
 abbrev pub first_of : (Illegal → Bool) → List Illegal → Answer

@@ -1,5 +1,5 @@
 -- Properties of the rules as a whole.
-use Rattle.std.specs.Prelude.{◌≡◌, ◌↔◌, ◌<◌, ℕ, ◌+◌, ◌*◌, length, IsTrue, IsOk, Err}
+use Rattle.std.specs.Prelude.{◌≡◌, ◌↔◌, ◌<◌, ℕ, ◌+◌, ◌*◌, length, IsTrue}
 use Rattle.std.specs.List.{slice_index}
 use Rattle.squares.specs.declared.sides.Side.{Side}
 use Rattle.squares.specs.declared.sides.Side.TheVariants.{First, Second}
@@ -10,16 +10,15 @@ use Rattle.shogi_moves.specs.declared.heading.MoveDirection.TheVariants.{Forward
 use Rattle.shogi_moves.specs.declared.heading.MoveDirection.TheVariants.{Back, BackLeft, BackRight, JumpLeft, JumpRight}
 use Rattle.squares.specs.declared.shogi.moves.SMove.{SMove}
 use Rattle.squares.specs.ShogiSets.{ShogiPosition}
-use Rattle.shogi_moves.specs.declared.checking.Illegal.{Illegal}
 use Rattle.shogi_moves.specs.Reach.{line}
-use Rattle.shogi_moves.specs.Rules.{Legal, HasMove, FirstBroken, play}
+use Rattle.shogi_moves.specs.Check.{IsCheck}
+use Rattle.shogi_moves.specs.Rules.{Legal, HasMove, play}
 use Rattle.shogi_moves.specs.Computed.{check_of, has_move}
 
 -- The computed check agrees with the rules: it accepts the legal moves, and names the first rule that any other move
 -- breaks.
 abbrev pub CheckIs : Type 0
-CheckIs = (p : ShogiPosition) (m : SMove) → (IsOk (check_of p m) ↔ Legal p m)
-    × ((rule : Illegal) → (check_of p m ≡ Err rule) ↔ FirstBroken p m rule)
+CheckIs = (p : ShogiPosition) (m : SMove) → IsCheck p m (check_of p m)
 
 -- The computed `has_move` agrees with the rules.
 abbrev pub HasMoveIs : Type 0

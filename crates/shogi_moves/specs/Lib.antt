@@ -1,3 +1,4 @@
+pub mod Check
 pub mod Computed
 pub mod Declaring
 pub mod Facing

@@ -139,6 +139,7 @@ pub record Attacked (board : ShogiBoard) (side : Side) (square : ℕ) : Type 0 w
   pub enemy : piece.side ≡ other side
   pub reach : Reach board piece from square
 
+-- A king of the side.
 abbrev pub king : Side → SPiece
 king side = record { side = side; role = role.King }
 

@@ -105,6 +105,7 @@ abbrev pub DropsDead : ShogiPosition → SMove → Type 0
 DropsDead p (Step from to promote) = ⊥
 DropsDead p (Drop kind to) = is_stuck p.turn (dropped_role kind) to ≡ true
 
+-- An unpromoted pawn of the side.
 abbrev pub pawn : Side → SPiece
 pawn side = record { side = side; role = role.Pawn }
 
@@ -182,11 +183,13 @@ pub record Mate (p : ShogiPosition) : Type 0 where
 abbrev pub MatesByPawn : ShogiPosition → SMove → Type 0
 MatesByPawn p m = DropsPawn m × Mate (play p m)
 
+-- A legal move: a pseudo-legal move that leaves its own king safe and gives no mate by a dropped pawn.
 pub record Legal (p : ShogiPosition) (m : SMove) : Type 0 where
   pub pseudo : Pseudo p m
   pub safe : Safe p m
   pub no_pawn_mate : MatesByPawn p m → ⊥
 
+-- A position with a legal move.
 abbrev pub HasMove : ShogiPosition → Type 0
 HasMove p = (m : SMove) × Legal p m
 
@@ -205,6 +208,7 @@ abbrev pub rules_in_order : List Illegal
 rules_in_order = illegal.NoSuchMove ∷ illegal.NotInHand ∷ illegal.MustPromote ∷ illegal.DeadDrop ∷ illegal.TwoPawns
     ∷ illegal.KingAttacked ∷ illegal.DropMate ∷ []
 
+-- The move breaks none of these rules.
 abbrev pub KeepsAll : ShogiPosition → SMove → List Illegal → Type 0
 KeepsAll p m [] = Unit {0}
 KeepsAll p m (rule ∷ rules) = (Breaks p m rule → ⊥) × KeepsAll p m rules

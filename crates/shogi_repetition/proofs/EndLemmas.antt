@@ -14,6 +14,7 @@ use Rattle.squares.specs.declared.sides.Side.TheVariants.{First, Second}
 use Rattle.squares.specs.declared.shogi.moves.SMove.{SMove}
 use Rattle.squares.specs.Sides.{other, same_side}
 use Rattle.squares.specs.ShogiSets.{ShogiPosition}
+use Rattle.squares.specs.TheOnly.{TheOnly}
 use Rattle.squares.specs.ShogiSamePosition.{same_shogi_position, same_shogi_position-same, same_shogi_position-itself}
 use Rattle.shogi_moves.specs.Rules.{HasMove, play}
 use Rattle.shogi_moves.specs.Computed.{has_move}
@@ -22,9 +23,9 @@ use Rattle.shogi_repetition.specs.declared.ends.SEnd.{SEnd}
 use Rattle.shogi_repetition.specs.declared.ends.SEnd.TheVariants.{NoMove, PerpetualCheck, Fourfold, PlyLimit}
 use Rattle.shogi_repetition.specs.Line.{last_position, position_after, positions}
 use Rattle.shogi_repetition.specs.Ends.{StandsAfter, StandsFourTimes, FirstOccurs, InCheck, GaveCheckThroughout}
-use Rattle.shogi_repetition.specs.Ends.{ChecksAlone, EndsSo}
-use Rattle.shogi_repetition.specs.Computed.{is_in_check, keeps_checking, checks_throughout, stands_four_times}
-use Rattle.shogi_repetition.specs.Computed.{since_first, end_by_checks, repetition, first_end, end_of}
+use Rattle.shogi_repetition.specs.Ends.{ChecksAlone, EndsSo, is_in_check, end_by_checks}
+use Rattle.shogi_repetition.specs.Computed.{keeps_checking, checks_throughout, stands_four_times, since_first}
+use Rattle.shogi_repetition.specs.Computed.{repetition, first_end, end_of}
 use Rattle.shogi_repetition.proofs.PlaceLemmas.{next, counted, steps, stepped}
 
 -- a move of the side, with or without check
@@ -246,3 +247,12 @@ module _ (start : ShogiPosition) (ms : List SMove) where
   one-end None _ x y = absurd (x.1 y.1)
   one-end (Some PlyLimit) _ x y = absurd (x.1 y.1)
   one-end _ _ x y = absurd (y.1 x.1)
+
+-- a line has one end, or goes on
+abbrev pub line-end : (start : ShogiPosition) (ms : List SMove) → TheOnly (EndsSo start ms)
+line-end start ms =
+    record {
+      value = end_of start ms;
+      is = end_of-is start ms;
+      only = λ other is. one-end start ms other (end_of start ms) is (end_of-is start ms);
+    }

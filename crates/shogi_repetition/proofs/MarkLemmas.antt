@@ -24,8 +24,7 @@ use Rattle.shogi_repetition.specs.declared.marks.Marks.{Marks}
 use Rattle.shogi_repetition.specs.declared.marks.RepetitionCount.{RepetitionCount}
 use Rattle.shogi_repetition.specs.declared.tails.Tail.{Tail}
 use Rattle.shogi_repetition.specs.Line.{last_position, positions}
-use Rattle.shogi_repetition.specs.Ends.{FirstOccurs, EndsSo}
-use Rattle.shogi_repetition.specs.Computed.{is_in_check}
+use Rattle.shogi_repetition.specs.Ends.{FirstOccurs, EndsSo, is_in_check}
 use Rattle.shogi_repetition.specs.Faults.{shogi_lines, HasFault}
 use Rattle.shogi_repetition.specs.Tails.{no_checks, count_on, tail_after, next_tail, repetition_by, end_by}
 use Rattle.shogi_repetition.specs.Counting.{HasStood, Follows, stood_again}

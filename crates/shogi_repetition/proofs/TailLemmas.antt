@@ -20,9 +20,9 @@ use Rattle.shogi_moves.specs.Computed.{has_move}
 use Rattle.shogi_repetition.specs.declared.ends.SEnd.TheVariants.{NoMove, PlyLimit}
 use Rattle.shogi_repetition.specs.declared.tails.Tail.{Tail}
 use Rattle.shogi_repetition.specs.Line.{last_position, position_after, positions}
-use Rattle.shogi_repetition.specs.Ends.{FirstOccurs}
-use Rattle.shogi_repetition.specs.Computed.{is_in_check, checks_throughout, stands_four_times}
-use Rattle.shogi_repetition.specs.Computed.{since_first, end_by_checks, repetition, first_end, end_of}
+use Rattle.shogi_repetition.specs.Ends.{FirstOccurs, is_in_check, end_by_checks}
+use Rattle.shogi_repetition.specs.Computed.{checks_throughout, stands_four_times, since_first, repetition, first_end}
+use Rattle.shogi_repetition.specs.Computed.{end_of}
 use Rattle.shogi_repetition.specs.Tails.{led_to, checks_in_a_row, tail_of, no_checks, count_on, tail_after, next_tail}
 use Rattle.shogi_repetition.specs.Tails.{repetition_by, end_by, times_stood}
 use Rattle.shogi_repetition.proofs.EndLemmas.{place, first-stands, since_first-is, one-first}

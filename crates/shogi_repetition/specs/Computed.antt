@@ -1,5 +1,5 @@
 -- The end of a history, computed from its positions.
-use Rattle.std.specs.Prelude.{ℕ, ◌==◌, ◌||◌, nat_le, not, if◌then◌else◌, Bool, true, false, Option, Some, None, List}
+use Rattle.std.specs.Prelude.{ℕ, ◌==◌, ◌||◌, nat_le, not, if◌then◌else◌, Bool, Option, Some, None, List}
 use Rattle.std.specs.Prelude.{length, count_by, drop}
 use Rattle.std.specs.List.{list_all, position, zip}
 use Rattle.std.specs.Option.{option_map_or}
@@ -9,15 +9,11 @@ use Rattle.squares.specs.declared.shogi.moves.SMove.{SMove}
 use Rattle.squares.specs.Sides.{other, same_side}
 use Rattle.squares.specs.ShogiSets.{ShogiPosition}
 use Rattle.squares.specs.ShogiSamePosition.{same_shogi_position}
-use Rattle.shogi_moves.specs.Search.{king_attacked}
 use Rattle.shogi_moves.specs.Computed.{has_move}
 use Rattle.shogi_repetition.specs.declared.ends.SEnd.{SEnd}
-use Rattle.shogi_repetition.specs.declared.ends.SEnd.TheVariants.{NoMove, PerpetualCheck, Fourfold, PlyLimit}
+use Rattle.shogi_repetition.specs.declared.ends.SEnd.TheVariants.{NoMove, PlyLimit}
+use Rattle.shogi_repetition.specs.Ends.{is_in_check, end_by_checks}
 use Rattle.shogi_repetition.specs.Line.{last_position, positions}
-
--- Whether the side to move is in check.
-abbrev pub is_in_check : ShogiPosition → Bool
-is_in_check p = king_attacked p.board p.turn
 
 -- Whether the move between two positions is one of the other side, or gives check.
 abbrev pub keeps_checking : Side → ShogiPosition → ShogiPosition → Bool
@@ -34,13 +30,6 @@ stands_four_times last ps = nat_le 4 (count_by (λ p. same_shogi_position p last
 -- The positions from the first occurrence of the last position on.
 unfoldable pub since_first : ShogiPosition → List ShogiPosition → List ShogiPosition
 since_first last ps = option_map_or (λ f. drop f ps) (position (λ p. same_shogi_position p last) ps) ps
-
--- The end of a fourth repetition, by the sides that gave check throughout.
-abbrev pub end_by_checks : Bool → Bool → SEnd
-end_by_checks true false = PerpetualCheck First
-end_by_checks false true = PerpetualCheck Second
-end_by_checks true true = Fourfold
-end_by_checks false false = Fourfold
 
 -- The end by a fourth occurrence of the last position, from the checks since its first occurrence.
 unfoldable pub repetition : ShogiPosition → List ShogiPosition → SEnd

@@ -1,7 +1,8 @@
 -- The ends of a game of shogi. Positions are the same if board, hands and side to move are.
-use Rattle.std.specs.Prelude.{◌≡◌, ◌<◌, ◌≤◌, ◌≢◌, ℕ, ◌+◌, Option, Some, None, List, length}
+use Rattle.std.specs.Prelude.{◌≡◌, ◌<◌, ◌≤◌, ◌≢◌, ℕ, ◌+◌, Bool, true, false, Option, Some, None, List, length}
 use Rattle.game_history.specs.Line as line
 use Rattle.squares.specs.declared.sides.Side.{Side}
+use Rattle.squares.specs.declared.sides.Side.TheVariants.{First, Second}
 use Rattle.squares.specs.declared.sides.Score.{Score}
 use Rattle.squares.specs.declared.sides.Score.TheVariants.{Draw}
 use Rattle.squares.specs.declared.shogi.moves.SMove.{SMove}
@@ -9,9 +10,18 @@ use Rattle.squares.specs.Sides.{other, loses}
 use Rattle.squares.specs.ShogiSets.{ShogiPosition}
 use Rattle.shogi_moves.specs.Reach.{KingAttacked}
 use Rattle.shogi_moves.specs.Rules.{HasMove, play}
+use Rattle.shogi_moves.proofs.Proved.{attack-answer, move-answer}
 use Rattle.shogi_repetition.specs.declared.ends.SEnd.{SEnd}
 use Rattle.shogi_repetition.specs.declared.ends.SEnd.TheVariants.{NoMove, PerpetualCheck, Fourfold, PlyLimit}
 use Rattle.shogi_repetition.specs.Line.{last_position, position_after}
+
+-- Whether the side to move has a legal move: the Boolean that is true exactly if it has one.
+abbrev pub can_move : ShogiPosition → Bool
+can_move p = (move-answer p).value
+
+-- Whether the side to move is in check: the Boolean that is true exactly if its king is attacked.
+abbrev pub is_in_check : ShogiPosition → Bool
+is_in_check p = (attack-answer p.board p.turn).value
 
 -- The position after k plies is the last position.
 abbrev pub StandsAfter : ShogiPosition → List SMove → ℕ → Type 0
@@ -60,6 +70,13 @@ EndsSo start ms (Some Fourfold) = HasMove (last_position start ms) × StandsFour
     × ((side : Side) → ChecksAlone start ms side → ⊥)
 EndsSo start ms (Some PlyLimit) = HasMove (last_position start ms) × (StandsFourTimes start ms → ⊥) × (length ms ≡ 600)
 EndsSo start ms None = HasMove (last_position start ms) × (StandsFourTimes start ms → ⊥) × (length ms ≢ 600)
+
+-- The end of a fourth occurrence, by which sides gave check throughout.
+abbrev pub end_by_checks : Bool → Bool → SEnd
+end_by_checks true false = PerpetualCheck First
+end_by_checks false true = PerpetualCheck Second
+end_by_checks true true = Fourfold
+end_by_checks false false = Fourfold
 
 -- The score of an end, by the side to move after it: a side without a move or with perpetual check loses, the rest are
 -- draws.

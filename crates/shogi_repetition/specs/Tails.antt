@@ -10,13 +10,12 @@ use Rattle.squares.specs.Sides.{other, same_side}
 use Rattle.squares.specs.ShogiSets.{ShogiPosition}
 use Rattle.squares.specs.ShogiSamePosition.{same_shogi_position}
 use Rattle.shogi_moves.specs.Rules.{play}
-use Rattle.shogi_moves.specs.Computed.{has_move}
 use Rattle.shogi_repetition.specs.declared.ends.SEnd.{SEnd}
 use Rattle.shogi_repetition.specs.declared.ends.SEnd.TheVariants.{NoMove, PlyLimit}
 use Rattle.shogi_repetition.specs.declared.tails.Tail.{Tail}
 use Rattle.shogi_repetition.specs.Line.{last_position, positions}
-use Rattle.shogi_repetition.specs.Ends.{FirstOccurs}
-use Rattle.shogi_repetition.specs.Computed.{is_in_check, end_by_checks, end_of}
+use Rattle.shogi_repetition.specs.Ends.{FirstOccurs, can_move, is_in_check, end_by_checks}
+use Rattle.shogi_repetition.specs.Computed.{end_of}
 
 -- The positions after the moves of a side, among all positions of a history.
 abbrev pub led_to : Side → List ShogiPosition → List ShogiPosition
@@ -62,7 +61,7 @@ repetition_by tail plies = end_by_checks (nat_le plies (2 * tail.first_checks)) 
 -- The end of a history with this tail and last position, from the number of plies and the occurrences of the position.
 unfoldable pub end_by : Tail → ShogiPosition → ℕ → ℕ → ℕ → Option SEnd
 end_by tail last plies times first =
-    if not (has_move last)
+    if not (can_move last)
     then Some NoMove
     else if nat_le 4 times then Some (repetition_by tail (plies - first)) else if plies == 600 then Some
     PlyLimit else None

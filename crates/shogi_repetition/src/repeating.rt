@@ -1,7 +1,7 @@
 //! Checks during a repetition.
 ghost use Rattle.std.specs.Prelude.{◌≡◌};
 ghost use Rattle.shogi_moves.specs.Computed.{has_move};
-ghost use Rattle.shogi_repetition.specs.Computed.{is_in_check, end_by_checks};
+ghost use Rattle.shogi_repetition.specs.Ends.{is_in_check, end_by_checks};
 
 use crate::ends::SEnd;
 use shogi_moves::{has_move, in_check};

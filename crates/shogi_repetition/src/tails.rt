@@ -1,6 +1,6 @@
 //! Counters that give the end of a game without looking at earlier plies.
 ghost use Rattle.std.specs.Prelude.{◌≡◌, ◌<◌};
-ghost use Rattle.shogi_repetition.specs.Computed.{is_in_check, end_by_checks};
+ghost use Rattle.shogi_repetition.specs.Ends.{is_in_check, end_by_checks};
 ghost use Rattle.shogi_repetition.specs.Tails.{no_checks, count_on, next_tail, repetition_by, end_by};
 
 use crate::ends::SEnd;

@@ -27,3 +27,4 @@ pub mod ShogiSamePosition
 pub mod ShogiSets
 pub mod ShogiWords
 pub mod Sides
+pub mod TheOnly

@@ -1,5 +1,5 @@
-use Rattle.shogi_moves.proofs.CheckLemmas.{check_of-legal, check_of-refused}
+use Rattle.shogi_moves.proofs.AnswerLemmas.{check_of-is}
 use Rattle.shogi_moves.proofs.laws.check_is.Goals as goal
 
 pub returns : goal.returns
-returns c = λ p m. (check_of-legal p m, λ rule. check_of-refused p m rule)
+returns c = check_of-is

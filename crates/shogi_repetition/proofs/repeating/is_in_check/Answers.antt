@@ -1,6 +1,6 @@
 use Rattle.std.specs.Cmp.{both_ways}
 use Rattle.shogi_moves.proofs.Proved.{king_attacked-is}
-use Rattle.shogi_repetition.specs.Computed.{is_in_check}
+use Rattle.shogi_repetition.specs.Ends.{is_in_check}
 use Rattle.shogi_repetition.proofs.repeating.is_in_check.Goals as goal
 
 pub returns : goal.returns
