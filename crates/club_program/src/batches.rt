@@ -17,6 +17,7 @@ use server::clock;
 use std::alloc::AllocError;
 
 // Why a batch was not started.
+#[derive(Drop)]
 enum Unbegun {
     // A line is no command.
     Words(BadWords),
