@@ -24,8 +24,8 @@ use Rattle.csa.specs.Replaying.{RefusesMade, fault_of}
 -- a legal move breaks no rule
 pub legal-unbroken : CheckIs → (p : ShogiPosition) (m : SMove) (rule : Illegal) → Legal p m → FirstBroken p m rule → ⊥
 legal-unbroken laws p m rule legal broken =
-    let passes : is_ok (check_of p m) ≡ true = (laws p m).0.1 legal in
-    let fails : check_of p m ≡ Err rule = ((laws p m).1 rule).1 broken in
+    let passes : is_ok (check_of p m) ≡ true = (laws p m).legal.1 legal in
+    let fails : check_of p m ≡ Err rule = ((laws p m).refused rule).1 broken in
     let never : false ≡ true = sym (ap is_ok fails) ∙ passes in
     cc
 
