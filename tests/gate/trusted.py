@@ -26,8 +26,11 @@ SUBTREES = 20  # rows
 PART = 0.9  # a definition with so much of the subtree above it has no row of its own
 LONGEST_SENTENCE = 30  # words of a cell
 NO_COMMENT = "no comment"
-# Lemmas that definitions name, as a field of a record may be a proof. Each has been read: its type is a proposition.
+# Lemmas that definitions name, as a field of a record may be a proof, and as a value may be the only one that has a
+# property. Each has been read: its type is a proposition, or `TheOnly` of the property that the definition names too.
 LEMMAS = {
+    ("club_games/specs/CsaOnly.antt", "csa-part"),
+    ("club_games/specs/PdnOnly.antt", "pdn-part"),
     ("club_session/specs/ServedStates.antt", "left_wider"),
     ("club_session/specs/ServedStates.antt", "served_settled"),
     ("club_session/specs/ServedStates.antt", "served_stays"),

@@ -11,8 +11,8 @@ use Rattle.club_rules.specs.declared.names.GameKind.TheVariants.{Draughts, Shogi
 use Rattle.club_rules.specs.GameRules.{GameRules}
 use Rattle.club_rules.specs.Records as record_is
 use Rattle.club_rules.specs.Records.{Reading, GameRecords}
-use Rattle.club_games.specs.CsaReading.{shogi_records}
-use Rattle.club_games.specs.PdnReading.{draughts_records}
+use Rattle.club_games.specs.DraughtsRecords.{draughts_records}
+use Rattle.club_games.specs.ShogiRecords.{shogi_records}
 use Rattle.club_requests.specs.declared.answers.Answer.TheVariants as answer_is
 use Rattle.club_requests.specs.declared.answers.Outcome.TheVariants as given_is
 use Rattle.club_core.specs.declared.events.Event as given_event

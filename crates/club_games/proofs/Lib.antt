@@ -1,7 +1,3 @@
-pub mod CsaMoves
-pub mod CsaRecords
 pub mod DraughtsFaults
-pub mod FenOpening
-pub mod PdnLexing
-pub mod PdnRecords
+pub mod Proved
 pub mod ShogiFaults

@@ -40,11 +40,6 @@ none-after start ms ply played h =
     ∙ played.unended h.0 h.3 in
     absurd (cc)
 
--- the end of a line is the computed one
-pub end-computed : (start : ShogiPosition) (ms : List SMove) (end : Option SEnd) → EndsSo start ms end
-    → end ≡ end_of start ms
-end-computed start ms end h = one-end start ms end (end_of start ms) h (end_of-is start ms)
-
 -- a text that is no move's is refused so by the function that reads
 pub refused-reading : (text : List ℕ) (bytes : ℕ) → IsNoUsi text bytes
     → Err (BadText game.Shogi bytes) ≡ move_read (usi_reading text) (usi_reach text)

@@ -36,7 +36,7 @@ use Rattle.club_games.specs.Shogi.{shogi, refusal_of}
 use Rattle.club_games.specs.CsaReading.{meant, Replayed, go_on, replay_next, replayed, RecordRead, with_score}
 use Rattle.club_games.specs.CsaReading.{with_moves, record_reading, RecordsRead, and_more, records_reading, is_version}
 use Rattle.club_games.specs.CsaReading.{ordered_reading, statements_reading, csa_reading, found_game, part_of}
-use Rattle.club_games.specs.CsaReading.{shogi_records}
+use Rattle.club_games.specs.ShogiRecords.{shogi_records}
 
 -- replaying moves after a line played by the rules yields such a line
 module _ (ms : List SMove) (line : IsPlayedLine shogi opening ms) (rest : SMove → Replayed) (ns : List SMove)

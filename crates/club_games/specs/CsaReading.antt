@@ -37,11 +37,8 @@ use Rattle.csa.specs.Order.{first_stray}
 use Rattle.csa.specs.Reading.{first_statement, records_of}
 use Rattle.csa.specs.Records.{begins_even, end_in, score_in}
 use Rattle.csa.specs.Replays.{written_moves}
-use Rattle.club_rules.specs.declared.records.RecordFormat.TheVariants.{Csa}
-use Rattle.club_rules.specs.declared.record_refusals.RecordRefusal.{RecordRefusal}
-use Rattle.club_rules.specs.declared.record_refusals.RecordRefusal.TheVariants as record_refusal
-use Rattle.club_rules.specs.Records.{Recorded, Reading, GameRecords, game, no_part, refused}
-use Rattle.club_games.specs.Shogi.{refusal_of}
+use Rattle.club_rules.specs.Records.{Recorded, Reading, game, no_part, refused}
+use Rattle.club_games.specs.CsaRecord.{csa_refusal}
 
 -- equality of roles, as `==` computes it
 abbrev pub same_role : Role → Role → Bool
@@ -155,17 +152,6 @@ statements_reading placed (Some first) =
 unfoldable pub csa_reading : List ℕ → RecordsRead
 csa_reading text = statements_reading (text_statements text) (first_statement (text_statements text))
 
--- the club's refusal for a fault; the reading function has no fault of memory, so that case is arbitrary
-abbrev pub csa_refusal : CsaFault → RecordRefusal
-csa_refusal fault.Memory = record_refusal.Unfinished Csa
-csa_refusal (fault.BadText line) = record_refusal.BadText Csa line
-csa_refusal fault.Version = record_refusal.Version
-csa_refusal fault.OtherOpening = record_refusal.OtherOpening Csa
-csa_refusal (fault.Illegal ply cause) = record_refusal.Illegal Csa ply (refusal_of cause)
-csa_refusal fault.Unfinished = record_refusal.Unfinished Csa
-csa_refusal (fault.AfterEnd ply) = record_refusal.AfterEnd Csa ply
-csa_refusal fault.ResultDiffers = record_refusal.ResultDiffers Csa
-
 -- a game that was read, as the club's type
 abbrev pub game_of : CsaGame → Recorded SMove
 game_of g = record { moves = g.moves.items; score = g.score; declared = g.declared }
@@ -184,7 +170,3 @@ part_of before (Ok games) = found_game (slice_get games before)
 abbrev pub csa_part : List ℕ → ℕ → Reading SMove
 csa_part text zero = no_part
 csa_part text (suc before) = part_of before (csa_reading text)
-
--- the records of shogi: texts in CSA
-abbrev pub shogi_records : GameRecords SMove
-shogi_records = record { format = Csa; read = csa_part }

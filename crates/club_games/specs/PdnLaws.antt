@@ -28,12 +28,8 @@ use Rattle.club_games.specs.Draughts.{draughts}
 use Rattle.club_games.specs.DraughtsLaws.{legal-check}
 use Rattle.club_games.specs.PdnReading.{lexed, lexed_reading, Lexed, Replayed, replay_next, replayed, GameRead}
 use Rattle.club_games.specs.PdnReading.{with_score, with_moves, begins_even, formed_reading, pdn_reading, whole}
-use Rattle.club_games.specs.PdnReading.{draughts_records}
-
--- a move that a text denotes is legal
-read-legal : (p : Position) (form : Form) (m : DMove) → StandsFor p form m → Legal p m
-read-legal p (quiet from to) m is = is.1
-read-legal p (capture from middle to) m is = is.0
+use Rattle.club_games.specs.PdnSound.{read-legal}
+use Rattle.club_games.specs.DraughtsRecords.{draughts_records}
 
 -- replaying texts after a line played by the rules yields such a line
 module _ (ms : List DMove) (line : IsPlayedLine draughts opening ms) (text : List ℕ) (rest : DMove → Replayed)

@@ -17,12 +17,9 @@ use Rattle.pdn_games.specs.Reading.{score_in}
 use Rattle.pdn_games.specs.Replaying.{at_ply}
 use Rattle.pdn_games.specs.Tokens.{Token, PlacedToken, LexStep, ended, skipped, found, stuck, front_at, begins_feed}
 use Rattle.pdn_games.specs.Tokens.{lets_follow}
-use Rattle.club_rules.specs.declared.records.RecordFormat.TheVariants.{Pdn}
-use Rattle.club_rules.specs.declared.record_refusals.RecordRefusal.{RecordRefusal}
-use Rattle.club_rules.specs.declared.record_refusals.RecordRefusal.TheVariants as record_refusal
-use Rattle.club_rules.specs.Records.{Recorded, Reading, GameRecords, game, no_part, refused}
-use Rattle.club_games.specs.Draughts.{refusal_of}
+use Rattle.club_rules.specs.Records.{Recorded, Reading, game, no_part, refused}
 use Rattle.club_games.specs.FenReading.{is_opening}
+use Rattle.club_games.specs.PdnRecord.{pdn_refusal}
 
 -- the tokens of a text, and the offset at which the lexer stopped, unless at the end
 pub record Lexed : Type 0 where
@@ -107,18 +104,6 @@ lexed_reading l = formed_reading l.tokens (bad_at l.tokens l.stop)
 unfoldable pub pdn_reading : List ℕ → GameRead
 pdn_reading text = lexed_reading (lexed (suc (length text)) (length text) true true text)
 
--- the club's refusal for a fault; the reading function has no fault of memory, so that case is arbitrary
-abbrev pub pdn_refusal : PdnFault → RecordRefusal
-pdn_refusal fault.Memory = record_refusal.Unfinished Pdn
-pdn_refusal (fault.BadText offset) = record_refusal.BadText Pdn offset
-pdn_refusal (fault.Ambiguous ply) = record_refusal.Ambiguous ply
-pdn_refusal (fault.Illegal ply cause) = record_refusal.Illegal Pdn ply (refusal_of cause)
-pdn_refusal fault.OtherType = record_refusal.OtherType
-pdn_refusal fault.OtherOpening = record_refusal.OtherOpening Pdn
-pdn_refusal fault.Unfinished = record_refusal.Unfinished Pdn
-pdn_refusal (fault.AfterEnd ply) = record_refusal.AfterEnd Pdn ply
-pdn_refusal fault.ResultDiffers = record_refusal.ResultDiffers Pdn
-
 -- a game that was read, as the club's type
 abbrev pub game_of : PdnGame → Recorded DMove
 game_of g = record { moves = g.moves.items; score = g.score; declared = false }
@@ -131,7 +116,3 @@ whole (Ok r) = game r
 -- a text has one part
 abbrev pub pdn_part : List ℕ → ℕ → Reading DMove
 pdn_part text part = if part == 1 then whole (pdn_reading text) else no_part
-
--- the records of draughts: texts in PDN
-abbrev pub draughts_records : GameRecords DMove
-draughts_records = record { format = Pdn; read = pdn_part }

@@ -2,12 +2,12 @@
 
 ghost use Rattle.std.specs.Prelude.{◌≡◌, ◌≢◌, IfOk};
 ghost use Rattle.club_rules.specs.Records.{recorded_of};
-ghost use Rattle.club_games.specs.PdnReading.{pdn_refusal, game_of};
+ghost use Rattle.club_games.specs.PdnReading.{game_of};
+ghost use Rattle.club_games.specs.PdnRecord.{pdn_refusal};
 
 use crate::draughts::{Draughts, refusal_of};
 use club_rules::{RecordFormat, RecordReading, RecordRefusal, RecordedGame, Records};
 use memory::Memory;
-use pdn::laws::fen_forms_are_texts;
 use pdn_games::{PdnFault, PdnGame, read_game};
 use squares::DMove;
 use std::alloc::Global;
@@ -50,7 +50,7 @@ fn game_of(game: PdnGame) -> RecordedGame<DMove>
 
 impl Records for Draughts {
     ghost use Rattle.club_games.specs.PdnLaws.{draughts-reads_games};
-    ghost use Rattle.club_games.specs.PdnReading.{draughts_records};
+    ghost use Rattle.club_games.specs.DraughtsRecords.{draughts_records};
 
     ghost records = { draughts_records };
 
@@ -59,7 +59,6 @@ impl Records for Draughts {
     }
 
     fn read_record(alloc: Global, text: &[u8], part: u64) -> Result<RecordReading<DMove>, Memory> {
-        fen_forms_are_texts();
         if part != 1 {
             return Ok(RecordReading::NoPart);
         }

@@ -7,10 +7,10 @@ use Rattle.draughts_draws.specs.declared.ends.DEnd.{DEnd}
 use Rattle.draughts_draws.specs.declared.tails.Tail as draughts_track
 use Rattle.shogi_repetition.specs.declared.ends.SEnd.{SEnd}
 use Rattle.shogi_repetition.specs.declared.tails.Tail as shogi_track
-use Rattle.club_games.specs.CsaReading.{shogi_records}
 use Rattle.club_games.specs.Draughts.{draughts}
-use Rattle.club_games.specs.PdnReading.{draughts_records}
+use Rattle.club_games.specs.DraughtsRecords.{draughts_records}
 use Rattle.club_games.specs.Shogi.{shogi}
+use Rattle.club_games.specs.ShogiRecords.{shogi_records}
 use Rattle.club_core.specs.ClubRules.{ClubRules, both}
 use Rattle.club_core.specs.LegalState.{IsLegalState}
 use Rattle.club_core.specs.State.{AnyGame, State}

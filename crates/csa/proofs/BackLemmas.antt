@@ -20,7 +20,6 @@ use Rattle.csa.specs.declared.end_words.EndWord.{EndWord}
 use Rattle.csa.specs.declared.end_words.EndWord.TheVariants as word
 use Rattle.csa.specs.declared.faults.CsaFault.{CsaFault}
 use Rattle.csa.specs.declared.faults.CsaFault.TheVariants as fault
-use Rattle.csa.specs.declared.game.CsaGame.{CsaGame}
 use Rattle.csa.specs.declared.head.CsaEnd.{CsaEnd}
 use Rattle.csa.specs.declared.head.CsaEnd.TheVariants as csa_end
 use Rattle.csa.specs.declared.lines.NumberedStatement.{NumberedStatement}
@@ -126,17 +125,17 @@ abbrev IsUnfinished : CsaFault → Type 0
 IsUnfinished f = (f ≡ fault.Memory) ⊎ (f ≡ fault.Unfinished)
 
 -- the fault of the one record
-of-one : (ss failing : List NumberedStatement) (before after : List (List NumberedStatement)) (games : List CsaGame) (f : CsaFault)
+of-one : (ss failing : List NumberedStatement) (before after : List (List NumberedStatement)) (f : CsaFault)
     → ss ∷ [] ≡ before ++ failing ∷ after → RecordFails failing f → RecordFails ss f
-of-one ss failing [] after games f parts fails = let is : ss ≡ failing = cc in
+of-one ss failing [] after f parts fails = let is : ss ≡ failing = cc in
     subst (λ l. RecordFails l f) (sym is) fails
-of-one ss failing (b ∷ []) after games f parts fails = let never : [] ≡ failing ∷ after = cc in absurd (cc)
-of-one ss failing (b ∷ c ∷ before) after games f parts fails = let never : [] ≡ c ∷ (before ++ failing ∷ after) = cc in
+of-one ss failing (b ∷ []) after f parts fails = let never : [] ≡ failing ∷ after = cc in absurd (cc)
+of-one ss failing (b ∷ c ∷ before) after f parts fails = let never : [] ≡ c ∷ (before ++ failing ∷ after) = cc in
     absurd (cc)
 
 one-fails : (ms : List SMove) (w : EndWord) (ss : List NumberedStatement) (f : CsaFault) → IsWhole ms w ss
     → FailsAfter (records_of ss) f → RecordFails ss f
-one-fails ms w ss f whole h = of-one ss h.failing h.before h.after h.games f (sym whole.alone ∙ h.parts) h.fails
+one-fails ms w ss f whole h = of-one ss h.failing h.before h.after f (sym whole.alone ∙ h.parts) h.fails
 
 text-unfinished : CheckIs → NoLineHasTwoEnds
     → (ms : List SMove) (w : EndWord) (ss : List NumberedStatement) (given : Option SEnd) (f : CsaFault)
@@ -166,7 +165,6 @@ running-back laws one = λ event black white start es text kept is.
       failing = ss;
       after = [];
       parts = whole.alone;
-      games = [];
       read = tt;
       fails = record { moves = ms; end = given; plays = p; score = said };
     } in

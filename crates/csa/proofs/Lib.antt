@@ -2,6 +2,7 @@ pub mod ReplayLemmas
 pub mod LineLemmas
 pub mod RecordLemmas
 pub mod OneReadingLemmas
+pub mod EndingLemmas
 pub mod EntryLemmas
 pub mod WriterLemmas
 pub mod BackLineLemmas

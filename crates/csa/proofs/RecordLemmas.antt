@@ -10,7 +10,7 @@ use Rattle.csa.specs.declared.lines.NumberedStatement.{NumberedStatement}
 use Rattle.csa.specs.Replays.{written_in, written_moves, AreMoves, RefusesMoves}
 use Rattle.csa.specs.Replaying.{RefusesIn}
 use Rattle.csa.specs.Records.{IsRecordOf, RecordFails}
-use Rattle.csa.specs.Reading.{AreRecordsOf, FailsOrMemory, has_statement, without_bare_last}
+use Rattle.csa.specs.Reading.{AreRecordsOf, AreOfGames, FailsOrMemory, has_statement, without_bare_last}
 
 written_moves-append : (xs ys : List NumberedStatement) → written_moves (xs ++ ys) ≡ written_moves xs ++ written_moves ys
 written_moves-append [] ys = refl
@@ -70,6 +70,14 @@ mapped-at : {A B : Type 0} (xs : List A) (f : A → B) (i : ℕ) (x : A) (d : B)
     → get_or (map f xs) i d ≡ f x
 mapped-at xs f i x d h is = get_or-map f xs i x d h ∙ ap f (sym is)
 
+-- records of games are each that of a game
+of-games : (records : List (List NumberedStatement)) (games : List CsaGame) → AreRecordsOf records games
+    → AreOfGames records
+of-games [] [] all = tt
+of-games (r ∷ records) (g ∷ games) all =
+    ((g.moves.items, g.score, g.declared, all.0), of-games records games all.1)
+of-games _ _ all = absurd all
+
 -- The records of parts that are given in some form.
 module _ {A : Type 0} (given : List A) (at : A → List NumberedStatement) where
   abbrev all : List (List NumberedStatement)
@@ -110,7 +118,6 @@ module _ {A : Type 0} (given : List A) (at : A → List NumberedStatement) where
           after = drop (suc i) all;
           parts = sym (take-append-drop i all)
               ∙ ap (λ l. take i all ++ l) (drop-cons all i (at x) inside ∙ ap (λ r. r ∷ drop (suc i) all) here);
-          games = games;
-          read = read;
+          read = of-games (take i all) games read;
           fails = fails;
         })

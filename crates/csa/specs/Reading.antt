@@ -2,6 +2,8 @@
 use Rattle.std.specs.Prelude.{◌≡◌, ◌≢◌, ◌⊎◌, ℕ, not, Bool, true, false, Option, Some, None, List, [], ◌∷◌, ◌++◌}
 use Rattle.std.specs.Prelude.{if◌then◌else◌}
 use Rattle.std.specs.List.{list_any, slice_split}
+use Rattle.squares.specs.declared.sides.Score.{Score}
+use Rattle.squares.specs.declared.shogi.moves.SMove.{SMove}
 use Rattle.csa.specs.declared.faults.CsaFault.{CsaFault}
 use Rattle.csa.specs.declared.faults.CsaFault.TheVariants as fault
 use Rattle.csa.specs.declared.game.CsaGame.{CsaGame}
@@ -11,7 +13,7 @@ use Rattle.csa.specs.declared.statements.Statement.{Statement}
 use Rattle.csa.specs.declared.statements.Statement.TheVariants as statement
 use Rattle.csa.specs.Lines.{text_statements}
 use Rattle.csa.specs.Order.{first_stray}
-use Rattle.csa.specs.Records.{IsRecordOf, RecordFails}
+use Rattle.csa.specs.Records.{IsRecordWith, IsRecordOf, RecordFails}
 
 -- whether a statement is the `/` that separates records
 abbrev pub is_parting : Statement → Bool
@@ -50,6 +52,15 @@ AreRecordsOf [] (game ∷ games) = ⊥
 AreRecordsOf (placed ∷ records) [] = ⊥
 AreRecordsOf (placed ∷ records) (game ∷ games) = IsRecordOf placed game × AreRecordsOf records games
 
+-- the record is that of some game
+abbrev pub IsOfGame : List NumberedStatement → Type 0
+IsOfGame placed = (ms : List SMove) × (score : Score) × (wins : Bool) × IsRecordWith placed ms score wins
+
+-- each record is that of some game
+abbrev pub AreOfGames : List (List NumberedStatement) → Type 0
+AreOfGames [] = Unit {0}
+AreOfGames (placed ∷ records) = IsOfGame placed × AreOfGames records
+
 -- the statements begin with a version, are well-formed and are in order
 pub record AreOrdered (placed : List NumberedStatement) : Type 0 where
   pub version : first_statement placed ≡ Some statement.Version
@@ -60,14 +71,13 @@ pub record IsTextOf (text : List ℕ) (games : List CsaGame) : Type 0 where
   pub ordered : AreOrdered (text_statements text)
   pub records : AreRecordsOf (records_of (text_statements text)) games
 
--- the records before this one are those of games, and this one has the fault
+-- each record before this one is that of a game, and this one has the fault
 pub record FailsAfter (records : List (List NumberedStatement)) (f : CsaFault) : Type 0 where
   pub before : List (List NumberedStatement)
   pub failing : List NumberedStatement
   pub after : List (List NumberedStatement)
   pub parts : records ≡ before ++ failing ∷ after
-  pub games : List CsaGame
-  pub read : AreRecordsOf before games
+  pub read : AreOfGames before
   pub fails : RecordFails failing f
 
 -- out of memory, or a record has the fault

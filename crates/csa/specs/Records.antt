@@ -51,12 +51,16 @@ pub record Plays (placed : List NumberedStatement) (ms : List SMove) (end : Opti
 abbrev pub score_in : List NumberedStatement → List SMove → Option SEnd → Result Score CsaFault
 score_in placed ms end = ending (end_in placed) (last_position opening ms) end
 
--- the record is that of the game
-pub record IsRecordOf (placed : List NumberedStatement) (game : CsaGame) : Type 0 where
+-- the record is that of a game with these moves and this score; `wins` is whether it ended by a declared win
+pub record IsRecordWith (placed : List NumberedStatement) (ms : List SMove) (s : Score) (wins : Bool) : Type 0 where
   pub end : Option SEnd
-  pub plays : Plays placed game.moves.items end
-  pub score : score_in placed game.moves.items end ≡ Ok game.score
-  pub declared : game.declared ≡ says_declared (end_in placed)
+  pub plays : Plays placed ms end
+  pub score : score_in placed ms end ≡ Ok s
+  pub declared : wins ≡ says_declared (end_in placed)
+
+-- the record is that of the game
+abbrev pub IsRecordOf : List NumberedStatement → CsaGame → Type 0
+IsRecordOf placed game = IsRecordWith placed game.moves.items game.score game.declared
 
 -- all moves of the record are legal, and its end has the fault
 pub record EndFails (placed : List NumberedStatement) (f : CsaFault) : Type 0 where

@@ -66,10 +66,14 @@ pub record Plays (tokens : List PlacedToken) (ms : List DMove) : Type 0 where
   pub of_club : IsOfClub tokens
   pub moves : AreMoves (move_texts tokens) ms
 
+-- the tokens of a game with these moves and this score
+pub record IsGameWith (tokens : List PlacedToken) (ms : List DMove) (s : Score) : Type 0 where
+  pub plays : Plays tokens ms
+  pub score : score_in tokens ms ≡ Ok s
+
 -- the tokens of the game
-pub record IsGameOf (tokens : List PlacedToken) (game : PdnGame) : Type 0 where
-  pub plays : Plays tokens game.moves.items
-  pub score : score_in tokens game.moves.items ≡ Ok game.score
+abbrev pub IsGameOf : List PlacedToken → PdnGame → Type 0
+IsGameOf tokens game = IsGameWith tokens game.moves.items game.score
 
 -- all moves are legal, and the result has the fault
 pub record EndFails (tokens : List PlacedToken) (f : PdnFault) : Type 0 where
@@ -94,9 +98,13 @@ Fails tokens fault.Unfinished = EndFails tokens fault.Unfinished
 Fails tokens (fault.AfterEnd ply) = MoveFails tokens (fault.AfterEnd ply)
 Fails tokens fault.ResultDiffers = EndFails tokens fault.ResultDiffers
 
+-- the text is the text of a game with these moves and this score
+abbrev pub IsTextWith : List ℕ → List DMove → Score → Type 0
+IsTextWith text ms score = (tokens : List PlacedToken) × AreTokens text tokens × IsGameWith tokens ms score
+
 -- the text is the text of the game
 abbrev pub IsTextOf : List ℕ → PdnGame → Type 0
-IsTextOf text game = (tokens : List PlacedToken) × AreTokens text tokens × IsGameOf tokens game
+IsTextOf text game = IsTextWith text game.moves.items game.score
 
 -- a well-formed text whose tokens have the fault
 abbrev pub TextFails : List ℕ → PdnFault → Type 0

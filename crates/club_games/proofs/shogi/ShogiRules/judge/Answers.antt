@@ -1,4 +1,5 @@
-use Rattle.club_games.proofs.ShogiFaults.{no-illegal, none-after, end-computed}
+use Rattle.club_games.specs.ShogiEnds.{end-computed}
+use Rattle.club_games.proofs.ShogiFaults.{no-illegal, none-after}
 use Rattle.club_games.proofs.shogi.ShogiRules.judge.Goals as goal
 
 pub unreachable-requires : goal.unreachable-requires

@@ -1,4 +1,4 @@
--- What the reader of CSA texts answers is what the functions compute.
+-- The games and the refusals of CSA texts are the computed ones.
 use Rattle.std.proofs.Common.{◌≡◌, ◌≢◌, inl, inr, ℕ, zero, suc, ◌+◌, ◌-◌, List, [], ◌∷◌, ◌++◌, length, take, map, true}
 use Rattle.std.proofs.Common.{false, Bool, Option, Some, None, Result, Ok, Err, IsOk, refl, sym, ap, subst, ◌∙◌}
 use Rattle.std.proofs.Common.{append-nil, append_assoc, arith}
@@ -30,17 +30,18 @@ use Rattle.csa.specs.Endings.{says_declared}
 use Rattle.csa.specs.Lines.{text_statements}
 use Rattle.csa.specs.Moves.{MeanAll}
 use Rattle.csa.specs.Order.{first_stray}
-use Rattle.csa.specs.Reading.{first_statement, records_of, AreRecordsOf, FailsAfter, SomeRecordFails, AreOrdered}
+use Rattle.csa.specs.Reading.{first_statement, records_of, AreRecordsOf, AreOfGames, FailsAfter, SomeRecordFails, AreOrdered}
 use Rattle.csa.specs.Reading.{IsTextOf, Refuses, IsRefused}
-use Rattle.csa.specs.Records.{begins_even, end_in, score_in, IsRecordOf, EndFails, Plays, RecordFails}
+use Rattle.csa.specs.Records.{begins_even, end_in, score_in, EndFails, Plays, RecordFails}
 use Rattle.csa.specs.Replays.{written_moves, RefusesNext, RefusesMove}
-use Rattle.club_rules.specs.Records.{refused}
+use Rattle.club_rules.specs.Records.{Recorded, refused}
 use Rattle.club_games.specs.CsaReading.{meant, Replayed, go_on, replay_next, replayed, with_score, with_moves}
 use Rattle.club_games.specs.CsaReading.{record_reading, and_more, records_reading, is_version, ordered_reading}
-use Rattle.club_games.specs.CsaReading.{statements_reading, csa_reading, game_of, csa_refusal, found_game, part_of}
+use Rattle.club_games.specs.CsaReading.{statements_reading, csa_reading, game_of, found_game, part_of}
 use Rattle.club_games.specs.CsaReading.{csa_part}
-use Rattle.club_games.proofs.CsaMoves.{means-meant, none-meant}
-use Rattle.club_games.proofs.ShogiFaults.{end-computed}
+use Rattle.club_games.specs.CsaRecord.{csa_refusal, IsCsaGame, AreCsaGames, IsTextOfGames}
+use Rattle.club_games.specs.CsaMoves.{means-meant, none-meant}
+use Rattle.club_games.specs.ShogiEnds.{end-computed}
 
 go-ok : (ply : ℕ) (rest : Replayed) (answer : Result (Unit {0}) Illegal) → IsOk answer → go_on ply rest answer ≡ rest
 go-ok ply rest (Ok u) ok = refl
@@ -108,10 +109,10 @@ played-reading placed ms end plays =
     ∙ ap (λ e. with_score (says_declared (end_in placed)) ms (score_in placed ms e))
     (sym (end-computed opening ms end plays.ends))
 
-record-read : (placed : List NumberedStatement) (g : CsaGame) → IsRecordOf placed g → record_reading placed ≡ Ok (game_of g)
-record-read placed g is =
-    played-reading placed g.moves.items is.end is.plays
-    ∙ (λ i. with_score (sym is.declared i) g.moves.items (is.score i))
+record-read : (placed : List NumberedStatement) (r : Recorded SMove) → IsCsaGame placed r → record_reading placed ≡ Ok r
+record-read placed r is =
+    played-reading placed r.moves is.end is.plays
+    ∙ (λ i. with_score (sym is.declared i) r.moves (is.score i))
 
 end-refused : (placed : List NumberedStatement) (f : CsaFault) → EndFails placed f → record_reading placed ≡ Err f
 end-refused placed f fails =
@@ -136,21 +137,21 @@ record-refused placed fault.ResultDiffers differs fails = end-refused placed _ f
 record-refused placed _ differs fails = absurd fails
 
 -- records one after another
-records-read : (records : List (List NumberedStatement)) (games : List CsaGame) → AreRecordsOf records games
-    → records_reading records ≡ Ok (map game_of games)
+records-read : (records : List (List NumberedStatement)) (games : List (Recorded SMove)) → AreCsaGames records games
+    → records_reading records ≡ Ok games
 records-read [] [] are = refl
-records-read [] (g ∷ games) are = absurd are
+records-read [] (r ∷ games) are = absurd are
 records-read (placed ∷ records) [] are = absurd are
-records-read (placed ∷ records) (g ∷ games) are =
-    λ i. and_more (record-read placed g are.0 i) (records-read records games are.1 i)
+records-read (placed ∷ records) (r ∷ games) are =
+    λ i. and_more (record-read placed r are.0 i) (records-read records games are.1 i)
 
-fails-after : (before : List (List NumberedStatement)) (failing : List NumberedStatement) (after : List (List NumberedStatement)) (games : List CsaGame)
-    (f : CsaFault) → AreRecordsOf before games → record_reading failing ≡ Err f
+fails-after : (before : List (List NumberedStatement)) (failing : List NumberedStatement) (after : List (List NumberedStatement))
+    (f : CsaFault) → AreOfGames before → record_reading failing ≡ Err f
     → records_reading (before ++ failing ∷ after) ≡ Err f
-fails-after [] failing after games f read fails = ap (λ r. and_more r (records_reading after)) fails
-fails-after (placed ∷ before) failing after [] f read fails = absurd read
-fails-after (placed ∷ before) failing after (g ∷ games) f read fails =
-    λ i. and_more (record-read placed g read.0 i) (fails-after before failing after games f read.1 fails i)
+fails-after [] failing after f read fails = ap (λ r. and_more r (records_reading after)) fails
+fails-after (placed ∷ before) failing after f ((ms, score, wins, is), read) fails =
+    let first = record-read placed (record { moves = ms; score = score; declared = wins }) is in
+    λ i. and_more (first i) (fails-after before failing after f read fails i)
 
 -- a text
 ordered-reading : (placed : List NumberedStatement) → AreOrdered placed
@@ -163,7 +164,7 @@ some-fails : (placed : List NumberedStatement) (f : CsaFault) → f ≢ fault.Me
 some-fails placed f differs fails =
     let after : FailsAfter (records_of placed) f = fails.1 in
     ordered-reading placed fails.0 ∙ ap records_reading after.parts
-    ∙ fails-after after.before after.failing after.after after.games f after.read
+    ∙ fails-after after.before after.failing after.after f after.read
     (record-refused after.failing f differs after.fails)
 
 not-version : (s : Statement) → s ≢ statement.Version → is_version s ≡ false
@@ -183,21 +184,35 @@ statements-refused placed fault.Version differs (first, is, other) =
     (not-version first other)
 statements-refused placed f differs refuses = some-fails placed f differs refuses
 
+pub games-read : (text : List ℕ) (games : List (Recorded SMove)) → IsTextOfGames text games → csa_reading text ≡ Ok games
+unfolding csa_reading
+games-read text games is =
+    ordered-reading (text_statements text) is.ordered
+    ∙ records-read (records_of (text_statements text)) games is.records
+
+pub text-refused : (text : List ℕ) (f : CsaFault) → f ≢ fault.Memory → IsRefused text f → csa_reading text ≡ Err f
+unfolding csa_reading
+text-refused text f differs refuses = statements-refused (text_statements text) f differs refuses
+
 -- a part of a text
 from-one : (text : List ℕ) (part : ℕ) → (part ≡ 0 → ⊥) → csa_part text part ≡ part_of (part - 1) (csa_reading text)
 from-one text zero some = absurd (some refl)
 from-one text (suc n) some = let before : n ≡ suc n - 1 = omega arith in ap (λ k. part_of k (csa_reading text)) before
 
+are-games : (records : List (List NumberedStatement)) (games : List CsaGame) → AreRecordsOf records games
+    → AreCsaGames records (map game_of games)
+are-games [] [] are = tt
+are-games (placed ∷ records) (g ∷ games) are = (are.0, are-games records games are.1)
+are-games _ _ are = absurd are
+
 pub part-read : (text : List ℕ) (part : ℕ) (games : List CsaGame) → (part ≡ 0 → ⊥) → IsTextOf text games
     → found_game (slice_get (map game_of games) (part - 1)) ≡ csa_part text part
-unfolding csa_reading
 part-read text part games some is =
-    sym (from-one text part some ∙ ap (part_of (part - 1)) (ordered-reading (text_statements text) is.ordered
-    ∙ records-read (records_of (text_statements text)) games is.records))
+    let are : IsTextOfGames text (map game_of games) =
+    record { ordered = is.ordered; records = are-games (records_of (text_statements text)) games is.records } in
+    sym (from-one text part some ∙ ap (part_of (part - 1)) (games-read text (map game_of games) are))
 
 pub part-refused : (text : List ℕ) (part : ℕ) (f : CsaFault) → (part ≡ 0 → ⊥) → f ≢ fault.Memory → IsRefused text f
     → refused (csa_refusal f) ≡ csa_part text part
-unfolding csa_reading
 part-refused text part f some differs refuses =
-    sym (from-one text part some
-    ∙ ap (part_of (part - 1)) (statements-refused (text_statements text) f differs refuses))
+    sym (from-one text part some ∙ ap (part_of (part - 1)) (text-refused text f differs refuses))

@@ -1,4 +1,4 @@
--- The tokens of a text are the computed ones.
+-- The tokens of a text are the computed ones, and no others.
 use Rattle.std.proofs.Common.{◌≡◌, ℕ, zero, suc, ◌-◌, ◌<◌, Bool, true, false, cond, ◌&&◌, nat_eq, nat_lt, List, [], ◌∷◌}
 use Rattle.std.proofs.Common.{length, drop, Option, Some, None, refl, ap, subst, ◌∙◌, arith}
 use Rattle.std.proofs.lemmas.Bool.Decides.{nat_tests}
@@ -14,7 +14,7 @@ use Rattle.pdn_games.specs.Tokens.{TokenFront, tag_token, word_len, result_token
 use Rattle.pdn_games.specs.Tokens.{LexStep, ended, skipped, found, stuck, found_front, front_with, front_at, begins_feed}
 use Rattle.pdn_games.specs.Tokens.{lets_follow, PlacedToken, Lexes, at_end, stops, skips, takes}
 use Rattle.pdn_games.proofs.Proved.{skipped-parts, tag-split}
-use Rattle.club_games.specs.PdnReading.{with_token, after_front, lexed}
+use Rattle.club_games.specs.PdnReading.{Lexed, with_token, after_front, lexed}
 
 -- what is skipped has a byte at least
 skipped-shorter : (line : Bool) (text rest : List ℕ) → IsSkipped line text rest → length rest < length text
@@ -108,3 +108,30 @@ lexes-lexed (suc n) total line free text tokens stop (takes l f t rest token ts 
     step-lexed n total l f t _ is
     ∙ ap (with_token (total - length t) token)
     (lexes-lexed n total false (lets_follow token) rest ts s more (omega (arith, few, less)))
+
+-- what a function lexed are the tokens of a text
+abbrev LexesTo : ℕ → Bool → Bool → List ℕ → Lexed → Type 0
+LexesTo total line free text l = Lexes total line free text l.tokens l.stop
+
+module _ (total : ℕ) (line free : Bool) (text : List ℕ) (more : Bool → Bool → List ℕ → Lexed)
+    (again : (l f : Bool) (rest : List ℕ) → length rest < length text → LexesTo total l f rest (more l f rest)) where
+  front-lexes : (front : LexStep) → front_at line free text ≡ front
+      → LexesTo total line free text
+      (after_front (total - length text) (λ rest. more (begins_feed text) true rest)
+      (λ token rest. more false (lets_follow token) rest) front)
+  front-lexes ended is = at_end line free text is
+  front-lexes stuck is = stops line free text is
+  front-lexes (skipped rest) is =
+      let less : length rest < length text = subst (FrontShorter text) is (front-shorter line free text) in
+      skips line free text rest _ _ is (again (begins_feed text) true rest less)
+  front-lexes (found token rest) is =
+      let less : length rest < length text = subst (FrontShorter text) is (front-shorter line free text) in
+      takes line free text rest token _ _ is (again false (lets_follow token) rest less)
+
+-- a text that has fewer bytes than so many has the computed tokens
+pub lexed-lexes : (n total : ℕ) (line free : Bool) (text : List ℕ) → length text < n
+    → LexesTo total line free text (lexed n total line free text)
+lexed-lexes zero total line free text few = absurd (omega (arith, few))
+lexed-lexes (suc n) total line free text few =
+    front-lexes total line free text (lexed n total)
+    (λ l f rest less. lexed-lexes n total l f rest (omega (arith, few, less))) (front_at line free text) refl

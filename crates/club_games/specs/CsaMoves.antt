@@ -86,7 +86,7 @@ module _ (p : ShogiPosition) (w : WrittenMove) (side : w.side ≡ p.turn) where
   from-means (Some from) is =
       stepped-means from (map.get p.board from) (promotion_at (map.get p.board from) w.role) refl refl is
 
-meant-means : (p : ShogiPosition) (w : WrittenMove) → IfSome (meant p w) (Means p w)
+pub meant-means : (p : ShogiPosition) (w : WrittenMove) → IfSome (meant p w) (Means p w)
 meant-means p w = by-side (same_side w.side p.turn) refl
   where
     by-side : (b : Bool) → same_side w.side p.turn ≡ b

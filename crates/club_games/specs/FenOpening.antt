@@ -12,8 +12,9 @@ use Rattle.pdn.specs.FenItems.{past_byte, ItemReading, read_item, Items, ItemsRe
 use Rattle.pdn.specs.FenItems.{more_items, ends_list, ReadsList, no_item, some_items}
 use Rattle.pdn.specs.FenForm.{Header, read_header, read_between, past_end, FenReading}
 use Rattle.pdn.specs.FenForm.{FenForm, ReadsRest, ended, ReadsLists, both, ReadsForm, lists}
-use Rattle.pdn.specs.FenGrammar.{AreItemsText, HasFenForm, FenFormsAreTexts}
+use Rattle.pdn.specs.FenGrammar.{AreItemsText, HasFenForm}
 use Rattle.pdn.specs.ReadFen.{repeated, position_of, IsFen}
+use Rattle.pdn.proofs.Proved.{form-parts}
 use Rattle.club_games.specs.FenReading.{after_item, with_item, items_reading, list_reading, ended_reading}
 use Rattle.club_games.specs.FenReading.{second_reading, between_reading, first_reading, header_reading, form_reading}
 use Rattle.club_games.specs.FenReading.{is_opening_unless, is_opening_form, is_opening}
@@ -182,19 +183,19 @@ module _ (n total : ℕ) (header : Header) where
       (list-complete total header.first n [] header.rest (Ok list) first (omega (arith, few, fewer)))
       ∙ ap (between_reading n total header list.items) between ∙ second.0
 
-form-complete : FenFormsAreTexts → (text : List ℕ) (form : FenForm) → ReadsForm text (Ok form)
+form-complete : (text : List ℕ) (form : FenForm) → ReadsForm text (Ok form)
     → form_reading text ≡ Ok form
 unfolding form_reading
-form-complete laws text form (lists header r read reads) =
+form-complete text form (lists header r read reads) =
     ap (header_reading (length text) (length text)) read
     ∙ lists-complete (length text) (length text) header form
-    (form-few text form ((laws text form).0 (lists header r read reads))) reads
+    (form-few text form (form-parts text form (lists header r read reads))) reads
 
 -- ---- the test
 
-opening-true : FenFormsAreTexts → (text : List ℕ) → IsFen text opening → is_opening text ≡ true
-opening-true laws text (form, reads, once, is) =
-    ap is_opening_form (form-complete laws text form reads) ∙ ap (is_opening_unless form) once
+opening-true : (text : List ℕ) → IsFen text opening → is_opening text ≡ true
+opening-true text (form, reads, once, is) =
+    ap is_opening_form (form-complete text form reads) ∙ ap (is_opening_unless form) once
     ∙ ap (λ p. same_position p opening) (sym is) ∙ same_position-itself opening
 
 true-opening : (text : List ℕ) → is_opening text ≡ true → IsFen text opening
@@ -209,5 +210,5 @@ true-opening text is = by (form_reading text) refl is
     by (Err offset) read is = absurd (cc)
     by (Ok form) read is = once form (repeated form.items) (form-sound text form read) refl is
 
-pub tells-opening : FenFormsAreTexts → (text : List ℕ) → IsTrue (is_opening text) ↔ IsFen text opening
-tells-opening laws text = (true-opening text, opening-true laws text)
+pub tells-opening : (text : List ℕ) → IsTrue (is_opening text) ↔ IsFen text opening
+tells-opening text = (true-opening text, opening-true text)
