@@ -7,7 +7,7 @@ use Rattle.club_games.specs.CsaComplete.{games-read, text-refused}
 use Rattle.club_games.specs.CsaReading.{RecordsRead, csa_reading, found_game, part_of, csa_part}
 use Rattle.club_games.specs.CsaRecord.{IsTextOfGames, IsCsaPart}
 use Rattle.club_games.specs.CsaSound.{IsCsaReading, csa-read}
-use Rattle.club_games.specs.TheOnly.{TheOnly}
+use Rattle.squares.specs.TheOnly.{TheOnly}
 
 -- ---- the computed reading has the property
 

@@ -5,7 +5,7 @@ use Rattle.club_rules.specs.declared.records.RecordFormat.TheVariants.{Pdn}
 use Rattle.club_rules.specs.Records.{Reading, GameRecords}
 use Rattle.club_games.specs.PdnOnly.{pdn-part}
 use Rattle.club_games.specs.PdnRecord.{IsPdnPart}
-use Rattle.club_games.specs.TheOnly.{TheOnly}
+use Rattle.squares.specs.TheOnly.{TheOnly}
 
 -- the reading of a part of a text, which the grammar and the rules determine
 abbrev pub pdn_record : List ℕ → ℕ → Reading DMove

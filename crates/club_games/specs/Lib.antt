@@ -22,4 +22,3 @@ pub mod Shogi
 pub mod ShogiEnds
 pub mod ShogiLaws
 pub mod ShogiRecords
-pub mod TheOnly

@@ -8,7 +8,7 @@ use Rattle.club_games.specs.PdnComplete.{part-read, part-refused}
 use Rattle.club_games.specs.PdnReading.{GameRead, pdn_reading, whole, pdn_part}
 use Rattle.club_games.specs.PdnRecord.{IsPdnPart}
 use Rattle.club_games.specs.PdnSound.{IsPdnReading, pdn-read}
-use Rattle.club_games.specs.TheOnly.{TheOnly}
+use Rattle.squares.specs.TheOnly.{TheOnly}
 
 -- ---- the computed reading has the property
 

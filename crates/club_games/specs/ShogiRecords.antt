@@ -5,7 +5,7 @@ use Rattle.club_rules.specs.declared.records.RecordFormat.TheVariants.{Csa}
 use Rattle.club_rules.specs.Records.{Reading, GameRecords}
 use Rattle.club_games.specs.CsaOnly.{csa-part}
 use Rattle.club_games.specs.CsaRecord.{IsCsaPart}
-use Rattle.club_games.specs.TheOnly.{TheOnly}
+use Rattle.squares.specs.TheOnly.{TheOnly}
 
 -- the reading of a part of a text, which the standard and the rules determine
 abbrev pub csa_record : List ℕ → ℕ → Reading SMove
