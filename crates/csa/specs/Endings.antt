@@ -6,7 +6,7 @@ use Rattle.squares.specs.declared.sides.Score.{Score}
 use Rattle.squares.specs.declared.sides.Score.TheVariants as score
 use Rattle.squares.specs.Sides.{loses, other, same_score}
 use Rattle.squares.specs.ShogiSets.{ShogiPosition}
-use Rattle.shogi_moves.specs.Declaring.{can_declare}
+use Rattle.shogi_moves.proofs.Proved.{declare-answer}
 use Rattle.shogi_repetition.specs.declared.ends.SEnd.{SEnd}
 use Rattle.shogi_repetition.specs.declared.ends.SEnd.TheVariants as by_rule
 use Rattle.shogi_repetition.specs.Ends.{outcome_of}
@@ -36,7 +36,7 @@ fits_rules word.Mate p (Some by_rule.NoMove) = true
 fits_rules word.Mate p _ = false
 fits_rules word.Repetition p (Some by_rule.Fourfold) = true
 fits_rules word.Repetition p _ = false
-fits_rules word.Declared p end = can_declare p
+fits_rules word.Declared p end = (declare-answer p).value
 fits_rules _ p end = true
 
 -- the score is that of the rules, if they ended the game

@@ -14,7 +14,6 @@ use Rattle.squares.specs.Sides.{same_side, loses}
 use Rattle.squares.specs.DraughtsBoard.{Position}
 use Rattle.squares.specs.DraughtsSamePosition.{same_position}
 use Rattle.draughts_moves.specs.Legal.{HasMove}
-use Rattle.draughts_moves.specs.Search.{has_move}
 use Rattle.draughts_moves.proofs.Proved.{move-answer}
 use Rattle.draughts_draws.specs.declared.ends.DEnd.{DEnd}
 use Rattle.draughts_draws.specs.declared.ends.DEnd.TheVariants.{NoMove, Repetition, KingMoves, ThreeToOne, TwoToOne}
@@ -110,10 +109,10 @@ ends_in_order = NoMove ∷ Repetition ∷ KingMoves ∷ ThreeToOne ∷ TwoToOne 
 abbrev pub EndsSo : Position → List DMove → Option DEnd → Type 0
 EndsSo start ms = IsFirstOf start ms ends_in_order
 
--- The first end that holds, computed from the last position, all positions and all moves of a history.
+-- The first end that holds, from the last position, all positions and all moves of a history.
 unfoldable pub first_end : Position → List Position → List DMove → Option DEnd
 first_end last ps ms =
-    if not (has_move last)
+    if not (can_move last)
     then Some NoMove
     else if stands_thrice last ps
     then Some Repetition
@@ -123,7 +122,7 @@ first_end last ps ms =
     then Some ThreeToOne
     else if ends_with 11 is_two_to_one ps then Some TwoToOne else if length ms == 600 then Some PlyLimit else None
 
--- The computed end of a history.
+-- The end of a history as one expression; it is the one that `EndsSo` allows.
 unfoldable pub end_of : Position → List DMove → Option DEnd
 end_of start ms = first_end (last_position start ms) (positions start ms) ms
 
