@@ -19,6 +19,8 @@ import functools
 import pathlib
 import re
 
+INTERNAL = "internal"  # the folder in specs/ of definitions on which no promise rests
+
 # Words of the language and of its built-in module, which no import brings.
 BUILT_IN = set("Type Unit tt absurd refl Prim unfold let in _ ? ⊥ ¬ ∥ ∥₁".split())
 
@@ -369,7 +371,7 @@ class Tree:
         for crate in sorted(self.crate_names):
             folder = self.crates / crate
             for path in sorted((folder / "specs").rglob("*.antt")):
-                if path.name != "Lib.antt":
+                if path.name not in ("Lib.antt", f"{INTERNAL}.antt"):
                     module = ".".join(path.relative_to(folder / "specs").with_suffix("").parts)
                     self.specs[crate, module] = SpecFile(self, crate, str(path.relative_to(self.crates)))
             for path in sorted((folder / "src").rglob("*.rt")):
