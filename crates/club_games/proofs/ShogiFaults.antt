@@ -1,13 +1,11 @@
 -- Lines that are played by the rules have no fault, and readings are those of the functions.
-use Rattle.std.proofs.Common.{◌≡◌, ℕ, List, take, Option, Some, None, Err, sym, ap, ◌∙◌}
+use Rattle.std.proofs.Common.{◌≡◌, ℕ, List, take, Some, None, Err, sym, ap, ◌∙◌}
 use Rattle.squares.specs.declared.shogi.moves.SMove.{SMove}
 use Rattle.squares.specs.ShogiSets.{ShogiPosition}
 use Rattle.shogi_moves.specs.declared.checking.Illegal.{Illegal}
 use Rattle.shogi_moves.proofs.Proved.{check_of-refused}
-use Rattle.shogi_repetition.specs.declared.ends.SEnd.{SEnd}
 use Rattle.game_history.specs.declared.faults.LineFault.TheVariants as line_fault
 use Rattle.shogi_repetition.specs.Computed.{end_of}
-use Rattle.shogi_repetition.specs.Ends.{EndsSo}
 use Rattle.shogi_repetition.specs.Faults.{HasFault}
 use Rattle.shogi_repetition.proofs.Proved.{one-end, end_of-is}
 use Rattle.sfen.specs.UsiReading.{usi_reading, usi_reach}

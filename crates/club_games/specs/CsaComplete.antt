@@ -30,8 +30,8 @@ use Rattle.csa.specs.Endings.{says_declared}
 use Rattle.csa.specs.Lines.{text_statements}
 use Rattle.csa.specs.Moves.{MeanAll}
 use Rattle.csa.specs.Order.{first_stray}
-use Rattle.csa.specs.Reading.{first_statement, records_of, AreRecordsOf, AreOfGames, FailsAfter, SomeRecordFails, AreOrdered}
-use Rattle.csa.specs.Reading.{IsTextOf, Refuses, IsRefused}
+use Rattle.csa.specs.Reading.{first_statement, records_of, AreRecordsOf, AreOfGames, FailsAfter, SomeRecordFails}
+use Rattle.csa.specs.Reading.{AreOrdered, IsTextOf, Refuses, IsRefused}
 use Rattle.csa.specs.Records.{begins_even, end_in, score_in, EndFails, Plays, RecordFails}
 use Rattle.csa.specs.Replays.{written_moves, RefusesNext, RefusesMove}
 use Rattle.club_rules.specs.Records.{Recorded, refused}
@@ -119,8 +119,8 @@ end-refused placed f fails =
     played-reading placed fails.moves fails.end fails.plays
     ∙ ap (with_score (says_declared (end_in placed)) fails.moves) fails.score
 
-made-refused : (placed : List NumberedStatement) (f : CsaFault) → begins_even placed ≡ true → RefusesMove (written_moves placed) f
-    → record_reading placed ≡ Err f
+made-refused : (placed : List NumberedStatement) (f : CsaFault) → begins_even placed ≡ true
+    → RefusesMove (written_moves placed) f → record_reading placed ≡ Err f
 made-refused placed f even r =
     even-reading placed true even ∙ ap (with_moves placed) (ap (replayed []) r.parts
     ∙ replays-on [] r.before (r.refused ∷ r.after) r.moves r.played.mean r.played.played
@@ -145,8 +145,8 @@ records-read (placed ∷ records) [] are = absurd are
 records-read (placed ∷ records) (r ∷ games) are =
     λ i. and_more (record-read placed r are.0 i) (records-read records games are.1 i)
 
-fails-after : (before : List (List NumberedStatement)) (failing : List NumberedStatement) (after : List (List NumberedStatement))
-    (f : CsaFault) → AreOfGames before → record_reading failing ≡ Err f
+fails-after : (before : List (List NumberedStatement)) (failing : List NumberedStatement)
+    (after : List (List NumberedStatement)) (f : CsaFault) → AreOfGames before → record_reading failing ≡ Err f
     → records_reading (before ++ failing ∷ after) ≡ Err f
 fails-after [] failing after f read fails = ap (λ r. and_more r (records_reading after)) fails
 fails-after (placed ∷ before) failing after f ((ms, score, wins, is), read) fails =
@@ -184,7 +184,8 @@ statements-refused placed fault.Version differs (first, is, other) =
     (not-version first other)
 statements-refused placed f differs refuses = some-fails placed f differs refuses
 
-pub games-read : (text : List ℕ) (games : List (Recorded SMove)) → IsTextOfGames text games → csa_reading text ≡ Ok games
+pub games-read : (text : List ℕ) (games : List (Recorded SMove)) → IsTextOfGames text games
+    → csa_reading text ≡ Ok games
 unfolding csa_reading
 games-read text games is =
     ordered-reading (text_statements text) is.ordered

@@ -53,8 +53,8 @@ pub record IsCsaRefusal (text : List ℕ) (refusal : RecordRefusal) : Type 0 whe
   pub refuses : IsRefused text found
   pub named : refusal ≡ csa_refusal found
 
--- A part of a CSA text is the game with this number, or the refusal of the text. Parts count from 1, and there is no part
--- beyond the number of games.
+-- A part of a CSA text is the game with this number, or the refusal of the text. Parts count from 1, and there are as
+-- many as games.
 abbrev pub IsCsaPart : List ℕ → ℕ → Reading SMove → Type 0
 IsCsaPart text zero read = read ≡ no_part
 IsCsaPart text (suc before) (game r) = HasCsaGame text before (Some r)

@@ -32,7 +32,6 @@ use Rattle.csa.specs.Reading.{first_statement, records_of, FailsAfter, AreOrdere
 use Rattle.csa.specs.Records.{begins_even, end_in, score_in, Plays, RecordFails}
 use Rattle.csa.specs.Replays.{written_moves, AreMoves, RefusesNext, RefusesMove}
 use Rattle.csa.proofs.Proved.{end-fails, mean-more, of-ends}
-use Rattle.club_rules.specs.Records.{Recorded}
 use Rattle.club_games.specs.CsaMoves.{means-meant, meant-means}
 use Rattle.club_games.specs.CsaReading.{meant, Replayed, go_on, replay_next, replayed, RecordRead, with_score}
 use Rattle.club_games.specs.CsaReading.{with_moves, record_reading, RecordsRead, and_more, records_reading, is_version}
@@ -46,55 +45,55 @@ abbrev IsReplay : List WrittenMove → Replayed → Type 0
 IsReplay ws (Ok ms) = AreMoves ws ms
 IsReplay ws (Err f) = RefusesMove ws f
 
-module _ (before : List WrittenMove) (ms : List SMove) (are : AreMoves before ms) (w : WrittenMove) (ws : List WrittenMove)
-  where
-    refuses : (f : CsaFault) → RefusesNext ms w f → RefusesMove (before ++ w ∷ ws) f
-    refuses f next = record {
-      before = before;
-      refused = w;
-      after = ws;
-      parts = refl;
-      moves = ms;
-      played = are;
-      refuses = next;
-    }
+module _ (before : List WrittenMove) (ms : List SMove) (are : AreMoves before ms) (w : WrittenMove)
+    (ws : List WrittenMove) where
+  refuses : (f : CsaFault) → RefusesNext ms w f → RefusesMove (before ++ w ∷ ws) f
+  refuses f next = record {
+    before = before;
+    refused = w;
+    after = ws;
+    parts = refl;
+    moves = ms;
+    played = are;
+    refuses = next;
+  }
 
-    ends-so : (end : Option SEnd) → end_of opening ms ≡ end → EndsSo opening ms end
-    ends-so end is = subst (EndsSo opening ms) is (end_of-is opening ms)
+  ends-so : (end : Option SEnd) → end_of opening ms ≡ end → EndsSo opening ms end
+  ends-so end is = subst (EndsSo opening ms) is (end_of-is opening ms)
 
-    grown : (m : SMove) → end_of opening ms ≡ None → Means (last_position opening ms) w m
-        → Legal (last_position opening ms) m → AreMoves (before ++ w ∷ []) (ms ++ m ∷ [])
-    grown m running means legal = record {
-      mean = mean-more opening before ms w m are.mean means;
-      played = played-more shogi_lines opening ms m are.played (ends-so None running) legal;
-    }
+  grown : (m : SMove) → end_of opening ms ≡ None → Means (last_position opening ms) w m
+      → Legal (last_position opening ms) m → AreMoves (before ++ w ∷ []) (ms ++ m ∷ [])
+  grown m running means legal = record {
+    mean = mean-more opening before ms w m are.mean means;
+    played = played-more shogi_lines opening ms m are.played (ends-so None running) legal;
+  }
 
-    module _ (rest : SMove → Replayed)
-        (on : (m : SMove) → AreMoves (before ++ w ∷ []) (ms ++ m ∷ [])
-        → IsReplay ((before ++ w ∷ []) ++ ws) (rest m)) where
-      checked-replay : (m : SMove) (answer : Result (Unit {0}) Illegal) → end_of opening ms ≡ None
-          → Means (last_position opening ms) w m → check_of (last_position opening ms) m ≡ answer
-          → IsReplay (before ++ w ∷ ws) (go_on (length ms + 1) (rest m) answer)
-      checked-replay m (Ok u) running means is =
-          let legal : Legal (last_position opening ms) m =
-          (check_of-legal (last_position opening ms) m).0 (rw is refl) in
-          subst (λ l. IsReplay l (rest m)) (append_assoc before (w ∷ []) ws) (on m (grown m running means legal))
-      checked-replay m (Err cause) running means is =
-          refuses (fault.Illegal (length ms + 1) cause)
-          (refl, ends-so None running, inl (m, means, (check_of-refused (last_position opening ms) m cause).0 is))
+  module _ (rest : SMove → Replayed)
+      (on : (m : SMove) → AreMoves (before ++ w ∷ []) (ms ++ m ∷ [])
+      → IsReplay ((before ++ w ∷ []) ++ ws) (rest m)) where
+    checked-replay : (m : SMove) (answer : Result (Unit {0}) Illegal) → end_of opening ms ≡ None
+        → Means (last_position opening ms) w m → check_of (last_position opening ms) m ≡ answer
+        → IsReplay (before ++ w ∷ ws) (go_on (length ms + 1) (rest m) answer)
+    checked-replay m (Ok u) running means is =
+        let legal : Legal (last_position opening ms) m =
+        (check_of-legal (last_position opening ms) m).0 (rw is refl) in
+        subst (λ l. IsReplay l (rest m)) (append_assoc before (w ∷ []) ws) (on m (grown m running means legal))
+    checked-replay m (Err cause) running means is =
+        refuses (fault.Illegal (length ms + 1) cause)
+        (refl, ends-so None running, inl (m, means, (check_of-refused (last_position opening ms) m cause).0 is))
 
-      next-replay : (end : Option SEnd) (found : Option SMove) → end_of opening ms ≡ end
-          → meant (last_position opening ms) w ≡ found → IsReplay (before ++ w ∷ ws) (replay_next ms rest end found)
-      next-replay (Some end) found ended is =
-          refuses (fault.AfterEnd (length ms + 1)) (refl, end, ends-so (Some end) ended)
-      next-replay None None running is =
-          let nothing : (m : SMove) → Means (last_position opening ms) w m → ⊥ =
-          λ m means. let some = means-meant (last_position opening ms) w m means in cc in
-          refuses (fault.Illegal (length ms + 1) illegal.NoSuchMove) (refl, ends-so None running, inr (refl, nothing))
-      next-replay None (Some m) running is =
-          let means : Means (last_position opening ms) w m =
-          subst (λ o. IfSome o (Means (last_position opening ms) w)) is (meant-means (last_position opening ms) w) in
-          checked-replay m (check_of (last_position opening ms) m) running means refl
+    next-replay : (end : Option SEnd) (found : Option SMove) → end_of opening ms ≡ end
+        → meant (last_position opening ms) w ≡ found → IsReplay (before ++ w ∷ ws) (replay_next ms rest end found)
+    next-replay (Some end) found ended is =
+        refuses (fault.AfterEnd (length ms + 1)) (refl, end, ends-so (Some end) ended)
+    next-replay None None running is =
+        let nothing : (m : SMove) → Means (last_position opening ms) w m → ⊥ =
+        λ m means. let some = means-meant (last_position opening ms) w m means in cc in
+        refuses (fault.Illegal (length ms + 1) illegal.NoSuchMove) (refl, ends-so None running, inr (refl, nothing))
+    next-replay None (Some m) running is =
+        let means : Means (last_position opening ms) w m =
+        subst (λ o. IfSome o (Means (last_position opening ms) w)) is (meant-means (last_position opening ms) w) in
+        checked-replay m (check_of (last_position opening ms) m) running means refl
 
 replay-is : (before : List WrittenMove) (ms : List SMove) (ws : List WrittenMove) → AreMoves before ms
     → IsReplay (before ++ ws) (replayed ms ws)

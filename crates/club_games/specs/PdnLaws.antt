@@ -5,15 +5,12 @@ use Rattle.std.specs.Prelude.{codes, if◌then◌else◌}
 use Rattle.squares.specs.declared.sides.Score.{Score}
 use Rattle.squares.specs.Sides.{same_score, same_score-same}
 use Rattle.squares.specs.declared.draughts.moves.DMove.{DMove}
-use Rattle.squares.specs.DraughtsBoard.{Position}
 use Rattle.squares.specs.DraughtsOpening.{opening}
 use Rattle.draughts_moves.specs.Legal.{Legal}
 use Rattle.draughts_draws.specs.declared.ends.DEnd.{DEnd}
 use Rattle.draughts_draws.specs.Ends.{end_of, outcome_of}
 use Rattle.draughts_draws.specs.Line.{last_position}
-use Rattle.pdn.specs.Forms.{Form, quiet, capture}
 use Rattle.pdn.specs.MoveValue as move_value
-use Rattle.pdn.specs.ReadMove.{StandsFor}
 use Rattle.pdn.proofs.Proved.{reading-ok}
 use Rattle.pdn_games.specs.declared.faults.PdnFault.{PdnFault}
 use Rattle.pdn_games.specs.declared.faults.PdnFault.TheVariants as fault

@@ -2,7 +2,7 @@
 use Rattle.std.proofs.Common.{◌≡◌, ◌≢◌, ℕ, suc, ◌+◌, List, [], ◌∷◌, ◌++◌, length, Bool, true, false, Option, Some, None}
 use Rattle.std.proofs.Common.{Result, Ok, Err, refl, sym, ap, subst, ◌∙◌, append-nil, append_assoc, arith, ◌&&◌}
 use Rattle.std.specs.Prelude.{codes, if◌then◌else◌, is_some}
-use Rattle.game_history.proofs.Proved.{last_position-append, played-more, played-none}
+use Rattle.game_history.proofs.Proved.{played-more, played-none}
 use Rattle.squares.specs.declared.sides.Score.{Score}
 use Rattle.squares.specs.declared.draughts.moves.DMove.{DMove}
 use Rattle.squares.specs.DraughtsBoard.{Position}
@@ -23,17 +23,17 @@ use Rattle.pdn_games.specs.Contents.{first_tag, move_texts, texts_in, is_other_t
 use Rattle.pdn_games.specs.Moves.{MeanAll, AreMoves, RefusesNext, RefusesMove}
 use Rattle.pdn_games.specs.declared.order.GameStage.TheVariants as part
 use Rattle.pdn_games.specs.Order.{bad_at, first_stray, missing, or_else}
-use Rattle.pdn_games.specs.Reading.{agrees, settled, score_in, AreTokens, IsOfClub, Plays, IsGameWith, MoveFails, Fails}
+use Rattle.pdn_games.specs.Reading.{agrees, settled, score_in, AreTokens, IsOfClub, Plays, IsGameWith, Fails}
 use Rattle.pdn_games.specs.Reading.{TextFails, IsRefused}
 use Rattle.pdn_games.specs.Replaying.{IsMoveForm, HasItsForm, HaveForms}
 use Rattle.pdn_games.specs.Tokens.{Token, tag, number, move_by, result, PlacedToken, TextTokens}
 use Rattle.pdn_games.proofs.Proved.{end-fails, have-forms}
-use Rattle.club_rules.specs.Records.{Recorded}
 use Rattle.club_games.specs.FenOpening.{tells-opening}
 use Rattle.club_games.specs.FenReading.{is_opening}
 use Rattle.club_games.specs.PdnLexing.{lexed-lexes}
 use Rattle.club_games.specs.PdnReading.{Lexed, lexed, lexed_reading, Replayed, replay_next, replayed, GameRead}
-use Rattle.club_games.specs.PdnReading.{with_score, with_moves, begins_even, tokens_reading, formed_reading, pdn_reading}
+use Rattle.club_games.specs.PdnReading.{with_score, with_moves, begins_even, tokens_reading, formed_reading}
+use Rattle.club_games.specs.PdnReading.{pdn_reading}
 use Rattle.club_games.specs.PdnRecord.{IsPdnGame}
 
 -- ---- moves
@@ -70,7 +70,8 @@ abbrev IsReplay : List (List ℕ) → Replayed → Type 0
 IsReplay texts (Ok ms) = AreMoves texts ms
 IsReplay texts (Err f) = RefusesMove texts f
 
-module _ (before : List (List ℕ)) (ms : List DMove) (are : AreMoves before ms) (text : List ℕ) (texts : List (List ℕ)) where
+module _ (before : List (List ℕ)) (ms : List DMove) (are : AreMoves before ms) (text : List ℕ)
+    (texts : List (List ℕ)) where
   refuses : (f : PdnFault) → RefusesNext ms text f → RefusesMove (before ++ text ∷ texts) f
   refuses f next = record {
     before = before;
