@@ -97,7 +97,7 @@ function answers({ from, number }) {
     : [answer('take', path, { accept: true }, 'main'), answer('refuse', path, { accept: false })];
 }
 
-// Lists open challenges, and accepted ones whose game has just begun.
+// Lists open challenges, and accepted ones whose game has just begun; and how many the server left out.
 function paintChallenges() {
   const begun = (it) => me.games.find((game) => game.game === it.game && game.ply < 2);
   const shown = me.challenges.filter((it) => it.state === 'open' || begun(it)).sort((it, other) => toMe(other) - toMe(it));
@@ -111,8 +111,10 @@ function paintChallenges() {
   const folded = make('details', { id: 'declined', open: !!byId('declined')?.open },
     make('summary', {}, `${text('declined')} `, make('span', { className: 'count' }, String(declined.length))),
     make('ul', { className: 'rows' }, ...declined));
+  const more = [['moreReceived', me.more.to], ['moreOwn', me.more.from]].filter(([, count]) => count)
+    .map(([name, count]) => make('p', { className: 'faint' }, text(name, { count })));
   fill('challenges', ...(shown[0] ? [make('h2', {}, text('challenges')), make('ul', { className: 'rows' }, ...shown.map(row))] : []),
-    ...(declined[0] ? [folded] : []));
+    ...more, ...(declined[0] ? [folded] : []));
 }
 
 function paintClub() {
@@ -137,10 +139,13 @@ async function lookAtEnded() {
     ...(more ? [make('p', { className: 'faint' }, text('older', { count: more }))] : []));
 }
 
+// How many open challenges to the member there are.
+const challengesToMe = () => me.challenges.filter(toMe).length + me.more.to;
+
 // Requests the member's games and challenges; returns the member's name and the number of things that wait.
 export async function lookAtMe() {
   me = await ask('me');
-  return { member: me.member, waiting: waitingGames().length + me.challenges.filter(toMe).length };
+  return { member: me.member, waiting: waitingGames().length + challengesToMe() };
 }
 
 // The most urgent game, besides the one on the screen, that waits for the member; and how many there are.
@@ -192,7 +197,7 @@ export async function lookAtHome(_, mine) {
     paintChallenges();
     paintClub();
     lookAtEnded().catch(() => {});
-    byId('news').textContent = text('news', { moves: me.games.filter(isMine).length, challenges: me.challenges.filter(toMe).length });
+    byId('news').textContent = text('news', { moves: me.games.filter(isMine).length, challenges: challengesToMe() });
   };
 }
 

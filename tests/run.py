@@ -65,6 +65,7 @@ TESTS_OF_PROGRAM = [
     Test("cli/scripts.py"),
     Test("server/openapi.py"),
     Test("server/member_lists.py"),
+    Test("server/flood.py"),
     Test("server/bad_clients.py"),
     Test("server/holding.py"),
     Test("server/listening.py"),

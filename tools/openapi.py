@@ -219,6 +219,7 @@ SCHEMAS = {
                          f"the second is beyond {LAST_MOMENT}."),
         end=or_null(schema("End"), "How the game ended."), first=with_note("Name", "The member who plays First."),
         game=GAME_ID, ply=schema("PliesPlayed"), result=or_null(schema("Result"), "The result."),
+        round=or_null(integer(1, 62, "A round."), "The round of a round robin, if the game has the key of one."),
         second=with_note("Name", "The member who plays Second."),
         turn=or_null(NAME, "The member who is to move; null if the game has ended.")),
     "EventGames": reply_object("The games of an event.", games=array(schema("EventGame"), 5000, "The games by id.")),
@@ -236,12 +237,17 @@ SCHEMAS = {
         second=with_note("Name", "The member who plays Second."), turn=with_note("Name", "The member who is to move.")),
     "Me": reply_object(
         "The member's running games and challenges.",
-        challenges={"type": "array", "description": "The open challenges from and to the member, and the member's own "
-                    "accepted ones, by the challenger's id and the number.",
-                    "items": {"oneOf": [schema("OpenChallenge"), schema("AcceptedChallenge")]}},
+        challenges=array({"oneOf": [schema("OpenChallenge"), schema("AcceptedChallenge")]}, 200,
+                         "The member's own open and accepted challenges by number, the last 100 of them; then the open "
+                         "challenges to the member by the challenger's id and the number, the first 10 of each "
+                         "challenger and 100 in all."),
         games=array(schema("OwnGame"), 5000, "The running games by id."),
         member=with_note("Name", "The member's name."),
         moment=with_note("Moment", "The timestamp at which this request counts."),
+        more=reply_object(
+            "How many such challenges there are beyond those that are listed.",
+            **{"from": integer(0, 9899, "The member's own open and accepted ones.")},
+            to=integer(0, 1989701, "The open ones to the member.")),
         refused=array(schema("RefusedChallenge"), 20, "The member's own refused challenges, the greatest number first.")),
     "OwnEndedGame": reply_object(
         "An ended game of the member.",
@@ -321,7 +327,16 @@ HEADERS = {
     "AllowPost": ("The method of the path.", {"const": "POST"}),
     "WWW-Authenticate": ("The name of the field that has the key.", {"const": "Member-Key"}),
     "Content-Security-Policy": ("The policy of the members' page.", {"type": "string", "pattern": "^default-src 'none';"}),
+    "Cache-Control": ("The reply may not be stored.", {"const": "no-store"}),
+    "X-Content-Type-Options": ("The content type may not be guessed.", {"const": "nosniff"}),
+    "Cache-Control-If-Found": ("The reply may not be stored; without it for 82 NoRoute.", {"const": "no-store"}),
+    "X-Content-Type-Options-If-Found": ("The content type may not be guessed; without it for 82 NoRoute.",
+                                        {"const": "nosniff"}),
 }
+# The paths whose replies have the fields about caching, unless the head was refused.
+NO_STORE = ("/play", "/games/{id}/clock", "/games/{id}/record", "/games/{id}/page", "/events/{name}/games", "/me",
+            "/me/ended", "/me/events")
+REFUSED_HEAD = 400, 411, 413, 431, 501
 
 MOVE_REFUSALS = [55, 56, 57, 58, 59, 60, 65, 10, 11, 12, 13, 14, 15, 16, 17, 18, 19, 20, 21, 30]
 NEXT_PLY = "PLY is not the number of plies played plus 1."
@@ -374,18 +389,25 @@ ROUTES = [
 ]
 
 
+def caching_headers(path, status):
+    """The fields about caching of a reply; on a path with a number 404 may be that of no route, and have none."""
+    if path not in NO_STORE or status in REFUSED_HEAD:
+        return {}
+    suffix = "-If-Found" if status == 404 else ""
+    return {"Cache_Control": f"Cache-Control{suffix}", "X_Content_Type_Options": f"X-Content-Type-Options{suffix}"}
+
+
 def headers(**more):
     found = {it: it for it in ("Content-Length", "Connection")} | {it.replace("_", "-"): of for it, of in more.items()}
     return {it: ref("headers", of) for it, of in found.items()}
 
 
-def headers_of_error(method, status):
-    if status == 405:
-        return headers(Allow=f"Allow{method.title()}")
-    return headers(WWW_Authenticate="WWW-Authenticate") if status == 401 else headers()
+def headers_of_error(method, path, status):
+    more = {405: {"Allow": f"Allow{method.title()}"}, 401: {"WWW_Authenticate": "WWW-Authenticate"}}
+    return headers(**more.get(status, {}), **caching_headers(path, status))
 
 
-def error_reply(method, status, meanings, shared):
+def error_reply(method, path, status, meanings, shared):
     """The reply of a status that stands for these errors, each with its meaning.
 
     It is in `shared`, and referred to, if the meanings are the general ones.
@@ -393,11 +415,13 @@ def error_reply(method, status, meanings, shared):
     numbers = sorted(meanings)
     lines = [f"{number} {ERRORS[number][0]}: {meanings[number] or ERRORS[number][2]}" for number in numbers]
     options = [schema(f"Error{number}") for number in numbers]
-    found = {"description": "\n".join([f"{PHRASES[status]}.", *lines]), "headers": headers_of_error(method, status),
+    found = {"description": "\n".join([f"{PHRASES[status]}.", *lines]),
+             "headers": headers_of_error(method, path, status),
              "content": {JSON: {"schema": options[0] if len(options) == 1 else {"oneOf": options}}}}
     if any(meanings.values()):
         return found
-    name = "_".join(["Error", *map(str, numbers), *([method] if status == 405 else [])])
+    name = "_".join(["Error", *map(str, numbers), *([method] if status == 405 else []),
+                     *(["no_store"] if caching_headers(path, status) else [])])
     shared[name] = found
     return ref("responses", name)
 
@@ -419,12 +443,13 @@ def refusals_of(method, path, body, of_club):
 def operation_of(shared, method, path, name, summary, tag, reply, kind, body, of_club):
     more = {"Content_Security_Policy": "Content-Security-Policy"} if kind == HTML else {}
     meaning = SCHEMAS[reply]["description"] + (" A repeated command has the same reply." if method == "post" else "")
-    replies = {"200": {"description": meaning,
-                       "headers": headers(**more), "content": {kind: {"schema": schema(reply)}}}}
+    replies = {"200": {"description": meaning, "headers": headers(**more, **caching_headers(path, 200)),
+                       "content": {kind: {"schema": schema(reply)}}}}
     by_status = {}
     for number, meaning in refusals_of(method, path, body, of_club).items():
         by_status.setdefault(ERRORS[number][1], {})[number] = meaning
-    replies |= {str(status): error_reply(method, status, by_status[status], shared) for status in sorted(by_status)}
+    replies |= {str(status): error_reply(method, path, status, by_status[status], shared)
+                for status in sorted(by_status)}
     found = {"operationId": name, "summary": summary, "tags": [tag]}
     if method == "post":
         found["description"] = "The request needs `Content-Length`." if body else \
@@ -465,7 +490,7 @@ def document():
                 "description": "The member's key: 8 to 64 letters and digits. The field occurs exactly once."}},
             "parameters": {name: {"name": name, "in": "path", "required": True, "description": description,
                                   "schema": of} for name, (description, of) in PARAMETERS.items()},
-            "headers": {name: {"description": description, "required": True, "schema": of}
+            "headers": {name: {"description": description, "required": not name.endswith("-If-Found"), "schema": of}
                         for name, (description, of) in HEADERS.items()},
             "responses": {name: shared[name] for name in sorted(shared)},
             "schemas": SCHEMAS | errors,

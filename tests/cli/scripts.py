@@ -36,7 +36,7 @@ Without arguments it runs all scripts of tests/cli/scripts. For each line it pri
         of its own, one after another:
     keyanna1 POST /games/1/moves/1 {"move":"32-28"} -> 200 OK {"end":null,..}
         The request with this key, and with this body or none, has a reply of this status with this JSON body and the
-        fields that it must have. After the status comes its phrase; without it any phrase will do. The body of a
+        fields that it must have, those about caching too. After the status comes its phrase; without it any phrase will do. The body of a
         request may be written as a text: "[" * 200.
     raw "GET / HTTP/2.0\r\n\r\n" -> 400 Bad Request {"error":80,"name":"BadHead"}
         The bytes of a request.
@@ -64,6 +64,7 @@ import tempfile
 import time
 
 sys.path[0] = str(pathlib.Path(__file__).resolve().parents[1])
+from lib.caching import caching_lines, target_of
 from lib.club import PROGRAM, RECORDS, TESTS, change, copy_club, query
 from lib.report import exit_status, result
 from lib.server import TRIES, free_port, receive
@@ -352,13 +353,14 @@ class ServerLines:
                 compare((size, b""), (size, self.reply([whole[:size]], True)))
         else:
             pieces, expected = self.read(line)
-            got = self.reply(pieces, not self.expected(expected, b""))
-            compare(self.expected(expected, got), got)
+            target = target_of(b"".join(pieces))
+            got = self.reply(pieces, not self.expected(expected, b"", target))
+            compare(self.expected(expected, got, target), got)
 
     def read(self, line):
         """The bytes that a line sends, in pieces, and how it says what is replied."""
         asked, expected = parted(line, " -> ")
-        self.expected(expected, b"")
+        self.expected(expected, b"", "")
         first, _, rest = asked.partition(" ")
         if first in ("raw", "slowly"):
             whole = self.script.text(rest)
@@ -371,8 +373,8 @@ class ServerLines:
         head = f"{method} {path} HTTP/1.1\r\nHost: localhost\r\nMember-Key: {key}\r\nContent-Length: {len(body)}"
         return [f"{head}\r\n\r\n".encode() + body], expected
 
-    def expected(self, written, got):
-        """The bytes of a reply. Where no phrase is written it is that of the reply that was got."""
+    def expected(self, written, got, target):
+        """The bytes of a reply to a request for a target. Where no phrase is written it is that of the one that was got."""
         if not written[:1].isdigit():
             return self.script.text(written)
         found = REPLY.fullmatch(written)
@@ -383,7 +385,7 @@ class ServerLines:
             phrase = got.partition(b"\r\n")[0].decode(errors="replace")[len("HTTP/1.1 200 "):]
         return (f"HTTP/1.1 {status} {phrase}\r\nContent-Type: application/json\r\n"
                 f"Content-Length: {len(body.encode())}\r\nConnection: close\r\n"
-                f"{FURTHER_FIELDS.get(status, '')}\r\n{body}").encode()
+                f"{FURTHER_FIELDS.get(status, '')}{caching_lines(target, status)}\r\n{body}").encode()
 
     def reply(self, pieces, ends):
         """The reply to the bytes, after which the input ends or not."""

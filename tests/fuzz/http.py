@@ -5,6 +5,7 @@
 import re
 import socket
 
+from lib.caching import caching_lines
 from models import json as json_model
 from models.club import NAMES, refusal, status_of
 from models.draughts import Refused
@@ -143,16 +144,17 @@ def body_values(body, keys):
     return [found[key] for key, _ in keys]
 
 
-def refused(number, has_body, further="", caller="-"):
+def refused(number, has_body, further="", caller="-", target=b""):
     if number == 50:
         further = "WWW-Authenticate: Member-Key\r\n"
     assert number in NAMES
+    further += caching_lines(target.decode("latin-1"), status_of(number))
     return Reply(status_of(number), refusal(number), further=further, has_body=has_body, caller=caller)
 
 
 def reply_to(club, data):
     """The reply to the bytes of a connection, after which the input ends; None if there is none."""
-    has_body, caller = not data.lstrip(b"\r\n").startswith(b"HEAD "), "-"
+    has_body, caller, found = not data.lstrip(b"\r\n").startswith(b"HEAD "), "-", b""
     end = head_end(data[:HEAD_LIMIT])
     try:
         if end is None:
@@ -166,8 +168,9 @@ def reply_to(club, data):
         if len(data) < end[0] + length:
             return None
         expected, route, named, keys = route_of(target)
+        found = target
         if method != expected.encode():
-            return refused(83, has_body, f"Allow: {expected}\r\n")
+            return refused(83, has_body, f"Allow: {expected}\r\n", target=found)
         shown = values(fields, b"member-key")
         key = shown[0].decode("latin-1") if len(shown) == 1 else ""
         if key not in club.keys:
@@ -175,9 +178,9 @@ def reply_to(club, data):
         caller = club.keys[key]
         body = body_values(data[end[0]:end[0] + length], keys)
         kind, text = club.answer(key, route, named, body)
-        return Reply(200, text, kind, caller=caller)
+        return Reply(200, text, kind, further=caching_lines(found.decode("latin-1"), 200), caller=caller)
     except Refused as refusing:
-        return refused(refusing.args[0], has_body, caller=caller)
+        return refused(refusing.args[0], has_body, caller=caller, target=found)
 
 
 def ask(port, pieces, ends):

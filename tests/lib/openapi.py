@@ -127,9 +127,11 @@ class Description:
         replies = self.operations[name][2]["responses"]
         require(status in replies, name, "does not document the status", status)
         reply = self.resolve(replies[status])
-        require(set(fields) == {"Content-Type", *reply["headers"]}, name, status, "has the fields", *fields)
-        for field, of in reply["headers"].items():
-            of = self.resolve(of)["schema"]
+        known = {"Content-Type": None} | {field: self.resolve(of) for field, of in reply["headers"].items()}
+        needed = {field for field, of in known.items() if of is None or of["required"]}
+        require(needed <= set(fields) <= set(known), name, status, "has the fields", *fields)
+        for field in fields.keys() - {"Content-Type"}:
+            of = known[field]["schema"]
             self.validate(of, int(fields[field]) if of.get("type") == "integer" else fields[field], field)
         require(fields["Content-Type"] in reply["content"], name, status, "has the type", fields["Content-Type"])
         if not has_body:

@@ -1,5 +1,7 @@
 """A model of what a club answers to its members, by docs/rules.md and docs/http.md, at one timestamp."""
+import collections
 import json
+import re
 
 from models import draughts, shogi
 from models.draughts import Refused
@@ -25,7 +27,8 @@ STATUSES = {50: 401, 51: 403, 55: 403, 52: 404, 53: 404, 54: 404, 63: 422, 65: 4
 STATES = ["open", "withdrawn", "refused", "accepted"]
 RULES = {"draughts": draughts, "shogi": shogi}
 OUTSIDE_ENDS = ["Resigned", "Agreed", "Time", "Declared", "Recorded"]  # that no move makes
-MOST_ENDED, MOST_REFUSED = 200, 20  # in the lists of a member
+MOST_ENDED, MOST_REFUSED, MOST_OWN, MOST_RECEIVED, MOST_OF_EACH = 200, 20, 100, 100, 10  # in the lists of a member
+ROUND_KEY = re.compile(r"(?:.*[^0-9])?([1-9][0-9]?)\.([1-9][0-9]?)")
 
 
 def status_of(number):
@@ -212,7 +215,13 @@ class Game:
 
     def in_event(self):
         return {"deadline": self.deadline_told(), "end": self.end, "first": self.players[0], "game": self.number,
-                "ply": self.plies(), "result": self.result, "second": self.players[1], "turn": self.mover_told()}
+                "ply": self.plies(), "result": self.result, "round": self.round(), "second": self.players[1],
+                "turn": self.mover_told()}
+
+    def round(self):
+        """The round of a game that `round-robin` may have seated under its key."""
+        found = ROUND_KEY.fullmatch(self.key or "")
+        return int(found[1]) if found and int(found[1]) <= 62 and int(found[2]) <= 16 else None
 
     def mine_ended(self):
         return {"end": self.end, "ended": None if self.end in OUTSIDE_ENDS else self.since,
@@ -297,11 +306,17 @@ class Club:
         ids = {name: at for at, name in enumerate(self.keys.values())}
         games = [it.mine() for it in self.games if member in it.players and not it.end]
         challenges = [self.challenge_told(*it) for it in sorted(self.challenges, key=lambda it: (ids[it[0]], it[1]))]
-        mine = [it for it in challenges if it["state"] == "open" and member in (it["from"], it["to"])
-                or it["state"] == "accepted" and member == it["from"]]
+        mine = [it for it in challenges if it["state"] in ("open", "accepted") and member == it["from"]]
+        count, received, listed = collections.Counter(), 0, []
+        for it in challenges:
+            if it["state"] == "open" and member == it["to"]:
+                received += 1
+                count[it["from"]] += 1
+                listed += [it] * (count[it["from"]] <= MOST_OF_EACH and len(listed) < MOST_RECEIVED)
+        more = {"from": max(len(mine) - MOST_OWN, 0), "to": received - len(listed)}
         refused = [it for it in challenges if it["state"] == "refused" and member == it["from"]]
-        return {"challenges": mine, "games": games, "member": member, "moment": max(self.last, self.moment),
-                "refused": refused[::-1][:MOST_REFUSED]}
+        return {"challenges": mine[-MOST_OWN:] + listed, "games": games, "member": member,
+                "moment": max(self.last, self.moment), "more": more, "refused": refused[::-1][:MOST_REFUSED]}
 
     def do_ended(self, member):
         games = [it.mine_ended() for it in reversed(self.games) if member in it.players and it.end]

@@ -126,6 +126,7 @@ class Club:
             "games": [self.running(it) for it in self.found.execute(games, (number,))],
             "member": self.me["name"],
             "moment": self.moment,
+            "more": {"from": 0, "to": 0},
             "refused": [self.challenge(it) for it in self.found.execute(refused, (number,))],
         }
 
@@ -145,7 +146,7 @@ class Club:
         first, second = self.sides(row)
         deadline, turn = (self.deadline(row), self.turn(row)) if row["end"] is None else (None, None)
         told = {"deadline": deadline, "end": row["end"], "first": first, "game": row["id"], "ply": row["plies"]}
-        return {**told, "result": row["result"], "second": second, "turn": turn}
+        return {**told, "result": row["result"], "round": None, "second": second, "turn": turn}
 
     def clock(self, game):
         row = self.found.execute("SELECT * FROM games WHERE id = ?", (int(game),)).fetchone()

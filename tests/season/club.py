@@ -6,7 +6,9 @@ Clocks, lists and each text are computed here.
 import dataclasses
 import datetime
 import json
+import re
 
+from lib.caching import caching_lines
 from models import draughts, shogi
 
 LAST_MOMENT = 253402300799
@@ -217,18 +219,20 @@ class Club:
         words = path.split("/")[1:]
         asked = routes[tuple(words) if words[0] == "me" else (words[0], words[2])]
         try:
-            return reply(200, *asked(words, member, self.moment(now)))
+            return reply(200, *asked(words, member, self.moment(now)), caching_lines(path, 200))
         except Refused as refusing:
-            return refusal(refusing.args[0])
+            return refusal(refusing.args[0], path)
 
     def me(self, _, member, moment):
         games = [mine(it) for it in self.games if member in it.players and not it.end]
         numbered = sorted(self.challenges.values(), key=lambda it: (self.id_of(it.member), it.number))
-        challenges = [challenge_shown(it) for it in numbered if it.state == "open" and member in it.sides()
-                      or it.state == "accepted" and member == it.member]
+        own = [challenge_shown(it) for it in numbered if member == it.member and it.state in ("open", "accepted")]
+        received = [challenge_shown(it) for it in numbered if member == it.other and it.state == "open"]
+        shown = [it for it in received if sum(it["from"] == one["from"] for one in received[:received.index(it)]) < 10]
+        more = {"from": len(own[:-100]), "to": len(received) - len(shown[:100])}
         refused = [challenge_shown(it) for it in numbered if it.state == "refused" and member == it.member]
-        return to_json({"challenges": challenges, "games": games, "member": member, "moment": moment,
-                        "refused": refused[:-21:-1]})
+        return to_json({"challenges": own[-100:] + shown[:100], "games": games, "member": member, "moment": moment,
+                        "more": more, "refused": refused[:-21:-1]})
 
     def my_ended(self, _, member, moment):
         games = [ended_shown(it) for it in self.games[::-1] if member in it.players and it.end]
@@ -243,7 +247,7 @@ class Club:
         event = self.event_of(words[1])
         return to_json({"games": [{"deadline": None if it.end else shown_deadline(it), "end": it.end,
                                 "first": it.players[0], "game": it.number, "ply": len(it.texts), "result": it.result,
-                                "second": it.players[1], "turn": None if it.end else it.mover()}
+                                "round": round_of(it.key), "second": it.players[1], "turn": None if it.end else it.mover()}
                                for it in self.games if it.event is event]})
 
     def event_table(self, words, member, moment):
@@ -273,8 +277,15 @@ def reply(status, kind, body, further="", has_body=True):
     return (head + body * has_body).encode()
 
 
-def refusal(number, has_body=True):
-    return reply(STATUSES[number], *to_json({"error": number, "name": NAMES[number]}), FURTHER.get(number, ""), has_body)
+def refusal(number, path, has_body=True):
+    further = FURTHER.get(number, "") + caching_lines(path, STATUSES[number])
+    return reply(STATUSES[number], *to_json({"error": number, "name": NAMES[number]}), further, has_body)
+
+
+def round_of(key):
+    """The round of a game that `round-robin` may have seated under the key."""
+    found = re.fullmatch(r"(?:.*[^0-9])?([1-9][0-9]?)\.([1-9][0-9]?)", key or "")
+    return int(found[1]) if found and int(found[1]) <= 62 and int(found[2]) <= 16 else None
 
 
 def game_line(game):

@@ -264,7 +264,7 @@ def opened(season):
     for words in LISTS:
         check(f"`{' '.join(words)}` of an empty club prints nothing", (0, "", ""), season.give(START, words))
     with season.server(START) as port:
-        compare("a path of an empty club is refused", {it: refusal(50) for it in PATHS},
+        compare("a path of an empty club is refused", {it: refusal(50, it) for it in PATHS},
                 {it: season.ask(port, "keyanna1", "GET", it) for it in PATHS})
     for name, key in MEMBERS.items():
         season.add_member(START, name, key)
@@ -419,7 +419,7 @@ def refused(season):
              "/me/": 82, "/me/games": 82, "/Me": 82, "/me/events/": 82, "/games/1/clock/": 82,
              "/events/autumn/games/1": 82, "/games/1/records": 82, "//me": 82}
     with season.server(now) as port:
-        compare("unknown paths are refused", {it: refusal(number) for it, number in paths.items()},
+        compare("unknown paths are refused", {it: refusal(number, it) for it, number in paths.items()},
                 {it: season.ask(port, "keyanna1", "GET", it) for it in paths})
         for path in PATHS:
             refused_at(season, port, path)
@@ -428,12 +428,12 @@ def refused(season):
 def refused_at(season, port, path):
     """Each path by other methods, other keys and other texts of its own."""
     right = season.club.replied("anna", path, season.club.last)
-    method = {it: refusal(83, it != "HEAD") for it in ("POST", "PUT", "HEAD", "DELETE", "get", "OPTIONS")}
+    method = {it: refusal(83, path, it != "HEAD") for it in ("POST", "PUT", "HEAD", "DELETE", "get", "OPTIONS")}
     compare(f"{path} with another method is refused",
             method, {it: season.ask(port, "nobody77", it, path) for it in method})
     fields = ("", "Member-Key:\r\n", "Member-Key: keyanna\r\n", "Member-Key: KEYANNA1\r\n", "Member-Key: keyanna11\r\n",
               "Member-Key: keyanna1\r\nmember-key: keyanna1\r\n", "Key: keyanna1\r\n")
-    compare(f"{path} with another key is refused", {it: refusal(50) for it in fields},
+    compare(f"{path} with another key is refused", {it: refusal(50, path) for it in fields},
             {it: season.ask(port, "", "GET", path, fields=it) for it in fields})
     alike = f"{path}?a=/games/2", f"http://club{path}", f"http://club{path}?"
     compare(f"{path} with a query or a host is the same path", {it: right for it in alike},
@@ -441,7 +441,7 @@ def refused_at(season, port, path):
     check(f"{path} takes a field name in capitals", right,
             season.ask(port, "", "GET", path, fields="MEMBER-KEY: \t keyanna1 \r\n"))
     gone = path.replace("/1/", "/0/").replace("autumn", "winter")
-    check(f"{gone} with an unknown key is refused", refusal(50), season.ask(port, "nobody77", "GET", gone))
+    check(f"{gone} with an unknown key is refused", refusal(50, gone), season.ask(port, "nobody77", "GET", gone))
 
 
 # ---- other files
@@ -483,7 +483,7 @@ def faulty(season):
                   season.club.printed(beside, now), other.give(now, beside))
             pathlib.Path(room, "c.db-desk").unlink()  # without its control socket the server releases the file
             change(f"{room}/c.db", DAMAGES[0][0])
-            compare("each path is fault 72 once the file is damaged", {it: refusal(72) for it in PATHS},
+            compare("each path is fault 72 once the file is damaged", {it: refusal(72, it) for it in PATHS},
                     {it: other.ask(port, "keyanna1", "GET", it) for it in PATHS})
         season.outputs += other.outputs
 

@@ -83,7 +83,8 @@ IsNoList s listing refusal = listing_refusal s.members s.events listing ≡ Some
 
 -- ---- the JSON of a member's games
 
--- the challenges and running games of the member with this key, and the newest of his challenges that were refused
+-- the running games of the member with this key, the challenges that are listed for him with the numbers of those that
+-- are left out, and the newest of his challenges that were refused
 abbrev pub IsMyGamesText : ClubState → ℕ → List ℕ → List ℕ → Type 0
 IsMyGamesText s moment key text =
     (name : List ℕ) × (Some name ≡ member_name_by_key key s.members) × (challenges : List Challenge)

@@ -1,5 +1,5 @@
 -- No value that is written has a float, so each has one compact text.
-use Rattle.std.proofs.Common.{◌≡◌, ℕ, List, [], ◌∷◌, map, false, Option, Some, None, option_map, refl}
+use Rattle.std.proofs.Common.{◌≡◌, ℕ, List, [], ◌∷◌, ◌++◌, map, false, Option, Some, None, option_map, refl}
 use Rattle.serde_json.specs.Data.{Data, string}
 use Rattle.serde_json.specs.View.{items_of}
 use Rattle.serde_json.specs.Written.{has_float, items_have_float}
@@ -15,8 +15,9 @@ use Rattle.club_lists.specs.GameSummary.{GameSummary, Running, end_of, result_of
 use Rattle.club_lists.specs.Newest.{newest}
 use Rattle.club_lists.specs.Page.{page_data}
 use Rattle.club_lists.specs.Shows.{challenge_choices, challenge_data, event_data, event_game_data, event_games_data}
-use Rattle.club_lists.specs.Shows.{is_of_event, is_other, is_own_refused, is_shown, most_refused, my_games_data}
-use Rattle.club_lists.specs.Shows.{offerer, own_game_data, started}
+use Rattle.club_lists.specs.Shows.{is_of_event, is_other, is_own_refused, most_refused, more_data, my_games_data}
+use Rattle.club_lists.specs.Shows.{offerer, own_game_data, own_listed, received_listed, started}
+use Rattle.club_lists.specs.Rounds.{round_in}
 use Rattle.club_lists.specs.Values.{number_or_null, text_or_null}
 use Rattle.std.specs.Prelude.{filter}
 
@@ -76,6 +77,7 @@ event_game_float members told =
       number_float (while_running told (deadline_within told)),
       text_float (end_of told),
       text_float (result_of told),
+      number_float (round_in told.key),
       text_float (running_turn members told),
     ) refl
 
@@ -128,6 +130,11 @@ challenge_float : (members : List Member) (events : List Event) (c : Challenge)
 unfolding challenge_data
 challenge_float members events c = rw (number_float (started c.standing)) refl
 
+more_float : (members : List Member) (name : List ℕ) (challenges : List Challenge)
+    → has_float (more_data members name challenges) ≡ false
+unfolding more_data
+more_float members name challenges = refl
+
 pub my_games_float : (members : List Member) (events : List Event) (name : List ℕ) (moment : ℕ)
     (challenges : List Challenge) (games : List Running)
     → has_float (my_games_data members events name moment challenges games) ≡ false
@@ -135,8 +142,9 @@ unfolding my_games_data
 my_games_float members events name moment challenges games =
     rw (
       items_float (challenge_data members events) (challenge_float members events)
-          (filter (is_shown members name) challenges),
+          (own_listed members name challenges ++ received_listed members name challenges),
       items_float (own_game_data members events) (own_game_float members events) games,
+      more_float members name challenges,
       items_float (challenge_data members events) (challenge_float members events)
           (newest most_refused (is_own_refused members name) challenges),
     ) refl

@@ -5,4 +5,5 @@ mod Lists
 mod Numbered
 mod Picked
 pub mod Proved
+mod RoundLemmas
 pub mod ValueLemmas

@@ -10,6 +10,7 @@ pub mod Lines
 pub mod Listing
 pub mod Newest
 pub mod Page
+pub mod Rounds
 pub mod ShownViews
 pub mod Shows
 pub mod SummaryViews

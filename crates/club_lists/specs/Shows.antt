@@ -1,6 +1,6 @@
 -- Games, events and challenges as members see them, as JSON.
-use Rattle.std.specs.Prelude.{ℕ, ◌&&◌, ◌||◌, List, [], ◌∷◌, map, filter, Bool, true, false, not, Option, Some}
-use Rattle.std.specs.Prelude.{None}
+use Rattle.std.specs.Prelude.{ℕ, ◌-◌, ◌==◌, ◌&&◌, ◌||◌, List, [], ◌∷◌, ◌++◌, length, map, filter, count_by, Bool, true}
+use Rattle.std.specs.Prelude.{false, not, nat_lt, Option, Some, None}
 use Rattle.std.specs.Prelude.{codes, if◌then◌else◌}
 use Rattle.std.specs.Option.{option_map}
 use Rattle.std.specs.Str.{bytes_eq}
@@ -16,7 +16,8 @@ use Rattle.club_lists.specs.Clock.{deadline_within, running_turn, while_running}
 use Rattle.club_lists.specs.Lines.{game_name, kind_name, player_name}
 use Rattle.club_lists.specs.Listing.{event_name, event_of, first_name, has_asked, member_name, second_name}
 use Rattle.club_lists.specs.GameSummary.{GameSummary, Running, end_of, is_over, result_of}
-use Rattle.club_lists.specs.Newest.{newest}
+use Rattle.club_lists.specs.Newest.{beyond, last_ones, newest}
+use Rattle.club_lists.specs.Rounds.{round_in}
 use Rattle.club_lists.specs.Values.{array_of, number_data, number_or_null, text_or_null}
 
 -- name of the member with this key
@@ -26,7 +27,8 @@ member_name_by_key key (m ∷ members) = if has_member_key key m then Some m.nam
 
 -- ---- the games of an event
 
--- the object of a game in the list of an event; the deadline and the turn are those of its clock
+-- the object of a game in the list of an event; the deadline and the turn are those of its clock, the round that of its
+-- key
 unfoldable pub event_game_data : List Member → GameSummary → Data
 event_game_data members told = object
     (member (codes "deadline") (number_or_null (while_running told (deadline_within told)))
@@ -35,8 +37,9 @@ event_game_data members told = object
     (member (codes "game") (number_data told.id)
     (member (codes "ply") (number_data told.plies)
     (member (codes "result") (text_or_null (result_of told))
+    (member (codes "round") (number_or_null (round_in told.key))
     (member (codes "second") (string (second_name members told))
-    (member (codes "turn") (text_or_null (running_turn members told)) no_members))))))))
+    (member (codes "turn") (text_or_null (running_turn members told)) no_members)))))))))
 
 -- the game is one of the event with this name
 abbrev pub is_of_event : List Event → List ℕ → GameSummary → Bool
@@ -151,6 +154,28 @@ state_text (Accepted game) = codes "accepted"
 abbrev pub most_refused : ℕ
 most_refused = 20
 
+-- the most open or accepted challenges of a member that are listed for him
+abbrev pub most_own : ℕ
+most_own = 100
+
+-- the most open challenges to a member that are listed for him
+abbrev pub most_received : ℕ
+most_received = 100
+
+-- the most of these from one challenger
+abbrev pub most_of_each : ℕ
+most_of_each = 10
+
+-- the member with this id is the challenger
+abbrev pub is_from : ℕ → Challenge → Bool
+is_from challenger c = c.member == challenger
+
+-- after these challenges a further one is listed: fewer than `most_received` are in all, and fewer than `most_of_each`
+-- from its challenger
+abbrev pub has_room : List Challenge → Challenge → Bool
+has_room listed c =
+    nat_lt (length listed) most_received && nat_lt (count_by (is_from c.member) listed) most_of_each
+
 module _ (members : List Member) where
   -- names of the challenger and of the challenged member
   abbrev pub from_name : Challenge → List ℕ
@@ -168,11 +193,13 @@ module _ (members : List Member) where
   abbrev pub second_of : Challenge → List ℕ
   second_of c = if c.first then to_name c else from_name c
 
-  -- the member sees open challenges to or from him, and his own accepted ones
-  abbrev pub is_shown : List ℕ → Challenge → Bool
-  is_shown name c =
-      bytes_eq (from_name c) name && (is_open c.standing || is_accepted c.standing)
-      || bytes_eq (to_name c) name && is_open c.standing
+  -- the member's own challenge is open or was accepted
+  abbrev pub is_own_challenge : List ℕ → Challenge → Bool
+  is_own_challenge name c = bytes_eq (from_name c) name && (is_open c.standing || is_accepted c.standing)
+
+  -- the challenge to the member is open
+  abbrev pub is_received : List ℕ → Challenge → Bool
+  is_received name c = bytes_eq (to_name c) name && is_open c.standing
 
   -- the member's own challenge was refused
   abbrev pub is_own_refused : List ℕ → Challenge → Bool
@@ -190,24 +217,57 @@ module _ (members : List Member) where
       (member (codes "state") (string (state_text c.standing))
       (member (codes "to") (string (to_name c)) no_members))))))))
 
-  -- the challenges that are shown to the member with this name
-  abbrev pub shown_challenges : List Event → List ℕ → List Challenge → List Data
-  shown_challenges events name challenges = map (challenge_data events) (filter (is_shown name) challenges)
+  -- the last of the member's own challenges, in their order
+  abbrev pub own_listed : List ℕ → List Challenge → List Challenge
+  own_listed name challenges = last_ones most_own (is_own_challenge name) challenges
+
+  -- how many more of his own there are
+  abbrev pub own_left_out : List ℕ → List Challenge → ℕ
+  own_left_out name challenges = beyond most_own (is_own_challenge name) challenges
+
+  -- the challenges to the member that are listed, if these are listed of those before: each for which there is room
+  abbrev pub received_after : List ℕ → List Challenge → List Challenge → List Challenge
+  received_after name listed [] = listed
+  received_after name listed (c ∷ challenges) =
+      if is_received name c && has_room listed c
+      then received_after name (listed ++ c ∷ []) challenges
+      else received_after name listed challenges
+
+  -- the challenges to the member that are listed, in their order: the first of each challenger
+  abbrev pub received_listed : List ℕ → List Challenge → List Challenge
+  received_listed name challenges = received_after name [] challenges
+
+  -- how many more challenges to him there are
+  abbrev pub received_left_out : List ℕ → List Challenge → ℕ
+  received_left_out name challenges =
+      count_by (is_received name) challenges - length (received_listed name challenges)
+
+  -- the challenges that are listed for the member with this name: his own, then those to him
+  abbrev pub listed_challenges : List Event → List ℕ → List Challenge → List Data
+  listed_challenges events name challenges =
+      map (challenge_data events) (own_listed name challenges ++ received_listed name challenges)
+
+  -- the object with the numbers of those that are left out, of his own and of those to him
+  unfoldable pub more_data : List ℕ → List Challenge → Data
+  more_data name challenges = object
+      (member (codes "from") (number_data (own_left_out name challenges))
+      (member (codes "to") (number_data (received_left_out name challenges)) no_members))
 
   -- the newest refused challenges of the member with this name, newest first
   abbrev pub newest_refused : List Event → List ℕ → List Challenge → List Data
   newest_refused events name challenges =
       map (challenge_data events) (newest most_refused (is_own_refused name) challenges)
 
--- the object with the challenges of the member with this name, these running games of his, and the newest of his
--- refused challenges
+-- the object with the challenges of the member with this name, these running games of his, the numbers of challenges
+-- that are left out, and the newest of his refused challenges
 unfoldable pub my_games_data : List Member → List Event → List ℕ → ℕ → List Challenge → List Running → Data
 my_games_data members events name moment challenges games = object
-    (member (codes "challenges") (array_of (shown_challenges members events name challenges))
+    (member (codes "challenges") (array_of (listed_challenges members events name challenges))
     (member (codes "games") (array_of (map (own_game_data members events) games))
     (member (codes "member") (string name)
     (member (codes "moment") (number_data moment)
-    (member (codes "refused") (array_of (newest_refused members events name challenges)) no_members)))))
+    (member (codes "more") (more_data members name challenges)
+    (member (codes "refused") (array_of (newest_refused members events name challenges)) no_members))))))
 
 -- its text
 abbrev pub my_games_json : List Member → List Event → List ℕ → ℕ → List Challenge → List Running → List ℕ

@@ -7,7 +7,9 @@
 //! - `game_text`, `moves_text`, `page_text`: the JSON of a game, of its legal moves, and of both with the clock is the
 //!   one compact text of its data.
 //! - `my_games_json`, `ended_games_json`, `challenge_choices_json`, `event_games_text`: the lists of a member and of
-//!   an event are exactly these texts.
+//!   an event are exactly these texts. Of the challenges to a member at most ten from each challenger are listed, and a
+//!   hundred in all; of his own the last hundred.
+//! - `round_of`: the round of a game that a round robin seated, by its key (`keys_tell_rounds`).
 //! - The lines of members, events and games are exactly the bytes that `specs/Lines` gives.
 //! - A deadline is the last second in which the move is in time, or `never` or null after the last timestamp
 //!   (`specs/Clock`).
@@ -21,10 +23,12 @@ pub mod ended;
 pub mod event_records;
 pub mod game_entry;
 pub mod lines;
+mod listed_challenges;
 pub mod listing;
 pub mod member_json;
 pub mod mine;
 pub mod page;
+pub mod rounds;
 pub mod shown;
 mod values;
 
@@ -39,4 +43,5 @@ pub use listing::{has_event, listing_refusal};
 pub use member_json::{challenge_choices_json, event_games_text, member_name_by_key, own_game_ids};
 pub use mine::{MemberGames, my_games_json};
 pub use page::{GamePage, page_text};
+pub use rounds::{keys_tell_rounds, round_of};
 pub use shown::{GameShown, end_name};

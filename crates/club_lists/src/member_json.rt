@@ -11,12 +11,14 @@ ghost use Rattle.club_lists.specs.Shows.{games_of_event};
 ghost use Rattle.club_lists.specs.Shows.{challenge_choices, challenge_choices_json, is_other, other_names};
 ghost use Rattle.club_lists.specs.Shows.{is_of_event, is_own, member_name_by_key, offerer, own_game_data, own_game_ids};
 ghost use Rattle.club_lists.specs.SummaryViews.{running_view, running_views, summaries_of, summary_of};
-ghost use Rattle.club_lists.specs.Values.{text_or_null};
+ghost use Rattle.club_lists.specs.Rounds.{round_in};
+ghost use Rattle.club_lists.specs.Values.{number_or_null, text_or_null};
 
 use crate::clock::{deadline_value, running_deadline, running_turn};
 use crate::game_entry::{GameEntry, RunningGame};
 use crate::lines::{game_name, kind_name, turn_name};
 use crate::listing::{event_name, member_name};
+use crate::rounds::round_in;
 use club_core::{Event, Member};
 use serde_json::{Value, json};
 use squares::Side;
@@ -55,6 +57,16 @@ pub(crate) fn result_value(alloc: Global, game: &GameEntry) -> Result<Value, All
     }
 }
 
+// The round of the game with this key, or null.
+fn round_value(key: &Option<String>) -> Value
+    ensures { view result ≡ number_or_null (round_in (option_map (λ key. string_bytes key) key.now)) }
+{
+    match round_in(key) {
+        Some(round) => Value::from(round),
+        None => Value::Null,
+    }
+}
+
 // A game in the list of an event.
 #[tactic(auto, unfolding(crate::specs::Shows::event_game_data))]
 fn event_game_value(
@@ -72,6 +84,7 @@ fn event_game_value(
         "game": game.id,
         "ply": game.plies,
         "result": result_value(alloc, game)?,
+        "round": round_value(&game.key),
         "second": member_name(members, game.second),
         "turn": running_turn(alloc, members, game)?
     })

@@ -3,13 +3,13 @@
 ghost use Rattle.std.specs.Prelude.{◌≡◌, IfOk, count_by, map, string_bytes};
 ghost use Rattle.serde_json.specs.View.{view};
 ghost use Rattle.club_core.specs.Answer.{events_of, members_of};
-ghost use Rattle.club_lists.specs.Shows.{challenge_data, first_of, is_accepted, is_open, is_own_refused, is_refused};
-ghost use Rattle.club_lists.specs.Shows.{is_shown, my_games_data, my_games_json, newest_refused, second_of};
-ghost use Rattle.club_lists.specs.Shows.{shown_challenges, started, state_text};
+ghost use Rattle.club_lists.specs.Shows.{challenge_data, first_of, is_own_refused, is_refused, listed_challenges};
+ghost use Rattle.club_lists.specs.Shows.{my_games_data, my_games_json, newest_refused, second_of, started, state_text};
 ghost use Rattle.club_lists.specs.SummaryViews.{running_views};
 ghost use Rattle.club_lists.specs.Values.{number_or_null};
 
 use crate::game_entry::RunningGame;
+use crate::listed_challenges::{more_value, own_listed, received_listed};
 use crate::listing::{event_name, member_name};
 use crate::member_json::own_game_values;
 use clocks::Moment;
@@ -41,28 +41,6 @@ fn state_text(standing: ChallengeState) -> &'static str
         ChallengeState::Withdrawn => "withdrawn",
         ChallengeState::Refused => "refused",
         ChallengeState::Accepted { game: _ } => "accepted",
-    }
-}
-
-fn is_open(standing: ChallengeState) -> bool
-    ensures { result ≡ is_open standing }
-{
-    match standing {
-        ChallengeState::Open => true,
-        ChallengeState::Withdrawn => false,
-        ChallengeState::Refused => false,
-        ChallengeState::Accepted { game: _ } => false,
-    }
-}
-
-fn is_accepted(standing: ChallengeState) -> bool
-    ensures { result ≡ is_accepted standing }
-{
-    match standing {
-        ChallengeState::Open => false,
-        ChallengeState::Withdrawn => false,
-        ChallengeState::Refused => false,
-        ChallengeState::Accepted { game: _ } => true,
     }
 }
 
@@ -99,24 +77,6 @@ fn second_of<'a>(members: &'a [Member], challenge: &Challenge) -> &'a str
     }
 }
 
-// Whether the member with this name sees the challenge.
-fn is_shown(members: &[Member], name: &str, challenge: &Challenge) -> bool
-    ensures { result ≡ is_shown (members_of members.now) name.now challenge.now }
-{
-    if member_name(members, challenge.member) == name {
-        if is_accepted(challenge.standing) {
-            return true;
-        }
-        if is_open(challenge.standing) {
-            return true;
-        }
-    }
-    if member_name(members, challenge.other) == name {
-        return is_open(challenge.standing);
-    }
-    false
-}
-
 // Whether the challenge is one of the member with this name and was refused.
 fn is_own_refused(members: &[Member], name: &str, challenge: &Challenge) -> bool
     ensures { result ≡ is_own_refused (members_of members.now) name.now challenge.now }
@@ -149,8 +109,25 @@ fn challenge_value(
     })
 }
 
-// The challenges that the member with this name sees.
-fn shown_challenges(
+// The objects of challenges.
+fn challenge_values(
+    alloc: Global,
+    members: &[Member],
+    events: &[Event],
+    challenges: &[Challenge],
+) -> Result<Vec<Value>, AllocError>
+    ensures { IfOk result (λ values. map view values.items ≡
+        map (challenge_data (members_of members.now) (events_of events.now)) challenges.now) }
+{
+    let mut values = Vec::new(alloc);
+    for challenge in challenges {
+        values.push(challenge_value(alloc, members, events, challenge)?)?;
+    }
+    Ok(values)
+}
+
+// The objects of the challenges that are listed for the member with this name.
+fn listed_values(
     alloc: Global,
     members: &[Member],
     events: &[Event],
@@ -158,16 +135,12 @@ fn shown_challenges(
     challenges: &[Challenge],
 ) -> Result<Vec<Value>, AllocError>
     ensures { IfOk result (λ values. map view values.items ≡
-        shown_challenges (members_of members.now) (events_of events.now) name.now challenges.now) }
+        listed_challenges (members_of members.now) (events_of events.now) name.now challenges.now) }
 {
-    let mut values = Vec::new(alloc);
-    for challenge in challenges {
-        if !is_shown(members, name, challenge) {
-            continue;
-        }
-        values.push(challenge_value(alloc, members, events, challenge)?)?;
-    }
-    Ok(values)
+    let mut listed = own_listed(alloc, members, name, challenges)?;
+    let received = received_listed(alloc, members, name, challenges)?;
+    listed.extend_from_slice(&received)?;
+    challenge_values(alloc, members, events, &listed)
 }
 
 // The number of refused challenges of the member with this name.
@@ -227,16 +200,18 @@ fn my_games_value(
         name.now moment own.now.challenges.items (running_views own.now.running.items)) }
 {
     json!(in alloc; {
-        "challenges": shown_challenges(alloc, members, events, name, &own.challenges)?,
+        "challenges": listed_values(alloc, members, events, name, &own.challenges)?,
         "games": own_game_values(alloc, members, events, &own.running)?,
         "member": name,
         "moment": moment.seconds(),
+        "more": more_value(alloc, members, name, &own.challenges)?,
         "refused": newest_refused(alloc, members, events, name, &own.challenges)?
     })
 }
 
 /// The challenges of the member with this name, these running games of his, and the newest of his refused challenges
-/// (at most 20), as a JSON object with the timestamp.
+/// (at most 20), as a JSON object with the timestamp. Of his own challenges the last hundred are listed, of those to
+/// him at most ten from each challenger and a hundred in all, the first of each; `more` has how many others there are.
 ///
 /// # Errors
 ///

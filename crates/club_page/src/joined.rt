@@ -322,7 +322,9 @@ pub fn page_1() -> &'static str
      ame:['Your name','Ihr Name','Uw naam','\\u540d\\u524d','Votre nom'],key:['Member key','Mitgliedsschl\\\
      u00fcssel','Lidsleutel','\\u4f1a\\u54e1\\u30ad\\u30fc','Cl\\u00e9 de membre'],keyHint:['The club\\u2019s \
      officer gave you the key. Your password manager needs the name to tell members apart.','Den Schl\\u0\
-     0fcssel erhalten Sie vom Turnierleiter. Am Namen unterscheidet Ihr Passwortm"
+     0fcssel erhalten Sie vom Turnierleiter. Am Namen unterscheidet Ihr Passwortmanager mehrere Mitglied\
+     er.','De sleutel krijgt u van de wedstrijdleider. Met de naam houdt uw wachtwoordmanager leden uit \
+     elkaar.','\\u30ad\\u30fc\\u306f\\u30af\\u30e9\\u30d"
 }
 
 /// Part 2 of the page, in ASCII.
@@ -330,13 +332,12 @@ pub fn page_1() -> &'static str
 pub fn page_2() -> &'static str
     ensures { result.now ≡ page_2 }
 {
-    "anager mehrere Mitglieder.','De sleutel krijgt u van de wedstrijdleider. Met de naam houdt uw wach\
-     twoordmanager leden uit elkaar.','\\u30ad\\u30fc\\u306f\\u30af\\u30e9\\u30d6\\u306e\\u5e79\\u4e8b\\u304c\\u767\
-     a\\u884c\\u3057\\u307e\\u3059\\u3002\\u540d\\u524d\\u306f\\u3001\\u30d1\\u30b9\\u30ef\\u30fc\\u30c9\\u30de\\u30cd\\u\
-     30fc\\u30b8\\u30e3\\u30fc\\u304c\\u4f1a\\u54e1\\u3092\\u533a\\u5225\\u3059\\u308b\\u305f\\u3081\\u306b\\u4f7f\\u304\
-     4\\u307e\\u3059\\u3002','La cl\\u00e9 vous est remise par le responsable du club. Le nom permet \\u00e0 \
-     votre gestionnaire de mots de passe de distinguer les membres.'],otherName:['This key belongs to {n\
-     ame}. You are signed in as {name}.','Dieser Schl\\u00fcssel geh\\u00f6rt {name}. Sie sind als {name} \
+    "6\\u306e\\u5e79\\u4e8b\\u304c\\u767a\\u884c\\u3057\\u307e\\u3059\\u3002\\u540d\\u524d\\u306f\\u3001\\u30d1\\u30b9\\\
+     u30ef\\u30fc\\u30c9\\u30de\\u30cd\\u30fc\\u30b8\\u30e3\\u30fc\\u304c\\u4f1a\\u54e1\\u3092\\u533a\\u5225\\u3059\\u30\
+     8b\\u305f\\u3081\\u306b\\u4f7f\\u3044\\u307e\\u3059\\u3002','La cl\\u00e9 vous est remise par le responsable \
+     du club. Le nom permet \\u00e0 votre gestionnaire de mots de passe de distinguer les membres.'],othe\
+     rName:['This key belongs to {name}. You are signed in as {name}\
+     .','Dieser Schl\\u00fcssel geh\\u00f6rt {name}. Sie sind als {name} \
      angemeldet.','Deze sleutel is van {name}. U bent aangemeld als {name}\
      .','\\u3053\\u306e\\u30ad\\u30fc\\u306f{name}\\u3055\\u3093\\u306e\\u3082\\u306e\\u3067\\u3059\\u3002{name}\
      \\u3055\\u3093\\u3068\\u3057\\u3066\\u30ed\\u30b0\\u30a4\\u30f3\\u3057\\u307e\\u3057\\u305f\\u3002','Cette cl\\u00\
@@ -521,21 +522,27 @@ pub fn page_2() -> &'static str
      \\u3055\\u3093\\u3078\\u306e\\u6311\\u6226','Vous avez d\\u00e9fi\\u00e9 {to}\\u00a0:'],starts:['{event} \
      ({game}), {first} begins','{event} ({game}), {first} beginnt','{event} ({game}), {first} \
      begint','{event}\\uff08{game}\\uff09\\u3001\\u5148\\u624b\\u306f{first}\\u3055\\u3093','{event} ({game}\
-     ), {first} \
-     commence'],accepted:['accepted','angenommen','aangenomen','\\u6210\\u7acb','accept\\u00e9'],toGame:['T\
-     o the game','Zur Partie','Naar de partij','\\u5bfe\\u5c40\\u3078','Voir la partie'],declined:['Decline\
-     d challenges','Abgelehnte Herausforderungen','Afgewezen uitdagingen','\\u65ad\\u3089\\u308c\\u305f\\u631\
-     1\\u6226','D\\u00e9fis refus\\u00e9s'],take:['Accept','Annehmen','Aannemen','\\u53d7\\u3051\\u308b','Acce\
-     pter'],refuse:['Decline','Ablehnen','Afwijzen','\\u65ad\\u308b','Refuser'],withdraw:['Withdraw','Zur\\\
-     u00fcckziehen','Intrekken','\\u53d6\\u308a\\u4e0b\\u3052\\u308b','Retirer'],challenge:['Challenge','Hera\
-     usfordern','Uitdagen','\\u6311\\u6226\\u3059\\u308b','D\\u00e9fier'],begins:['Who begins','Wer beginnt',\
-     'Wie begint','\\u5148\\u624b','Qui commence'],me:['Me','Ich','Ik','\\u81ea\\u5206','Moi'],they:['My opp\
-     onent','Mein Gegner','Mijn tegenstander','\\u76f8\\u624b','Mon adversaire'],opponent:['Opponent','Geg\
-     ner','Tegenstander','\\u76f8\\u624b','Adversaire'],events:['Events','Turniere','Toernooien','\\u5927\\u\
-     4f1a','Tournois'],terms:['{game}, {budget} + {increment} per move','{game}, {budget} + {increment} \
-     pro Zug','{game}, {budget} + {increment} per zet','{game}\\u3001\\u6301\\u3061\\u6642\\u9593{budget}\
-     \\uff0b1\\u624b\\u3054\\u3068\\u306b{increment}','{game}, {budget} + {increment} \
-     par coup'],wholeGame:['{game}, {budget} for the game','{game}, {budget} \
+     ), {first} commence'],moreReceived:['and {count} more to you','und {count} \
+     weitere an Sie','en nog {count} \
+     aan u','\\u3042\\u306a\\u305f\\u3078\\u306e\\u6311\\u6226\\u306f\\u307b\\u304b\\u306b{count}\
+     \\u4ef6','et {count} de plus pour vous'],moreOwn:['and {count} earlier ones of yours','und {count} \
+     fr\\u00fchere von Ihnen','en {count} \
+     eerdere van u','\\u3042\\u306a\\u305f\\u304b\\u3089\\u306e\\u4ee5\\u524d\\u306e\\u6311\\u6226\\u306f\\u307b\\u304\
+     b\\u306b{count}\\u4ef6','et {count} \
+     plus anciens de votre part'],accepted:['accepted','angenommen','aangenomen','\\u6210\\u7acb','accept\\\
+     u00e9'],toGame:['To the game','Zur Partie','Naar de partij','\\u5bfe\\u5c40\\u3078','Voir la partie'],\
+     declined:['Declined challenges','Abgelehnte Herausforderungen','Afgewezen uitdagingen','\\u65ad\\u308\
+     9\\u308c\\u305f\\u6311\\u6226','D\\u00e9fis refus\\u00e9s'],take:['Accept','Annehmen','Aannemen','\\u53d7\\\
+     u3051\\u308b','Accepter'],refuse:['Decline','Ablehnen','Afwijzen','\\u65ad\\u308b','Refuser'],withdraw\
+     :['Withdraw','Zur\\u00fcckziehen','Intrekken','\\u53d6\\u308a\\u4e0b\\u3052\\u308b','Retirer'],challenge:\
+     ['Challenge','Herausfordern','Uitdagen','\\u6311\\u6226\\u3059\\u308b','D\\u00e9fier'],begins:['Who begi\
+     ns','Wer beginnt','Wie begint','\\u5148\\u624b','Qui commence'],me:['Me','Ich','Ik','\\u81ea\\u5206','M\
+     oi'],they:['My opponent','Mein Gegner','Mijn tegenstander','\\u76f8\\u624b','Mon adversaire'],opponen\
+     t:['Opponent','Gegner','Tegenstander','\\u76f8\\u624b','Adversaire'],events:['Events','Turniere','Toe\
+     rnooien','\\u5927\\u4f1a','Tournois'],terms:['{game}, {budget} + {increment} per move','{game}\
+     , {budget} + {increment} pro Zug','{game}, {budget} + {increment} per zet','{game}\
+     \\u3001\\u6301\\u3061\\u6642\\u9593{budget}\\uff0b1\\u624b\\u3054\\u3068\\u306b{increment}','{game}, {budget} \
+     + {increment} par coup'],wholeGame:['{game}, {budget} for the game','{game}, {budget} \
      f\\u00fcr die Partie','{game}, {budget} voor de partij','{game}\
      \\u3001\\u6301\\u3061\\u6642\\u9593{budget}','{game}, {budget} \
      pour la partie'],place:['Place','Platz','Plaats','\\u9806\\u4f4d','Rang'],name:['Name','Name','Naam',\
@@ -616,9 +623,7 @@ pub fn page_2() -> &'static str
      \\u00f6nigseintritt kann hier nicht erkl\\u00e4rt werden','De koningsintrede kan hier niet worden gec\
      laimd','\\u3053\\u3053\\u3067\\u306f\\u5165\\u7389\\u5ba3\\u8a00\\u306f\\u3067\\u304d\\u307e\\u305b\\u3093','L\\u2\
      019entr\\u00e9e du roi ne peut pas \\u00eatre d\\u00e9clar\\u00e9e ici'],72:['The club\\u2019s file cann\
-     ot be used; please tell the officer','Die Datei des Clubs ist nicht nutzbar; \
-     bitte informieren Sie den Turnierleiter','Het bestand van de club is niet bruikbaar; \
-     waarschuw de wedstrijdleider','\\u30af\\u30e"
+     ot be used; please tell the officer','Die Datei des Clubs ist nicht nutzbar;"
 }
 
 /// Part 3 of the page, in ASCII.
@@ -626,8 +631,10 @@ pub fn page_2() -> &'static str
 pub fn page_3() -> &'static str
     ensures { result.now ≡ page_3 }
 {
-    "9\\u30d6\\u306e\\u30c7\\u30fc\\u30bf\\u3092\\u5229\\u7528\\u3067\\u304d\\u307e\\u305b\\u3093\\u3002\\u5e79\\u4e8b\\\
-     u306b\\u77e5\\u3089\\u305b\\u3066\\u304f\\u3060\\u3055\\u3044','Le fichier du club est inutilisable\\u202f; \
+    " bitte informieren Sie den Turnierleiter','Het bestand van de club is niet bruikbaar; \
+     waarschuw de wedstrijdleider','\\u30af\\u30e9\\u30d6\\u306e\\u30c7\\u30fc\\u30bf\\u3092\\u5229\\u7528\\u3067\\u\
+     304d\\u307e\\u305b\\u3093\\u3002\\u5e79\\u4e8b\\u306b\\u77e5\\u3089\\u305b\\u3066\\u304f\\u3060\\u3055\\u3044','Le \
+     fichier du club est inutilisable\\u202f; \
      pr\\u00e9venez le responsable'],73:['The club is unavailable','Der Club ist gerade nicht verf\\u00fcg\
      bar','De club is even niet beschikbaar','\\u30af\\u30e9\\u30d6\\u306f\\u73fe\\u5728\\u5229\\u7528\\u3067\\u30\
      4d\\u307e\\u305b\\u3093','Le club est momentan\\u00e9ment indisponible'],ending:['{who}: {why} \
@@ -921,8 +928,11 @@ pub fn page_3() -> &'static str
      const folded=make('details',{id:'declined',open:!!byId('declined')?.open},make('summary',{}\
      ,`${text('declined')} `,make('span',{className:'count'}\
      ,String(declined.length))),make('ul',{className:'rows'},...declined));\
+     const more=[['moreReceived',me.more.to],['moreOwn',me.more.from]].filter(([,count])=>\
+     count).map(([name,count])=>make('p',{className:'faint'},text(name,{count})));\
      fill('challenges',...(shown[0]?[make('h2',{},text('challenges')),make('ul',{className:'rows'}\
-     ,...shown.map(row))]:[]),...(declined[0]?[folded]:[]))}function paintClub(){const terms=(it)=>\
+     ,...shown.map(row))]:[]),...more,...(declined[0]?[folded]:[]))}\
+     function paintClub(){const terms=(it)=>\
      text(it.increment?'terms':'wholeGame',{game:text(it.game),budget:span(it.budget),increment:span(it.\
      increment)});fill('events',...club.events.map((it)=>make('li',{}\
      ,link('event',it.event),make('span',{className:'faint'},terms(it)))));\
@@ -936,18 +946,16 @@ pub fn page_3() -> &'static str
      ,link('game',it.game,opponent(it)),faint(it.event,ending(it,me.member),moment(it.ended))));\
      fill('ended-games',rows[0]?make('ul',{className:'rows'},...rows):make('p',{className:'faint'}\
      ,text('noEnded')),...(more?[make('p',{className:'faint'},text('older',{count:more}))]:[]))}\
+     const challengesToMe=()=>me.challenges.filter(toMe).length+me.more.to;\
      async function lookAtMe(){me=await ask('me');\
-     return{member:me.member,waiting:waitingGames().length+me.challenges.filter(toMe).length}}\
+     return{member:me.member,waiting:waitingGames().length+challengesToMe()}}\
      function nextGame(shown){const others=waitingGames().filter((it)=>it.game!==shown).sort(byUrgency);\
      return{next:others[0],count:others.length}}function newsOf(){const item=(it,name,kind)=>\
      {const words=text(name,{name:opponent(it),event:it.event});return{tag:`${kind} ${it.game}\
      `,words,place:`game/${it.game}`,end:kind==='game'}};return[...me.games.filter(isMine).map((it)=>\
      item(it,'noticeTurn',`ply ${it.ply}`)),...me.games.filter((it)=>!isMine(it)&&isOver(it)).map((it)=>\
      item(it,'noticeOver','over')),...me.games.filter(hasOffer).map((it)=>\
-     item(it,'noticeOffer',`offer ${it.ply}`)),...me.games.map((it)=>\
-     item(it,'noticeEnded','game')),...me.refused.map((it)=>{return{tag:`declined ${it.number}\
-     `,words:text('noticeDeclined',{name:it.to,event:it.event}),place:''}}\
-     ),...me.challenges.filter(toMe).map((it)=>{return{"
+     item(it,'noticeOffer',`offer ${it.ply}`)),...me.games.map((it)=>item(it,'noticeEnded','g"
 }
 
 /// Part 4 of the page, in ASCII.
@@ -955,8 +963,11 @@ pub fn page_3() -> &'static str
 pub fn page_4() -> &'static str
     ensures { result.now ≡ page_4 }
 {
-    "tag:`challenge ${it.from} ${it.number}`,words:`${text('challengesYou', it)} ${it.event}`,place:''}\
-     })]}async function lookAtClub(names){if(!club||names.some((it)=>!kindOf(it))||Date.now()-received>\
+    "ame')),...me.refused.map((it)=>{return{tag:`declined ${it.number}\
+     `,words:text('noticeDeclined',{name:it.to,event:it.event}),place:''}}\
+     ),...me.challenges.filter(toMe).map((it)=>{return{tag:`challenge ${it.from} ${it.number}\
+     `,words:`${text('challengesYou', it)} ${it.event}`,place:''}})]}\
+     async function lookAtClub(names){if(!club||names.some((it)=>!kindOf(it))||Date.now()-received>\
      LASTING){club=await ask('me/events');received=Date.now()}return club}\
      async function lookAtHome(_,mine){await mine;\
      await lookAtClub([...me.challenges,...me.refused].map((it)=>it.event));return()=>\
@@ -964,9 +975,8 @@ pub fn page_4() -> &'static str
      const now=JSON.stringify([{...me,moment:isNear?me.moment:minute()},club,text('code')]);\
      if(now===paintedHome)return;paintedHome=now;paintGames();paintChallenges();paintClub();\
      lookAtEnded().catch(()=>{});\
-     byId('news').textContent=text('news',{moves:me.games.filter(isMine).length,challenges:me.challenges\
-     .filter(toMe).length})}}\
-     async function challenge(terms,tries=3){unanswered||=Math.ceil(Math.random()*CHALLENGES);\
+     byId('news').textContent=text('news',{moves:me.games.filter(isMine).length,challenges:challengesToM\
+     e()})}}async function challenge(terms,tries=3){unanswered||=Math.ceil(Math.random()*CHALLENGES);\
      try{await ask(`challenges/${unanswered}`,terms);unanswered=0}\
      catch(error){if(error.number!==58||!tries)throw error;unanswered=0;await challenge(terms,tries-1)}}\
      function paintWelcome(){const opening=(rules)=>miniature(rules,rules.read(rules.opening),0,[]);\
@@ -1300,6 +1310,6 @@ pub fn policy() -> &'static str
     ensures { result.now ≡ policy }
 {
     "default-src 'none'; style-src 'sha256-5tpAp8X0/GF1op9K1QPJpxFYsNnUM4YvYJr2fAFpY20='; \
-     script-src 'sha256-dPdk8kFR6GWXKYTxfqBkBwjRis9CIGNRx1bVLW1sN98='; connect-src 'self'; \
+     script-src 'sha256-LTpSjr+hv0/+qfaNTR/woTm7aJvtBJbntwTprfbfQ5g='; connect-src 'self'; \
      img-src data:; manifest-src data:; base-uri 'none'; form-action 'none'; frame-ancestors 'none'"
 }

@@ -6,6 +6,8 @@ use Rattle.http.specs.StatusCode.{reason_phrase}
 use Rattle.serde_json.specs.Data.{Data, number, unsigned, string, object, member, no_members}
 use Rattle.serde_json.specs.Written.{compact_text}
 use Rattle.club_page.specs.Joined.{page, policy}
+use Rattle.http_bodies.specs.declared.reply.Caching.{Caching}
+use Rattle.http_bodies.specs.declared.reply.Caching.TheVariants.{Unspecified, NoStore}
 use Rattle.http_bodies.specs.declared.reply.ContentType.{ContentType}
 use Rattle.http_bodies.specs.declared.reply.ContentType.TheVariants.{Json, Plain, Html}
 use Rattle.http_bodies.specs.declared.refusals.Method.TheVariants.{Get, Post}
@@ -35,6 +37,11 @@ abbrev pub kind_text : ContentType → List ℕ
 kind_text Json = codes "application/json"
 kind_text Plain = codes "text/plain"
 kind_text Html = codes "text/html; charset=utf-8"
+
+-- the header lines of a reply that may not be stored, and whose content type may not be guessed
+abbrev pub caching_lines : Caching → List ℕ
+caching_lines Unspecified = []
+caching_lines NoStore = codes "Cache-Control: no-store\r\nX-Content-Type-Options: nosniff\r\n"
 
 -- the head of a reply; added header lines are last
 unfoldable pub reply_head : ℕ → List ℕ → ContentType → ℕ → List ℕ → List ℕ
@@ -87,25 +94,28 @@ error_data n name =
     object (member (codes "error") (number (unsigned n)) (member (codes "name") (string name) no_members))
 
 -- the reply that reports a refusal, with a JSON body unless it is left out
-abbrev pub refusal_reply : HttpRefusal → Bool → List ℕ
-refusal_reply refusal without_body = reply_bytes (refusal_status refusal) Json (further_lines refusal)
+abbrev pub refusal_reply : HttpRefusal → Caching → Bool → List ℕ
+refusal_reply refusal caching without_body =
+    reply_bytes (refusal_status refusal) Json (further_lines refusal ++ caching_lines caching)
     (compact_text (error_data (refusal_number refusal) (refusal_name refusal))) without_body
 
 -- a 200 reply with a body of this content type
-abbrev pub shown_reply : ContentType → List ℕ → Bool → List ℕ
-shown_reply kind body without_body = reply_bytes 200 kind [] body without_body
+abbrev pub shown_reply : ContentType → List ℕ → Caching → Bool → List ℕ
+shown_reply kind body caching without_body = reply_bytes 200 kind (caching_lines caching) body without_body
 
 -- the content security policy
 abbrev pub policy_line : List ℕ → List ℕ
 policy_line policy = codes "Content-Security-Policy: " ++ policy ++ codes "\r\n"
 
 -- the members' page, with its policy
-abbrev pub page_reply : Bool → List ℕ
-page_reply without_body = reply_bytes 200 Html (policy_line policy) page without_body
+abbrev pub page_reply : Caching → Bool → List ℕ
+page_reply caching without_body =
+    reply_bytes 200 Html (policy_line policy ++ caching_lines caching) page without_body
 
 -- the 503 reply for a fault of the club
-abbrev pub fault_reply : ℕ → List ℕ → Bool → List ℕ
-fault_reply n name without_body = reply_bytes 503 Json [] (compact_text (error_data n name)) without_body
+abbrev pub fault_reply : ℕ → List ℕ → Caching → Bool → List ℕ
+fault_reply n name caching without_body =
+    reply_bytes 503 Json (caching_lines caching) (compact_text (error_data n name)) without_body
 
 -- the status in the status line, if there are bytes enough
 abbrev pub status_in : List ℕ → Option ℕ

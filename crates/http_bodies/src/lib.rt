@@ -19,5 +19,5 @@ pub mod status;
 pub use asks::{answer_of, challenge_of, move_text};
 pub use bodies::answer_text;
 pub use refusals::{HttpRefusal, Method};
-pub use reply::{ContentType, fault_reply, page_reply, refusal_reply, shown_reply};
+pub use reply::{Caching, ContentType, fault_reply, page_reply, refusal_reply, shown_reply};
 pub use status::status_of;

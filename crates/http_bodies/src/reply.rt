@@ -4,8 +4,9 @@ ghost use Rattle.http.specs.StatusCode.{IsStatusCode, reason_phrase};
 ghost use Rattle.serde_json.specs.Written.{compact_text, has_float};
 ghost use Rattle.serde_json.specs.View.{view};
 ghost use Rattle.http_bodies.specs.Reply.{kind_text, status_line, type_line, length_line, reply_head, reply_bytes};
-ghost use Rattle.http_bodies.specs.Reply.{key_lines, further_lines, refusal_reply, error_data, fault_reply};
-ghost use Rattle.http_bodies.specs.Reply.{shown_reply, policy_line, page_reply};
+ghost use Rattle.http_bodies.specs.Reply.{caching_lines, key_lines, further_lines, refusal_reply, error_data};
+ghost use Rattle.http_bodies.specs.Reply.{fault_reply, shown_reply, policy_line, page_reply};
+ghost use Rattle.http_bodies.specs.ReplyViews.{lines_of};
 ghost use Rattle.club_page.specs.Joined.{page};
 
 use crate::refusals::{HttpRefusal, Method};
@@ -27,6 +28,32 @@ pub enum ContentType {
     Plain,
     /// `text/html` in UTF-8.
     Html,
+}
+
+/// Whether a reply may be cached and its content type guessed.
+#[derive(Clone, Copy, Debug, PartialEq, Eq)]
+pub enum Caching {
+    /// The reply says nothing about it.
+    Unspecified,
+    /// The reply forbids both.
+    NoStore,
+}
+
+// The header lines that a reply adds: its own, then those about caching.
+#[derive(Clone, Copy)]
+struct FurtherLines<'a> {
+    own: &'a str,
+    caching: Caching,
+}
+
+// The header lines about caching.
+fn caching_lines(caching: Caching) -> &'static str
+    ensures { result.now ≡ caching_lines caching }
+{
+    match caching {
+        Caching::Unspecified => "",
+        Caching::NoStore => "Cache-Control: no-store\r\nX-Content-Type-Options: nosniff\r\n",
+    }
 }
 
 // The value of `Content-Type`.
@@ -82,9 +109,10 @@ fn reply_head(
     phrase: &str,
     kind: ContentType,
     body_length: usize,
-    further: &str,
+    further: FurtherLines<'_>,
 ) -> Result<String, AllocError>
-    ensures { IfOk result (λ s. string_bytes s ≡ reply_head status phrase.now kind body_length further.now) }
+    ensures { IfOk result (λ s. string_bytes s ≡
+        reply_head status phrase.now kind body_length (lines_of further.entry)) }
 {
     let mut text = status_line(alloc, status, phrase)?;
     let kind_line = type_line(alloc, kind_text(kind))?;
@@ -92,7 +120,8 @@ fn reply_head(
     text.push_str(kind_line.as_str())?;
     text.push_str(length_line.as_str())?;
     text.push_str("Connection: close\r\n")?;
-    text.push_str(further)?;
+    text.push_str(further.own)?;
+    text.push_str(caching_lines(further.caching))?;
     text.push_str("\r\n")?;
     Ok(text)
 }
@@ -102,12 +131,13 @@ fn reply_bytes(
     alloc: Global,
     status: u16,
     kind: ContentType,
-    further: &str,
+    further: FurtherLines<'_>,
     body: &[u8],
     without_body: bool,
 ) -> Result<Vec<u8>, AllocError>
     requires { IsStatusCode status }
-    ensures { IfOk result (λ v. v.items ≡ reply_bytes status kind further.now body.now without_body) }
+    ensures { IfOk result (λ v. v.items ≡
+        reply_bytes status kind (lines_of further.entry) body.now without_body) }
 {
     let head = reply_head(alloc, status, phrase(status), kind, body.len(), further)?;
     let mut bytes = head.into_bytes();
@@ -161,14 +191,14 @@ pub fn text_of(alloc: Global, value: &Value) -> Result<String, AllocError>
 fn json_reply(
     alloc: Global,
     status: u16,
-    further: &str,
+    further: FurtherLines<'_>,
     value: &Value,
     without_body: bool,
 ) -> Result<Vec<u8>, AllocError>
     requires status { IsStatusCode status }
     requires value { has_float (view value.now) ≡ false }
     ensures { IfOk result (λ v. v.items ≡
-        reply_bytes status ContentType.Json further.now (compact_text (view value.now)) without_body) }
+        reply_bytes status ContentType.Json (lines_of further.entry) (compact_text (view value.now)) without_body) }
 {
     let body = text_of(alloc, value)?;
     reply_bytes(
@@ -184,14 +214,14 @@ fn json_reply(
 fn error_reply(
     alloc: Global,
     status: u16,
-    further: &str,
+    further: FurtherLines<'_>,
     number: u16,
     name: &str,
     without_body: bool,
 ) -> Result<Vec<u8>, AllocError>
     requires { IsStatusCode status }
-    ensures { IfOk result (λ v. v.items ≡
-        reply_bytes status ContentType.Json further.now (compact_text (error_data number name.now)) without_body) }
+    ensures { IfOk result (λ v. v.items ≡ reply_bytes status ContentType.Json (lines_of further.entry)
+        (compact_text (error_data number name.now)) without_body) }
 {
     let value = error_value(alloc, u64::from(number), name)?;
     json_reply(alloc, status, further, &value, without_body)
@@ -205,14 +235,19 @@ fn error_reply(
 pub fn refusal_reply(
     alloc: Global,
     refusal: HttpRefusal,
+    caching: Caching,
     without_body: bool,
 ) -> Result<Vec<u8>, AllocError>
-    ensures { IfOk result (λ v. v.items ≡ refusal_reply refusal without_body) }
+    ensures { IfOk result (λ v. v.items ≡ refusal_reply refusal caching without_body) }
 {
+    let further = FurtherLines {
+        own: further_lines(refusal),
+        caching,
+    };
     error_reply(
         alloc,
         refusal.status(),
-        further_lines(refusal),
+        further,
         refusal.number(),
         refusal.name(),
         without_body,
@@ -228,11 +263,13 @@ pub fn shown_reply(
     alloc: Global,
     kind: ContentType,
     body: &[u8],
+    caching: Caching,
     without_body: bool,
 ) -> Result<Vec<u8>, AllocError>
-    ensures { IfOk result (λ v. v.items ≡ shown_reply kind body.now without_body) }
+    ensures { IfOk result (λ v. v.items ≡ shown_reply kind body.now caching without_body) }
 {
-    reply_bytes(alloc, 200, kind, "", body, without_body)
+    let further = FurtherLines { own: "", caching };
+    reply_bytes(alloc, 200, kind, further, body, without_body)
 }
 
 fn policy_line(alloc: Global, policy: &str) -> Result<String, AllocError>
@@ -259,16 +296,24 @@ fn page_text(alloc: Global) -> Result<String, AllocError>
 /// # Errors
 ///
 /// `AllocError` if out of memory.
-pub fn page_reply(alloc: Global, without_body: bool) -> Result<Vec<u8>, AllocError>
-    ensures { IfOk result (λ v. v.items ≡ page_reply without_body) }
+pub fn page_reply(
+    alloc: Global,
+    caching: Caching,
+    without_body: bool,
+) -> Result<Vec<u8>, AllocError>
+    ensures { IfOk result (λ v. v.items ≡ page_reply caching without_body) }
 {
     let line = policy_line(alloc, policy())?;
     let page = page_text(alloc)?;
+    let further = FurtherLines {
+        own: line.as_str(),
+        caching,
+    };
     reply_bytes(
         alloc,
         200,
         ContentType::Html,
-        line.as_str(),
+        further,
         page.as_bytes(),
         without_body,
     )
@@ -283,9 +328,11 @@ pub fn fault_reply(
     alloc: Global,
     number: u16,
     name: &str,
+    caching: Caching,
     without_body: bool,
 ) -> Result<Vec<u8>, AllocError>
-    ensures { IfOk result (λ v. v.items ≡ fault_reply number name.now without_body) }
+    ensures { IfOk result (λ v. v.items ≡ fault_reply number name.now caching without_body) }
 {
-    error_reply(alloc, 503, "", number, name, without_body)
+    let further = FurtherLines { own: "", caching };
+    error_reply(alloc, 503, further, number, name, without_body)
 }

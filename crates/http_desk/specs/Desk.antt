@@ -22,9 +22,11 @@ use Rattle.http_desk.specs.declared.table.GameAction.TheVariants as action
 use Rattle.http_desk.specs.declared.table.QuestionTopic.{QuestionTopic}
 use Rattle.http_desk.specs.declared.table.Topic.{Topic}
 use Rattle.http_desk.specs.declared.table.Topic.TheVariants as topic
-use Rattle.http_desk.specs.Routes.{Endpoint, match_route}
+use Rattle.http_desk.specs.Routes.{Endpoint, caching_for, match_route}
 use Rattle.http_desk.specs.Questions.{Asks}
 use Rattle.club_requests.specs.declared.questions.Question.{Question}
+use Rattle.http_bodies.specs.declared.reply.Caching.{Caching}
+use Rattle.http_bodies.specs.declared.reply.Caching.TheVariants.{Unspecified}
 use Rattle.http_bodies.specs.declared.reply.ContentType.{ContentType}
 use Rattle.http_bodies.specs.declared.reply.ContentType.TheVariants.{Json}
 use Rattle.http_bodies.specs.Reply.{refusal_reply, shown_reply, page_reply, fault_reply}
@@ -39,11 +41,11 @@ pub data Answer : Type 0 where
   shows : ContentType → List ℕ → Answer
   shows_page : Answer
 
--- the bytes of a reply with this content; its body may be left out
-abbrev pub answer_reply : Answer → Bool → List ℕ
-answer_reply (refusal r) without_body = refusal_reply r without_body
-answer_reply (shows kind bytes) without_body = shown_reply kind bytes without_body
-answer_reply shows_page without_body = page_reply without_body
+-- the bytes of a reply with this content and the caching of its route; its body may be left out
+abbrev pub answer_reply : Answer → Caching → Bool → List ℕ
+answer_reply (refusal r) caching without_body = refusal_reply r caching without_body
+answer_reply (shows kind bytes) caching without_body = shown_reply kind bytes caching without_body
+answer_reply shows_page caching without_body = page_reply caching without_body
 
 -- the expected answer: this one, or the club's answer to a query of a member at a timestamp
 pub data ExpectedReply : Type 0 where
@@ -176,6 +178,12 @@ caller_behind club s unfinished = None
 caller_behind club s (refused r) = None
 caller_behind club s (whole request) = caller club s request
 
+-- the caching of the reply to the result of parsing; unspecified unless a route was found
+abbrev pub caching_behind : ParseState → Caching
+caching_behind unfinished = Unspecified
+caching_behind (refused r) = Unspecified
+caching_behind (whole request) = caching_for request.target
+
 -- the faults of an open club
 abbrev pub IsStop : AnswerFault → Type 0
 IsStop (stop.Club fault) = IsOfCall fault
@@ -195,30 +203,31 @@ NamesExpectedCaller due told (Err fault) = (told ≡ None) ⊎ (told ≡ due)
 -- ---- replies
 
 -- the reply reports a fault of the club, and one of two states is left
-abbrev pub ReportsFault : {S : Type 0} → (S → S → Type 0) → S → S → Bool → List ℕ → Type 0
-ReportsFault leaves s next without_body reply =
+abbrev pub ReportsFault : {S : Type 0} → (S → S → Type 0) → S → S → Caching → Bool → List ℕ → Type 0
+ReportsFault leaves s next caching without_body reply =
     (fault : ClubFault) × IsOfCall fault
-    × (reply ≡ fault_reply (club_fault_number fault) (club_fault_name fault) without_body) × leaves s next
+    × (reply ≡ fault_reply (club_fault_number fault) (club_fault_name fault) caching without_body) × leaves s next
 
 -- nobody is named but the sender of the request; nobody at all only if the reply reports a fault
 abbrev pub NamesCaller : {S : Type 0} → Club S → S → Bool → ParseState → List ℕ → Option (List ℕ) → Type 0
 NamesCaller club s without_body seen reply told = (told ≡ caller_behind club s seen)
     ⊎ ((told ≡ None) × (fault : ClubFault) × IsOfCall fault
-    × (reply ≡ fault_reply (club_fault_number fault) (club_fault_name fault) without_body))
+    × (reply ≡ fault_reply (club_fault_number fault) (club_fault_name fault) (caching_behind seen) without_body))
 
 -- the reply has the expected answer, and the club is in the next state
-abbrev pub ShowsDue : {S : Type 0} → Club S → (S → Type 0) → S → S × ExpectedReply → Bool → List ℕ → Type 0
-ShowsDue club stands s due without_body reply =
-    ((given : Answer) × IsExpectedReply club s due.1 given × (reply ≡ answer_reply given without_body)) × stands due.0
+abbrev pub ShowsDue : {S : Type 0} → Club S → (S → Type 0) → S → S × ExpectedReply → Caching → Bool → List ℕ → Type 0
+ShowsDue club stands s due caching without_body reply =
+    ((given : Answer) × IsExpectedReply club s due.1 given × (reply ≡ answer_reply given caching without_body))
+    × stands due.0
 
 -- the reply to the result of parsing, and the state of the club after it
 abbrev pub IsReply : {S : Type 0} → Club S → (S → Type 0) → (S → S → Type 0) → S → ℕ → Bool → ParseState → List ℕ → Type 0
 IsReply club stands leaves s moment without_body unfinished reply = (reply ≡ []) × stands s
-IsReply club stands leaves s moment without_body (refused r) reply = (reply ≡ refusal_reply (Head r) without_body)
-    × stands s
+IsReply club stands leaves s moment without_body (refused r) reply =
+    (reply ≡ refusal_reply (Head r) Unspecified without_body) × stands s
 IsReply club stands leaves s moment without_body (whole request) reply =
-    ShowsDue club stands s (serve club s moment request) without_body reply
-    ⊎ ReportsFault leaves s (serve club s moment request).0 without_body reply
+    ShowsDue club stands s (serve club s moment request) (caching_for request.target) without_body reply
+    ⊎ ReportsFault leaves s (serve club s moment request).0 (caching_for request.target) without_body reply
 
 -- the next state
 abbrev pub next_state : {S : Type 0} → Club S → S → ℕ → ParseState → S
@@ -256,15 +265,17 @@ unfoldable pub shut_serve : ClubFault → HttpRequest → Result Answer ClubFaul
 shut_serve fault request = shut_asked fault request (match_route request.target)
 
 -- the bytes of the reply with this answer, or of the reply that reports the fault
-abbrev pub shut_text : Result Answer ClubFault → Bool → List ℕ
-shut_text (Ok given) without_body = answer_reply given without_body
-shut_text (Err fault) without_body = fault_reply (club_fault_number fault) (club_fault_name fault) without_body
+abbrev pub shut_text : Result Answer ClubFault → Caching → Bool → List ℕ
+shut_text (Ok given) caching without_body = answer_reply given caching without_body
+shut_text (Err fault) caching without_body =
+    fault_reply (club_fault_number fault) (club_fault_name fault) caching without_body
 
 -- the reply to the result of parsing: a request that needs the club gets the fault
 abbrev pub shut_reply : ClubFault → Bool → ParseState → List ℕ
 shut_reply fault without_body unfinished = []
-shut_reply fault without_body (refused r) = refusal_reply (Head r) without_body
-shut_reply fault without_body (whole request) = shut_text (shut_serve fault request) without_body
+shut_reply fault without_body (refused r) = refusal_reply (Head r) Unspecified without_body
+shut_reply fault without_body (whole request) =
+    shut_text (shut_serve fault request) (caching_for request.target) without_body
 
 -- the same for bytes
 abbrev pub IsShutReply : ClubFault → List ℕ → List ℕ → Type 0

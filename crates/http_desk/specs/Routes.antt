@@ -13,6 +13,8 @@ use Rattle.http_desk.specs.declared.table.Access.{Access}
 use Rattle.http_desk.specs.declared.table.Route.{Route}
 use Rattle.http_desk.specs.declared.table.Topic.{Topic}
 use Rattle.http_bodies.specs.declared.refusals.Method.{Method}
+use Rattle.http_bodies.specs.declared.reply.Caching.{Caching}
+use Rattle.http_bodies.specs.declared.reply.Caching.TheVariants.{Unspecified}
 use Rattle.http_desk.specs.Paths.{segments, path_of}
 use Rattle.http_head.specs.Head.{number_of}
 
@@ -29,12 +31,13 @@ with_routes [] rows = rows
 with_routes ((path, route) ∷ more) rows = with_routes more (with_route (parse_route path) route rows)
 
 -- the route of a row of the table
-abbrev pub route_with : Method → Access → Topic → Route
-route_with method access topic = record { method = method; access = access; topic = topic }
+abbrev pub route_with : Method → Access → Topic → Caching → Route
+route_with method access topic caching =
+    record { method = method; access = access; topic = topic; caching = caching }
 
 -- the routing table of the server
 unfoldable pub routes : RowsOf (RouteOf Route)
-routes = with_routes (map (λ row. (row.0.now, route_with row.1 row.2 row.3)) TABLE) []
+routes = with_routes (map (λ row. (row.0.now, route_with row.1 row.2 row.3 row.4)) TABLE) []
 
 -- the route that `matchit` finds for a path, with its path in the table as `text`
 abbrev pub route_of : List ℕ → Option (RouteOf Route)
@@ -96,3 +99,12 @@ endpoint_of_path (Some path) = if is_utf8 path then endpoint_of (route_of path) 
 -- the endpoint of a request target, if a route matches it and its numbers are valid
 abbrev pub match_route : List ℕ → Option Endpoint
 match_route target = endpoint_of_path (path_of target)
+
+-- the caching of the replies at an endpoint; unspecified if no route matches
+abbrev pub caching_at : Option Endpoint → Caching
+caching_at None = Unspecified
+caching_at (Some asked) = asked.route.caching
+
+-- the caching of all replies to requests for a target
+unfoldable pub caching_for : List ℕ → Caching
+caching_for target = caching_at (match_route target)

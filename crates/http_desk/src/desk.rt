@@ -9,18 +9,19 @@ ghost use Rattle.http_desk.specs.Desk.{ServesDue, RepliesTo, Answers, shut_known
 ghost use Rattle.http_desk.specs.Desk.{shut_text, shut_reply, IsShutReply};
 ghost use Rattle.http_desk.specs.Desk.{known_caller, caller_for, asked_caller, caller, NamesExpectedCaller};
 ghost use Rattle.http_desk.specs.Desk.{NamesCaller, NamesCallerOf};
+ghost use Rattle.http_desk.specs.Routes.{caching_for};
 ghost use Rattle.http_desk.specs.DeskViews.{answer_view, endpoint_view, IsShutBy};
 
 use crate::commands::{serve_command, turn_given, withdrawal};
 use crate::faults::{ClubFault, DeskFault};
 use crate::pages::serve_question;
-use crate::routes::{Endpoint, Routes, text_of};
+use crate::routes::{Endpoint, Routes, caching_at, text_of};
 use crate::served::ClubService;
 use crate::table::{Access, Topic};
 use clocks::Moment;
 use club_requests::Refusal;
 use http_bodies::{
-    ContentType, HttpRefusal, Method, answer_of, challenge_of, fault_reply, page_reply,
+    Caching, ContentType, HttpRefusal, Method, answer_of, challenge_of, fault_reply, page_reply,
     refusal_reply, shown_reply,
 };
 use http_head::{HttpRequest, ParseState, read_request};
@@ -247,37 +248,45 @@ fn serve_asked<C: ClubService>(
     }
 }
 
-// The answer to a complete request.
-#[tactic(auto, unfolding(crate::specs::Desk::serve, crate::specs::Desk::shut_serve, crate::specs::Desk::caller))]
+// The answer to a complete request, and the caching of its reply.
+#[tactic(auto, unfolding(crate::specs::Desk::serve, crate::specs::Desk::shut_serve, crate::specs::Desk::caller, crate::specs::Routes::caching_for))]
 fn serve<C: ClubService>(
     alloc: Global,
     routes: &Routes,
     club: &mut C,
     request: &HttpRequest<'_>,
     moment: Moment,
-) -> Served
+) -> (Served, Caching)
     ensures clean { C.IsClean club.new → C.IsClean club.old }
     ensures shut { (fault : ClubFault) → C.IsShut club.old fault → C.IsShut club.new fault ×
-        IsShutBy (shut_serve fault (request_view request.now)) result.shown }
-    ensures nobody { (fault : ClubFault) → C.IsShut club.old fault → result.caller ≡ None }
+        IsShutBy (shut_serve fault (request_view request.now)) result.0.shown }
+    ensures nobody { (fault : ClubFault) → C.IsShut club.old fault → result.0.caller ≡ None }
     ensures serves { C.IsClean club.new → (s : C.State) → C.Stands club.old s →
         ServesDue C.club (C.Stands club.new) (C.Leaves club.new) answer_view s
-        (serve C.club s moment (request_view request.now)) result.shown }
+        (serve C.club s moment (request_view request.now)) result.0.shown }
     ensures caller { C.IsClean club.new → (s : C.State) → C.Stands club.old s →
-        NamesExpectedCaller (caller C.club s (request_view request.now)) (option_map string_bytes result.caller)
-        result.shown }
+        NamesExpectedCaller (caller C.club s (request_view request.now)) (option_map string_bytes result.0.caller)
+        result.0.shown }
+    ensures caching { result.1 ≡ caching_for (request_view request.now).target }
 {
     let asked = routes.match_route(request.target);
-    serve_asked(alloc, club, request, asked, moment)
+    let caching = caching_at(asked);
+    let served = serve_asked(alloc, club, request, asked, moment);
+    (served, caching)
 }
 
-fn answer_reply(alloc: Global, answer: Response, without_body: bool) -> Result<Vec<u8>, AllocError>
-    ensures { IfOk result (λ v. v.items ≡ answer_reply (answer_view answer) without_body) }
+fn answer_reply(
+    alloc: Global,
+    answer: Response,
+    caching: Caching,
+    without_body: bool,
+) -> Result<Vec<u8>, AllocError>
+    ensures { IfOk result (λ v. v.items ≡ answer_reply (answer_view answer) caching without_body) }
 {
     match answer {
-        Response::Refused(refusal) => refusal_reply(alloc, refusal, without_body),
-        Response::Shows(kind, bytes) => shown_reply(alloc, kind, &bytes, without_body),
-        Response::Page => page_reply(alloc, without_body),
+        Response::Refused(refusal) => refusal_reply(alloc, refusal, caching, without_body),
+        Response::Shows(kind, bytes) => shown_reply(alloc, kind, &bytes, caching, without_body),
+        Response::Page => page_reply(alloc, caching, without_body),
     }
 }
 
@@ -293,7 +302,8 @@ fn reply_whole<C: ClubService>(
     ensures fault { IfErr result (λ e. e ≡ DeskFault.Memory) }
     ensures clean { C.IsClean club.new → C.IsClean club.old }
     ensures shut { (fault : ClubFault) → C.IsShut club.old fault → C.IsShut club.new fault ×
-        IfOk result (λ v. v.reply.items ≡ shut_text (shut_serve fault (request_view request.now)) without_body) }
+        IfOk result (λ v. v.reply.items ≡ shut_text (shut_serve fault (request_view request.now))
+        (caching_for (request_view request.now).target) without_body) }
     ensures nobody { (fault : ClubFault) → C.IsShut club.old fault → IfOk result (λ v. v.caller ≡ None) }
     ensures replies { C.IsClean club.new → (s : C.State) → C.Stands club.old s →
         RepliesTo C.club (C.Stands club.new) (C.Leaves club.new) (λ v. v.reply.items) s moment without_body
@@ -302,15 +312,16 @@ fn reply_whole<C: ClubService>(
         NamesCaller C.club s without_body (whole (request_view request.now)) v.reply.items
         (option_map string_bytes v.caller)) }
 {
-    let Served { shown, caller } = serve(alloc, routes, club, request, moment);
+    let (served, caching) = serve(alloc, routes, club, request, moment);
+    let Served { shown, caller } = served;
     match shown {
         Ok(answer) => {
-            let reply = answer_reply(alloc, answer, without_body)?;
+            let reply = answer_reply(alloc, answer, caching, without_body)?;
             Ok(AttributedReply { reply, caller })
         }
         Err(AnswerFault::Memory) => Err(DeskFault::Memory),
         Err(AnswerFault::Club(fault)) => {
-            let reply = fault_reply(alloc, fault.number(), fault.name(), without_body)?;
+            let reply = fault_reply(alloc, fault.number(), fault.name(), caching, without_body)?;
             Ok(AttributedReply { reply, caller })
         }
     }
@@ -342,7 +353,8 @@ fn reply<C: ClubService>(
             caller: None,
         }),
         ParseState::Refused(refusal) => {
-            let reply = refusal_reply(alloc, HttpRefusal::Head(refusal), without_body)?;
+            let refusal = HttpRefusal::Head(refusal);
+            let reply = refusal_reply(alloc, refusal, Caching::Unspecified, without_body)?;
             Ok(AttributedReply {
                 reply,
                 caller: None,

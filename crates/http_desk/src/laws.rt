@@ -4,7 +4,7 @@ ghost use Rattle.club_requests.specs.Outcome.{Reply, accepted, repeated};
 ghost use Rattle.http_head.specs.Request.{HttpRequest};
 ghost use Rattle.http_desk.specs.declared.faults.ClubFault.{ClubFault};
 ghost use Rattle.http_desk.specs.Desk.{outcome_answer, this, shows_page, serve, shut_serve};
-ghost use Rattle.http_desk.specs.There.{AreAllRoutes, AreFound};
+ghost use Rattle.http_desk.specs.There.{AreAllRoutes, AreFound, HaveCaching};
 
 use crate::served::ClubService;
 
@@ -22,6 +22,12 @@ pub fn routes_are_there()
 /// An example path of each route is matched to this route.
 pub fn paths_are_found()
     ensures { AreFound }
+{}
+
+/// The replies on the paths of the first description of the interface say nothing about caching; all others may not be
+/// stored.
+pub fn further_replies_are_not_stored()
+    ensures { HaveCaching }
 {}
 
 /// GET `/play` shows the members' page with any key or none, also if the club is unavailable.

@@ -11,6 +11,7 @@
 //!   path needs a key.
 //! - `routes_are_there`, `paths_are_found`: every route of the table leads to its page, and one path of each kind is
 //!   found.
+//! - `further_replies_are_not_stored`: which replies have the header lines about caching.
 //! - `the_page_is_for_all` (`stands`, `shut`): everybody gets the page, also while the club is unavailable.
 //! - `repeats_are_answered_alike`: an accepted and a repeated command get the same bytes.
 #![tactic(auto)]

@@ -3,11 +3,12 @@ ghost use Rattle.std.specs.Prelude.{◌≡◌, [], IfOk, Ok, length, map, option
 ghost use Rattle.matchit.specs.Params.{AllText, named};
 ghost use Rattle.http_desk.specs.Paths.{before, starts_with, path_after_authority, path_of, text_of};
 ghost use Rattle.http_desk.specs.Routes.{route_with, with_routes, number_given, text_given, match_route};
+ghost use Rattle.http_desk.specs.Routes.{caching_at};
 ghost use Rattle.http_desk.specs.Taken.{parts_taken, endpoint_taken};
 ghost use Rattle.http_desk.specs.DeskViews.{endpoint_view};
 
 use crate::table::{Access, Route, TABLE, Topic};
-use http_bodies::Method;
+use http_bodies::{Caching, Method};
 use http_head::number_of;
 use matchit::{InsertError, Params, Router};
 use std::alloc::Global;
@@ -78,17 +79,18 @@ pub fn path_of(target: &[u8]) -> Option<&[u8]>
 
 fn router_of(
     alloc: Global,
-    rows: &[(&str, Method, Access, Topic)],
+    rows: &[(&str, Method, Access, Topic, Caching)],
 ) -> Result<Router<Route>, InsertError>
     ensures { IfOk result (λ router. router ≡
-        with_routes (map (λ row. (row.0.now, route_with row.1 row.2 row.3)) rows.now) []) }
+        with_routes (map (λ row. (row.0.now, route_with row.1 row.2 row.3 row.4)) rows.now) []) }
 {
     let mut router = Router::new(alloc);
-    for (path, method, access, topic) in rows {
+    for (path, method, access, topic, caching) in rows {
         let route = Route {
             method: *method,
             access: *access,
             topic: *topic,
+            caching: *caching,
         };
         router.insert(path, route)?;
     }
@@ -140,6 +142,16 @@ impl Routes {
             Ok(found) => endpoint_of_route(*found.value, &found.params),
             Err(_) => None,
         }
+    }
+}
+
+/// The caching of the replies at an endpoint; unspecified if no route matches.
+pub fn caching_at(asked: Option<Endpoint<'_>>) -> Caching
+    ensures { result ≡ caching_at (option_map endpoint_view asked.entry) }
+{
+    match asked {
+        None => Caching::Unspecified,
+        Some(asked) => asked.route.caching,
     }
 }
 

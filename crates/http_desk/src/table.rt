@@ -7,9 +7,10 @@ use self::QuestionTopic::{
     MyEvents, MyGames,
 };
 use self::Topic::{Answer, Challenge, MembersPage, OnGame, Question, Withdraw};
+use http_bodies::Caching::{NoStore, Unspecified};
 use http_bodies::ContentType::{Json, Plain};
 use http_bodies::Method::{Get, Post};
-use http_bodies::{ContentType, Method};
+use http_bodies::{Caching, ContentType, Method};
 
 /// A query of a member.
 #[derive(Clone, Copy, Debug, PartialEq, Eq)]
@@ -88,58 +89,138 @@ pub struct Route {
     pub access: Access,
     /// What is served.
     pub topic: Topic,
+    /// Whether its replies may be cached.
+    pub caching: Caching,
 }
 
 /// All routes, each after its path with the parameters in braces.
-pub(crate) const TABLE: [(&str, Method, Access, Topic); 20] = [
-    ("/games/{id}", Get, Members, Question(GameView, Json)),
+pub(crate) const TABLE: [(&str, Method, Access, Topic, Caching); 20] = [
+    (
+        "/games/{id}",
+        Get,
+        Members,
+        Question(GameView, Json),
+        Unspecified,
+    ),
     (
         "/games/{id}/legal",
         Get,
         Members,
         Question(LegalMoves, Json),
+        Unspecified,
     ),
     (
         "/games/{id}/record",
         Get,
         Members,
         Question(GameRecord, Plain),
+        NoStore,
     ),
-    ("/games/{id}/clock", Get, Members, Question(GameClock, Json)),
-    ("/games/{id}/page", Get, Members, Question(GamePage, Json)),
+    (
+        "/games/{id}/clock",
+        Get,
+        Members,
+        Question(GameClock, Json),
+        NoStore,
+    ),
+    (
+        "/games/{id}/page",
+        Get,
+        Members,
+        Question(GamePage, Json),
+        NoStore,
+    ),
     (
         "/events/{name}/table",
         Get,
         Members,
         Question(EventTable, Plain),
+        Unspecified,
     ),
     (
         "/events/{name}/games",
         Get,
         Members,
         Question(EventGames, Json),
+        NoStore,
     ),
-    ("/me", Get, Members, Question(MyGames, Json)),
-    ("/me/ended", Get, Members, Question(MyEndedGames, Json)),
-    ("/me/events", Get, Members, Question(MyEvents, Json)),
-    ("/games/{id}/moves/{ply}", Post, Members, OnGame(MakeMove)),
+    ("/me", Get, Members, Question(MyGames, Json), NoStore),
+    (
+        "/me/ended",
+        Get,
+        Members,
+        Question(MyEndedGames, Json),
+        NoStore,
+    ),
+    (
+        "/me/events",
+        Get,
+        Members,
+        Question(MyEvents, Json),
+        NoStore,
+    ),
+    (
+        "/games/{id}/moves/{ply}",
+        Post,
+        Members,
+        OnGame(MakeMove),
+        Unspecified,
+    ),
     (
         "/games/{id}/draw/{ply}/offer",
         Post,
         Members,
         OnGame(OfferDraw),
+        Unspecified,
     ),
     (
         "/games/{id}/draw/{ply}/accept",
         Post,
         Members,
         OnGame(AcceptDraw),
+        Unspecified,
     ),
-    ("/games/{id}/resign", Post, Members, OnGame(Resign)),
-    ("/games/{id}/claim-time", Post, Members, OnGame(ClaimTime)),
-    ("/games/{id}/declare/{ply}", Post, Members, OnGame(Declare)),
-    ("/challenges/{number}", Post, Members, Challenge),
-    ("/challenges/{number}/withdraw", Post, Members, Withdraw),
-    ("/answers/{member}/{number}", Post, Members, Answer),
-    ("/play", Get, Public, MembersPage),
+    (
+        "/games/{id}/resign",
+        Post,
+        Members,
+        OnGame(Resign),
+        Unspecified,
+    ),
+    (
+        "/games/{id}/claim-time",
+        Post,
+        Members,
+        OnGame(ClaimTime),
+        Unspecified,
+    ),
+    (
+        "/games/{id}/declare/{ply}",
+        Post,
+        Members,
+        OnGame(Declare),
+        Unspecified,
+    ),
+    (
+        "/challenges/{number}",
+        Post,
+        Members,
+        Challenge,
+        Unspecified,
+    ),
+    (
+        "/challenges/{number}/withdraw",
+        Post,
+        Members,
+        Withdraw,
+        Unspecified,
+    ),
+    (
+        "/answers/{member}/{number}",
+        Post,
+        Members,
+        Answer,
+        Unspecified,
+    ),
+    ("/play", Get, Public, MembersPage, NoStore),
 ];

@@ -29,13 +29,13 @@ there path route is = by (parse_route path) refl
     by (Ok read) e = record { scan = read; reads = e; leads = rw e at is }
     by (Err fault) e = absurd (let none : led (Err fault) ≡ due (Err fault) path route = rw e at is in cc)
 
-each : Each (λ row. IsThere row.0.now (route_with row.1 row.2 row.3)) TABLE
+each : Each (λ row. IsThere row.0.now (route_with row.1 row.2 row.3 row.4)) TABLE
 unfolding routes scan
 each = search there
 
 pub returns : goal.returns
 unfolding routes scan
 returns c = record {
-  all = all_from (λ row. IsThere row.0.now (route_with row.1 row.2 row.3)) TABLE each;
+  all = all_from (λ row. IsThere row.0.now (route_with row.1 row.2 row.3 row.4)) TABLE each;
   no_more = refl;
 }

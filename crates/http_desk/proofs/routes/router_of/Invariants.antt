@@ -4,5 +4,5 @@ use Rattle.http_desk.proofs.routes.router_of.Given as goal
 
 abbrev pub invariant-loop-path : goal.invariant-loop-path
 invariant-loop-path l =
-    with_routes (map (λ row. (row.0.now, route_with row.1 row.2 row.3)) (drop l.path-index l.rows)) l.router
-    ≡ with_routes (map (λ row. (row.0.now, route_with row.1 row.2 row.3)) l.rows) []
+    with_routes (map (λ row. (row.0.now, route_with row.1 row.2 row.3 row.4)) (drop l.path-index l.rows)) l.router
+    ≡ with_routes (map (λ row. (row.0.now, route_with row.1 row.2 row.3 row.4)) l.rows) []
