@@ -16,7 +16,7 @@ import re
 import sys
 
 sys.path[0] = str(pathlib.Path(__file__).resolve().parents[1])
-from gate.definitions import Tree, clauses_in, read_uses, rust_generics
+from gate.definitions import INTERNAL, Tree, clauses_in, read_uses, rust_generics
 from lib.report import exit_status, result
 
 TOP = pathlib.Path(__file__).resolve().parents[2]
@@ -401,6 +401,8 @@ say. A contract is made of definitions, and these definitions have to be read. T
 
 ## How to read it
 
+- The folder specs/ of a crate has the definitions of this page, and no others. Those on which no promise rests are in
+  specs/internal/: what crates promise to each other, laws, and the functions that the code computes.
 - Begin with the clauses of a promise, in the functions that its first table names. Every name in them is in a table
   below: of the same promise, of one before it, or of the kit.
 - The headline comes first. Its tables go from the rules of the games up to histories and crashes. In a crate, a file
@@ -486,6 +488,16 @@ def faults(tree):
     yield from (f"crates/{file}: {token} is not found" for token, file in sorted(tree.unresolved))
 
 
+def misplaced(tree, promises):
+    """Trusted definitions in specs/internal/, and others in specs/ itself. A lemma may stand in either."""
+    trusted = closure(tree, {it for promise in promises for root in promise.roots for it in roots_of(tree, root)})
+    for (_, module), file in sorted(tree.specs.items()):
+        is_inside = module.startswith(f"{INTERNAL}.")
+        for it in file.definitions.values():
+            if it.kind not in ("parameters", "lemma") and (it.key in trusted) == is_inside:
+                yield f"crates/{file.path}:{it.first}: {it.key[2]} is{'' if is_inside else ' not'} trusted"
+
+
 def differences(old, new):
     """The lines in which two documents differ, at most twenty."""
     return [it for it in difflib.unified_diff(old.split("\n"), new.split("\n"), "docs/trusted.md", "the sources",
@@ -501,6 +513,8 @@ def main():
         return exit_status()
     found = list(faults(tree))
     result(not found, "each name in a trusted definition is found", *found[:20])
+    found = list(misplaced(tree, PROMISES))
+    result(not found, "specs/ has the trusted definitions, and specs/internal/ the others", *found[:20])
     if "--figures" in sys.argv[1:]:
         print(text[text.index("## Totals"):text.index("## 1.")])
     if "--uncommented" in sys.argv[1:]:
