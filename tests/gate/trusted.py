@@ -39,6 +39,7 @@ LEMMAS = {
 # That there is exactly one value with a property: what a definition by description rests on.
 DESCRIPTION = "squares", "squares/specs/TheOnly.antt", "TheOnly"
 GAMES = "both_games"  # a parameter of the headline: the rules and texts of both games
+LAWS = ("club_rules/src/game.rt", "Rules"), ("club_rules/src/records.rt", "Records")  # traits: what a game must satisfy
 
 # The order in which a reader meets the subjects, and the crates of each.
 GROUPS = (
@@ -448,9 +449,11 @@ def document(tree, promises):
     parts += ["## The headline by group", table(("Group", *COUNT_HEADS), rows, COUNT_HEADS)]
     games = {it for it in keys if it[2] == GAMES}
     if games:
-        part = Count(tree, closure(tree, roots, games))
+        laws = {it for file, trait in LAWS for it in roots_of(tree, Root(file, trait))}
+        part = Count(tree, closure(tree, roots | laws, games))
         rows = [(title, *it.cells()) for title, _, it in groups_in(part)] + [("All", *part.cells())]
-        parts += [f"With `{GAMES}` (the rules and texts of both games) taken as a parameter, and not followed:",
+        parts += [f"With `{GAMES}` (the rules and texts of both games) taken as a parameter, and not followed, together "
+                  "with the laws that any game must satisfy (the traits `Rules` and `Records` of `club_rules`):",
                   table(("Group", *COUNT_HEADS), rows, COUNT_HEADS)]
     parts += ["## The largest subtrees",
               "A row counts a definition and all that is reached through it alone: they would leave the list together. "
