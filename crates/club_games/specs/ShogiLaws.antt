@@ -34,6 +34,7 @@ use Rattle.shogi_repetition.specs.declared.ends.SEnd.{SEnd}
 use Rattle.shogi_repetition.specs.declared.ends.SEnd.TheVariants as shogi_end
 use Rattle.shogi_repetition.specs.declared.tails.Tail.{Tail}
 use Rattle.shogi_repetition.specs.Computed.{end_of, first_end, repetition, stands_four_times}
+use Rattle.shogi_repetition.specs.Ends.{is_in_check}
 use Rattle.shogi_repetition.specs.Line as line
 use Rattle.shogi_repetition.specs.Tails.{tail_of, tail_after, end_by, times_stood}
 use Rattle.shogi_repetition.proofs.Proved.{tail-begins, tail-goes-on, ends-by-tail}
