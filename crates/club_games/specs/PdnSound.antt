@@ -198,10 +198,10 @@ text-is : (text : List ℕ) (tokens : List PlacedToken) (read : GameRead) → Ar
 text-is text tokens (Ok r) are is = record { read = (tokens, are, is.0); declared = is.1 }
 text-is text tokens (Err f) are is = (is.0, text-refused text f is.0 (tokens, are, is.1))
 
-no-stop : (stray stop none : Option ℕ) → or_else stray (or_else stop none) ≡ None → stop ≡ None
-no-stop (Some n) stop none is = cc
-no-stop None (Some n) none is = cc
-no-stop None None none is = refl
+no-stop : (stray stop lacking : Option ℕ) → or_else stray (or_else stop lacking) ≡ None → stop ≡ None
+no-stop (Some n) stop lacking is = cc
+no-stop None (Some n) lacking is = cc
+no-stop None None lacking is = refl
 
 formed-is : (text : List ℕ) (tokens : List PlacedToken) (stop bad : Option ℕ) → TextTokens text tokens stop
     → bad_at tokens stop ≡ bad → IsPdnReading text (formed_reading tokens bad)
