@@ -114,8 +114,9 @@ class Orders:
         self.lines += lines
 
     def seat(self, event, moves=()):
+        """A game under the key of a round robin, so that it has a round."""
         self.games += 1
-        self.add(f"seat g{self.games} {event} anna bert")
+        self.add(f"seat g{self.games}.1 {event} anna bert")
         self.add(*(f"move {self.games} {ply} {text}" for ply, text in enumerate(moves, 1)))
         return self.games
 

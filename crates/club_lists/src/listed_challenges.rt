@@ -1,6 +1,6 @@
 //! The challenges that are listed for a member, and how many others there are.
 
-ghost use Rattle.std.specs.Prelude.{◌≡◌, IfOk, count_by, length};
+ghost use Rattle.std.specs.Prelude.{◌≡◌, IfOk, count_by};
 ghost use Rattle.serde_json.specs.View.{view};
 ghost use Rattle.club_core.specs.Answer.{members_of};
 ghost use Rattle.club_lists.specs.Shows.{has_room, is_accepted, is_from, is_open, is_own_challenge, is_received};
