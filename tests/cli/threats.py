@@ -163,7 +163,8 @@ def long_names():
         name = "n" * length
         expected = (0, "ready\n", "", [name]) if length == 247 else (3, "", f"store 73 Store\n{LONG_NAME}\n", [])
         check(f"`init` of a name of {length} bytes", expected, (*run(["--explain", name, "init"]), os.listdir(".")))
-        pathlib.Path(name).unlink(missing_ok=True)
+        for it in os.listdir("."):
+            os.remove(it)
 
 
 def sticky_folders():
