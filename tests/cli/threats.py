@@ -161,8 +161,10 @@ def long_names():
     """`init` makes nothing where the names of the logs would be too long."""
     for length in 247, 248, 251, 252:
         name = "n" * length
-        expected = (0, "ready\n", "", [name]) if length == 247 else (3, "", f"store 73 Store\n{LONG_NAME}\n", [])
-        check(f"`init` of a name of {length} bytes", expected, (*run(["--explain", name, "init"]), os.listdir(".")))
+        refused = 3, "", f"store 73 Store\n{LONG_NAME}\n", []
+        expected = (0, "ready\n", "", [name, f"{name}-wal"]) if length == 247 else refused
+        found = run(["--explain", name, "init"])
+        check(f"`init` of a name of {length} bytes", expected, (*found, sorted(os.listdir("."))))
         for it in os.listdir("."):
             os.remove(it)
 
