@@ -81,6 +81,7 @@ def is_served(server, log, file):
 
 def paths():
     """Every path to the file leads to the same control socket."""
+    shutil.rmtree(FOLDER)
     os.symlink("c.db", "link.db")
     deep = pathlib.Path(*["deep" * 10] * 4).resolve()
     deep.mkdir(parents=True)
