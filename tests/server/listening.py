@@ -16,7 +16,7 @@ import time
 sys.path[0] = str(pathlib.Path(__file__).resolve().parents[1])
 from lib.club import PROGRAM, WAIT, build_preload, club, create, is_within
 from lib.report import check, exit_status, result, skip
-from lib.server import SHOW_GAME, free_port, serve
+from lib.server import SHOW_GAME, Server, free_port, serve
 
 SOCKET, FOLDER = "c.db-desk", "c.db-sk"
 OWNER, OTHER, GROUP = 61001, 61002, 61003  # the numbers of two users, and of a group
@@ -95,7 +95,8 @@ def paths():
         socket_path = pathlib.Path(f"{os.path.realpath(file)}-desk")
         socket_path.unlink(missing_ok=True)
         with open(log, "wb") as stream, serve(file, "--log", stderr=stream) as server:
-            check(f"a server over {name} makes its socket beside the file", True, socket_path.is_socket())
+            check(f"a server over {name} makes its socket beside the file", True,
+                  server.wait_until(socket_path.is_socket))
             check(f"a server over {name} executes the commands of every path to the file",
                   [True] * (len(others) + 1), [is_served(server, log, it) for it in (file, *others)])
     check("there is no other socket", [], sorted(str(it) for it in pathlib.Path(".").glob("link*-desk")))
@@ -120,6 +121,7 @@ def groups():
     with subprocess.Popen(["./program", "group/c.db", "serve", str(port)], stdout=subprocess.PIPE, **user) as server:
         try:
             server.stdout.readline()
+            Server(server, port).wait_until(lambda: os.path.exists(f"group/{SOCKET}"))
             found = os.stat(f"group/{SOCKET}")
             check("the socket has the file's group and mode 660", (GROUP, 0o660), (found.st_gid, stat.S_IMODE(found.st_mode)))
             began = time.monotonic()
