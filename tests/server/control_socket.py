@@ -151,6 +151,7 @@ def batches():
         expected = [lib.club.run(["alone.db", *it]) for it in steps]
         waits, statuses = [], []
         with open("log", "wb") as log, serve("c.db", "--log", stderr=log) as server:
+            check("a server shows a game before a batch", 200, shown(server))
             with asking(server, statuses, waits):
                 printed = [lib.club.run(["c.db", *it]) for it in steps]
             time.sleep(0.1)
