@@ -53,8 +53,10 @@ SELECT json_object('challenges', json((SELECT json_group_array(json(text)) FROM 
             'offer', iif(offer_side, black, iif(offer_side IS NULL, NULL, white)), 'ply', plies,
             'position', position, 'second', black, 'turn', mover) AS text
         FROM dated WHERE runs AND :member IN (white, black) ORDER BY id))),
-    'member', :member, 'moment', moment, 'more', json_object('from', (SELECT count(*) FROM own WHERE place > 100),
-        'to', (SELECT count(*) FROM received) - (SELECT count(*) FROM listed)), 'refused', json((SELECT json_group_array(json(text)) FROM ({CHALLENGE}
+    'member', :member, 'moment', moment, 'more', json_object(
+        'from', (SELECT count(*) FROM own WHERE place > 100),
+        'to', (SELECT count(*) FROM received) - (SELECT count(*) FROM listed)),
+    'refused', json((SELECT json_group_array(json(text)) FROM ({CHALLENGE}
             AND state = 2 AND me.name = :member ORDER BY number DESC LIMIT 20)))) FROM given"""
 ENDED = """SELECT json_object('games', json((SELECT json_group_array(json(text)) FROM (
         SELECT json_object('end', "end",
