@@ -374,7 +374,7 @@ class ServerLines:
         return [f"{head}\r\n\r\n".encode() + body], expected
 
     def expected(self, written, got, target):
-        """The bytes of a reply to a request for a target. Where no phrase is written it is that of the one that was got."""
+        """The bytes of a reply to a request for a target. Where no phrase is written it is that of the one got."""
         if not written[:1].isdigit():
             return self.script.text(written)
         found = REPLY.fullmatch(written)

@@ -247,7 +247,8 @@ class Club:
         event = self.event_of(words[1])
         return to_json({"games": [{"deadline": None if it.end else shown_deadline(it), "end": it.end,
                                 "first": it.players[0], "game": it.number, "ply": len(it.texts), "result": it.result,
-                                "round": round_of(it.key), "second": it.players[1], "turn": None if it.end else it.mover()}
+                                "round": round_of(it.key), "second": it.players[1],
+                                "turn": None if it.end else it.mover()}
                                for it in self.games if it.event is event]})
 
     def event_table(self, words, member, moment):

@@ -35,19 +35,28 @@ ORDER BY id"""
 CHALLENGE = """SELECT json_object('event', events.name, 'first', iif(challenges.first, me.name, you.name),
             'from', me.name, 'game', challenges.game, 'number', number,
             'second', iif(challenges.first, you.name, me.name),
-            'state', iif(state = 0, 'open', iif(state = 2, 'refused', 'accepted')), 'to', you.name) AS text
+            'state', iif(state = 0, 'open', iif(state = 2, 'refused', 'accepted')), 'to', you.name) AS text,
+            member, number
         FROM challenges, events, members AS me, members AS you
         WHERE events.id = event AND me.id = member AND you.id = other"""
-MINE = f"""SELECT json_object('challenges', json((SELECT json_group_array(json(text)) FROM ({CHALLENGE}
-            AND (state = 0 AND :member IN (me.name, you.name) OR state = 3 AND me.name = :member)
-        ORDER BY member, number))),
+MINE = f""", own AS (SELECT *, row_number() OVER (ORDER BY number DESC) AS place
+    FROM ({CHALLENGE} AND me.name = :member AND state IN (0, 3))),
+received AS (SELECT *, row_number() OVER (PARTITION BY member ORDER BY number) AS place
+    FROM ({CHALLENGE} AND you.name = :member AND state = 0)),
+listed AS (SELECT * FROM received WHERE place <= 10 ORDER BY member, number LIMIT 100)
+SELECT json_object('challenges', json((SELECT json_group_array(json(text)) FROM (
+        SELECT 0 AS part, text, member, number FROM own WHERE place <= 100
+        UNION ALL SELECT 1, text, member, number FROM listed ORDER BY part, member, number))),
     'games', json((SELECT json_group_array(json(text)) FROM (
         SELECT json_object('deadline', until, 'event', name, 'first', white, 'game', id, 'kind', kind,
             'last', (SELECT text FROM moves WHERE game = dated.id ORDER BY ply DESC LIMIT 1),
             'offer', iif(offer_side, black, iif(offer_side IS NULL, NULL, white)), 'ply', plies,
             'position', position, 'second', black, 'turn', mover) AS text
         FROM dated WHERE runs AND :member IN (white, black) ORDER BY id))),
-    'member', :member, 'moment', moment, 'refused', json((SELECT json_group_array(json(text)) FROM ({CHALLENGE}
+    'member', :member, 'moment', moment, 'more', json_object(
+        'from', (SELECT count(*) FROM own WHERE place > 100),
+        'to', (SELECT count(*) FROM received) - (SELECT count(*) FROM listed)),
+    'refused', json((SELECT json_group_array(json(text)) FROM ({CHALLENGE}
             AND state = 2 AND me.name = :member ORDER BY number DESC LIMIT 20)))) FROM given"""
 ENDED = """SELECT json_object('games', json((SELECT json_group_array(json(text)) FROM (
         SELECT json_object('end', "end",
@@ -61,9 +70,17 @@ INVITING = """SELECT json_object('events', json((SELECT json_group_array(json(te
             increment) AS text FROM events ORDER BY id))),
     'members', json((SELECT json_group_array(name) FROM (
         SELECT name FROM members WHERE name <> :member ORDER BY id))))"""
-EVENT_GAMES = """SELECT json_object('games', json(json_group_array(json(text)))) FROM (
+EVENT_GAMES = """, numbers AS (
+    SELECT tens.value * 10 + ones.value AS n
+    FROM json_each('[0,1,2,3,4,5,6]') AS tens, json_each('[0,1,2,3,4,5,6,7,8,9]') AS ones),
+endings AS (
+    SELECT round.n AS round, round.n || '.' || board.n AS ending FROM numbers AS round, numbers AS board
+    WHERE round.n BETWEEN 1 AND 62 AND board.n BETWEEN 1 AND 16)
+SELECT json_object('games', json(json_group_array(json(text)))) FROM (
     SELECT json_object('deadline', iif(runs, until, NULL), 'end', "end", 'first', white, 'game', id, 'ply', plies,
-        'result', result, 'second', black, 'turn', iif(runs, mover, NULL)) AS text
+        'result', result, 'round',
+        (SELECT round FROM endings WHERE "key" = ending OR "key" GLOB '*[^0-9]' || ending),
+        'second', black, 'turn', iif(runs, mover, NULL)) AS text
     FROM dated WHERE name = :event ORDER BY id)"""
 CLOCK = """SELECT json_object('deadline', iif(runs, until, NULL), 'game', id, 'left', json_array(left1, left2),
     'moment', moment, 'now', json_array(iif(runs AND NOT plies % 2, max(0, deadline - moment), left1),

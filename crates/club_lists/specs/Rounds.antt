@@ -1,5 +1,5 @@
--- The round of a game that a round robin seated, by its key. Board b of round r has the key PREFIXr.b; digits at the end
--- of PREFIX are read as part of the round.
+-- The round of a game that a round robin seated, by its key. Board b of round r has the key PREFIXr.b; digits at the
+-- end of PREFIX are read as part of the round.
 use Rattle.std.specs.Prelude.{ℕ, ◌+◌, ◌*◌, ◌-◌, ◌==◌, ◌&&◌, Bool, false, List, [], ◌∷◌, ◌++◌, Option, Some, None}
 use Rattle.std.specs.Prelude.{codes, decimal, nat_lt, if◌then◌else◌}
 use Rattle.club_lists.specs.declared.rounds.Digits.{Digits}
