@@ -152,6 +152,8 @@ pub struct ControlListener<'a> {
     // The inode of the socket file, to notice a replacement.
     number: Option<u64>,
     listener: UnixListener,
+    // Whether a connection could not be accepted, as the process was out of file descriptors.
+    has_backlog: bool,
     // Connections with an incomplete message.
     hearing: Vec<PendingPeer<UnixStream>>,
     // Orders, and connections that wait for a lease; oldest first.
@@ -248,6 +250,7 @@ impl<'a> ControlListener<'a> {
             path,
             number,
             listener,
+            has_backlog: false,
             hearing: Vec::new(rt.alloc()),
             orders: Vec::new(rt.alloc()),
             asking: Vec::new(rt.alloc()),
@@ -269,13 +272,27 @@ impl<'a> ControlListener<'a> {
 
     /// Accepts connections, and reads from all with an incomplete message.
     pub fn hear(&mut self, poll: &Poll) {
+        self.has_backlog = false;
         for _ in 0..u64::MAX {
             match self.listener.accept() {
                 Ok((stream, _)) => self.greet(poll, stream),
-                Err(_) => break,
+                Err(error) => match error.kind() {
+                    ErrorKind::Interrupted => {}
+                    ErrorKind::WouldBlock => break,
+                    _ => {
+                        self.has_backlog = true;
+                        break;
+                    }
+                },
             }
         }
         self.hear_all();
+    }
+
+    /// Whether the last `hear` left a connection that could not be accepted. The poll does not report it again: call
+    /// `hear` once a file descriptor is free.
+    pub fn has_backlog(&self) -> bool {
+        self.has_backlog
     }
 
     fn hear_all(&mut self) {
