@@ -68,6 +68,7 @@ TESTS_OF_PROGRAM = [
     Test("server/flood.py"),
     Test("server/bad_clients.py"),
     Test("server/holding.py"),
+    Test("server/few_descriptors.py"),
     Test("server/listening.py"),
     Test("crash/power.py"),
     Test("cli/backup.py"),
@@ -96,6 +97,7 @@ TESTS_OF_PROGRAM = [
     Test("gate/trusted_self_test.py"),
     Test("gate/crosschecks.py"),
     Test("server/slow_clients.py", is_alone=True),
+    Test("server/slow_readers.py", is_alone=True),
 ]
 
 

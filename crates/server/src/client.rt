@@ -1,14 +1,17 @@
 //! A client: its socket, and the part of its request that was received.
 
-ghost use Rattle.std.specs.Prelude.{◌≤◌, ◌≢◌, length, IfOk};
+ghost use Rattle.std.specs.Prelude.{◌≢◌};
 ghost use Rattle.control_socket.specs.Received.{HasReceived};
 ghost use Rattle.server.specs.declared.request_buffer.ReadProgress.TheVariants as progress_is;
 
 use crate::deadline::{Countdown, Deadline};
 use crate::request_buffer::{ReadProgress, RequestBuffer};
+use mio::unix::SourceFd;
+use mio::{Interest, Poll, Token};
 use std::io;
-use std::io::{ErrorKind, Read, Write};
+use std::io::{ErrorKind, Read};
 use std::net::TcpStream;
+use std::os::fd::AsRawFd;
 use std::time::{Duration, Instant};
 
 // The time left for the calls of a socket; it runs from the first call.
@@ -42,8 +45,7 @@ impl Countdown for Timer<'_> {
         if left.is_zero() {
             return Err(io::Error::from(ErrorKind::TimedOut));
         }
-        self.stream.set_read_timeout(Some(left))?;
-        self.stream.set_write_timeout(Some(left))
+        self.stream.set_read_timeout(Some(left))
     }
 }
 
@@ -62,47 +64,24 @@ pub(crate) fn with_deadline<'c>(
     Deadline::new(stream, timer)
 }
 
-/// Writes a reply to a non-blocking socket; if the socket is full, waits until a deadline.
-#[derive(Drop)]
-pub(crate) struct ReplyWriter<'c> {
-    stream: &'c TcpStream,
-    waiting: Deadline<&'c TcpStream, Timer<'c>>,
-}
-
-impl<'c> ReplyWriter<'c> {
-    /// A writer that waits for at most `limit` in all.
-    pub(crate) fn new(
-        rt: &'c HostRuntime,
-        stream: &'c TcpStream,
-        limit: Duration,
-    ) -> ReplyWriter<'c> {
-        ReplyWriter {
-            stream,
-            waiting: with_deadline(rt, stream, limit),
+/// Registers a socket with a poll, or changes its token and interest there. An event that is due is reported.
+///
+/// # Errors
+///
+/// An `io::Error` if the poll refuses the socket.
+pub(crate) fn watch(
+    poll: &Poll,
+    stream: &TcpStream,
+    token: Token,
+    interest: Interest,
+) -> io::Result<()> {
+    let descriptor = stream.as_raw_fd();
+    let mut source = SourceFd(&descriptor);
+    match poll.registry().reregister(&mut source, token, interest) {
+        Err(error) if error.kind() == ErrorKind::NotFound => {
+            poll.registry().register(&mut source, token, interest)
         }
-    }
-
-    // Writes in blocking mode, within the deadline.
-    fn wait(&mut self, buf: &[u8]) -> io::Result<usize>
-        ensures { IfOk result (λ n. n ≤ length buf.now) }
-    {
-        self.stream.set_nonblocking(false)?;
-        let written = self.waiting.write(buf);
-        self.stream.set_nonblocking(true)?;
-        written
-    }
-}
-
-impl Write for ReplyWriter<'_> {
-    fn write(&mut self, buf: &[u8]) -> io::Result<usize> {
-        match self.stream.write(buf) {
-            Err(error) if error.kind() == ErrorKind::WouldBlock => self.wait(buf),
-            written => written,
-        }
-    }
-
-    fn flush(&mut self) -> io::Result<()> {
-        Ok(())
+        watched => watched,
     }
 }
 

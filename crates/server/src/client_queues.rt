@@ -7,8 +7,8 @@ use mio::Events;
 use std::alloc::{AllocError, Global};
 use std::time::Duration;
 
-/// The most clients connected at once, those with a complete request included; others stay in the listen backlog. At
-/// 80 KiB for a request their buffers take 42 MB at most.
+/// The most clients connected at once, from `accept` to the end of the lingering close; others stay in the listen
+/// backlog. At 80 KiB for a request their buffers take 42 MB at most.
 pub(crate) const MOST_CLIENTS: usize = 512;
 
 /// The connected clients, by the progress of their requests.
@@ -47,9 +47,9 @@ impl ClientQueues {
         self.receiving.is_empty() && self.ready.is_empty()
     }
 
-    /// Whether the number of clients is at its limit.
-    pub(crate) fn is_full(&self) -> bool {
-        self.receiving.len().saturating_add(self.ready.len()) >= MOST_CLIENTS
+    /// The number of clients.
+    pub(crate) fn count(&self) -> usize {
+        self.receiving.len().saturating_add(self.ready.len())
     }
 
     /// The number of clients with an incomplete request.

@@ -5,26 +5,30 @@ ghost use Rattle.http_desk.specs.declared.faults.ClubFault.{ClubFault};
 ghost use Rattle.server.specs.Visits.{HasActedOn, HasShutReply, IsAnswered, IsServedBy, IsShutServed};
 
 use crate::access_log::LogEntry;
-use crate::client::{Client, TcpClient};
+use crate::client::{Client, TcpClient, watch, with_deadline};
 use crate::client_queues::{ClientQueues, MOST_CLIENTS};
 use crate::connections::Served;
 use crate::lingering_close::{LEAVING_SECONDS, LingeringClose};
+use crate::open_files::most_connections;
+use crate::outgoing::{OutgoingReply, SendProgress};
 use crate::poll_clock::PollClock;
 use crate::request_buffer::{ReadProgress, RequestBuffer};
-use crate::responder::{Responder, ServerOptions, WRITE_SECONDS};
-use crate::serve::Exchange;
+use crate::responder::{Responder, ServerOptions};
+use crate::sending::{SENDING_SECONDS, STALLED_SECONDS, SendingClient, SendingClients};
+use crate::serve::{Connection, Exchange};
 use clocks::Moment;
 use http_desk::{ClubFault, ClubService, DeskFault, UnavailableClub};
-use mio::unix::SourceFd;
-use mio::{Interest, Poll, Token};
+use mio::{Events, Interest, Poll, Token};
 use std::alloc::Global;
 use std::io;
 use std::net::{Shutdown, TcpStream};
-use std::os::fd::AsRawFd;
 use std::time::Duration;
 
 /// The time within which a client must send its request, by the poll clock.
 pub(crate) const REQUEST_SECONDS: u64 = 10;
+
+// The time limit for reading the end of a request, of a client that closed its side.
+const ENDING_SECONDS: u64 = 1;
 
 // The least time that a client is kept if the server is full and others wait.
 const CROWDED_MILLISECONDS: u64 = 10;
@@ -33,21 +37,15 @@ const CROWDED_MILLISECONDS: u64 = 10;
 #[derive(Drop)]
 pub(crate) struct Clients<'a> {
     rt: &'a HostRuntime,
+    // The most clients connected at once.
+    most: usize,
     pub(crate) queues: ClientQueues,
     pub(crate) clock: PollClock<'a>,
     pub(crate) responder: Responder<'a>,
+    // Clients that have not received their whole reply.
+    sending: SendingClients,
     // Clients that have their reply and may still send.
     leaving: LingeringClose,
-}
-
-// Registers a client with a poll.
-fn register(poll: &Poll, client: &TcpClient) -> io::Result<()> {
-    let descriptor = client.stream.as_raw_fd();
-    poll.registry().register(
-        &mut SourceFd(&descriptor),
-        Token(client.token),
-        Interest::READABLE,
-    )
 }
 
 impl<'a> Clients<'a> {
@@ -57,25 +55,34 @@ impl<'a> Clients<'a> {
     ///
     /// An `io::Error` if the poll of standard error cannot be made, or if out of memory.
     pub(crate) fn new(rt: &'a HostRuntime, options: ServerOptions) -> io::Result<Clients<'a>> {
+        let responder = Responder::new(rt, options)?;
         Ok(Clients {
             rt,
+            most: most_connections(rt),
             queues: ClientQueues::new(rt.alloc())?,
             clock: PollClock::new(rt),
-            responder: Responder::new(rt, options)?,
+            responder,
+            sending: SendingClients::new(rt.alloc())?,
             leaving: LingeringClose::new(rt.alloc())?,
         })
     }
 
     /// Whether no client is connected.
     pub(crate) fn is_empty(&self) -> bool {
-        self.queues.is_empty() && self.leaving.is_empty()
+        self.queues.is_empty() && self.sending.is_empty() && self.leaving.is_empty()
     }
 
-    // The value of `PollClock::polled` to compare with a client's `until`; further on while the server is full and
-    // others wait.
-    fn time_over(&self, has_backlog: bool) -> Duration {
-        if has_backlog && self.queues.is_full() {
-            let kept = Duration::from_secs(REQUEST_SECONDS).saturating_sub(Duration::from_millis(
+    /// Whether the number of clients is at its limit.
+    pub(crate) fn is_full(&self) -> bool {
+        let queued = self.queues.count().saturating_add(self.sending.count());
+        queued.saturating_add(self.leaving.count()) >= self.most
+    }
+
+    // The value of `PollClock::polled` to compare with the `until` of a client that is kept for so many seconds; it is
+    // further on while the server is full and others wait.
+    fn time_over(&self, has_backlog: bool, seconds: u64) -> Duration {
+        if has_backlog && self.is_full() {
+            let kept = Duration::from_secs(seconds).saturating_sub(Duration::from_millis(
                 CROWDED_MILLISECONDS,
             ));
             self.clock.polled().saturating_add(kept)
@@ -84,26 +91,29 @@ impl<'a> Clients<'a> {
         }
     }
 
-    // The time until the oldest lingering client must be closed.
-    fn leaving_timeout(&self) -> Duration {
-        match self.leaving.first_until() {
-            Some(until) => until.saturating_sub(self.clock.polled()),
+    // The time until a client that is kept for so many seconds must be dropped; the longest timeout if there is none.
+    fn time_left(&self, until: Option<Duration>, has_backlog: bool, seconds: u64) -> Duration {
+        match until {
+            Some(until) => until.saturating_sub(self.time_over(has_backlog, seconds)),
             None => Duration::from_secs(REQUEST_SECONDS),
         }
     }
 
     /// The poll timeout: the time until something must be done without input.
     pub(crate) fn poll_timeout(&self, has_backlog: bool) -> Duration {
-        if has_backlog && !self.queues.is_full() {
+        if has_backlog && !self.is_full() {
             return Duration::ZERO;
         }
-        let leaving = self.leaving_timeout();
-        match self.queues.first_until() {
-            Some(until) => until
-                .saturating_sub(self.time_over(has_backlog))
-                .min(leaving),
-            None => leaving,
-        }
+        let receiving = self.time_left(self.queues.first_until(), has_backlog, REQUEST_SECONDS);
+        let sending = self.time_left(self.sending.first_until(), has_backlog, STALLED_SECONDS);
+        let leaving = self.time_left(self.leaving.first_until(), has_backlog, LEAVING_SECONDS);
+        receiving.min(sending).min(leaving)
+    }
+
+    /// Marks the clients that the poll reports; whether the listener is readable, too.
+    pub(crate) fn mark_ready(&mut self, events: &Events<Global>) -> bool {
+        self.sending.mark_writable(events);
+        self.queues.mark_readable(events)
     }
 
     /// Reads from all readable clients.
@@ -130,7 +140,7 @@ impl<'a> Clients<'a> {
             ReadProgress::Partial => self.queues.push_receiving(client),
             ReadProgress::Complete | ReadProgress::Rejected => self.queues.push_ready(client),
             ReadProgress::Eof => {
-                self.close_unanswered(poll, client, Duration::from_secs(WRITE_SECONDS));
+                self.close_unanswered(poll, client, Duration::from_secs(ENDING_SECONDS));
             }
             ReadProgress::Failed => self.close_unanswered(poll, client, Duration::ZERO),
         }
@@ -150,8 +160,11 @@ impl<'a> Clients<'a> {
             has_unread_input: false,
         };
         let progress = client.receive();
-        if matches!(progress, ReadProgress::Partial) && register(poll, &client).is_err() {
-            return;
+        if matches!(progress, ReadProgress::Partial) {
+            let token = Token(client.token);
+            if watch(poll, &client.stream, token, Interest::READABLE).is_err() {
+                return;
+            }
         }
         self.place(poll, client, progress);
     }
@@ -163,16 +176,40 @@ impl<'a> Clients<'a> {
         }
     }
 
+    // Drops a client whose time is over; whether there was one. While the server is full and others wait, that is one
+    // whose request is incomplete, otherwise one that does not read its reply, otherwise one that has its reply.
+    fn drop_next(&mut self, poll: &Poll, has_backlog: bool) -> bool {
+        let moment = self.time_over(has_backlog, REQUEST_SECONDS);
+        if let Some(at) = self.queues.next_to_drop(self.clock.polled(), moment) {
+            self.drop_client(poll, at);
+            return true;
+        }
+        let stalled = self.time_over(has_backlog, STALLED_SECONDS);
+        if self.sending.drop_first(stalled) {
+            return true;
+        }
+        let served = self.time_over(has_backlog, LEAVING_SECONDS);
+        self.leaving.drop_first(served)
+    }
+
     /// Drops the clients whose time is over, and ends the lingering close of others.
     pub(crate) fn drop_overdue(&mut self, poll: &Poll, has_backlog: bool) {
         for _ in 0..MOST_CLIENTS {
-            let moment = self.time_over(has_backlog);
-            match self.queues.next_to_drop(self.clock.polled(), moment) {
-                Some(at) => self.drop_client(poll, at),
-                None => break,
+            if !self.drop_next(poll, has_backlog) {
+                break;
             }
         }
         self.leaving.read_off(self.clock.polled());
+    }
+
+    /// Drops a client so that its file descriptor is free; whether there was one: the oldest whose request is
+    /// incomplete, otherwise one that does not read its reply, otherwise one that has its reply.
+    pub(crate) fn make_room(&mut self, poll: &Poll) -> bool {
+        if self.queues.receiving_count() != 0 {
+            self.drop_client(poll, 0);
+            return true;
+        }
+        self.sending.drop_first(Duration::MAX) || self.leaving.drop_first(Duration::MAX)
     }
 
     // Ends a client with an incomplete request; that needs no club. Its input is read for at most `limit`.
@@ -189,6 +226,44 @@ impl<'a> Clients<'a> {
                 &mut nothing,
                 moment,
             );
+        }
+    }
+
+    /// Sends to all clients that are writable, and closes those that have their whole reply.
+    pub(crate) fn send_all(&mut self, poll: &Poll) {
+        let until = self.clock.deadline(STALLED_SECONDS);
+        let mut at = 0;
+        for _ in 0..MOST_CLIENTS {
+            if at >= self.sending.count() {
+                return;
+            }
+            match self.sending.send_at(at, until) {
+                SendProgress::Blocked => at = at.saturating_add(1),
+                progress => {
+                    if let Some(client) = self.sending.take(at) {
+                        self.finish(poll, client, progress);
+                    }
+                }
+            }
+        }
+    }
+
+    // Sends a reply as far as the socket takes it now; the rest is sent once the socket is writable.
+    fn send(&mut self, poll: &Poll, client: SendingClient) {
+        let mut client = client;
+        let progress = client.send(self.clock.deadline(STALLED_SECONDS));
+        self.finish(poll, client, progress);
+    }
+
+    // Keeps a client for the rest of its reply, or ends it.
+    fn finish(&mut self, poll: &Poll, client: SendingClient, progress: SendProgress) {
+        match progress {
+            SendProgress::Blocked => self.sending.push(poll, client),
+            SendProgress::Complete => {
+                let is_early = client.has_unread_input;
+                self.close_lingering(poll, client.reply.into_stream(), is_early);
+            }
+            SendProgress::Partial | SendProgress::Failed => {}
         }
     }
 
@@ -210,12 +285,13 @@ impl<'a> Clients<'a> {
             return Served::Dropped;
         };
         let _within = moment.seconds();
-        let limit = Duration::from_secs(WRITE_SECONDS);
+        let limit = Duration::from_secs(ENDING_SECONDS);
         let done = self.serve_within(alloc, poll, client, limit, club, moment);
         Served::Request(moment, done)
     }
 
-    // Serves a client, whose input is read for at most `limit`, logs the request, and closes the connection.
+    // Serves a client, whose input is read for at most `limit`, logs the request, and sends the reply. A client without
+    // a reply is closed.
     fn serve_within<C: ClubService>(
         &mut self,
         alloc: Global,
@@ -238,16 +314,31 @@ impl<'a> Clients<'a> {
         let Client {
             stream,
             heard,
-            has_unread_input: is_early,
+            token,
+            has_unread_input,
             ..
         } = client;
+        let mut connection = Connection {
+            reader: with_deadline(self.rt, &stream, limit),
+            writer: Vec::new(alloc),
+        };
         let done = self
             .responder
-            .reply(alloc, &stream, heard.into_bytes(), limit, club, moment);
-        if done.is_ok() {
-            self.close_lingering(poll, stream, is_early);
-        }
+            .reply(alloc, heard.into_bytes(), &mut connection, club, moment);
         self.responder.log(alloc, moment, LogEntry::Call(&done));
+        let Connection { writer: bytes, .. } = connection;
+        if done.is_ok() {
+            let reply = OutgoingReply::new(stream, bytes);
+            let client = SendingClient {
+                reply,
+                token,
+                until: self.clock.deadline(STALLED_SECONDS),
+                end: self.clock.deadline(SENDING_SECONDS),
+                is_writable: false,
+                has_unread_input,
+            };
+            self.send(poll, client);
+        }
         done
     }
 

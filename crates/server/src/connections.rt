@@ -10,7 +10,8 @@ use control_socket::{Operation, OrderFault};
 use http_desk::{ClubFault, ClubService, DeskFault, UnavailableClub};
 use std::alloc::Global;
 
-/// A connection or an order that was served, at a timestamp, and what was returned to its client.
+/// A connection or an order that was served, at a timestamp, and what is returned to its client. The reply to a request
+/// is in memory then, and is sent while others are served.
 #[derive(Drop)]
 pub enum Served {
     /// A request of a member: the exchange, or why there is no reply.

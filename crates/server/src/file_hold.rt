@@ -6,7 +6,6 @@ ghost use Rattle.http_desk.specs.declared.faults.ClubFault.{ClubFault};
 ghost use Rattle.control_socket.specs.declared.orders.OrderFault.TheVariants.{NotDone};
 ghost use Rattle.server.specs.Visits.{IsOrderAnswered};
 
-use crate::responder::WRITE_SECONDS;
 use control_socket::{
     CONTROL_TOKEN, ControlListener, OrderFault, PendingOrder, serve_order, should_release,
 };
@@ -14,6 +13,9 @@ use http_desk::ClubService;
 use mio::{Events, Poll};
 use std::alloc::Global;
 use std::time::{Duration, Instant};
+
+// The time limit for writing the answer to an order while the club is held.
+const WRITE_SECONDS: u64 = 1;
 
 // The longest serving session under load without a control socket. With one, the interval at which the server checks
 // that its socket file still exists.
@@ -90,11 +92,18 @@ impl<'a> FileHold<'a> {
         self.control = None;
     }
 
-    /// Reads from the control socket, if it is readable.
+    /// Whether a connection waits at the control socket that could not be accepted.
+    pub(crate) fn has_backlog(&self) -> bool {
+        self.control
+            .as_ref()
+            .is_some_and(|control| control.has_backlog())
+    }
+
+    /// Reads from the control socket, if it is readable or a connection could not be accepted before.
     pub(crate) fn receive(&mut self, poll: &Poll, events: &Events<Global>) {
         let has_come = events.iter().any(|event| event.token() == CONTROL_TOKEN);
         if let Some(control) = &mut self.control {
-            if has_come {
+            if has_come || control.has_backlog() {
                 control.hear(poll);
             }
         }

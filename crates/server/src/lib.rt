@@ -15,6 +15,8 @@
 //! - `serve_unavailable` (`unavailable`): each reply needs no club or reports the fault, and no order is executed.
 //! - `RequestBuffer::take` (`received`), `Client::receive`: what is added to the received bytes is what was read, in
 //!   order.
+//! - `Responder::reply` (`buffered`), `OutgoingReply::send` (`in_order`, `complete`): a reply is written to memory, and
+//!   the stream gets those bytes, in order and each once.
 //! - `line_of`: a log line is its timestamp, method, path, status and the member's name, or `-`. It is printable
 //!   ASCII, without a key.
 //! - `Log::write_entry`: a line is appended whole, after the number of lines that were left out, or it is left out and
@@ -31,10 +33,13 @@ mod file_hold;
 mod lingering_close;
 mod listener;
 mod nonblocking_stderr;
+mod open_files;
+mod outgoing;
 mod poll_clock;
 mod poll_loop;
 mod request_buffer;
 mod responder;
+mod sending;
 mod serve;
 mod times;
 

@@ -3,12 +3,11 @@
 //! A socket that is closed with unread input is reset, and the client may lose the reply. So the input is drained
 //! first (RFC 9112, section 9.6).
 
-use mio::unix::SourceFd;
+use crate::client::watch;
 use mio::{Interest, Poll, Token};
 use std::alloc::{AllocError, Global};
 use std::io::{ErrorKind, Read};
 use std::net::TcpStream;
-use std::os::fd::AsRawFd;
 use std::time::Duration;
 
 // The most clients kept; a new one replaces the oldest.
@@ -95,6 +94,22 @@ impl LingeringClose {
         self.leavers.is_empty()
     }
 
+    /// The number of clients.
+    pub(crate) fn count(&self) -> usize {
+        self.leavers.len()
+    }
+
+    /// Closes the oldest client, if its time is over at `moment`; whether there was one.
+    pub(crate) fn drop_first(&mut self, moment: Duration) -> bool {
+        match self.first_until() {
+            Some(until) if until <= moment && !self.leavers.is_empty() => {
+                let _first = self.leavers.remove(0);
+                true
+            }
+            _ => false,
+        }
+    }
+
     /// The value of `PollClock::polled` at which the oldest client's time is over.
     pub(crate) fn first_until(&self) -> Option<Duration> {
         self.leavers.first().map(|leaver| leaver.until)
@@ -117,11 +132,7 @@ impl LingeringClose {
         if self.leavers.len() >= MOST_LEAVING {
             let _first = self.leavers.remove(0);
         }
-        let descriptor = leaver.stream.as_raw_fd();
-        // A client that is already registered keeps its old token.
-        let _listened = poll
-            .registry()
-            .register(&mut SourceFd(&descriptor), LEAVING, Interest::READABLE);
+        let _listened = watch(poll, &leaver.stream, LEAVING, Interest::READABLE);
         let _kept = self.leavers.push(leaver);
     }
 

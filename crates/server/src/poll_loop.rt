@@ -21,7 +21,7 @@ use std::io;
 use std::thread::sleep;
 use std::time::Duration;
 
-// The pause after a failed `poll` or `accept`.
+// The pause after a failed `poll` or `accept`, and before the control socket's `accept` is tried again.
 const PAUSE_MILLISECONDS: u64 = 10;
 
 // The idle time after which a session without a control socket, or without a club, ends.
@@ -195,16 +195,16 @@ impl<'a> Server<'a> {
     // Polls once for at most `limit`, reads and accepts clients, and drops those whose time is over. Returns the time
     // passed.
     fn poll_once(&mut self, limit: Duration) -> Duration {
-        let timeout = self.clients.poll_timeout(self.listener.has_backlog());
-        let limit = limit.min(timeout);
+        let limit = limit.min(self.poll_timeout());
         if self.poll.poll(&mut self.events, Some(limit)).is_err() {
             self.pause();
         }
-        if self.clients.queues.mark_readable(&self.events) {
+        if self.clients.mark_ready(&self.events) {
             self.listener.mark_readable();
         }
-        self.hold.receive(&self.poll, &self.events);
+        self.receive_orders();
         let passed = self.clients.clock.update();
+        self.clients.send_all(&self.poll);
         self.clients.receive_all(&self.poll);
         self.accept_pending();
         let has_backlog = self.listener.has_backlog();
@@ -212,22 +212,41 @@ impl<'a> Server<'a> {
         passed
     }
 
+    // The time until something must be done without input.
+    fn poll_timeout(&self) -> Duration {
+        let timeout = self.clients.poll_timeout(self.listener.has_backlog());
+        if self.hold.has_backlog() {
+            timeout.min(Duration::from_millis(PAUSE_MILLISECONDS))
+        } else {
+            timeout
+        }
+    }
+
+    // Receives from the control socket. If the process is out of file descriptors, a client makes room.
+    fn receive_orders(&mut self) {
+        self.hold.receive(&self.poll, &self.events);
+        if self.hold.has_backlog() {
+            let _made = self.clients.make_room(&self.poll);
+        }
+    }
+
     fn pause(&self) {
         sleep(self.rt, Duration::from_millis(PAUSE_MILLISECONDS));
     }
 
-    // Accepts clients from the backlog. If the process is out of file descriptors, the oldest client makes room.
+    // Accepts clients from the backlog. If the process is out of file descriptors, a client makes room.
     fn accept_pending(&mut self) {
         for _ in 0..MOST_CLIENTS {
-            if !self.listener.has_backlog() || self.clients.queues.is_full() {
+            if !self.listener.has_backlog() || self.clients.is_full() {
                 return;
             }
             match self.listener.accept() {
                 Accepted::Connection(stream) => self.clients.add(&self.poll, stream),
                 Accepted::Nothing => {}
                 Accepted::TooManyFiles => {
-                    self.clients.drop_client(&self.poll, 0);
-                    self.pause();
+                    if !self.clients.make_room(&self.poll) {
+                        self.pause();
+                    }
                     return;
                 }
                 Accepted::Lost => {

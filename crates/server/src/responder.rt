@@ -5,7 +5,6 @@ ghost use Rattle.http_desk.specs.declared.faults.ClubFault.{ClubFault};
 ghost use Rattle.server.specs.Visits.{HasActedOn, HasShutReply, IsAnswered};
 
 use crate::access_log::{Log, LogEntry};
-use crate::client::{ReplyWriter, with_deadline};
 use crate::nonblocking_stderr::NonBlockingStderr;
 use crate::serve::{Connection, Exchange, serve_one};
 use crate::times::clock;
@@ -13,12 +12,7 @@ use clocks::Moment;
 use http_desk::{ClubService, DeskFault, Routes};
 use std::alloc::Global;
 use std::io;
-use std::io::ErrorKind;
-use std::net::TcpStream;
-use std::time::Duration;
-
-/// The time limit for writing a reply while the club is held.
-pub(crate) const WRITE_SECONDS: u64 = 1;
+use std::io::{ErrorKind, Read};
 
 /// The options of a server.
 #[derive(Clone, Copy, Debug)]
@@ -69,13 +63,16 @@ impl<'a> Responder<'a> {
         self.now.or(clock(self.rt))
     }
 
-    /// Serves the client on a stream: `heard` and what it sends within `limit`.
-    pub(crate) fn reply<C: ClubService>(
+    /// Serves a client: `heard` and what its reader gives. The reply is in memory, and is not sent yet.
+    ///
+    /// # Guarantees
+    ///
+    /// `buffered`: the buffer gets the bytes of the reply that is returned, and no others.
+    pub(crate) fn reply<R: Read, C: ClubService>(
         &self,
         alloc: Global,
-        stream: &TcpStream,
         heard: Vec<u8>,
-        limit: Duration,
+        connection: &mut Connection<R, Vec<u8>>,
         club: &mut C,
         moment: Moment,
     ) -> Result<Exchange, DeskFault>
@@ -87,13 +84,11 @@ impl<'a> Responder<'a> {
         ensures unavailable { (fault : ClubFault) → C.IsShut club.old fault →
             C.IsShut club.new fault × HasShutReply fault result }
         ensures begins { IfOk result (λ done. (further : List ℕ) × (done.bytes.items ≡ heard.items ++ further)) }
+        ensures buffered { IfOk result (λ done.
+            connection.new.writer.items ≡ connection.old.writer.items ++ done.reply.items) }
     {
         let routes = &self.routes;
-        let mut connection = Connection {
-            reader: with_deadline(self.rt, stream, limit),
-            writer: ReplyWriter::new(self.rt, stream, Duration::from_secs(WRITE_SECONDS)),
-        };
-        let done = serve_one(alloc, routes, heard, &mut connection, club, moment);
+        let done = serve_one(alloc, routes, heard, connection, club, moment);
         done
     }
 

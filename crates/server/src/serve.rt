@@ -14,7 +14,8 @@ use http_head::{RequestReadFault, read_request_bytes};
 use std::alloc::Global;
 use std::io::{Read, Write};
 
-/// A connection to a client: its bytes are read from one half, and the reply is written to the other.
+/// A connection to a client: its bytes are read from one half, and the reply is written to the other. Of a socket the
+/// other half is a buffer, so that no write waits for the client.
 #[derive(Drop)]
 pub struct Connection<R, W> {
     /// What the client sends.
