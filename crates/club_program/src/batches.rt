@@ -170,7 +170,11 @@ fn run_prepared(rt: &HostRuntime, given: PreparedBatch) -> u8
         SentBatch::Ended(status) => status.min(FAULT),
         SentBatch::Answered(count, has_refusal) => {
             let is_whole = count != 0 && count >= given.batch.requests.len();
-            let rest = if is_whole { DONE } else { run_rest(rt, given, count) };
+            let rest = if is_whole {
+                DONE
+            } else {
+                run_rest(rt, given, count)
+            };
             status_with(has_refusal, rest)
         }
     }

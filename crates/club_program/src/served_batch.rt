@@ -134,5 +134,9 @@ pub(crate) fn status_with(has_refusal: bool, rest: u8) -> u8
     requires { rest ≤ 3 }
     ensures { result ≤ 3 }
 {
-    if rest == DONE && has_refusal { REFUSED } else { rest }
+    if rest == DONE && has_refusal {
+        REFUSED
+    } else {
+        rest
+    }
 }

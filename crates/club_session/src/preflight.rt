@@ -8,9 +8,7 @@ ghost use Rattle.club_orders.specs.Report.{IsNotOpened};
 ghost use Rattle.club_session.specs.declared.preflight.OpenMode.TheVariants.{Making};
 
 use club_orders::{FileFault, Report};
-use std::fs::{
-    File, Metadata, OpenOptions, canonicalize, metadata, remove_file, symlink_metadata,
-};
+use std::fs::{File, Metadata, OpenOptions, canonicalize, metadata, remove_file, symlink_metadata};
 use std::io::{Error, ErrorKind, Read};
 use std::os::unix::fs::{MetadataExt, OpenOptionsExt};
 use store::OpenFault;
@@ -95,7 +93,8 @@ fn has_room_for_logs(file: &str) -> bool {
         Some((_, name)) => name,
         None => file,
     };
-    LOGS.iter().all(|end| name.len() + end.len() <= LONGEST_NAME)
+    LOGS.iter()
+        .all(|end| name.len() + end.len() <= LONGEST_NAME)
 }
 
 // Whether the file with this suffix exists; true if out of memory.
@@ -287,8 +286,9 @@ pub(crate) fn prepare(rt: &HostRuntime, file: &str, purpose: OpenMode) -> Result
     match look(rt, file) {
         PathKind::Database => Ok(()),
         PathKind::Other(fault) => Err(Report::NotOpened(fault)),
-        PathKind::Nothing if purpose == OpenMode::Making && !has_room_for_logs(file) =>
-            Err(Report::NotOpened(FileFault::LongName)),
+        PathKind::Nothing if purpose == OpenMode::Making && !has_room_for_logs(file) => Err(
+            Report::NotOpened(FileFault::LongName),
+        ),
         PathKind::Nothing if purpose == OpenMode::Making => {
             // If this fails, the opening reports why.
             let _made = make_private(rt, file);
